@@ -1,6 +1,6 @@
 -- Two lists of views that are alike: the ids and documents are the same, and the views of documents for which `Own` holds are equal.
 use Rattle.std.proofs.Common.{◌≡◌, ℕ, ◌+◌, ◌<◌, ◌≤◌, Bool, true, false, cond, List, [], ◌∷◌, map, refl, ap, sym, ◌∙◌, subst, arith, Option, Some, None}
-use Rattle.std.specs.Prelude.{◌==◌, filter_map, option_map}
+use Rattle.std.specs.Prelude.{◌==◌, filter_map}
 use Rattle.std.specs.List.{AllByRecursion, cons_option}
 use Rattle.std.proofs.lemmas.Bool.{eqb-true, eqb-false}
 use Rattle.ed_model.specs.Session.{View, view_at}
@@ -127,15 +127,6 @@ watching_alike id vs ws [] h all = refl
 watching_alike id vs ws (k ∷ ks) h all =
     let here = own_found (λ n. n ≡ id) vs ws k all.0.0 h all.0.1 all.0.2 in
     ap (λ (o : Option View). cons_option o (filter_map (view_at ws) ks)) (here ∙ sym all.0.1) ∙ ap (cons_option (view_at vs k)) (watching_alike id vs ws ks h all.1)
-
--- a look-up after a change of all views finds the changed view
-pub changed_found : (f : View → View) → ((v : View) → (f v).id ≡ v.id) → (vs : List View) (id : ℕ) → view_at (map f vs) id ≡ option_map f (view_at vs id)
-changed_found f same [] id = refl
-changed_found f same (v ∷ vs) id = ap (λ n. cond (n == id) (Some (f v)) (view_at (map f vs) id)) (same v) ∙ go (v.id == id) (changed_found f same vs id)
-  where
-    go : (b : Bool) → view_at (map f vs) id ≡ option_map f (view_at vs id) → cond b (Some (f v)) (view_at (map f vs) id) ≡ option_map f (cond b (Some v) (view_at vs id))
-    go true rest = refl
-    go false rest = rest
 
 -- Each id is given once.
 

@@ -27,38 +27,15 @@ use Rattle.run_laws.proofs.SavePointLemmas.{text_styled}
 pub text_kept : (bytes : List ℕ) (change : DocumentChange) (d : Document) → text_of (changed_document bytes change d) ≡ text_of d
 text_kept bytes (document_change.StyleRun count style) d = text_styled (replicate count style) d
 text_kept bytes (document_change.StyleBytes count) d = text_styled (take count bytes) d
-text_kept bytes (document_change.SetReadOnly on) d = refl
-text_kept bytes (document_change.SetLineEnd to) d = refl
-text_kept bytes (document_change.SetLineEndTypes to) d = refl
-text_kept bytes document_change.SetSavePoint d = refl
-text_kept bytes document_change.BeginGroup d = refl
-text_kept bytes document_change.EndGroup d = refl
-text_kept bytes document_change.ForgetHistory d = refl
-text_kept bytes (document_change.CollectUndo on) d = refl
-text_kept bytes (document_change.AppendContainer token coalesce) d = refl
-text_kept bytes (document_change.AddMarker line number) d = refl
-text_kept bytes (document_change.AddMarkers line mask) d = refl
-text_kept bytes (document_change.DeleteMarker line number) d = refl
-text_kept bytes (document_change.DeleteMarkers number) d = refl
-text_kept bytes (document_change.DeleteHandle handle) d = refl
-text_kept bytes (document_change.SetLevel line level) d = refl
-text_kept bytes (document_change.SetState line state) d = refl
-text_kept bytes (document_change.SetEndStyled place) d = refl
-text_kept bytes (document_change.NeedStyle start past) d = refl
-text_kept bytes (document_change.FillIndicator indicator start count value) d = refl
+text_kept bytes _ d = refl
 
 -- so does a plan whose leave does not include edits
 own_text_kept : (r : Request) (p : Plan) (l : Leave) → l.edits ≡ false → KeepsTo l p → text_of (own_after r p) ≡ text_of r.document
 own_text_kept r (plan.Edit change value after) l barred keeps = let may = (and_parts l.edits (may_follow l after) keeps).0 in absurd (cc)
-own_text_kept r plan.Attempt l barred keeps = refl
 own_text_kept r plan.Undo l barred keeps = absurd (cc)
 own_text_kept r plan.Redo l barred keeps = absurd (cc)
 own_text_kept r (plan.ChangeDocument change value) l barred keeps = text_kept r.message.text change r.document
-own_text_kept r (plan.Answer value) l barred keeps = refl
-own_text_kept r (plan.HandOut value start count) l barred keeps = refl
-own_text_kept r (plan.HandOutStyled start count) l barred keeps = refl
-own_text_kept r (plan.ChangeView change value) l barred keeps = refl
-own_text_kept r (plan.ChangeSession change value) l barred keeps = refl
+own_text_kept r _ l barred keeps = refl
 
 -- Texts.
 

@@ -15,12 +15,10 @@ use Rattle.run_laws.specs.FoldLaws.{parents_from, FoldParentsAreAChain, FoldPare
 
 -- The search for a fold parent goes back from the line.
 
-reverse_more : (m : ℕ) → reverse (range_with_len 0 (m + 1)) ≡ m ∷ reverse (range_with_len 0 m)
-reverse_more m =
-    ap reverse (range-append 0 m 1) ∙ reverse-append (range_with_len 0 m) (range_with_len (0 + m) 1) ∙ rw (zero-add m) refl
-
 reverse_next : (m : ℕ) → reverse (range_with_len 0 (suc m)) ≡ m ∷ reverse (range_with_len 0 m)
-reverse_next m = let next : suc m ≡ m + 1 = omega arith in ap (λ n. reverse (range_with_len 0 n)) next ∙ reverse_more m
+reverse_next m =
+    let next : suc m ≡ m + 1 = omega arith in
+    ap (λ n. reverse (range_with_len 0 n)) next ∙ ap reverse (range-append 0 m 1) ∙ reverse-append (range_with_len 0 m) (range_with_len (0 + m) 1) ∙ rw (zero-add m) refl
 
 abbrev parent_before : List ℕ → ℕ → ℕ → Option ℕ
 parent_before levels line m = find (is_parent_of levels line) (reverse (range_with_len 0 m))

@@ -8,9 +8,11 @@ use Rattle.ed_types.specs.declared.kind.Kind.{Kind}
 use Rattle.ed_types.specs.declared.message.Message.{Message}
 use Rattle.ed_types.specs.declared.refusal.Refusal.{Refusal}
 use Rattle.ed_types.specs.declared.refusal.Refusal.TheVariants.{TooMany}
+use Rattle.ed_types.specs.declared.script.Command.{Command}
+use Rattle.ed_types.specs.declared.script.Command.TheVariants.{LoadFile, SendMessage}
+use Rattle.ed_types.specs.declared.script.Outcome.{Outcome}
+use Rattle.ed_types.specs.Notices.{Response}
 use Rattle.ed_types.specs.Messages.{kind_of}
-use Rattle.ed_model.specs.declared.plan.Follow.{Follow}
-use Rattle.ed_model.specs.declared.plan.Follow.TheVariants as follow
 use Rattle.ed_model.specs.declared.plan.DocumentChange.{DocumentChange}
 use Rattle.ed_model.specs.declared.plan.DocumentChange.TheVariants as document_change
 use Rattle.ed_model.specs.declared.plan.SessionChange.{SessionChange}
@@ -18,19 +20,21 @@ use Rattle.ed_model.specs.declared.plan.SessionChange.TheVariants as session_cha
 use Rattle.ed_model.specs.declared.plan.Plan.{Plan}
 use Rattle.ed_model.specs.declared.plan.Plan.TheVariants as plan
 use Rattle.ed_model.specs.Steps.{Step}
-use Rattle.ed_model.specs.History.{Change, TextStep, ContainerStep, undo_changes, redo_changes, undone, redone}
+use Rattle.ed_model.specs.History.{Change, undo_changes, redo_changes, undone, redone}
 use Rattle.ed_model.specs.Session.{Session, Document, View, document_at, view_at, with_document, living, left_by, new_document, new_view}
 use Rattle.ed_model.specs.Notes as notes
 use Rattle.ed_model.specs.Requests.{Request, Planned, text}
 use Rattle.ed_model.specs.Edits.{steps_of}
-use Rattle.ed_model.specs.Performing.{Scene, scene_of, session_of, step_made, steps_made, sealed_scene, edit_made, followed, transaction_performed, changes_performed, change_performed, changes_lines, is_last}
+use Rattle.ed_model.specs.Performing.{Scene, scene_of, session_of, edit_made, transaction_performed, changes_performed}
 use Rattle.ed_model.specs.Changes.{changed_document, session_changed, with_attached, attached_last, with_new_document, held_more, held_less}
 use Rattle.ed_model.specs.Table.{table, answered, plan_of, performed, request, opened, closed_view}
 use Rattle.ed_model.specs.TableLaws.{Answered}
 use Rattle.ed_model.specs.SoundLaws.{IsSound, Rise}
 use Rattle.ed_model.specs.PlansFit.{IsSoundRequest, IsFitPlan, IsFitPlanned, PlansFit}
-use Rattle.run_laws.proofs.Finding.{either, document_id, view_id, replaced_found, replaced_other, mapped_at, mapped_ids, living_from, rise_pushed, pushed_at}
-use Rattle.run_laws.proofs.TableWays.{of_table}
+use Rattle.ed_model.specs.Run.{Running, after_command, set_text_message}
+use Rattle.run_laws.proofs.Finding.{either, document_id, view_id, replaced_found, replaced_other, mapped_found, mapped_ids, living_from, rise_pushed, pushed_at}
+use Rattle.run_laws.proofs.Walks.{edit_views, changes_views, followed_same}
+use Rattle.run_laws.proofs.TableWays.{of_table, OfMessages, of_each_message, of_command}
 
 -- the request's document after its plan
 abbrev pub own_after : Request → Plan → Document
@@ -42,60 +46,24 @@ own_after r other = r.document
 
 -- A plan keeps the document's id.
 
-steps_made_id : (later : Bool) (steps : List Step) (scene : Scene) → (steps_made later steps scene).document.id ≡ scene.document.id
-steps_made_id later [] scene = refl
-steps_made_id later (step ∷ steps) scene = steps_made_id true steps (step_made later step scene)
-
 pub edit_made_id : (steps : List Step) (scene : Scene) → (edit_made steps scene).document.id ≡ scene.document.id
-edit_made_id steps scene =
-    either (λ (x : Scene). x.document.id ≡ scene.document.id) (nat_lt 1 (length steps)) (sealed_scene (steps_made false steps (sealed_scene scene))) (steps_made false steps scene)
-    (steps_made_id false steps (sealed_scene scene)) (steps_made_id false steps scene)
+edit_made_id steps scene = (edit_views scene.document.id (λ views. Unit {0}) (λ step d views e h. tt) steps scene (refl, tt)).0
 
-pub changes_performed_id : (who several : ℕ) (lines_changed : Bool) (cs : List Change) (scene : Scene) → (changes_performed who several lines_changed cs scene).document.id ≡ scene.document.id
-changes_performed_id who several lines_changed [] scene = refl
-changes_performed_id who several lines_changed (TextStep step ∷ cs) scene =
-    let changed = cond lines_changed true (changes_lines (TextStep step) scene.document) in
-    changes_performed_id who several changed cs (change_performed who several (is_last cs) changed (TextStep step) scene)
-changes_performed_id who several lines_changed (ContainerStep token coalesce ∷ cs) scene =
-    let changed = cond lines_changed true (changes_lines (ContainerStep token coalesce) scene.document) in
-    changes_performed_id who several changed cs (change_performed who several (is_last cs) changed (ContainerStep token coalesce) scene)
+changes_performed_id : (who : ℕ) (cs : List Change) (scene : Scene)
+    → (changes_performed who (notes.bit_if (nat_lt 1 (length cs)) notes.multi_step) false cs scene).document.id ≡ scene.document.id
+changes_performed_id who cs scene =
+    (changes_views scene.document.id (λ views. Unit {0}) (λ step d views e h. tt) who (notes.bit_if (nat_lt 1 (length cs)) notes.multi_step) false cs scene (refl, tt)).0
 
 pub changed_id : (bytes : List ℕ) (change : DocumentChange) (d : Document) → (changed_document bytes change d).id ≡ d.id
 changed_id bytes (document_change.SetReadOnly on) d = refl
-changed_id bytes (document_change.SetLineEnd to) d = refl
-changed_id bytes (document_change.SetLineEndTypes to) d = refl
-changed_id bytes document_change.SetSavePoint d = refl
-changed_id bytes document_change.BeginGroup d = refl
-changed_id bytes document_change.EndGroup d = refl
-changed_id bytes document_change.ForgetHistory d = refl
-changed_id bytes (document_change.CollectUndo on) d = refl
-changed_id bytes (document_change.AppendContainer token coalesce) d = refl
-changed_id bytes (document_change.AddMarker line number) d = refl
-changed_id bytes (document_change.AddMarkers line mask) d = refl
-changed_id bytes (document_change.DeleteMarker line number) d = refl
-changed_id bytes (document_change.DeleteMarkers number) d = refl
-changed_id bytes (document_change.DeleteHandle handle) d = refl
-changed_id bytes (document_change.SetLevel line level) d = refl
-changed_id bytes (document_change.SetState line state) d = refl
-changed_id bytes (document_change.SetEndStyled place) d = refl
-changed_id bytes (document_change.StyleRun count style) d = refl
-changed_id bytes (document_change.StyleBytes count) d = refl
-changed_id bytes (document_change.NeedStyle start past) d = refl
-changed_id bytes (document_change.FillIndicator indicator start count value) d = refl
+changed_id bytes _ d = refl
 
 pub own_id : (r : Request) (p : Plan) → (own_after r p).id ≡ r.document.id
 own_id r (plan.Edit change value after) = edit_made_id (steps_of r change) (scene_of r)
-own_id r plan.Undo =
-    let cs = undo_changes r.document.history in changes_performed_id notes.performed_undo (notes.bit_if (nat_lt 1 (length cs)) notes.multi_step) false cs (scene_of r)
-own_id r plan.Redo =
-    let cs = redo_changes r.document.history in changes_performed_id notes.performed_redo (notes.bit_if (nat_lt 1 (length cs)) notes.multi_step) false cs (scene_of r)
+own_id r plan.Undo = changes_performed_id notes.performed_undo (undo_changes r.document.history) (scene_of r)
+own_id r plan.Redo = changes_performed_id notes.performed_redo (redo_changes r.document.history) (scene_of r)
 own_id r (plan.ChangeDocument change value) = changed_id r.message.text change r.document
-own_id r (plan.Answer value) = refl
-own_id r (plan.HandOut value start count) = refl
-own_id r (plan.HandOutStyled start count) = refl
-own_id r plan.Attempt = refl
-own_id r (plan.ChangeView change value) = refl
-own_id r (plan.ChangeSession change value) = refl
+own_id r _ = refl
 
 -- a new document, with any views and references
 abbrev pub IsMadeNew : Document → Type 0
@@ -121,7 +89,7 @@ module _ (Goes : Document → Document → Type 0) (same : (d : Document) → Go
       go : (b : Bool) → (id == new.id) ≡ b → From next (document_at ds id) e
       go true t =
           let at = eqb-true id new.id t in
-          let there : document_at (with_document new ds) id ≡ Some new = ap (document_at (with_document new ds)) at ∙ replaced_found ds old new found in
+          let there : document_at (with_document new ds) id ≡ Some new = replaced_found ds id old new (sym at) (ap (document_at ds) at ∙ found) in
           let is_new : new ≡ e = cc in
           let was : Some old ≡ document_at ds id = sym (ap (document_at ds) at ∙ found) in
           subst (λ (o : Option Document). From next o e) was (subst (λ (x : Document). Goes old x) is_new goes)
@@ -136,7 +104,7 @@ module _ (Goes : Document → Document → Type 0) (same : (d : Document) → Go
   -- documents of which the views and references change
   pub all_mapped : (next : ℕ) (ds es : List Document) (views : Document → List ℕ) (held_by_callers : Document → ℕ) → AllFrom next ds es
       → AllFrom next ds (map (λ (d : Document). record d { views = views d; held_by_callers = held_by_callers d }) es)
-  all_mapped next ds es views held_by_callers h id e f = go (document_at es id) refl (sym (mapped_at (λ (d : Document). record d { views = views d; held_by_callers = held_by_callers d }) (λ d. refl) es id) ∙ f)
+  all_mapped next ds es views held_by_callers h id e f = go (document_at es id) refl (sym (mapped_found (λ (d : Document). d.id) (λ (d : Document). record d { views = views d; held_by_callers = held_by_callers d }) (λ d. refl) es id) ∙ f)
     where
       go : (o : Option Document) → document_at es id ≡ o → option_map (λ (d : Document). record d { views = views d; held_by_callers = held_by_callers d }) o ≡ Some e → From next (document_at ds id) e
       go None found g = absurd (cc)
@@ -151,7 +119,7 @@ module _ (Goes : Document → Document → Type 0) (same : (d : Document) → Go
       → AllFrom next ds (living (map (λ (d : Document). record d { views = views d; held_by_callers = held_by_callers d }) es))
   all_relisted next ds es views held_by_callers high rise h =
       let g : Document → Document = λ (d : Document). record d { views = views d; held_by_callers = held_by_callers d } in
-      all_living next ds (map g es) 0 high (subst (Rise 0 high) (sym (mapped_ids g (λ d. refl) es)) rise) (all_mapped next ds es views held_by_callers h)
+      all_living next ds (map g es) 0 high (subst (Rise 0 high) (sym (mapped_ids (λ (d : Document). d.id) g (λ d. refl) es)) rise) (all_mapped next ds es views held_by_callers h)
 
   -- a new document is added last
   pub all_pushed : (next : ℕ) (ds : List Document) (new : Document) → next ≤ new.id → IsMadeNew new → AllFrom next ds (ds ++ new ∷ [])
@@ -171,19 +139,10 @@ module _ (Goes : Document → Document → Type 0) (same : (d : Document) → Go
   attached_views view id d = (attached_last view id d).views
 
   attached_is : (view id : ℕ) (d : Document) → attached_last view id d ≡ record d { views = attached_views view id d; held_by_callers = d.held_by_callers }
-  attached_is view id d = go (d.id == id)
-    where
-      go : (b : Bool) → (let left = left_by view d in cond b (record left { views = left.views ++ view ∷ [] }) left)
-          ≡ record d { views = (let left = left_by view d in cond b (record left { views = left.views ++ view ∷ [] }) left).views; held_by_callers = d.held_by_callers }
-      go true = refl
-      go false = refl
+  attached_is view id d = either (λ (e : Document). e ≡ record d { views = e.views; held_by_callers = d.held_by_callers }) (d.id == id) _ (left_by view d) refl refl
 
   held_more_is : (id : ℕ) (d : Document) → held_more id d ≡ record d { views = d.views; held_by_callers = (held_more id d).held_by_callers }
-  held_more_is id d = go (d.id == id)
-    where
-      go : (b : Bool) → cond b (record d { held_by_callers = d.held_by_callers + 1 }) d ≡ record d { views = d.views; held_by_callers = (cond b (record d { held_by_callers = d.held_by_callers + 1 }) d).held_by_callers }
-      go true = refl
-      go false = refl
+  held_more_is id d = either (λ (e : Document). e ≡ record d { views = d.views; held_by_callers = e.held_by_callers }) (d.id == id) _ d refl refl
 
   held_less_is : (id : ℕ) (d : Document) → held_less id d ≡ record d { views = d.views; held_by_callers = (held_less id d).held_by_callers }
   held_less_is id d = either (λ (e : Document). e ≡ record d { views = d.views; held_by_callers = e.held_by_callers }) (d.id == id) _ d refl refl
@@ -231,25 +190,16 @@ module _ (Goes : Document → Document → Type 0) (same : (d : Document) → Go
       let own = document_id r.session.documents r.view.document r.document h.document in
       all_replaced r.session.next_document r.session.documents r.document new (ap (document_at r.session.documents) (at ∙ own) ∙ h.document) goes
 
-  followed_documents : (view : ℕ) (before : List ℕ) (after : Follow) (s : Session) → (followed view before after s).documents ≡ s.documents
-  followed_documents view before follow.Nothing s = refl
-  followed_documents view before (follow.Caret place) s = refl
-  followed_documents view before (follow.Target start past) s = refl
-  followed_documents view before (follow.Clipboard start count) s = refl
-
   pub performed_from : (r : Request) (p : Plan) → IsSoundRequest r → Goes r.document (own_after r p) → AllFrom r.session.next_document r.session.documents (performed r p).0.documents
-  performed_from r (plan.Answer value) h goes = all_same r.session.next_document r.session.documents
-  performed_from r (plan.HandOut value start count) h goes = all_same r.session.next_document r.session.documents
-  performed_from r (plan.HandOutStyled start count) h goes = all_same r.session.next_document r.session.documents
-  performed_from r plan.Attempt h goes = all_same r.session.next_document r.session.documents
-  performed_from r (plan.ChangeView change value) h goes = all_same r.session.next_document r.session.documents
   performed_from r (plan.ChangeSession change value) h goes = session_change_from r change h.sound
   performed_from r (plan.ChangeDocument change value) h goes = own_replaced r (own_after r (plan.ChangeDocument change value)) h (own_id r (plan.ChangeDocument change value)) goes
   performed_from r (plan.Edit change value after) h goes =
-      subst (AllFrom r.session.next_document r.session.documents) (sym (followed_documents r.view.id (text r) after (session_of r.session (edit_made (steps_of r change) (scene_of r)))))
+      subst (AllFrom r.session.next_document r.session.documents)
+      (sym (followed_same (λ (s : Session). s.documents) (λ s views. refl) (λ s clipboard. refl) r.view.id (text r) after (session_of r.session (edit_made (steps_of r change) (scene_of r)))))
       (own_replaced r (own_after r (plan.Edit change value after)) h (own_id r (plan.Edit change value after)) goes)
   performed_from r plan.Undo h goes = own_replaced r (own_after r plan.Undo) h (own_id r plan.Undo) goes
   performed_from r plan.Redo h goes = own_replaced r (own_after r plan.Redo) h (own_id r plan.Redo) goes
+  performed_from r _ h goes = all_same r.session.next_document r.session.documents
 
   -- Messages.
 
@@ -298,3 +248,35 @@ module _ (Goes : Document → Document → Type 0) (same : (d : Document) → Go
   closing_from s None h = tt
   closing_from s (Some v) h =
       all_relisted s.next_document s.documents s.documents (λ (d : Document). (left_by v.id d).views) (λ (d : Document). d.held_by_callers) s.next_document h.document_ids (all_same s.next_document s.documents)
+
+  -- Commands.
+
+  -- what is to be shown of a message
+  abbrev pub MayGo : Session → ℕ → Message → Type 0
+  MayGo s view m = (kind : Kind) (r : Request) (p : Plan) → Sent s view m kind r p → Goes r.document (own_after r p)
+
+  -- after a command in a sound session all documents are results of allowed changes, if its messages make such changes
+  pub command_from : PlansFit → (files : List (List ℕ)) (c : Command) (s : Running) → IsSound s.session → OfMessages (MayGo s.session) c
+      → AllFrom s.session.next_document s.session.documents (after_command files c s).0.session.documents
+  command_from fits files c s sound may =
+      let now = s.session in
+      of_command (λ (x : Running × Outcome). AllFrom now.next_document now.documents x.0.session.documents) files s
+      (λ refusal. all_same now.next_document now.documents)
+      (λ done e. subst (OpenedFrom now) e (opening_from now))
+      (λ view t e. subst (ClosedFrom now) e (closing_from now (view_at now.views view) sound))
+      (λ value. all_same now.next_document now.documents)
+      c (go c may)
+    where
+      of_message : (view : ℕ) (m : Message) → MayGo s.session view m → (done : Session × Response) → table s.session view m ≡ Ok done
+          → AllFrom s.session.next_document s.session.documents done.0.documents
+      of_message view m may done e = subst (AnsweredFrom s.session) e (table_from fits s.session view m sound may)
+
+      go : (c : Command) → OfMessages (MayGo s.session) c
+          → OfMessages (λ view m. (done : Session × Response) → table s.session view m ≡ Ok done → AllFrom s.session.next_document s.session.documents done.0.documents) c
+      go (SendMessage view m) may = of_message view m may
+      go (LoadFile view file) may = λ bytes. of_message view (set_text_message bytes) (may bytes)
+      go _ may = tt
+
+  pub any_command_from : PlansFit → (files : List (List ℕ)) (c : Command) (s : Running) → IsSound s.session → ((r : Request) (p : Plan) → Goes r.document (own_after r p))
+      → AllFrom s.session.next_document s.session.documents (after_command files c s).0.session.documents
+  any_command_from fits files c s sound goes = command_from fits files c s sound (of_each_message (MayGo s.session) (λ view m kind r p sent. goes r p) c)

@@ -2,7 +2,7 @@
 use Rattle.std.proofs.Common.{◌≡◌, ℕ, ◌==◌, nat_lt, cond, Bool, true, false, List, [], ◌∷◌, ◌++◌, length, map, refl, ap, ◌∙◌, sym, subst, Option, Some, None, Ok, Err}
 use Rattle.std.specs.Prelude.{ℤ, pos, bit_or, reverse, option_map, not}
 use Rattle.std.specs.List.{AllByRecursion}
-use Rattle.std.proofs.lemmas.Bool.{eqb-true, eqb-false}
+use Rattle.std.proofs.lemmas.Bool.{eqb-true, eqb-false, not-true, not-false}
 use Rattle.ed_types.specs.declared.limits.Limits.{Limits}
 use Rattle.ed_types.specs.declared.script.Outcome.{Outcome}
 use Rattle.ed_types.specs.declared.script.Outcome.TheVariants.{Replied, Refused}
@@ -17,8 +17,6 @@ use Rattle.ed_model.specs.declared.plan.Source.{Source}
 use Rattle.ed_model.specs.declared.plan.Source.TheVariants as source
 use Rattle.ed_model.specs.declared.plan.Follow.{Follow}
 use Rattle.ed_model.specs.declared.plan.Follow.TheVariants as follow
-use Rattle.ed_model.specs.declared.plan.DocumentChange.{DocumentChange}
-use Rattle.ed_model.specs.declared.plan.DocumentChange.TheVariants as document_change
 use Rattle.ed_model.specs.declared.plan.SessionChange.TheVariants as session_change
 use Rattle.ed_model.specs.declared.plan.Plan.{Plan}
 use Rattle.ed_model.specs.declared.plan.Plan.TheVariants as plan
@@ -30,7 +28,7 @@ use Rattle.ed_model.specs.Notes as notes
 use Rattle.ed_model.specs.Requests.{Request, Planned, text}
 use Rattle.ed_model.specs.Edits.{steps_of, source_bytes, converted_if}
 use Rattle.ed_model.specs.FoldingPlans.{levels}
-use Rattle.ed_model.specs.Performing.{Scene, scene_of, session_of, document_after, moved_view, view_after, step_made, steps_made, sealed_scene, edit_made, followed, with_caret, caret_behind, leaving, change_performed, changes_performed, changes_lines, is_last, transaction_performed, save_point_change, history_performed, place_behind, container_note, last_bits, response}
+use Rattle.ed_model.specs.Performing.{Scene, scene_of, session_of, document_after, view_after, step_made, sealed_scene, edit_made, followed, with_caret, caret_behind, leaving, change_performed, changes_performed, transaction_performed, save_point_change, history_performed, place_behind, container_note, last_bits, response}
 use Rattle.ed_model.specs.Changes.{changed_document, changed_lines, changed_view, change_told}
 use Rattle.ed_model.specs.Table.{table, answered, with_recording, plan_of, performed, request, table_from_view, table_from_kind, table_from_document}
 use Rattle.ed_model.specs.TableLaws.{Answered}
@@ -38,11 +36,13 @@ use Rattle.ed_model.specs.SoundLaws.{IsSound, IsViewOn, ListsItsViews, CommandKe
 use Rattle.ed_model.specs.Run.{Running, starting, after_command, after_message, outcomes, run_to}
 use Rattle.run_laws.specs.MessageKinds.{is_copying, is_about_documents}
 use Rattle.run_laws.specs.IsolationLaws.{Sending, sent, shows_other, goes_elsewhere, unless, without_others, own_outcomes, KeepsApart, DocumentsAreApart}
-use Rattle.run_laws.proofs.Finding.{either, document_id, view_id, found_all, replaced_found}
+use Rattle.run_laws.proofs.Finding.{document_id, view_id, found_all, replaced_found, mapped_found}
+use Rattle.run_laws.proofs.Walks.{step_keeps, sender_keeps, lines_keep, edit_related, changes_related}
+use Rattle.run_laws.proofs.IdLemmas.{after_id, lines_id}
 use Rattle.run_laws.proofs.TableWays.{of_table}
 use Rattle.run_laws.proofs.Going.{own_id}
 use Rattle.run_laws.proofs.PlanShapes.{Leave, KeepsTo, IsShaped, leave_of, plan_is_shaped, same_plan, same_converted}
-use Rattle.run_laws.proofs.Alike.{IsAlike, AreAlike, alike_same, all_alike, alike_turned, alike_through, alike_both, alike_kept, FoundAlike, found_alike, own_found, none_found, watching_alike, changed_found, found_once, views_on_alike}
+use Rattle.run_laws.proofs.Alike.{IsAlike, AreAlike, alike_same, all_alike, alike_turned, alike_through, alike_both, alike_kept, FoundAlike, found_alike, own_found, none_found, watching_alike, found_once, views_on_alike}
 use Rattle.run_laws.proofs.LeavingLemmas.{Once, performed_leaves_views, performed_leaves_document, performed_leaves_clipboard, performed_leaves_limits}
 
 abbrev Alike : ℕ → List View → List View → Type 0
@@ -61,20 +61,17 @@ as_first id a b h =
     ap (λ (d : Document). record { document = d; views = b.views; notes = b.notes }) h.document
     ∙ ap (λ (ns : List Notice). record { document = a.document; views = b.views; notes = ns }) h.notes
 
-step_id : (step : Step) (d : Document) (v : View) → (view_after step d v).id ≡ v.id
-step_id step d v = either (λ (w : View). w.id ≡ v.id) (v.document == d.id) (moved_view step d v) v refl refl
-
 step_document : (step : Step) (d : Document) (v : View) → (view_after step d v).document ≡ v.document
-step_document step d v = either (λ (w : View). w.document ≡ v.document) (v.document == d.id) (moved_view step d v) v refl refl
+step_document step d v = step_keeps (λ (w : View). w.document) (λ step d w. refl) step d v
 
 listed_after : (id : ℕ) (f : View → View) → ((v : View) → (f v).id ≡ v.id) → ((v : View) → (f v).document ≡ v.document) → (views : List View) (ids : List ℕ)
     → AllByRecursion (IsViewOn views id) ids → AllByRecursion (IsViewOn (map f views) id) ids
 listed_after id f same on views [] all = tt
 listed_after id f same on views (k ∷ ks) all =
-    ((f all.0.0, changed_found f same views k ∙ ap (option_map f) all.0.1, on all.0.0 ∙ all.0.2), listed_after id f same on views ks all.1)
+    ((f all.0.0, mapped_found (λ (v : View). v.id) f same views k ∙ ap (option_map f) all.0.1, on all.0.0 ∙ all.0.2), listed_after id f same on views ks all.1)
 
 step_alike : (id : ℕ) (step : Step) (d : Document) (vs ws : List View) → Alike id vs ws → Alike id (map (view_after step d) vs) (map (view_after step d) ws)
-step_alike id step d vs ws h = alike_both (λ n. n ≡ id) (view_after step d) (alike_kept (λ n. n ≡ id) (view_after step d) (step_id step d) (step_document step d)) vs ws h
+step_alike id step d vs ws h = alike_both (λ n. n ≡ id) (view_after step d) (alike_kept (λ n. n ≡ id) (view_after step d) (after_id step d) (step_document step d)) vs ws h
 
 -- the notes of a step to these views
 abbrev step_told : ℕ → ℕ → List Notice → Step → Document → List Notice → List View → List Notice
@@ -82,21 +79,24 @@ step_told before after between step d earlier views =
     earlier ++ notes.heard views (notes.before_note before step) ++ between
     ++ notes.heard views (notes.after_note after (growth (lines_in d) (lines_in (document_after step d))) step)
 
+-- scenes after a step, with the same document and the same notes to the same views
+moved_same : (id : ℕ) (step : Step) (a b : Scene) (new : Document) (told : List View → List Notice) → new.views ≡ a.document.views → SameScenes id a b
+    → SameScenes id (record { document = new; views = map (view_after step a.document) a.views; notes = told (watching a.views a.document) })
+    (record { document = new; views = map (view_after step a.document) b.views; notes = told (watching b.views a.document) })
+moved_same id step a b new told same h = record {
+  document = refl;
+  notes = ap told (watching_alike id a.views b.views a.document.views h.views h.listed);
+  views = step_alike id step a.document a.views b.views h.views;
+  listed = subst (AllByRecursion (IsViewOn (map (view_after step a.document) a.views) id)) (sym same)
+      (listed_after id (view_after step a.document) (after_id step a.document) (step_document step a.document) a.views a.document.views h.listed);
+}
+
 step_same : (id : ℕ) (later : Bool) (step : Step) (a b : Scene) → SameScenes id a b → SameScenes id (step_made later step a) (step_made later step b)
 step_same id later step a b h =
+    let d = a.document in
+    let bits = bit_or notes.performed_user (notes.bit_if (begins_transaction later (TextStep step) d.history) notes.start_action) in
     subst (λ (x : Scene). SameScenes id (step_made later step a) (step_made later step x)) (sym (as_first id a b h))
-    (let d = a.document in
-    let heard = watching_alike id a.views b.views d.views h.views h.listed in
-    record {
-      document = refl;
-      notes = ap (λ (w : List View). step_told notes.performed_user (bit_or notes.performed_user (notes.bit_if (begins_transaction later (TextStep step) d.history) notes.start_action)) (leaving w d.history) step d a.notes w) heard;
-      views = step_alike id step d a.views b.views h.views;
-      listed = listed_after id (view_after step d) (step_id step d) (step_document step d) a.views d.views h.listed;
-    })
-
-steps_same : (id : ℕ) (later : Bool) (steps : List Step) (a b : Scene) → SameScenes id a b → SameScenes id (steps_made later steps a) (steps_made later steps b)
-steps_same id later [] a b h = h
-steps_same id later (step ∷ steps) a b h = steps_same id true steps (step_made later step a) (step_made later step b) (step_same id later step a b h)
+    (moved_same id step a b (step_made later step a).document (λ (w : List View). step_told notes.performed_user bits (leaving w d.history) step d a.notes w) refl h)
 
 sealed_same : (id : ℕ) (a b : Scene) → SameScenes id a b → SameScenes id (sealed_scene a) (sealed_scene b)
 sealed_same id a b h =
@@ -104,24 +104,14 @@ sealed_same id a b h =
     (record { document = refl; notes = refl; views = h.views; listed = h.listed })
 
 edit_same : (id : ℕ) (steps : List Step) (a b : Scene) → SameScenes id a b → SameScenes id (edit_made steps a) (edit_made steps b)
-edit_same id steps a b h = go (nat_lt 1 (length steps))
-  where
-    go : (c : Bool) → SameScenes id (cond c (sealed_scene (steps_made false steps (sealed_scene a))) (steps_made false steps a)) (cond c (sealed_scene (steps_made false steps (sealed_scene b))) (steps_made false steps b))
-    go true = sealed_same id (steps_made false steps (sealed_scene a)) (steps_made false steps (sealed_scene b)) (steps_same id false steps (sealed_scene a) (sealed_scene b) (sealed_same id a b h))
-    go false = steps_same id false steps a b h
+edit_same id steps a b h = edit_related (SameScenes id) (step_same id) (sealed_same id) steps a b h
 
 change_same : (id who several : ℕ) (last lines_changed : Bool) (c : Change) (a b : Scene) → SameScenes id a b
     → SameScenes id (change_performed who several last lines_changed c a) (change_performed who several last lines_changed c b)
 change_same id who several last lines_changed (TextStep step) a b h =
     subst (λ (x : Scene). SameScenes id (change_performed who several last lines_changed (TextStep step) a) (change_performed who several last lines_changed (TextStep step) x)) (sym (as_first id a b h))
-    (let d = a.document in
-    let heard = watching_alike id a.views b.views d.views h.views h.listed in
-    record {
-      document = refl;
-      notes = ap (λ (w : List View). step_told who (bit_or (bit_or who several) (last_bits last lines_changed)) [] step d a.notes w) heard;
-      views = step_alike id step d a.views b.views h.views;
-      listed = listed_after id (view_after step d) (step_id step d) (step_document step d) a.views d.views h.listed;
-    })
+    (moved_same id step a b (document_after step a.document)
+    (λ (w : List View). step_told who (bit_or (bit_or who several) (last_bits last lines_changed)) [] step a.document a.notes w) refl h)
 change_same id who several last lines_changed (ContainerStep token coalesce) a b h =
     subst (λ (x : Scene). SameScenes id (change_performed who several last lines_changed (ContainerStep token coalesce) a) (change_performed who several last lines_changed (ContainerStep token coalesce) x)) (sym (as_first id a b h))
     (record {
@@ -131,22 +121,13 @@ change_same id who several last lines_changed (ContainerStep token coalesce) a b
       listed = h.listed;
     })
 
-changes_same : (id who several : ℕ) (lines_changed : Bool) (cs : List Change) (a b : Scene) → SameScenes id a b
-    → SameScenes id (changes_performed who several lines_changed cs a) (changes_performed who several lines_changed cs b)
-changes_same id who several lines_changed [] a b h = h
-changes_same id who several lines_changed (c ∷ cs) a b h =
-    let changed = cond lines_changed true (changes_lines c a.document) in
-    subst (λ (d : Document). SameScenes id (changes_performed who several lines_changed (c ∷ cs) a)
-    (changes_performed who several (cond lines_changed true (changes_lines c d)) cs (change_performed who several (is_last cs) (cond lines_changed true (changes_lines c d)) c b))) (sym h.document)
-    (changes_same id who several changed cs (change_performed who several (is_last cs) changed c a) (change_performed who several (is_last cs) changed c b) (change_same id who several (is_last cs) changed c a b h))
-
 -- a transaction performed in both scenes, with the same history afterwards
 transaction_same : (id who : ℕ) (cs : List Change) (new : History) (a b : Scene) → SameScenes id a b → SameScenes id (transaction_performed who cs new a) (transaction_performed who cs new b)
 transaction_same id who cs new a b h =
     let several = notes.bit_if (nat_lt 1 (length cs)) notes.multi_step in
     let x = changes_performed who several false cs a in
     let y = changes_performed who several false cs b in
-    let k : SameScenes id x y = changes_same id who several false cs a b h in
+    let k : SameScenes id x y = changes_related (SameScenes id) (λ x y same. same.document) (change_same id) who several false cs a b h in
     let heard : watching y.views y.document ≡ watching x.views x.document =
     ap (watching y.views) k.document ∙ watching_alike id x.views y.views x.document.views k.views k.listed in
     record {
@@ -182,7 +163,7 @@ sender_alike : (id : ℕ) (f : View → View) → ((v : View) → (f v).id ≡ v
 sender_alike id f same on sender vs ws h =
     let g : View → View = λ (v : View). cond (v.id == sender) (f v) v in
     alike_both (λ n. n ≡ id) g
-    (alike_kept (λ n. n ≡ id) g (λ v. either (λ (w : View). w.id ≡ v.id) (v.id == sender) (f v) v (same v) refl) (λ v. either (λ (w : View). w.document ≡ v.document) (v.id == sender) (f v) v (on v) refl)) vs ws h
+    (alike_kept (λ n. n ≡ id) g (sender_keeps (λ (w : View). w.id) f same sender) (sender_keeps (λ (w : View). w.document) f on sender)) vs ws h
 
 caret_alike : (id sender place : ℕ) (vs ws : List View) → Alike id vs ws → Alike id (with_caret sender place vs) (with_caret sender place ws)
 caret_alike id sender place vs ws h = sender_alike id (λ (v : View). record v { anchor = place; caret = place }) (λ v. refl) (λ v. refl) sender vs ws h
@@ -203,9 +184,7 @@ replaced_agree : (id : ℕ) (s t : Session) (old new new' : Document) → docume
     → document_at (with_document new' t.documents) id ≡ document_at (with_document new s.documents) id
 replaced_agree id s t old new new' in_s in_t is same =
     ap (λ (d : Document). document_at (with_document d t.documents) id) same
-    ∙ ap (document_at (with_document new t.documents)) (sym is)
-    ∙ replaced_found t.documents old new (ap (document_at t.documents) is ∙ in_t)
-    ∙ sym (ap (document_at (with_document new s.documents)) (sym is) ∙ replaced_found s.documents old new (ap (document_at s.documents) is ∙ in_s))
+    ∙ replaced_found t.documents id old new is in_t ∙ sym (replaced_found s.documents id old new is in_s)
 
 -- scenes that are the same, put back into the two sessions
 scenes_agree : (id : ℕ) (s t : Session) (old : Document) (a b : Scene) → Agree id s t → document_at s.documents id ≡ Some old → a.document.id ≡ id → SameScenes id a b
@@ -217,72 +196,22 @@ scenes_agree id s t old a b h found is same = record {
   limits = h.limits;
 }
 
-lines_id : (change : DocumentChange) (d : Document) (v : View) → (changed_lines change d v).id ≡ v.id
-lines_id (document_change.SetLineEndTypes to) d v = either (λ (w : View). w.id ≡ v.id) (v.document == d.id) _ v refl refl
-lines_id (document_change.SetReadOnly on) d v = refl
-lines_id (document_change.SetLineEnd to) d v = refl
-lines_id document_change.SetSavePoint d v = refl
-lines_id document_change.BeginGroup d v = refl
-lines_id document_change.EndGroup d v = refl
-lines_id document_change.ForgetHistory d v = refl
-lines_id (document_change.CollectUndo on) d v = refl
-lines_id (document_change.AppendContainer token coalesce) d v = refl
-lines_id (document_change.AddMarker line number) d v = refl
-lines_id (document_change.AddMarkers line mask) d v = refl
-lines_id (document_change.DeleteMarker line number) d v = refl
-lines_id (document_change.DeleteMarkers number) d v = refl
-lines_id (document_change.DeleteHandle handle) d v = refl
-lines_id (document_change.SetLevel line level) d v = refl
-lines_id (document_change.SetState line state) d v = refl
-lines_id (document_change.SetEndStyled place) d v = refl
-lines_id (document_change.StyleRun count style) d v = refl
-lines_id (document_change.StyleBytes count) d v = refl
-lines_id (document_change.NeedStyle start past) d v = refl
-lines_id (document_change.FillIndicator indicator start count value) d v = refl
-
-lines_document : (change : DocumentChange) (d : Document) (v : View) → (changed_lines change d v).document ≡ v.document
-lines_document (document_change.SetLineEndTypes to) d v = either (λ (w : View). w.document ≡ v.document) (v.document == d.id) _ v refl refl
-lines_document (document_change.SetReadOnly on) d v = refl
-lines_document (document_change.SetLineEnd to) d v = refl
-lines_document document_change.SetSavePoint d v = refl
-lines_document document_change.BeginGroup d v = refl
-lines_document document_change.EndGroup d v = refl
-lines_document document_change.ForgetHistory d v = refl
-lines_document (document_change.CollectUndo on) d v = refl
-lines_document (document_change.AppendContainer token coalesce) d v = refl
-lines_document (document_change.AddMarker line number) d v = refl
-lines_document (document_change.AddMarkers line mask) d v = refl
-lines_document (document_change.DeleteMarker line number) d v = refl
-lines_document (document_change.DeleteMarkers number) d v = refl
-lines_document (document_change.DeleteHandle handle) d v = refl
-lines_document (document_change.SetLevel line level) d v = refl
-lines_document (document_change.SetState line state) d v = refl
-lines_document (document_change.SetEndStyled place) d v = refl
-lines_document (document_change.StyleRun count style) d v = refl
-lines_document (document_change.StyleBytes count) d v = refl
-lines_document (document_change.NeedStyle start past) d v = refl
-lines_document (document_change.FillIndicator indicator start count value) d v = refl
-
 put_alike : (id : ℕ) (new : View) (vs ws : List View) → Alike id vs ws → Alike id (with_view new vs) (with_view new ws)
-put_alike id new [] [] h = tt
-put_alike id new [] (w ∷ ws) h = h
-put_alike id new (v ∷ vs) [] h = h
-put_alike id new (v ∷ vs) (w ∷ ws) h =
-    (subst (λ n. IsAlike (λ k. k ≡ id) (cond (v.id == new.id) new v) (cond (n == new.id) new w)) (sym h.0.id) (go (v.id == new.id)), put_alike id new vs ws h.1)
+put_alike id new vs ws h =
+    alike_both (λ n. n ≡ id) (λ (v : View). cond (v.id == new.id) new v)
+    (λ v w k. subst (λ n. IsAlike (λ m. m ≡ id) (cond (v.id == new.id) new v) (cond (n == new.id) new w)) (sym k.id) (go v w (v.id == new.id) k)) vs ws h
   where
-    go : (b : Bool) → IsAlike (λ k. k ≡ id) (cond b new v) (cond b new w)
-    go true = alike_same (λ k. k ≡ id) new
-    go false = h.0
+    go : (v w : View) (b : Bool) → IsAlike (λ n. n ≡ id) v w → IsAlike (λ n. n ≡ id) (cond b new v) (cond b new w)
+    go v w true k = alike_same (λ n. n ≡ id) new
+    go v w false k = k
 
 -- The same request in the other session.
 abbrev at : Request → Session → Request
 at r t = record r { session = t }
 
 source_same : (r : Request) (t : Session) (from : Source) → t.clipboard ≡ r.session.clipboard → source_bytes (at r t) from ≡ source_bytes r from
-source_same r t source.Nothing e = refl
-source_same r t (source.MessageText count) e = refl
 source_same r t (source.Clipboard convert) e = same_converted convert r (at r t) t.clipboard refl ∙ ap (λ (bytes : List ℕ). converted_if convert r bytes) e
-source_same r t source.LineEnd e = refl
+source_same r t _ e = refl
 
 steps_of_same : (r : Request) (t : Session) (change : Edit) → t.clipboard ≡ r.session.clipboard → steps_of (at r t) change ≡ steps_of r change
 steps_of_same r t (edit.Replace start count from) e = ap (λ (bytes : List ℕ). replacement start count bytes (text r)) (source_same r t from e)
@@ -351,7 +280,7 @@ performed_done id r t (plan.ChangeDocument change value) l barred keeps own h =
       reply = ap (λ (w : List View). response value [] (change_told r.view w r.document new change)) (heard_same id r t own h);
       sessions = record {
         document = replaced_agree id r.session t r.document new new own.found (h.document ∙ own.found) (own_id r (plan.ChangeDocument change value) ∙ own.is) refl;
-        views = alike_both (λ n. n ≡ id) (changed_lines change r.document) (alike_kept (λ n. n ≡ id) (changed_lines change r.document) (lines_id change r.document) (lines_document change r.document)) r.session.views t.views h.views;
+        views = alike_both (λ n. n ≡ id) (changed_lines change r.document) (alike_kept (λ n. n ≡ id) (changed_lines change r.document) (lines_id change r.document) (lines_keep (λ (w : View). w.document) (λ w flags. refl) change r.document)) r.session.views t.views h.views;
         clipboard = h.clipboard;
         limits = h.limits;
       };
@@ -362,11 +291,7 @@ performed_done id r t (plan.ChangeSession (session_change.Copy start count) valu
     record { reply = refl; sessions = record { document = h.document; views = h.views; clipboard = refl; limits = h.limits } }
 performed_done id r t (plan.ChangeSession (session_change.CopyText count) value) l barred keeps own h =
     record { reply = refl; sessions = record { document = h.document; views = h.views; clipboard = refl; limits = h.limits } }
-performed_done id r t (plan.ChangeSession (session_change.Attach d) value) l barred keeps own h = absurd (cc)
-performed_done id r t (plan.ChangeSession session_change.AttachNew value) l barred keeps own h = absurd (cc)
-performed_done id r t (plan.ChangeSession (session_change.Create options) value) l barred keeps own h = absurd (cc)
-performed_done id r t (plan.ChangeSession (session_change.AddReference d) value) l barred keeps own h = absurd (cc)
-performed_done id r t (plan.ChangeSession (session_change.Release d) value) l barred keeps own h = absurd (cc)
+performed_done id r t _ l barred keeps own h = absurd (cc)
 
 -- Messages to views of the document.
 
@@ -456,7 +381,7 @@ message_places s view m barred sound =
         → Placed s.views (after_message s (answered kind (request s v d m) p)).0.session.views
     go v kind d sees no_documents finds (Err refusal) shaped = all_alike (λ n. ⊥) s.views
     go v kind d sees no_documents finds (Ok p) shaped =
-        performed_leaves_views (λ n. ⊥) v.id v.document (λ e. e) (request s v d m) p (leave_of kind) no_documents shaped refl refl (document_id s.documents v.document d finds) (once_of s view v sound sees)
+        performed_leaves_views (λ n. ⊥) (request s v d m) p (leave_of kind) (λ e. e) no_documents shaped (document_id s.documents v.document d finds) (once_of s view v sound sees)
 
 others_message : (id : ℕ) (s : Session) (view : ℕ) (m : Message)
     → ((kind : Kind) → kind_of m.number ≡ Some kind → (is_about_documents kind ≡ false) × (is_copying kind ≡ false)) → IsSound s
@@ -473,7 +398,7 @@ others_message id s view m barred sound other =
         let is = document_id s.documents v.document d finds in
         record {
           document = performed_leaves_document r p (leave_of kind) id none.0 shaped (λ e. other v sees (sym is ∙ sym e));
-          views = performed_leaves_views (λ n. n ≡ id) v.id v.document (other v sees) r p (leave_of kind) none.0 shaped refl refl is (once_of s view v sound sees);
+          views = performed_leaves_views (λ n. n ≡ id) r p (leave_of kind) (other v sees) none.0 shaped is (once_of s view v sound sees);
           clipboard = performed_leaves_clipboard r p (leave_of kind) none.0 none.1 shaped;
           limits = performed_leaves_limits r p (leave_of kind) none.0 shaped;
         }
@@ -489,19 +414,11 @@ elsewhere_stays id k vs ws h = go (view_at vs k) (view_at ws k) (found_alike (λ
     go (Some v) None f = absurd f
     go (Some v) (Some w) f = ap (λ n. not (n == id)) f.document
 
-not_true : (b : Bool) → not b ≡ true → b ≡ false
-not_true true e = absurd (cc)
-not_true false e = refl
-
-not_false : (b : Bool) → not b ≡ false → b ≡ true
-not_false true e = refl
-not_false false e = absurd (cc)
-
 is_own : (id : ℕ) (o : Option View) (v : View) → shows_other id o ≡ false → o ≡ Some v → v.document ≡ id
-is_own id o v e f = eqb-true v.document id (not_false (v.document == id) (ap (shows_other id) (sym f) ∙ e))
+is_own id o v e f = eqb-true v.document id (not-false (v.document == id) (ap (shows_other id) (sym f) ∙ e))
 
 is_others : (id : ℕ) (o : Option View) (v : View) → shows_other id o ≡ true → o ≡ Some v → v.document ≡ id → ⊥
-is_others id o v e f = eqb-false v.document id (not_true (v.document == id) (ap (shows_other id) (sym f) ∙ e))
+is_others id o v e f = eqb-false v.document id (not-true (v.document == id) (ap (shows_other id) (sym f) ∙ e))
 
 -- Lists of messages.
 

@@ -1,24 +1,21 @@
 -- The last save point of a run: each document has one, and from it on the law of the save point holds.
-use Rattle.std.proofs.Common.{◌≡◌, ℕ, ◌==◌, cond, Bool, true, false, List, [], ◌∷◌, length, refl, ap, ◌∙◌, sym, subst, inl, inr, Option, Some, None, Ok, Err}
-use Rattle.std.specs.Prelude.{◌⊎◌, not, ◌&&◌, ◌||◌}
+use Rattle.std.proofs.Common.{◌≡◌, ℕ, ◌==◌, Bool, true, false, List, [], ◌∷◌, length, refl, ap, ◌∙◌, sym, subst, inl, inr, Option, Some, None, Err}
+use Rattle.std.specs.Prelude.{◌⊎◌, not, ◌&&◌}
 use Rattle.std.specs.Option.{option_or}
-use Rattle.std.proofs.lemmas.Bool.{eqb-true, eq-eqb, and_parts}
+use Rattle.std.proofs.lemmas.Bool.{eqb-true, eq-eqb, and_parts, or_cases, or_parts}
 use Rattle.ed_types.specs.declared.kind.Kind.{Kind}
-use Rattle.ed_types.specs.declared.kind.Kind.TheVariants.{GetModify, SetSavePoint, EmptyUndoBuffer}
+use Rattle.ed_types.specs.declared.kind.Kind.TheVariants.{SetSavePoint, EmptyUndoBuffer}
 use Rattle.ed_types.specs.declared.message.Message.{Message}
 use Rattle.ed_types.specs.declared.refusal.Refusal.TheVariants.{NoSuchDocument}
 use Rattle.ed_types.specs.declared.script.Command.{Command}
-use Rattle.ed_types.specs.declared.script.Command.TheVariants.{OpenView, CloseView, LoadFile, SendMessage, Expect}
-use Rattle.ed_types.specs.Notices.{Response}
-use Rattle.ed_types.specs.Messages.{kind_of, marks_of}
+use Rattle.ed_types.specs.declared.script.Command.TheVariants.{SendMessage}
+use Rattle.ed_types.specs.Messages.{kind_of}
 use Rattle.ed_model.specs.declared.plan.DocumentChange.TheVariants as document_change
 use Rattle.ed_model.specs.Numbers.{flag}
 use Rattle.ed_model.specs.History.{at_save_point}
 use Rattle.ed_model.specs.Session.{Session, View, Document, view_at, document_at, text_of, new_session, with_document}
-use Rattle.ed_model.specs.Requests.{Request}
-use Rattle.ed_model.specs.Performing.{quiet}
 use Rattle.ed_model.specs.Changes.{changed_document}
-use Rattle.ed_model.specs.Table.{table, request, with_recording, record_note, table_from_view, table_from_kind, table_from_document, answered, plan_of}
+use Rattle.ed_model.specs.Table.{table, request, table_from_view, table_from_kind, table_from_document, answered, plan_of}
 use Rattle.ed_model.specs.TableLaws.{Answered}
 use Rattle.ed_model.specs.SoundLaws.{IsSound, CommandKeepsSound, NewSessionIsSound}
 use Rattle.ed_model.specs.PlansFit.{PlansFit}
@@ -31,6 +28,7 @@ use Rattle.run_laws.proofs.Finding.{document_id, replaced_found}
 use Rattle.run_laws.proofs.TableWays.{table_at}
 use Rattle.run_laws.proofs.Going.{From}
 use Rattle.run_laws.proofs.IdLemmas.{Any, command_goes_on}
+use Rattle.run_laws.proofs.SavePointLemmas.{get_modify_value}
 
 -- A document that was just given a save point counts as unmodified.
 
@@ -38,14 +36,6 @@ saving_is : (kind : Kind) → is_saving kind ≡ true → (kind ≡ SetSavePoint
 saving_is SetSavePoint e = inl refl
 saving_is EmptyUndoBuffer e = inr refl
 saving_is _ e = cc
-
-either_true : (a b : Bool) → (a || b) ≡ true → (a ≡ true) ⊎ (b ≡ true)
-either_true true b e = inl refl
-either_true false b e = inr e
-
-neither_true : (a b : Bool) → (a || b) ≡ false → (a ≡ false) × (b ≡ false)
-neither_true true b e = absurd (cc)
-neither_true false b e = (refl, e)
 
 -- a document that did not exist before is new
 abbrev NewIfNone : ℕ → Option Document → Document → Type 0
@@ -69,8 +59,7 @@ put_in_place : (ds : List Document) (id : ℕ) (old new d : Document) → docume
     → document_at (with_document new ds) id ≡ Some d → at_save_point d.history ≡ true
 put_in_place ds id old new d found same at there =
     let is : new.id ≡ id = same ∙ document_id ds id old found in
-    let placed : document_at (with_document new ds) new.id ≡ Some new = replaced_found ds old new (ap (document_at ds) is ∙ found) in
-    let here : document_at (with_document new ds) id ≡ Some new = ap (document_at (with_document new ds)) (sym is) ∙ placed in
+    let here : document_at (with_document new ds) id ≡ Some new = replaced_found ds id old new is found in
     let both : new ≡ d = cc in
     subst (λ (x : Document). at_save_point x.history ≡ true) both at
 
@@ -109,15 +98,12 @@ message_saves s view m id d saves there = at_view (view_at s.views view) (kind_o
 set_is_unmodified : (files : List (List ℕ)) (c : Command) (s : Running) (id : ℕ) (d : Document) → sets_save_point id s.session c ≡ true
     → document_at (after_command files c s).0.session.documents id ≡ Some d → at_save_point d.history ≡ true
 set_is_unmodified files (SendMessage view m) s id d sets there = message_saves s.session view m id d sets there
-set_is_unmodified files OpenView s id d sets there = absurd (cc)
-set_is_unmodified files (CloseView view) s id d sets there = absurd (cc)
-set_is_unmodified files (LoadFile view file) s id d sets there = absurd (cc)
-set_is_unmodified files (Expect value) s id d sets there = absurd (cc)
+set_is_unmodified files _ s id d sets there = absurd (cc)
 
 pub saved_is_unmodified : PlansFit → SavedIsUnmodified
 saved_is_unmodified fits files c s id d sound gives there =
     let t = (after_command files c s).0 in
-    go (either_true (is_created (document_at s.session.documents id) (document_at t.session.documents id)) (sets_save_point id s.session c) gives)
+    go (or_cases (is_created (document_at s.session.documents id) (document_at t.session.documents id)) (sets_save_point id s.session c) gives)
   where
     go : (is_created (document_at s.session.documents id) (document_at (after_command files c s).0.session.documents id) ≡ true) ⊎ (sets_save_point id s.session c ≡ true) → at_save_point d.history ≡ true
     go (inl created) = created_is_unmodified fits files c s id d sound created there
@@ -125,17 +111,8 @@ saved_is_unmodified fits files c s id d sound gives there =
 
 -- GETMODIFY then answers 0.
 
-value_if_recorded : (b : Bool) (r : Request) (reply : Response) → (cond b (record reply { notes = record_note r ∷ reply.notes }) reply).value ≡ reply.value
-value_if_recorded true r reply = refl
-value_if_recorded false r reply = refl
-
 pub unmodified_is_told : UnmodifiedIsTold
-unmodified_is_told s view m v d done is sees finds e at =
-    let r = request s v d m in
-    let reply = quiet (flag (not (at_save_point d.history))) in
-    let here : table s view m ≡ Ok (s, with_recording GetModify r reply) = table_at s view m v GetModify d sees is finds in
-    let both : done ≡ (s, with_recording GetModify r reply) = cc in
-    ap (λ (x : Session × Response). x.1.value) both ∙ value_if_recorded (v.records && (marks_of GetModify).r) r reply ∙ ap (λ (b : Bool). flag (not b)) at
+unmodified_is_told s view m v d done is sees finds e at = get_modify_value s view m v d done is sees finds e ∙ ap (λ (b : Bool). flag (not b)) at
 
 -- Commands that give no save point.
 
@@ -166,16 +143,13 @@ module _ (files : List (List ℕ)) (id : ℕ) where
       subst (λ (o : Option View). (is_view_of id o && is_saving_message (kind_of m.number)) ≡ false) sees e in
       let at_kind : ((v.document == id) && is_saving kind) ≡ false = subst (λ (k : Option Kind). ((v.document == id) && is_saving_message k) ≡ false) is at_view in
       subst (λ (b : Bool). (b && is_saving kind) ≡ false) (eq-eqb v.document id on) at_kind
-  sets_none OpenView s e = tt
-  sets_none (CloseView view) s e = tt
-  sets_none (LoadFile view file) s e = tt
-  sets_none (Expect value) s e = tt
+  sets_none _ s e = tt
 
   keeps_save_point : (cs : List Command) (s : Running) → GivesNone cs s → AllIsCollected files id cs s → KeepsTheSavePoint files id cs s
   keeps_save_point [] s none all = tt
   keeps_save_point (c ∷ cs) s none all =
       let t = (after_command files c s).0 in
-      let neither = neither_true (is_created (document_at s.session.documents id) (document_at t.session.documents id)) (sets_save_point id s.session c) none.0 in
+      let neither = or_parts (is_created (document_at s.session.documents id) (document_at t.session.documents id)) (sets_save_point id s.session c) none.0 in
       (sets_none c s.session neither.1, all.0, keeps_save_point cs t none.1 all.1)
 
   not_created : (o p : Option Document) → o ≡ None → is_created o p ≡ false → p ≡ None
@@ -187,7 +161,7 @@ module _ (files : List (List ℕ)) (id : ℕ) where
   still_none [] s none gone = gone
   still_none (c ∷ cs) s none gone =
       let t = (after_command files c s).0 in
-      let neither = neither_true (is_created (document_at s.session.documents id) (document_at t.session.documents id)) (sets_save_point id s.session c) none.0 in
+      let neither = or_parts (is_created (document_at s.session.documents id) (document_at t.session.documents id)) (sets_save_point id s.session c) none.0 in
       still_none cs t none.1 (not_created (document_at s.session.documents id) (document_at t.session.documents id) gone neither.0)
 
   -- The text of the last save point.

@@ -1,6 +1,6 @@
 -- A message that is not about documents leaves the other views, other documents and the clipboard unchanged.
-use Rattle.std.proofs.Common.{◌≡◌, ℕ, ◌==◌, nat_lt, cond, Bool, true, false, List, [], ◌∷◌, length, map, refl, ap, ◌∙◌, sym, subst, Option, Some, None}
-use Rattle.std.specs.Prelude.{reverse}
+use Rattle.std.proofs.Common.{◌≡◌, ℕ, ◌==◌, cond, Bool, true, false, List, map, refl, ap, ◌∙◌, sym, subst}
+use Rattle.std.specs.Prelude.{ℤ}
 use Rattle.std.specs.List.{AllByRecursion}
 use Rattle.std.proofs.lemmas.Bool.{eqb-true, and_parts}
 use Rattle.ed_model.specs.declared.plan.Follow.{Follow}
@@ -9,20 +9,22 @@ use Rattle.ed_model.specs.declared.plan.DocumentChange.{DocumentChange}
 use Rattle.ed_model.specs.declared.plan.DocumentChange.TheVariants as document_change
 use Rattle.ed_model.specs.declared.plan.ViewChange.{ViewChange}
 use Rattle.ed_model.specs.declared.plan.ViewChange.TheVariants as view_change
+use Rattle.ed_model.specs.declared.plan.SessionChange.{SessionChange}
 use Rattle.ed_model.specs.declared.plan.SessionChange.TheVariants as session_change
 use Rattle.ed_model.specs.declared.plan.Plan.{Plan}
 use Rattle.ed_model.specs.declared.plan.Plan.TheVariants as plan
 use Rattle.ed_model.specs.Steps.{Step}
-use Rattle.ed_model.specs.History.{History, Change, TextStep, ContainerStep, undo_changes, redo_changes, undone, redone, latest_text_step}
-use Rattle.ed_model.specs.Session.{Session, Document, View, document_at, with_view}
-use Rattle.ed_model.specs.Notes as notes
+use Rattle.ed_model.specs.Session.{Session, Document, View, document_at, with_view, text_of}
+use Rattle.ed_model.specs.Carry.{regrouped}
+use Rattle.ed_model.specs.Rows.{flags_together}
 use Rattle.ed_model.specs.Requests.{Request, text}
 use Rattle.ed_model.specs.Edits.{steps_of}
 use Rattle.ed_model.specs.FoldingPlans.{levels}
-use Rattle.ed_model.specs.Performing.{Scene, scene_of, session_of, moved_view, view_after, step_made, steps_made, sealed_scene, edit_made, followed, with_caret, caret_behind, change_performed, changes_performed, changes_lines, is_last, history_performed, place_behind}
-use Rattle.ed_model.specs.Changes.{changed_lines, changed_view}
+use Rattle.ed_model.specs.Performing.{scene_of, session_of, moved_view, view_after, edit_made, followed}
+use Rattle.ed_model.specs.Changes.{changed_lines, changed_view, session_changed}
 use Rattle.ed_model.specs.Table.{performed}
-use Rattle.run_laws.proofs.Finding.{either, replaced_other}
+use Rattle.run_laws.proofs.Finding.{replaced_other}
+use Rattle.run_laws.proofs.Walks.{attaches, followed_same, performed_views}
 use Rattle.run_laws.proofs.Going.{own_after, own_id}
 use Rattle.run_laws.proofs.IdLemmas.{view_change_ids}
 use Rattle.run_laws.proofs.PlanShapes.{Leave, may_follow, KeepsTo}
@@ -31,237 +33,120 @@ use Rattle.run_laws.proofs.Alike.{IsAlike, AreAlike, alike_same, all_alike, alik
 -- a change of a view keeps its document
 pub view_change_document : (levels : List ℕ) (what : ViewChange) (v : View) → (changed_view levels what v).document ≡ v.document
 view_change_document levels (view_change.Select anchor caret) v = refl
-view_change_document levels (view_change.SetTarget start past) v = refl
-view_change_document levels (view_change.SetSearchFlags flags) v = refl
-view_change_document levels (view_change.SetMask mask) v = refl
-view_change_document levels (view_change.SetIndicator indicator) v = refl
-view_change_document levels (view_change.SetIndicatorValue value) v = refl
-view_change_document levels (view_change.SetPasteConversion on) v = refl
-view_change_document levels (view_change.SetRecording on) v = refl
-view_change_document levels (view_change.ShowLines first past) v = refl
-view_change_document levels (view_change.HideLines first past) v = refl
-view_change_document levels (view_change.SetExpanded line on) v = refl
-view_change_document levels (view_change.Contract line) v = refl
-view_change_document levels (view_change.Expand line) v = refl
-view_change_document levels (view_change.EnsureVisible line) v = refl
+view_change_document levels _ v = refl
 
 -- the views with the sender's id are attached to its document
 abbrev pub Once : ℕ → ℕ → List View → Type 0
 Once sender document views = AllByRecursion (λ (v : View). v.id ≡ sender → v.document ≡ document) views
 
+-- a plan that is not about documents attaches no view
+attaches_none : (l : Leave) (what : SessionChange) (value : ℤ) → l.documents ≡ false → KeepsTo l (plan.ChangeSession what value) → attaches what ≡ true → ⊥
+attaches_none l (session_change.Attach id) value barred keeps e = cc
+attaches_none l _ value barred keeps e = cc
+
 -- `Own` does not hold for the sender's document.
 module _ (Own : ℕ → Type 0) (sender document : ℕ) (apart : Own document → ⊥) where
-  changed_if : (b : Bool) (new v : View) → (b ≡ true → IsAlike Own v new) → IsAlike Own v (cond b new v)
-  changed_if true new v h = h refl
-  changed_if false new v h = alike_same Own v
+  abbrev IsOnce : View → Type 0
+  IsOnce v = v.id ≡ sender → v.document ≡ document
+
+  -- views of which one changes only if it is alike afterwards
+  changed_leave : (test : View → Bool) (f : View → View) → ((v : View) → IsOnce v → test v ≡ true → IsAlike Own v (f v)) → (views : List View) → Once sender document views
+      → AreAlike Own views (map (λ (v : View). cond (test v) (f v) v) views)
+  changed_leave test f h views once = alike_changed Own IsOnce (λ (v : View). cond (test v) (f v) v) (λ v p. go v (test v) refl p) views once
+    where
+      go : (v : View) (b : Bool) → test v ≡ b → IsOnce v → IsAlike Own v (cond b (f v) v)
+      go v true t p = h v p t
+      go v false t p = alike_same Own v
+
+  -- a view of the sender's document may change anything but its id and document
+  own_alike : (v w : View) → v.document ≡ document → w.id ≡ v.id → w.document ≡ v.document → IsAlike Own v w
+  own_alike v w at id on = record { id = id; document = on; own = λ o. absurd (apart (subst Own at o)) }
 
   step_leaves : (step : Step) (d : Document) → d.id ≡ document → (views : List View) → Once sender document views → AreAlike Own views (map (view_after step d) views)
   step_leaves step d e views once =
-      alike_changed Own (λ (v : View). v.id ≡ sender → v.document ≡ document) (view_after step d)
-      (λ v p. changed_if (v.document == d.id) (moved_view step d v) v
-      (λ t. record { id = refl; document = refl; own = λ o. absurd (apart (subst Own (eqb-true v.document d.id t ∙ e) o)) }))
-      views once
-
-  once_after : (vs ws : List View) → AreAlike Own vs ws → Once sender document vs → Once sender document ws
-  once_after vs ws h once = kept_on Own (λ n k. n ≡ sender → k ≡ document) vs ws h once
-
-  steps_leave : (later : Bool) (steps : List Step) (scene : Scene) → scene.document.id ≡ document → Once sender document scene.views → AreAlike Own scene.views (steps_made later steps scene).views
-  steps_leave later [] scene e once = all_alike Own scene.views
-  steps_leave later (step ∷ steps) scene e once =
-      let here = step_leaves step scene.document e scene.views once in
-      alike_through Own scene.views (step_made later step scene).views (steps_made later (step ∷ steps) scene).views here
-      (steps_leave true steps (step_made later step scene) e (once_after scene.views (step_made later step scene).views here once))
-
-  edit_leaves : (steps : List Step) (scene : Scene) → scene.document.id ≡ document → Once sender document scene.views → AreAlike Own scene.views (edit_made steps scene).views
-  edit_leaves steps scene e once =
-      either (λ (x : Scene). AreAlike Own scene.views x.views) (nat_lt 1 (length steps)) (sealed_scene (steps_made false steps (sealed_scene scene))) (steps_made false steps scene)
-      (steps_leave false steps (sealed_scene scene) e once) (steps_leave false steps scene e once)
-
-  changes_leave : (who several : ℕ) (lines_changed : Bool) (cs : List Change) (scene : Scene) → scene.document.id ≡ document → Once sender document scene.views
-      → AreAlike Own scene.views (changes_performed who several lines_changed cs scene).views
-  changes_leave who several lines_changed [] scene e once = all_alike Own scene.views
-  changes_leave who several lines_changed (TextStep step ∷ cs) scene e once =
-      let changed = cond lines_changed true (changes_lines (TextStep step) scene.document) in
-      let next = change_performed who several (is_last cs) changed (TextStep step) scene in
-      let here = step_leaves step scene.document e scene.views once in
-      alike_through Own scene.views next.views (changes_performed who several changed cs next).views here
-      (changes_leave who several changed cs next e (once_after scene.views next.views here once))
-  changes_leave who several lines_changed (ContainerStep token coalesce ∷ cs) scene e once =
-      let changed = cond lines_changed true (changes_lines (ContainerStep token coalesce) scene.document) in
-      changes_leave who several changed cs (change_performed who several (is_last cs) changed (ContainerStep token coalesce) scene) e once
+      changed_leave (λ (v : View). v.document == d.id) (moved_view step d) (λ v p t. own_alike v (moved_view step d v) (eqb-true v.document d.id t ∙ e) refl refl) views once
 
   -- only the sender changes, and keeps its id and document
   sender_leaves : (f : View → View) → ((v : View) → (f v).id ≡ v.id) → ((v : View) → (f v).document ≡ v.document) → (views : List View) → Once sender document views
       → AreAlike Own views (map (λ (v : View). cond (v.id == sender) (f v) v) views)
-  sender_leaves f id on views once =
-      alike_changed Own (λ (v : View). v.id ≡ sender → v.document ≡ document) (λ (v : View). cond (v.id == sender) (f v) v)
-      (λ v p. changed_if (v.id == sender) (f v) v
-      (λ t. record { id = id v; document = on v; own = λ o. absurd (apart (subst Own (p (eqb-true v.id sender t)) o)) }))
-      views once
-
-  caret_leaves : (place : ℕ) (views : List View) → Once sender document views → AreAlike Own views (with_caret sender place views)
-  caret_leaves place views once = sender_leaves (λ (v : View). record v { anchor = place; caret = place }) (λ v. refl) (λ v. refl) views once
-
-  behind_leaves : (o : Option Step) (views : List View) → Once sender document views → AreAlike Own views (caret_behind sender o views)
-  behind_leaves None views once = all_alike Own views
-  behind_leaves (Some step) views once = caret_leaves (place_behind step) views once
-
-  followed_leaves : (before : List ℕ) (after : Follow) (s : Session) → Once sender document s.views → AreAlike Own s.views (followed sender before after s).views
-  followed_leaves before follow.Nothing s once = all_alike Own s.views
-  followed_leaves before (follow.Caret place) s once = caret_leaves place s.views once
-  followed_leaves before (follow.Target start past) s once = sender_leaves (λ (v : View). record v { target_start = start; target_end = past }) (λ v. refl) (λ v. refl) s.views once
-  followed_leaves before (follow.Clipboard start count) s once = all_alike Own s.views
+  sender_leaves f id on views once = changed_leave (λ (v : View). v.id == sender) f (λ v p t. own_alike v (f v) (p (eqb-true v.id sender t)) (id v) (on v)) views once
 
   with_view_leaves : (new : View) (views : List View) → new.id ≡ sender → new.document ≡ document → Once sender document views → AreAlike Own views (with_view new views)
   with_view_leaves new views id on once =
-      alike_changed Own (λ (v : View). v.id ≡ sender → v.document ≡ document) (λ (v : View). cond (v.id == new.id) new v)
-      (λ v p. changed_if (v.id == new.id) new v
-      (λ t.
+      changed_leave (λ (v : View). v.id == new.id) (λ v. new)
+      (λ v p t.
       let same = eqb-true v.id new.id t in
       let at = p (same ∙ id) in
-      record { id = sym same; document = on ∙ sym at; own = λ o. absurd (apart (subst Own at o)) }))
+      own_alike v new at (sym same) (on ∙ sym at))
       views once
 
-  lines_leave : (change : DocumentChange) (d : Document) → d.id ≡ document → (v : View) → IsAlike Own v (changed_lines change d v)
-  lines_leave (document_change.SetLineEndTypes to) d e v =
-      changed_if (v.document == d.id) _ v (λ t. record { id = refl; document = refl; own = λ o. absurd (apart (subst Own (eqb-true v.document d.id t ∙ e) o)) })
-  lines_leave (document_change.SetReadOnly on) d e v = alike_same Own v
-  lines_leave (document_change.SetLineEnd to) d e v = alike_same Own v
-  lines_leave document_change.SetSavePoint d e v = alike_same Own v
-  lines_leave document_change.BeginGroup d e v = alike_same Own v
-  lines_leave document_change.EndGroup d e v = alike_same Own v
-  lines_leave document_change.ForgetHistory d e v = alike_same Own v
-  lines_leave (document_change.CollectUndo on) d e v = alike_same Own v
-  lines_leave (document_change.AppendContainer token coalesce) d e v = alike_same Own v
-  lines_leave (document_change.AddMarker line number) d e v = alike_same Own v
-  lines_leave (document_change.AddMarkers line mask) d e v = alike_same Own v
-  lines_leave (document_change.DeleteMarker line number) d e v = alike_same Own v
-  lines_leave (document_change.DeleteMarkers number) d e v = alike_same Own v
-  lines_leave (document_change.DeleteHandle handle) d e v = alike_same Own v
-  lines_leave (document_change.SetLevel line level) d e v = alike_same Own v
-  lines_leave (document_change.SetState line state) d e v = alike_same Own v
-  lines_leave (document_change.SetEndStyled place) d e v = alike_same Own v
-  lines_leave (document_change.StyleRun count style) d e v = alike_same Own v
-  lines_leave (document_change.StyleBytes count) d e v = alike_same Own v
-  lines_leave (document_change.NeedStyle start past) d e v = alike_same Own v
-  lines_leave (document_change.FillIndicator indicator start count value) d e v = alike_same Own v
+  lines_leave : (change : DocumentChange) (d : Document) → d.id ≡ document → (views : List View) → Once sender document views → AreAlike Own views (map (changed_lines change d) views)
+  lines_leave (document_change.SetLineEndTypes to) d e views once =
+      changed_leave (λ (v : View). v.document == d.id) (λ (v : View). record v { flags = regrouped flags_together d.line_end_types to (text_of d) v.flags })
+      (λ v p t. own_alike v (record v { flags = regrouped flags_together d.line_end_types to (text_of d) v.flags }) (eqb-true v.document d.id t ∙ e) refl refl) views once
+  lines_leave change d e views once = alike_changed Own IsOnce (changed_lines change d) (λ v p. alike_same Own v) views once
 
-  all_lines_leave : (change : DocumentChange) (d : Document) → d.id ≡ document → (views : List View) → Once sender document views → AreAlike Own views (map (changed_lines change d) views)
-  all_lines_leave change d e views once = alike_changed Own (λ (v : View). v.id ≡ sender → v.document ≡ document) (changed_lines change d) (λ v p. lines_leave change d e v) views once
+-- the views after a plan that is not about documents
+pub performed_leaves_views : (Own : ℕ → Type 0) (r : Request) (p : Plan) (l : Leave) → (Own r.view.document → ⊥) → l.documents ≡ false → KeepsTo l p → r.document.id ≡ r.view.document
+    → Once r.view.id r.view.document r.session.views → AreAlike Own r.session.views (performed r p).0.views
+performed_leaves_views Own r p l apart barred keeps e once =
+    performed_views r (AreAlike Own r.session.views)
+    (λ step d vs is h. further vs _ h (step_leaves Own r.view.id r.view.document apart step d (is ∙ e) vs))
+    (λ place vs h.
+    further vs _ h (sender_leaves Own r.view.id r.view.document apart (λ (v : View). record v { anchor = place; caret = place }) (λ v. refl) (λ v. refl) vs))
+    (λ start past vs h.
+    further vs _ h (sender_leaves Own r.view.id r.view.document apart (λ (v : View). record v { target_start = start; target_end = past }) (λ v. refl) (λ v. refl) vs))
+    (λ change h. lines_leave Own r.view.id r.view.document apart change r.document e r.session.views once)
+    p
+    (λ what value is h.
+    with_view_leaves Own r.view.id r.view.document apart (changed_view (levels r) what r.view) r.session.views (view_change_ids (levels r) what r.view)
+    (view_change_document (levels r) what r.view) once)
+    (λ what value d is yes h. absurd (attaches_none l what value barred (subst (KeepsTo l) is keeps) yes))
+    (all_alike Own r.session.views)
+  where
+    further : (vs ws : List View) → AreAlike Own r.session.views vs → (Once r.view.id r.view.document vs → AreAlike Own vs ws) → AreAlike Own r.session.views ws
+    further vs ws h k =
+        alike_through Own r.session.views vs ws h (k (kept_on Own (λ n m. n ≡ r.view.id → m ≡ r.view.document) r.session.views vs h once))
 
-  history_leaves : (r : Request) (who : ℕ) (cs : List Change) (new : History) → r.view.id ≡ sender → r.document.id ≡ document → Once sender document r.session.views
-      → AreAlike Own r.session.views (history_performed r who cs new).0.views
-  history_leaves r who cs new is e once =
-      let several = notes.bit_if (nat_lt 1 (length cs)) notes.multi_step in
-      let done = changes_performed who several false cs (scene_of r) in
-      let here = changes_leave who several false cs (scene_of r) e once in
-      let step = latest_text_step (reverse cs) in
-      alike_through Own r.session.views done.views (caret_behind r.view.id step done.views) here
-      (subst (λ n. AreAlike Own done.views (caret_behind n step done.views)) (sym is) (behind_leaves step done.views (once_after r.session.views done.views here once)))
-
-  -- the views after a plan that is not about documents
-  pub performed_leaves_views : (r : Request) (p : Plan) (l : Leave) → l.documents ≡ false → KeepsTo l p → r.view.id ≡ sender → r.view.document ≡ document → r.document.id ≡ document
-      → Once sender document r.session.views → AreAlike Own r.session.views (performed r p).0.views
-  performed_leaves_views r (plan.Answer value) l barred keeps is on e once = all_alike Own r.session.views
-  performed_leaves_views r (plan.HandOut value start count) l barred keeps is on e once = all_alike Own r.session.views
-  performed_leaves_views r (plan.HandOutStyled start count) l barred keeps is on e once = all_alike Own r.session.views
-  performed_leaves_views r plan.Attempt l barred keeps is on e once = all_alike Own r.session.views
-  performed_leaves_views r (plan.Edit change value after) l barred keeps is on e once =
-      let scene = edit_made (steps_of r change) (scene_of r) in
-      let here = edit_leaves (steps_of r change) (scene_of r) e once in
-      let s = session_of r.session scene in
-      alike_through Own r.session.views scene.views (followed r.view.id (text r) after s).views here
-      (subst (λ n. AreAlike Own scene.views (followed n (text r) after s).views) (sym is) (followed_leaves (text r) after s (once_after r.session.views scene.views here once)))
-  performed_leaves_views r plan.Undo l barred keeps is on e once = history_leaves r notes.performed_undo (undo_changes r.document.history) (undone r.document.history) is e once
-  performed_leaves_views r plan.Redo l barred keeps is on e once = history_leaves r notes.performed_redo (redo_changes r.document.history) (redone r.document.history) is e once
-  performed_leaves_views r (plan.ChangeDocument change value) l barred keeps is on e once = all_lines_leave change r.document e r.session.views once
-  performed_leaves_views r (plan.ChangeView change value) l barred keeps is on e once =
-      with_view_leaves (changed_view (levels r) change r.view) r.session.views (view_change_ids (levels r) change r.view ∙ is) (view_change_document (levels r) change r.view ∙ on) once
-  performed_leaves_views r (plan.ChangeSession (session_change.Copy start count) value) l barred keeps is on e once = all_alike Own r.session.views
-  performed_leaves_views r (plan.ChangeSession (session_change.CopyText count) value) l barred keeps is on e once = all_alike Own r.session.views
-  performed_leaves_views r (plan.ChangeSession (session_change.Attach id) value) l barred keeps is on e once = absurd (cc)
-  performed_leaves_views r (plan.ChangeSession session_change.AttachNew value) l barred keeps is on e once = absurd (cc)
-  performed_leaves_views r (plan.ChangeSession (session_change.Create options) value) l barred keeps is on e once = absurd (cc)
-  performed_leaves_views r (plan.ChangeSession (session_change.AddReference id) value) l barred keeps is on e once = absurd (cc)
-  performed_leaves_views r (plan.ChangeSession (session_change.Release id) value) l barred keeps is on e once = absurd (cc)
-
--- the documents after what follows an edit
-followed_others : (view : ℕ) (before : List ℕ) (after : Follow) (s : Session) → (followed view before after s).documents ≡ s.documents
-followed_others view before follow.Nothing s = refl
-followed_others view before (follow.Caret place) s = refl
-followed_others view before (follow.Target start past) s = refl
-followed_others view before (follow.Clipboard start count) s = refl
+-- a change of the session that is not about documents changes the clipboard alone
+session_leaves : (r : Request) (what : SessionChange) (value : ℤ) (l : Leave) → l.documents ≡ false → KeepsTo l (plan.ChangeSession what value)
+    → session_changed r what ≡ (let s = r.session in record s { clipboard = (session_changed r what).clipboard })
+session_leaves r (session_change.Copy start count) value l barred keeps = refl
+session_leaves r (session_change.CopyText count) value l barred keeps = refl
+session_leaves r _ value l barred keeps = absurd (cc)
 
 pub performed_leaves_document : (r : Request) (p : Plan) (l : Leave) (id : ℕ) → l.documents ≡ false → KeepsTo l p → (id ≡ r.document.id → ⊥)
     → document_at (performed r p).0.documents id ≡ document_at r.session.documents id
-performed_leaves_document r (plan.Answer value) l id barred keeps other = refl
-performed_leaves_document r (plan.HandOut value start count) l id barred keeps other = refl
-performed_leaves_document r (plan.HandOutStyled start count) l id barred keeps other = refl
-performed_leaves_document r plan.Attempt l id barred keeps other = refl
 performed_leaves_document r (plan.Edit change value after) l id barred keeps other =
-    ap (λ (ds : List Document). document_at ds id) (followed_others r.view.id (text r) after (session_of r.session (edit_made (steps_of r change) (scene_of r))))
+    ap (λ (ds : List Document). document_at ds id)
+    (followed_same (λ (s : Session). s.documents) (λ s views. refl) (λ s clipboard. refl) r.view.id (text r) after (session_of r.session (edit_made (steps_of r change) (scene_of r))))
     ∙ replaced_other r.session.documents (own_after r (plan.Edit change value after)) id (λ e. other (e ∙ own_id r (plan.Edit change value after)))
 performed_leaves_document r plan.Undo l id barred keeps other = replaced_other r.session.documents (own_after r plan.Undo) id (λ e. other (e ∙ own_id r plan.Undo))
 performed_leaves_document r plan.Redo l id barred keeps other = replaced_other r.session.documents (own_after r plan.Redo) id (λ e. other (e ∙ own_id r plan.Redo))
 performed_leaves_document r (plan.ChangeDocument change value) l id barred keeps other =
     replaced_other r.session.documents (own_after r (plan.ChangeDocument change value)) id (λ e. other (e ∙ own_id r (plan.ChangeDocument change value)))
-performed_leaves_document r (plan.ChangeView change value) l id barred keeps other = refl
-performed_leaves_document r (plan.ChangeSession (session_change.Copy start count) value) l id barred keeps other = refl
-performed_leaves_document r (plan.ChangeSession (session_change.CopyText count) value) l id barred keeps other = refl
-performed_leaves_document r (plan.ChangeSession (session_change.Attach d) value) l id barred keeps other = absurd (cc)
-performed_leaves_document r (plan.ChangeSession session_change.AttachNew value) l id barred keeps other = absurd (cc)
-performed_leaves_document r (plan.ChangeSession (session_change.Create options) value) l id barred keeps other = absurd (cc)
-performed_leaves_document r (plan.ChangeSession (session_change.AddReference d) value) l id barred keeps other = absurd (cc)
-performed_leaves_document r (plan.ChangeSession (session_change.Release d) value) l id barred keeps other = absurd (cc)
+performed_leaves_document r (plan.ChangeSession what value) l id barred keeps other = ap (λ (s : Session). document_at s.documents id) (session_leaves r what value l barred keeps)
+performed_leaves_document r _ l id barred keeps other = refl
 
 -- the clipboard after what follows an edit, if that takes nothing to it
 followed_clipboard : (view : ℕ) (before : List ℕ) (after : Follow) (s : Session) (l : Leave) → l.copies ≡ false → may_follow l after ≡ true
     → (followed view before after s).clipboard ≡ s.clipboard
-followed_clipboard view before follow.Nothing s l barred keeps = refl
-followed_clipboard view before (follow.Caret place) s l barred keeps = refl
-followed_clipboard view before (follow.Target start past) s l barred keeps = refl
 followed_clipboard view before (follow.Clipboard start count) s l barred keeps = absurd (cc)
-
-followed_limits : (view : ℕ) (before : List ℕ) (after : Follow) (s : Session) → (followed view before after s).limits ≡ s.limits
-followed_limits view before follow.Nothing s = refl
-followed_limits view before (follow.Caret place) s = refl
-followed_limits view before (follow.Target start past) s = refl
-followed_limits view before (follow.Clipboard start count) s = refl
+followed_clipboard view before _ s l barred keeps = refl
 
 pub performed_leaves_clipboard : (r : Request) (p : Plan) (l : Leave) → l.documents ≡ false → l.copies ≡ false → KeepsTo l p → (performed r p).0.clipboard ≡ r.session.clipboard
-performed_leaves_clipboard r (plan.Answer value) l none barred keeps = refl
-performed_leaves_clipboard r (plan.HandOut value start count) l none barred keeps = refl
-performed_leaves_clipboard r (plan.HandOutStyled start count) l none barred keeps = refl
-performed_leaves_clipboard r plan.Attempt l none barred keeps = refl
 performed_leaves_clipboard r (plan.Edit change value after) l none barred keeps =
     followed_clipboard r.view.id (text r) after (session_of r.session (edit_made (steps_of r change) (scene_of r))) l barred (and_parts l.edits (may_follow l after) keeps).1
-performed_leaves_clipboard r plan.Undo l none barred keeps = refl
-performed_leaves_clipboard r plan.Redo l none barred keeps = refl
-performed_leaves_clipboard r (plan.ChangeDocument change value) l none barred keeps = refl
-performed_leaves_clipboard r (plan.ChangeView change value) l none barred keeps = refl
-performed_leaves_clipboard r (plan.ChangeSession (session_change.Copy start count) value) l none barred keeps = absurd (cc)
-performed_leaves_clipboard r (plan.ChangeSession (session_change.CopyText count) value) l none barred keeps = absurd (cc)
-performed_leaves_clipboard r (plan.ChangeSession (session_change.Attach d) value) l none barred keeps = absurd (cc)
-performed_leaves_clipboard r (plan.ChangeSession session_change.AttachNew value) l none barred keeps = absurd (cc)
-performed_leaves_clipboard r (plan.ChangeSession (session_change.Create options) value) l none barred keeps = absurd (cc)
-performed_leaves_clipboard r (plan.ChangeSession (session_change.AddReference d) value) l none barred keeps = absurd (cc)
-performed_leaves_clipboard r (plan.ChangeSession (session_change.Release d) value) l none barred keeps = absurd (cc)
+performed_leaves_clipboard r (plan.ChangeSession what value) l none barred keeps = absurd (go what keeps)
+  where
+    -- each change of the session needs a leave that is not given
+    go : (what : SessionChange) → KeepsTo l (plan.ChangeSession what value) → ⊥
+    go (session_change.Copy start count) k = cc
+    go _ k = cc
+performed_leaves_clipboard r _ l none barred keeps = refl
 
 pub performed_leaves_limits : (r : Request) (p : Plan) (l : Leave) → l.documents ≡ false → KeepsTo l p → (performed r p).0.limits ≡ r.session.limits
-performed_leaves_limits r (plan.Answer value) l none keeps = refl
-performed_leaves_limits r (plan.HandOut value start count) l none keeps = refl
-performed_leaves_limits r (plan.HandOutStyled start count) l none keeps = refl
-performed_leaves_limits r plan.Attempt l none keeps = refl
 performed_leaves_limits r (plan.Edit change value after) l none keeps =
-    followed_limits r.view.id (text r) after (session_of r.session (edit_made (steps_of r change) (scene_of r)))
-performed_leaves_limits r plan.Undo l none keeps = refl
-performed_leaves_limits r plan.Redo l none keeps = refl
-performed_leaves_limits r (plan.ChangeDocument change value) l none keeps = refl
-performed_leaves_limits r (plan.ChangeView change value) l none keeps = refl
-performed_leaves_limits r (plan.ChangeSession (session_change.Copy start count) value) l none keeps = refl
-performed_leaves_limits r (plan.ChangeSession (session_change.CopyText count) value) l none keeps = refl
-performed_leaves_limits r (plan.ChangeSession (session_change.Attach d) value) l none keeps = absurd (cc)
-performed_leaves_limits r (plan.ChangeSession session_change.AttachNew value) l none keeps = absurd (cc)
-performed_leaves_limits r (plan.ChangeSession (session_change.Create options) value) l none keeps = absurd (cc)
-performed_leaves_limits r (plan.ChangeSession (session_change.AddReference d) value) l none keeps = absurd (cc)
-performed_leaves_limits r (plan.ChangeSession (session_change.Release d) value) l none keeps = absurd (cc)
+    followed_same (λ (s : Session). s.limits) (λ s views. refl) (λ s clipboard. refl) r.view.id (text r) after (session_of r.session (edit_made (steps_of r change) (scene_of r)))
+performed_leaves_limits r (plan.ChangeSession what value) l none keeps = ap (λ (s : Session). s.limits) (session_leaves r what value l none keeps)
+performed_leaves_limits r _ l none keeps = refl

@@ -2,6 +2,7 @@
 pub mod PlanShapes
 pub mod TableWays
 pub mod Finding
+pub mod Walks
 pub mod Going
 pub mod SmallLemmas
 pub mod IdLemmas

@@ -97,8 +97,8 @@ by_length to text p n h e t = ap (λ k. slice_range text (p - k) p) e ∙ part_b
 abbrev EndsBefore : List ℕ → ℕ → Bool
 EndsBefore text p = stands 10 text (p - 1) || (stands 13 text (p - 1) && not (stands 10 text p))
 
-ends_in_return : (text : List ℕ) → HasOnly Cr text → (p : ℕ) → 0 < p → EndsBefore text p ≡ true → EndsSo Cr text p
-ends_in_return text only p h e =
+ends_so : (to : LineEnd) (text : List ℕ) → HasOnly to text → (p : ℕ) → 0 < p → EndsBefore text p ≡ true → EndsSo to text p
+ends_so Cr text only p h e =
     elim (or_cases (stands 10 text (p - 1)) (stands 13 text (p - 1) && not (stands 10 text p)) e) [
       | inl feed ↦ absurd (true≢false (sym feed ∙ only (p - 1)))
       | inr rest ↦
@@ -106,18 +106,14 @@ ends_in_return text only p h e =
           let no_feed : stands 10 text (p - 1) ≡ false = only (p - 1) in
           by_length Cr text p 1 (omega arith) (rw (no_feed, return) refl) (one_there 13 text (p - 1) return)
     ]
-
-ends_in_feed : (text : List ℕ) → HasOnly Lf text → (p : ℕ) → 0 < p → EndsBefore text p ≡ true → EndsSo Lf text p
-ends_in_feed text only p h e =
+ends_so Lf text only p h e =
     elim (or_cases (stands 10 text (p - 1)) (stands 13 text (p - 1) && not (stands 10 text p)) e) [
       | inl feed ↦
           let no_return : stands 13 text (p - 2) ≡ false = only (p - 2) in
           by_length Lf text p 1 (omega arith) (rw (feed, no_return) refl) (one_there 10 text (p - 1) feed)
       | inr rest ↦ absurd (true≢false (sym (and_parts (stands 13 text (p - 1)) (not (stands 10 text p)) rest).0 ∙ only (p - 1)))
     ]
-
-ends_in_both : (text : List ℕ) → HasOnly CrLf text → (p : ℕ) → 0 < p → EndsBefore text p ≡ true → EndsSo CrLf text p
-ends_in_both text only p h e =
+ends_so CrLf text only p h e =
     elim (or_cases (stands 10 text (p - 1)) (stands 13 text (p - 1) && not (stands 10 text p)) e) [
       | inl feed ↦
           elim (cases_eq (p - 1) 0) [
@@ -133,11 +129,6 @@ ends_in_both text only p h e =
           let one : p - 1 + 1 ≡ p = omega arith in
           absurd (true≢false (sym parts.0 ∙ only.1 (p - 1) ∙ ap (stands 10 text) one ∙ not-true (stands 10 text p) parts.1))
     ]
-
-ends_so : (to : LineEnd) (text : List ℕ) → HasOnly to text → (p : ℕ) → 0 < p → EndsBefore text p ≡ true → EndsSo to text p
-ends_so CrLf text only p h e = ends_in_both text only p h e
-ends_so Cr text only p h e = ends_in_return text only p h e
-ends_so Lf text only p h e = ends_in_feed text only p h e
 
 -- Each line but the last.
 

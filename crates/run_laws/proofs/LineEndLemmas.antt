@@ -1,5 +1,5 @@
 -- The text after the steps of a conversion: first the missing bytes are inserted, then the unwanted ones are deleted.
-use Rattle.std.proofs.Common.{◌≡◌, ℕ, ◌+◌, Bool, true, false, cond, ◌==◌, ◌||◌, ◌&&◌, List, [], ◌∷◌, ◌++◌, length, take, drop, refl, ap, subst, ◌∙◌, sym, arith, append_assoc, length-append}
+use Rattle.std.proofs.Common.{◌≡◌, ℕ, ◌+◌, Bool, true, false, ◌==◌, ◌||◌, ◌&&◌, List, [], ◌∷◌, ◌++◌, length, take, drop, refl, ap, subst, ◌∙◌, sym, arith, append_assoc, length-append}
 use Rattle.std.specs.Prelude.{not}
 use Rattle.std.proofs.lemmas.Bool.{true≢false, or_from, and_right, eqb-true}
 use Rattle.std.proofs.lemmas.List.{take_at, drop_at}
@@ -7,7 +7,7 @@ use Rattle.std.proofs.lemmas.List.Sums.{fold-append}
 use Rattle.ed_model.specs.declared.plan.LineEnd.{LineEnd}
 use Rattle.ed_model.specs.declared.plan.LineEnd.TheVariants.{CrLf, Cr, Lf}
 use Rattle.ed_model.specs.Steps.{Step, edited}
-use Rattle.ed_model.specs.LineEnds.{line_end_bytes, begins_with_line_feed, converted_after, converted, is_feed_foreign, is_return_foreign, is_feed_unwanted, is_return_unwanted, lacks_return, lacks_feed, missing_at, missing_from, is_unwanted, unwanted_at, place_after, unwanted_from, after_steps}
+use Rattle.ed_model.specs.LineEnds.{begins_with_line_feed, converted_after, converted, lacks_return, lacks_feed, missing_at, missing_from, is_unwanted, unwanted_at, place_after, unwanted_from, after_steps}
 use Rattle.ed_model.specs.proved.Lists.{inserted_between}
 use Rattle.run_laws.specs.LineEndLaws.{StepsConvert}
 
@@ -78,7 +78,7 @@ keeps to (b ∷ bs) f p front e = go (is_unwanted f to b bs) (λ q start h. keep
 
 -- Insertions followed by deletions, for an LF, for a CR, and for any other byte.
 
-by_byte : (P : ℕ → Type 0) (b : ℕ) → P 10 → P 13 → ((b == 10) ≡ false → (b == 13) ≡ false → P b) → P b
+pub by_byte : (P : ℕ → Type 0) (b : ℕ) → P 10 → P 13 → ((b == 10) ≡ false → (b == 13) ≡ false → P b) → P b
 by_byte P b feed return other = go (b == 10) (b == 13) refl refl
   where
     go : (x y : Bool) → (b == 10) ≡ x → (b == 13) ≡ y → P b
@@ -87,31 +87,13 @@ by_byte P b feed return other = go (b == 10) (b == 13) refl refl
     go false false e n = other e n
 
 other_filled : (f : Bool) (to : LineEnd) (b : ℕ) (bs : List ℕ) → (b == 10) ≡ false → (b == 13) ≡ false → filled f to (b ∷ bs) ≡ b ∷ filled false to bs
-other_filled f to b bs e n = go (b == 10) (b == 13) e n
-  where
-    go : (x y : Bool) → x ≡ false → y ≡ false
-        → put (x && not f && is_feed_foreign to) (y && not (begins_with_line_feed bs) && is_return_foreign to) b (filled y to bs) ≡ b ∷ filled false to bs
-    go true y e n = absurd (true≢false e)
-    go false true e n = absurd (true≢false n)
-    go false false e n = refl
+other_filled f to b bs e n = rw (e, n) refl
 
 other_kept : (f : Bool) (to : LineEnd) (b : ℕ) (bs : List ℕ) → (b == 10) ≡ false → (b == 13) ≡ false → kept f to (b ∷ bs) ≡ b ∷ kept false to bs
-other_kept f to b bs e n = go (b == 10) (b == 13) e n
-  where
-    go : (x y : Bool) → x ≡ false → y ≡ false
-        → left ((y && begins_with_line_feed bs && is_return_unwanted to) || (x && f && is_feed_unwanted to)) b (kept y to bs) ≡ b ∷ kept false to bs
-    go true y e n = absurd (true≢false e)
-    go false true e n = absurd (true≢false n)
-    go false false e n = refl
+other_kept f to b bs e n = rw (e, n) refl
 
 pub other_converted : (f : Bool) (to : LineEnd) (b : ℕ) (bs : List ℕ) → (b == 10) ≡ false → (b == 13) ≡ false → converted_after f to (b ∷ bs) ≡ b ∷ converted_after false to bs
-other_converted f to b bs e n = go (b == 10) (b == 13) e n
-  where
-    go : (x y : Bool) → x ≡ false → y ≡ false
-        → cond (x && f) (converted_after false to bs) (cond (x || y) (line_end_bytes to ++ converted_after y to bs) (b ∷ converted_after false to bs)) ≡ b ∷ converted_after false to bs
-    go true y e n = absurd (true≢false e)
-    go false true e n = absurd (true≢false n)
-    go false false e n = refl
+other_converted f to b bs e n = rw (e, n) refl
 
 other_both : (f g : Bool) (to : LineEnd) (b : ℕ) (bs : List ℕ) → (b == 10) ≡ false → (b == 13) ≡ false → kept g to (filled f to (b ∷ bs)) ≡ b ∷ kept false to (filled false to bs)
 other_both f g to b bs e n = ap (kept g to) (other_filled f to b bs e n) ∙ other_kept g to b (filled false to bs) e n

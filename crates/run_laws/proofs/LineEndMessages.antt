@@ -54,8 +54,7 @@ edit_leaves r to found =
     let new : Document = (edit_made steps (scene_of r)).document in
     let own : r.document.id ≡ r.view.document = document_id r.session.documents r.view.document r.document found in
     let id : new.id ≡ r.view.document = edit_made_id steps (scene_of r) ∙ own in
-    let there : document_at (with_document new r.session.documents) r.view.document ≡ Some new =
-    ap (document_at (with_document new r.session.documents)) (sym id) ∙ replaced_found r.session.documents r.document new (ap (document_at r.session.documents) id ∙ found) in
+    let there : document_at (with_document new r.session.documents) r.view.document ≡ Some new = replaced_found r.session.documents r.view.document r.document new id found in
     ap (option_map text_of) there ∙ ap Some (edit_text steps (scene_of r) ∙ steps_convert to (text r))
 
 mode_leaves : (r : Request) (to : LineEnd) → IsFound r → r.document.read_only ≡ false

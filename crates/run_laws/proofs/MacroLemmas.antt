@@ -1,11 +1,10 @@
 -- Recordings: a view that records keeps recording, each message is recorded once, and the messages that it recorded can be sent again.
-use Rattle.std.proofs.Common.{◌≡◌, ℕ, ◌==◌, nat_lt, cond, Bool, true, false, List, [], ◌∷◌, ◌++◌, length, map, refl, ap, ◌∙◌, sym, subst, arith, ◌≤◌, inl, inr, Option, Some, None, Result, Ok, Err}
-use Rattle.std.specs.Prelude.{◌⊎◌, IfOk, ℤ, ◌&&◌, filter, flat_map, reverse, option_map}
+use Rattle.std.proofs.Common.{◌≡◌, ℕ, ◌==◌, cond, Bool, true, false, List, [], ◌∷◌, ◌++◌, length, map, refl, ap, ◌∙◌, sym, subst, arith, ◌≤◌, inl, inr, Some, Ok, Err}
+use Rattle.std.specs.Prelude.{◌⊎◌, IfOk, ℤ, ◌&&◌, filter, flat_map, option_map}
 use Rattle.std.specs.List.{AllByRecursion}
 use Rattle.std.proofs.lemmas.Bool.{eqb-true, eq-eqb, and_parts}
 use Rattle.ed_types.specs.declared.kind.Kind.TheVariants.{StartRecord, StopRecord}
 use Rattle.ed_types.specs.declared.script.Command.{Command}
-use Rattle.ed_types.specs.declared.script.Command.TheVariants.{OpenView, CloseView, LoadFile, SendMessage, Expect}
 use Rattle.ed_types.specs.declared.script.Outcome.{Outcome}
 use Rattle.ed_types.specs.Messages.{marks_of}
 use Rattle.ed_types.specs.declared.refusal.Refusal.TheVariants.{NoSuchView, UnknownMessage, NoSuchDocument}
@@ -14,41 +13,33 @@ use Rattle.ed_types.specs.declared.message.Message.{Message}
 use Rattle.ed_types.specs.declared.refusal.Refusal.{Refusal}
 use Rattle.ed_types.specs.Notices.{Notice, Response}
 use Rattle.ed_types.specs.Messages.{kind_of}
-use Rattle.ed_model.specs.declared.plan.Follow.{Follow}
-use Rattle.ed_model.specs.declared.plan.Follow.TheVariants as follow
-use Rattle.ed_model.specs.declared.plan.DocumentChange.{DocumentChange}
-use Rattle.ed_model.specs.declared.plan.DocumentChange.TheVariants as document_change
 use Rattle.ed_model.specs.declared.plan.ViewChange.{ViewChange}
 use Rattle.ed_model.specs.declared.plan.ViewChange.TheVariants as view_change
-use Rattle.ed_model.specs.declared.plan.SessionChange.TheVariants as session_change
 use Rattle.ed_model.specs.declared.plan.Plan.{Plan}
 use Rattle.ed_model.specs.declared.plan.Plan.TheVariants as plan
-use Rattle.ed_model.specs.Steps.{Step}
-use Rattle.ed_model.specs.History.{Change, TextStep, ContainerStep, undo_changes, redo_changes, latest_text_step}
-use Rattle.ed_model.specs.Session.{Session, Document, View, document_at, view_at, with_view}
+use Rattle.ed_model.specs.Session.{Session, Document, View, view_at, with_view}
 use Rattle.ed_model.specs.Notes as notes
-use Rattle.ed_model.specs.Requests.{Request, Planned, text}
-use Rattle.ed_model.specs.Edits.{steps_of}
+use Rattle.ed_model.specs.Requests.{Request, Planned}
 use Rattle.ed_model.specs.FoldingPlans.{levels}
-use Rattle.ed_model.specs.Performing.{Scene, scene_of, session_of, moved_view, view_after, step_made, steps_made, sealed_scene, edit_made, followed, with_caret, caret_behind, change_performed, changes_performed, changes_lines, is_last, place_behind}
+use Rattle.ed_model.specs.Performing.{view_after}
 use Rattle.ed_model.specs.Changes.{changed_lines, changed_view}
-use Rattle.ed_model.specs.Table.{table, answered, with_recording, plan_of, performed, request, opened, closed}
+use Rattle.ed_model.specs.Table.{table, answered, with_recording, plan_of, performed, request}
 use Rattle.ed_model.specs.TableLaws.{Answered}
 use Rattle.ed_model.specs.SoundLaws.{IsSound}
-use Rattle.ed_model.specs.Session.{attached_to, new_document}
-use Rattle.ed_model.specs.Changes.{with_attached, with_new_document}
+use Rattle.ed_model.specs.Session.{attached_to}
 use Rattle.ed_model.specs.Recording.{told_message, recorded_messages, replies_in}
 use Rattle.ed_model.specs.Table.{record_note}
 use Rattle.ed_model.specs.TableLaws.{LeavesSession, QueriesLeaveTheSession}
-use Rattle.ed_model.specs.Run.{Running, starting, after_command, after_opening, after_closing, after_message, loaded, file_at, set_text_message, outcomes, run_to}
+use Rattle.ed_model.specs.Run.{Running, starting, after_command, after_message, outcomes, run_to}
 use Rattle.ed_model.specs.SoundLaws.{MessageKeepsSound, IsSoundInEveryStateFrom}
 use Rattle.run_laws.specs.IsolationLaws.{Sending, sent}
 use Rattle.run_laws.specs.MacroLaws.{not_recording, without_recording, sent_to, CanStandBetween, RecordingsCanBeReplayed, RecordsOneAtMost, RepliesRecordOneMessage, RunsRecordOneMessageAReply}
-use Rattle.run_laws.proofs.Finding.{either, view_id}
-use Rattle.run_laws.proofs.TableWays.{of_table, table_at}
+use Rattle.run_laws.proofs.Finding.{view_id, put_found, mapped_found}
+use Rattle.run_laws.proofs.Walks.{step_keeps, sender_keeps, lines_keep, performed_views}
+use Rattle.run_laws.proofs.TableWays.{of_table, table_at, of_any_command}
 use Rattle.run_laws.proofs.PlanShapes.{Leave, KeepsTo, IsShaped, leave_of, plan_is_shaped, recorded_is_not_about_recording}
-use Rattle.run_laws.proofs.Alike.{changed_found, found_once}
-use Rattle.run_laws.proofs.IdLemmas.{view_change_ids}
+use Rattle.run_laws.proofs.Alike.{found_once}
+use Rattle.run_laws.proofs.IdLemmas.{after_id, lines_id, view_change_ids}
 use Rattle.run_laws.proofs.NoteLemmas.{NoRecords, plans_tell_no_record}
 use Rattle.run_laws.proofs.RecordingLemmas.{Same, Like, table_after_both}
 
@@ -57,158 +48,35 @@ abbrev Records : ℕ → List View → Type 0
 Records k views = (v : View) × (view_at views k ≡ Some v) × (v.records ≡ true)
 
 changed_records : (f : View → View) → ((v : View) → (f v).id ≡ v.id) → ((v : View) → (f v).records ≡ v.records) → (views : List View) (k : ℕ) → Records k views → Records k (map f views)
-changed_records f same alike views k h = (f h.0, changed_found f same views k ∙ ap (option_map f) h.1, alike h.0 ∙ h.2)
-
-put_found : (views : List View) (old new : View) → view_at views new.id ≡ Some old → view_at (with_view new views) new.id ≡ Some new
-put_found [] old new e = absurd (cc)
-put_found (d ∷ ds) old new e = go (d.id == new.id) refl e (λ e. put_found ds old new e)
-  where
-    go : (b : Bool) → (d.id == new.id) ≡ b → cond b (Some d) (view_at ds new.id) ≡ Some old
-        → (view_at ds new.id ≡ Some old → view_at (with_view new ds) new.id ≡ Some new)
-        → cond ((cond b new d).id == new.id) (Some (cond b new d)) (view_at (with_view new ds) new.id) ≡ Some new
-    go true t e rest = let same : (new.id == new.id) ≡ true = eq-eqb new.id new.id refl in rw same refl
-    go false t e rest = rw t (rest e)
+changed_records f same alike views k h = (f h.0, mapped_found (λ (v : View). v.id) f same views k ∙ ap (option_map f) h.1, alike h.0 ∙ h.2)
 
 put_records : (new : View) (views : List View) (k : ℕ) → new.id ≡ k → new.records ≡ true → Records k views → Records k (with_view new views)
-put_records new views k is records h = (new, ap (view_at (with_view new views)) (sym is) ∙ put_found views h.0 new (ap (view_at views) is ∙ h.1), records)
-
-step_records : (step : Step) (d : Document) (views : List View) (k : ℕ) → Records k views → Records k (map (view_after step d) views)
-step_records step d views k h =
-    changed_records (view_after step d) (λ v. either (λ (w : View). w.id ≡ v.id) (v.document == d.id) (moved_view step d v) v refl refl)
-    (λ v. either (λ (w : View). w.records ≡ v.records) (v.document == d.id) (moved_view step d v) v refl refl) views k h
-
-steps_record : (later : Bool) (steps : List Step) (scene : Scene) (k : ℕ) → Records k scene.views → Records k (steps_made later steps scene).views
-steps_record later [] scene k h = h
-steps_record later (step ∷ steps) scene k h = steps_record true steps (step_made later step scene) k (step_records step scene.document scene.views k h)
-
-edit_records : (steps : List Step) (scene : Scene) (k : ℕ) → Records k scene.views → Records k (edit_made steps scene).views
-edit_records steps scene k h =
-    either (λ (x : Scene). Records k x.views) (nat_lt 1 (length steps)) (sealed_scene (steps_made false steps (sealed_scene scene))) (steps_made false steps scene)
-    (steps_record false steps (sealed_scene scene) k h) (steps_record false steps scene k h)
-
-changes_record : (who several : ℕ) (lines_changed : Bool) (cs : List Change) (scene : Scene) (k : ℕ) → Records k scene.views → Records k (changes_performed who several lines_changed cs scene).views
-changes_record who several lines_changed [] scene k h = h
-changes_record who several lines_changed (TextStep step ∷ cs) scene k h =
-    let changed = cond lines_changed true (changes_lines (TextStep step) scene.document) in
-    changes_record who several changed cs (change_performed who several (is_last cs) changed (TextStep step) scene) k (step_records step scene.document scene.views k h)
-changes_record who several lines_changed (ContainerStep token coalesce ∷ cs) scene k h =
-    let changed = cond lines_changed true (changes_lines (ContainerStep token coalesce) scene.document) in
-    changes_record who several changed cs (change_performed who several (is_last cs) changed (ContainerStep token coalesce) scene) k h
+put_records new views k is records h = (new, put_found (λ (v : View). v.id) views k h.0 new is h.1, records)
 
 sender_records : (f : View → View) → ((v : View) → (f v).id ≡ v.id) → ((v : View) → (f v).records ≡ v.records) → (sender : ℕ) (views : List View) (k : ℕ) → Records k views
     → Records k (map (λ (v : View). cond (v.id == sender) (f v) v) views)
 sender_records f same alike sender views k h =
-    changed_records (λ (v : View). cond (v.id == sender) (f v) v) (λ v. either (λ (w : View). w.id ≡ v.id) (v.id == sender) (f v) v (same v) refl)
-    (λ v. either (λ (w : View). w.records ≡ v.records) (v.id == sender) (f v) v (alike v) refl) views k h
-
-caret_records : (sender place : ℕ) (views : List View) (k : ℕ) → Records k views → Records k (with_caret sender place views)
-caret_records sender place views k h = sender_records (λ (v : View). record v { anchor = place; caret = place }) (λ v. refl) (λ v. refl) sender views k h
-
-behind_records : (sender : ℕ) (o : Option Step) (views : List View) (k : ℕ) → Records k views → Records k (caret_behind sender o views)
-behind_records sender None views k h = h
-behind_records sender (Some step) views k h = caret_records sender (place_behind step) views k h
-
-followed_records : (sender : ℕ) (before : List ℕ) (after : Follow) (s : Session) (k : ℕ) → Records k s.views → Records k (followed sender before after s).views
-followed_records sender before follow.Nothing s k h = h
-followed_records sender before (follow.Caret place) s k h = caret_records sender place s.views k h
-followed_records sender before (follow.Target start past) s k h = sender_records (λ (v : View). record v { target_start = start; target_end = past }) (λ v. refl) (λ v. refl) sender s.views k h
-followed_records sender before (follow.Clipboard start count) s k h = h
-
-lines_id : (change : DocumentChange) (d : Document) (v : View) → (changed_lines change d v).id ≡ v.id
-lines_id (document_change.SetLineEndTypes to) d v = either (λ (w : View). w.id ≡ v.id) (v.document == d.id) _ v refl refl
-lines_id (document_change.SetReadOnly on) d v = refl
-lines_id (document_change.SetLineEnd to) d v = refl
-lines_id document_change.SetSavePoint d v = refl
-lines_id document_change.BeginGroup d v = refl
-lines_id document_change.EndGroup d v = refl
-lines_id document_change.ForgetHistory d v = refl
-lines_id (document_change.CollectUndo on) d v = refl
-lines_id (document_change.AppendContainer token coalesce) d v = refl
-lines_id (document_change.AddMarker line number) d v = refl
-lines_id (document_change.AddMarkers line mask) d v = refl
-lines_id (document_change.DeleteMarker line number) d v = refl
-lines_id (document_change.DeleteMarkers number) d v = refl
-lines_id (document_change.DeleteHandle handle) d v = refl
-lines_id (document_change.SetLevel line level) d v = refl
-lines_id (document_change.SetState line state) d v = refl
-lines_id (document_change.SetEndStyled place) d v = refl
-lines_id (document_change.StyleRun count style) d v = refl
-lines_id (document_change.StyleBytes count) d v = refl
-lines_id (document_change.NeedStyle start past) d v = refl
-lines_id (document_change.FillIndicator indicator start count value) d v = refl
-
-lines_record : (change : DocumentChange) (d : Document) (v : View) → (changed_lines change d v).records ≡ v.records
-lines_record (document_change.SetLineEndTypes to) d v = either (λ (w : View). w.records ≡ v.records) (v.document == d.id) _ v refl refl
-lines_record (document_change.SetReadOnly on) d v = refl
-lines_record (document_change.SetLineEnd to) d v = refl
-lines_record document_change.SetSavePoint d v = refl
-lines_record document_change.BeginGroup d v = refl
-lines_record document_change.EndGroup d v = refl
-lines_record document_change.ForgetHistory d v = refl
-lines_record (document_change.CollectUndo on) d v = refl
-lines_record (document_change.AppendContainer token coalesce) d v = refl
-lines_record (document_change.AddMarker line number) d v = refl
-lines_record (document_change.AddMarkers line mask) d v = refl
-lines_record (document_change.DeleteMarker line number) d v = refl
-lines_record (document_change.DeleteMarkers number) d v = refl
-lines_record (document_change.DeleteHandle handle) d v = refl
-lines_record (document_change.SetLevel line level) d v = refl
-lines_record (document_change.SetState line state) d v = refl
-lines_record (document_change.SetEndStyled place) d v = refl
-lines_record (document_change.StyleRun count style) d v = refl
-lines_record (document_change.StyleBytes count) d v = refl
-lines_record (document_change.NeedStyle start past) d v = refl
-lines_record (document_change.FillIndicator indicator start count value) d v = refl
+    changed_records (λ (v : View). cond (v.id == sender) (f v) v) (sender_keeps (λ (w : View). w.id) f same sender) (sender_keeps (λ (w : View). w.records) f alike sender) views k h
 
 view_change_records : (levels : List ℕ) (what : ViewChange) (v : View) (l : Leave) (answer : ℤ) → l.recording ≡ false → KeepsTo l (plan.ChangeView what answer) → (changed_view levels what v).records ≡ v.records
 view_change_records levels (view_change.SetRecording on) v l answer barred keeps = absurd (cc)
-view_change_records levels (view_change.Select anchor caret) v l answer barred keeps = refl
-view_change_records levels (view_change.SetTarget start past) v l answer barred keeps = refl
-view_change_records levels (view_change.SetSearchFlags flags) v l answer barred keeps = refl
-view_change_records levels (view_change.SetMask mask) v l answer barred keeps = refl
-view_change_records levels (view_change.SetIndicator indicator) v l answer barred keeps = refl
-view_change_records levels (view_change.SetIndicatorValue value) v l answer barred keeps = refl
-view_change_records levels (view_change.SetPasteConversion on) v l answer barred keeps = refl
-view_change_records levels (view_change.ShowLines first past) v l answer barred keeps = refl
-view_change_records levels (view_change.HideLines first past) v l answer barred keeps = refl
-view_change_records levels (view_change.SetExpanded line on) v l answer barred keeps = refl
-view_change_records levels (view_change.Contract line) v l answer barred keeps = refl
-view_change_records levels (view_change.Expand line) v l answer barred keeps = refl
-view_change_records levels (view_change.EnsureVisible line) v l answer barred keeps = refl
-
-attached_records : (o : Option Document) (v : View) (s : Session) → v.records ≡ true → Records v.id s.views → Records v.id (with_attached o v s).views
-attached_records None v s e h = h
-attached_records (Some d) v s e h = put_records (attached_to d v) s.views v.id refl e h
+view_change_records levels _ v l answer barred keeps = refl
 
 -- the sender keeps recording
 performed_records : (r : Request) (p : Plan) (l : Leave) → l.recording ≡ false → KeepsTo l p → r.view.records ≡ true → Records r.view.id r.session.views → Records r.view.id (performed r p).0.views
-performed_records r (plan.Answer value) l barred keeps e h = h
-performed_records r (plan.HandOut value start count) l barred keeps e h = h
-performed_records r (plan.HandOutStyled start count) l barred keeps e h = h
-performed_records r plan.Attempt l barred keeps e h = h
-performed_records r (plan.Edit change value after) l barred keeps e h =
-    followed_records r.view.id (text r) after (session_of r.session (edit_made (steps_of r change) (scene_of r))) r.view.id (edit_records (steps_of r change) (scene_of r) r.view.id h)
-performed_records r plan.Undo l barred keeps e h =
-    let cs = undo_changes r.document.history in
-    let several = notes.bit_if (nat_lt 1 (length cs)) notes.multi_step in
-    behind_records r.view.id (latest_text_step (reverse cs)) (changes_performed notes.performed_undo several false cs (scene_of r)).views r.view.id (changes_record notes.performed_undo several false cs (scene_of r) r.view.id h)
-performed_records r plan.Redo l barred keeps e h =
-    let cs = redo_changes r.document.history in
-    let several = notes.bit_if (nat_lt 1 (length cs)) notes.multi_step in
-    behind_records r.view.id (latest_text_step (reverse cs)) (changes_performed notes.performed_redo several false cs (scene_of r)).views r.view.id (changes_record notes.performed_redo several false cs (scene_of r) r.view.id h)
-performed_records r (plan.ChangeDocument change value) l barred keeps e h = changed_records (changed_lines change r.document) (lines_id change r.document) (lines_record change r.document) r.session.views r.view.id h
-performed_records r (plan.ChangeView change value) l barred keeps e h =
-    put_records (changed_view (levels r) change r.view) r.session.views r.view.id (view_change_ids (levels r) change r.view) (view_change_records (levels r) change r.view l value barred keeps ∙ e) h
-performed_records r (plan.ChangeSession (session_change.Copy start count) value) l barred keeps e h = h
-performed_records r (plan.ChangeSession (session_change.CopyText count) value) l barred keeps e h = h
-performed_records r (plan.ChangeSession (session_change.Attach id) value) l barred keeps e h = attached_records (document_at r.session.documents id) r.view r.session e h
-performed_records r (plan.ChangeSession session_change.AttachNew value) l barred keeps e h =
-    let s = r.session in
-    let with = with_new_document (new_document s.next_document 0) s in
-    attached_records (document_at with.documents s.next_document) r.view with e h
-performed_records r (plan.ChangeSession (session_change.Create options) value) l barred keeps e h = h
-performed_records r (plan.ChangeSession (session_change.AddReference id) value) l barred keeps e h = h
-performed_records r (plan.ChangeSession (session_change.Release id) value) l barred keeps e h = h
+performed_records r p l barred keeps e h =
+    performed_views r (Records r.view.id)
+    (λ step d vs is k. changed_records (view_after step d) (after_id step d) (step_keeps (λ (w : View). w.records) (λ step d w. refl) step d) vs r.view.id k)
+    (λ place vs k. sender_records (λ (v : View). record v { anchor = place; caret = place }) (λ v. refl) (λ v. refl) r.view.id vs r.view.id k)
+    (λ start past vs k. sender_records (λ (v : View). record v { target_start = start; target_end = past }) (λ v. refl) (λ v. refl) r.view.id vs r.view.id k)
+    (λ change k.
+    changed_records (changed_lines change r.document) (lines_id change r.document) (lines_keep (λ (w : View). w.records) (λ w flags. refl) change r.document) r.session.views r.view.id k)
+    p
+    (λ what value is k.
+    put_records (changed_view (levels r) what r.view) r.session.views r.view.id (view_change_ids (levels r) what r.view)
+    (view_change_records (levels r) what r.view l value barred (subst (KeepsTo l) is keeps) ∙ e) k)
+    (λ what value d is attaches k. put_records (attached_to d r.view) r.session.views r.view.id refl e k)
+    h
 
 -- The message that a reply records.
 
@@ -329,19 +197,17 @@ abbrev SetBy : Session → ℕ → Bool → Answered → Type 0
 SetBy s view on (Ok done) = IsSet s view on done.0
 SetBy s view on (Err refusal) = Unit {0}
 
-start_sets : (s : Session) (view : ℕ) (m : Message) → kind_of m.number ≡ Some StartRecord → SetBy s view true (table s view m)
-start_sets s view m e =
-    of_table (SetBy s view true) tt tt tt s m view
+message_sets : (s : Session) (view : ℕ) (m : Message) (on : Bool) → kind_of m.number ≡ Some (cond on StartRecord StopRecord) → SetBy s view on (table s view m)
+message_sets s view m on e =
+    of_table (SetBy s view on) tt tt tt s m view
     (λ v sees kind is d finds.
-    let same : kind ≡ StartRecord = cc in
-    subst (λ (k : Kind). SetBy s view true (answered k (request s v d m) (plan_of k (request s v d m)))) (sym same) (record { sender = v; found = sees; same = refl }))
-
-stop_sets : (s : Session) (view : ℕ) (m : Message) → kind_of m.number ≡ Some StopRecord → SetBy s view false (table s view m)
-stop_sets s view m e =
-    of_table (SetBy s view false) tt tt tt s m view
-    (λ v sees kind is d finds.
-    let same : kind ≡ StopRecord = cc in
-    subst (λ (k : Kind). SetBy s view false (answered k (request s v d m) (plan_of k (request s v d m)))) (sym same) (record { sender = v; found = sees; same = refl }))
+    let same : kind ≡ cond on StartRecord StopRecord = cc in
+    subst (λ (k : Kind). SetBy s view on (answered k (request s v d m) (plan_of k (request s v d m)))) (sym same) (go on v d sees))
+  where
+    go : (on : Bool) (v : View) (d : Document) → view_at s.views view ≡ Some v
+        → (let k = cond on StartRecord StopRecord in SetBy s view on (answered k (request s v d m) (plan_of k (request s v d m))))
+    go true v d sees = record { sender = v; found = sees; same = refl }
+    go false v d sees = record { sender = v; found = sees; same = refl }
 
 -- setting whether the view records changes nothing else
 set_like : (view : ℕ) (v : View) (on : Bool) (views : List View) → v.id ≡ view → AllByRecursion (λ (w : View). w.id ≡ view → w ≡ v) views
@@ -379,9 +245,8 @@ stopped_is view v (w ∷ ws) is once =
 begun_records : (s t : Session) (view : ℕ) → IsSet s view true t → Records view t.views
 begun_records s t view h =
     let v = h.sender in
-    let is = view_id s.views view h.sender h.found in
     subst (λ (x : Session). Records view x.views) (sym h.same)
-    (record v { records = true }, ap (view_at (with_view (record v { records = true }) s.views)) (sym is) ∙ put_found s.views h.sender (record v { records = true }) (ap (view_at s.views) is ∙ h.found), refl)
+    (record v { records = true }, put_found (λ (v : View). v.id) s.views view v (record v { records = true }) (view_id s.views view v h.found) h.found, refl)
 
 begun_same : (s t : Session) (view : ℕ) → IsSound s → IsSet s view true t → Same view t s
 begun_same s t view sound h =
@@ -403,11 +268,11 @@ done_sets s view on x done e h = subst (SetBy s view on) e h
 
 pub recordings_can_be_replayed : QueriesLeaveTheSession → MessageKeepsSound → IsSoundInEveryStateFrom → RecordingsCanBeReplayed
 recordings_can_be_replayed leave keeps sound_runs s view start stop messages begun ended sound is_start starts may is_stop stops =
-    let set = done_sets s view true (table s view start) begun starts (start_sets s view start is_start) in
+    let set = done_sets s view true (table s view start) begun starts (message_sets s view start true is_start) in
     let sound_begun : IsSound begun.0 = subst (λ x. IfOk x (λ (done : Session × Response). IsSound done.0)) starts (keeps s view start sound) in
     let between = (run_to [] (map sent messages) (starting begun.0)).session in
     let sound_between = sound_runs [] (map sent messages) (starting begun.0) sound_begun in
-    let unset = done_sets between view false (table between view stop) ended stops (stop_sets between view stop is_stop) in
+    let unset = done_sets between view false (table between view stop) ended stops (message_sets between view stop false is_stop) in
     let replayed = messages_replayed leave view messages (starting begun.0) (starting s) may (begun_records s begun.0 view set) (begun_same s begun.0 view sound set) in
     ended_same between ended.0 _ view sound_between unset replayed
 
@@ -437,32 +302,10 @@ replies_record_one_message s sender view m done e = subst (OneIfAnswered view) e
 abbrev OneEach : ℕ → List Outcome → Type 0
 OneEach view os = AllByRecursion (RecordsOneAtMost view) (replies_in os)
 
-one_after_message : (view : ℕ) (s : Session) (o : Answered) (os : List Outcome) → OneIfAnswered view o → OneEach view os → OneEach view ((after_message s o).1 ∷ os)
-one_after_message view s (Ok done) os h rest = (h, rest)
-one_after_message view s (Err refusal) os h rest = rest
-
-one_after_opening : (view : ℕ) (s : Session) (o : Result (Session × ℕ) Refusal) (os : List Outcome) → OneEach view os → OneEach view ((after_opening s o).1 ∷ os)
-one_after_opening view s (Ok done) os rest = rest
-one_after_opening view s (Err refusal) os rest = rest
-
-one_after_closing : (view : ℕ) (s : Session) (o : Result Session Refusal) (os : List Outcome) → OneEach view os → OneEach view ((after_closing s o).1 ∷ os)
-one_after_closing view s (Ok t) os rest = rest
-one_after_closing view s (Err refusal) os rest = rest
-
-load_records_one : (s : Session) (sender view : ℕ) (v : Option View) (file : Option (List ℕ)) → OneIfAnswered view (loaded s sender v file)
-load_records_one s sender view None file = tt
-load_records_one s sender view (Some v) None = tt
-load_records_one s sender view (Some v) (Some bytes) = table_records_one s sender view (set_text_message bytes)
-
 one_after_command : (files : List (List ℕ)) (c : Command) (s : Running) (view : ℕ) (os : List Outcome) → OneEach view os → OneEach view ((after_command files c s).1 ∷ os)
-one_after_command files OpenView s view os rest = one_after_opening view s.session (opened s.session) os rest
-one_after_command files (CloseView closing) s view os rest = one_after_closing view s.session (closed s.session closing) os rest
-one_after_command files (LoadFile sender file) s view os rest =
-    let o = loaded s.session sender (view_at s.session.views sender) (file_at files file) in
-    one_after_message view s.session o os (load_records_one s.session sender view (view_at s.session.views sender) (file_at files file)) rest
-one_after_command files (SendMessage sender message) s view os rest =
-    one_after_message view s.session (table s.session sender message) os (table_records_one s.session sender view message) rest
-one_after_command files (Expect value) s view os rest = rest
+one_after_command files c s view os rest =
+    of_any_command (λ (x : Running × Outcome). OneEach view (x.1 ∷ os)) files s (λ refusal. rest) (λ done e. rest) (λ closing t e. rest) (λ value. rest) c
+    (λ sender m done e. (subst (OneIfAnswered view) e (table_records_one s.session sender view m), rest))
 
 pub runs_record_one_message_a_reply : RunsRecordOneMessageAReply
 runs_record_one_message_a_reply files [] s view = tt

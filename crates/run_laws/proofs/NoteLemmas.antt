@@ -14,7 +14,7 @@ use Rattle.ed_model.specs.Session.{text_of, Document, View, watching, lines_in}
 use Rattle.ed_model.specs.Notes as notes
 use Rattle.ed_model.specs.Requests.{Request}
 use Rattle.ed_model.specs.Edits.{steps_of}
-use Rattle.ed_model.specs.Performing.{Scene, scene_of, document_after, step_heard, step_made, steps_made, sealed_scene, edit_made, leaving, change_performed, changes_performed, changes_lines, is_last, save_point_change, history_performed}
+use Rattle.ed_model.specs.Performing.{Scene, scene_of, document_after, step_heard, edit_made, leaving, change_performed, changes_performed, save_point_change, history_performed}
 use Rattle.ed_model.specs.Changes.{changed_document, change_told}
 use Rattle.ed_model.specs.Table.{performed}
 use Rattle.ed_model.specs.Numbers.{meets}
@@ -23,7 +23,8 @@ use Rattle.ed_model.specs.Text.{styles_of}
 use Rattle.ed_model.specs.Indicators.{changed_range}
 use Rattle.ed_model.specs.Performing.{last_bits, container_note}
 use Rattle.ed_model.specs.Changes.{line_note, marker_note, range_notes, line_with_handle, document_row, marker_count, is_same}
-use Rattle.run_laws.proofs.Finding.{either}
+use Rattle.run_laws.proofs.Finding.{either, all_joined}
+use Rattle.run_laws.proofs.Walks.{edit_kept, changes_kept}
 
 -- If the codes that plans use have the property, and the code of an attempt has
 -- it if the plan is one, the codes of a plan's notes have it.
@@ -33,10 +34,6 @@ module _ (Code : ℕ → Type 0) (needed : Code notes.style_needed) (reached : C
 
   abbrev pub HaveCodes : List Notice → Type 0
   HaveCodes ns = AllByRecursion HasCode ns
-
-  codes_joined : (xs ys : List Notice) → HaveCodes xs → HaveCodes ys → HaveCodes (xs ++ ys)
-  codes_joined [] ys a b = b
-  codes_joined (x ∷ xs) ys a b = (a.0, codes_joined xs ys a.1 b)
 
   codes_told : (views : List View) (n : Notice) → HasCode n → HaveCodes (notes.told views n)
   codes_told [] n h = tt
@@ -58,36 +55,26 @@ module _ (Code : ℕ → Type 0) (needed : Code notes.style_needed) (reached : C
       let views = watching scene.views scene.document in
       let b = notes.before_note before step in
       let a = notes.after_note after (growth (lines_in scene.document) (lines_in (document_after step scene.document))) step in
-      codes_joined (scene.notes ++ notes.heard views b ++ between) (notes.heard views a)
-      (codes_joined (scene.notes ++ notes.heard views b) between (codes_joined scene.notes (notes.heard views b) h (codes_heard views b (before_has_code before step))) k)
+      all_joined HasCode (scene.notes ++ notes.heard views b ++ between) (notes.heard views a)
+      (all_joined HasCode (scene.notes ++ notes.heard views b) between (all_joined HasCode scene.notes (notes.heard views b) h (codes_heard views b (before_has_code before step))) k)
       (codes_heard views a (after_has_code after (growth (lines_in scene.document) (lines_in (document_after step scene.document))) step))
 
   codes_leaving : (views : List View) (h : History) → HaveCodes (leaving views h)
   codes_leaving views h = either HaveCodes (h.collecting && at_save_point h) (notes.told views (notes.blank notes.save_point_left)) [] (codes_told views (notes.blank notes.save_point_left) left) tt
 
-  codes_steps : (later : Bool) (steps : List Step) (scene : Scene) → HaveCodes scene.notes → HaveCodes (steps_made later steps scene).notes
-  codes_steps later [] scene h = h
-  codes_steps later (step ∷ steps) scene h =
-      codes_steps true steps (step_made later step scene)
-      (codes_step notes.performed_user (bit_or notes.performed_user (notes.bit_if (begins_transaction later (TextStep step) scene.document.history) notes.start_action))
-      (leaving (watching scene.views scene.document) scene.document.history) step scene h (codes_leaving (watching scene.views scene.document) scene.document.history))
-
   codes_edit : (steps : List Step) (scene : Scene) → HaveCodes scene.notes → HaveCodes (edit_made steps scene).notes
   codes_edit steps scene h =
-      either (λ (x : Scene). HaveCodes x.notes) (nat_lt 1 (length steps)) (sealed_scene (steps_made false steps (sealed_scene scene))) (steps_made false steps scene)
-      (codes_steps false steps (sealed_scene scene) h) (codes_steps false steps scene h)
+      edit_kept (λ (x : Scene). HaveCodes x.notes)
+      (λ later step x k.
+      codes_step notes.performed_user (bit_or notes.performed_user (notes.bit_if (begins_transaction later (TextStep step) x.document.history) notes.start_action))
+      (leaving (watching x.views x.document) x.document.history) step x k (codes_leaving (watching x.views x.document) x.document.history))
+      (λ x k. k) steps scene h
 
-  codes_changes : (who several : ℕ) (lines_changed : Bool) (cs : List Change) (scene : Scene) → HaveCodes scene.notes → HaveCodes (changes_performed who several lines_changed cs scene).notes
-  codes_changes who several lines_changed [] scene h = h
-  codes_changes who several lines_changed (TextStep step ∷ cs) scene h =
-      let changed = cond lines_changed true (changes_lines (TextStep step) scene.document) in
-      codes_changes who several changed cs (change_performed who several (is_last cs) changed (TextStep step) scene)
-      (codes_step who (bit_or (bit_or who several) (last_bits (is_last cs) changed)) [] step scene h tt)
-  codes_changes who several lines_changed (ContainerStep token coalesce ∷ cs) scene h =
-      let changed = cond lines_changed true (changes_lines (ContainerStep token coalesce) scene.document) in
-      let n = container_note (bit_or (bit_or who several) (last_bits (is_last cs) changed)) token in
-      codes_changes who several changed cs (change_performed who several (is_last cs) changed (ContainerStep token coalesce) scene)
-      (codes_joined scene.notes (notes.heard (watching scene.views scene.document) n) h (codes_heard (watching scene.views scene.document) n modified))
+  codes_performed : (who several : ℕ) (last lines_changed : Bool) (c : Change) (scene : Scene) → HaveCodes scene.notes → HaveCodes (change_performed who several last lines_changed c scene).notes
+  codes_performed who several last lines_changed (TextStep step) scene h = codes_step who (bit_or (bit_or who several) (last_bits last lines_changed)) [] step scene h tt
+  codes_performed who several last lines_changed (ContainerStep token coalesce) scene h =
+      let n = container_note (bit_or (bit_or who several) (last_bits last lines_changed)) token in
+      all_joined HasCode scene.notes (notes.heard (watching scene.views scene.document) n) h (codes_heard (watching scene.views scene.document) n modified)
 
   codes_save_point : (views : List View) (a b : Bool) → HaveCodes (save_point_change views a b)
   codes_save_point views true true = tt
@@ -98,8 +85,8 @@ module _ (Code : ℕ → Type 0) (needed : Code notes.style_needed) (reached : C
   codes_history : (r : Request) (who : ℕ) (cs : List Change) (new : History) → HaveCodes (history_performed r who cs new).1.notes
   codes_history r who cs new =
       let done = changes_performed who (notes.bit_if (nat_lt 1 (length cs)) notes.multi_step) false cs (scene_of r) in
-      codes_joined done.notes (save_point_change (watching done.views done.document) (at_save_point r.document.history) (at_save_point new))
-      (codes_changes who (notes.bit_if (nat_lt 1 (length cs)) notes.multi_step) false cs (scene_of r) tt)
+      all_joined HasCode done.notes (save_point_change (watching done.views done.document) (at_save_point r.document.history) (at_save_point new))
+      (changes_kept (λ (x : Scene). HaveCodes x.notes) codes_performed who (notes.bit_if (nat_lt 1 (length cs)) notes.multi_step) false cs (scene_of r) tt)
       (codes_save_point (watching done.views done.document) (at_save_point r.document.history) (at_save_point new))
 
   codes_if : (b : Bool) (ns : List Notice) → HaveCodes ns → HaveCodes (cond b [] ns)
@@ -117,13 +104,7 @@ module _ (Code : ℕ → Type 0) (needed : Code notes.style_needed) (reached : C
       codes_if (marker_count old.rows == marker_count new.rows) (notes.heard views told) (codes_heard views told modified)
 
   codes_change : (sender : View) (views : List View) (old new : Document) (what : DocumentChange) → HaveCodes (change_told sender views old new what)
-  codes_change sender views old new (document_change.SetReadOnly on) = tt
-  codes_change sender views old new (document_change.SetLineEnd to) = tt
   codes_change sender views old new document_change.SetSavePoint = codes_told views (notes.blank notes.save_point_reached) reached
-  codes_change sender views old new document_change.BeginGroup = tt
-  codes_change sender views old new document_change.EndGroup = tt
-  codes_change sender views old new document_change.ForgetHistory = tt
-  codes_change sender views old new (document_change.CollectUndo on) = tt
   codes_change sender views old new (document_change.AppendContainer token coalesce) = codes_leaving views old.history
   codes_change sender views old new (document_change.AddMarker line number) = codes_marker line old new views
   codes_change sender views old new (document_change.AddMarkers line mask) = codes_marker line old new views
@@ -140,7 +121,6 @@ module _ (Code : ℕ → Type 0) (needed : Code notes.style_needed) (reached : C
   codes_change sender views old new (document_change.SetState line state) =
       let told = line_note notes.change_line_state line in
       codes_if (is_same (document_row old line).state state) (notes.heard views told) (codes_heard views told modified)
-  codes_change sender views old new (document_change.SetEndStyled place) = tt
   codes_change sender views old new (document_change.StyleRun count style) = codes_range notes.change_style (changed_range (styles_of old.cells) (styles_of new.cells)) views
   codes_change sender views old new (document_change.StyleBytes count) = codes_range notes.change_style (changed_range (styles_of old.cells) (styles_of new.cells)) views
   codes_change sender views old new (document_change.NeedStyle start past) =
@@ -148,19 +128,15 @@ module _ (Code : ℕ → Type 0) (needed : Code notes.style_needed) (reached : C
       let told : Notice = record n { position = pos past } in
       codes_told (sender ∷ []) told needed
   codes_change sender views old new (document_change.FillIndicator indicator start count value) = codes_range notes.change_indicator (changed_range (slice_index_or old.indicators indicator []) (slice_index_or new.indicators indicator [])) views
-  codes_change sender views old new (document_change.SetLineEndTypes to) = tt
+  codes_change sender views old new _ = tt
 
   pub plans_have_codes : (r : Request) (p : Plan) → (p ≡ plan.Attempt → Code notes.modify_attempt) → HaveCodes (performed r p).1.notes
-  plans_have_codes r (plan.Answer value) attempt = tt
-  plans_have_codes r (plan.HandOut value start count) attempt = tt
-  plans_have_codes r (plan.HandOutStyled start count) attempt = tt
   plans_have_codes r (plan.Edit change value after) attempt = codes_edit (steps_of r change) (scene_of r) tt
   plans_have_codes r plan.Attempt attempt = codes_told (watching r.session.views r.document) (notes.blank notes.modify_attempt) (attempt refl)
   plans_have_codes r plan.Undo attempt = codes_history r notes.performed_undo (undo_changes r.document.history) (undone r.document.history)
   plans_have_codes r plan.Redo attempt = codes_history r notes.performed_redo (redo_changes r.document.history) (redone r.document.history)
   plans_have_codes r (plan.ChangeDocument change value) attempt = codes_change r.view (watching r.session.views r.document) r.document (changed_document r.message.text change r.document) change
-  plans_have_codes r (plan.ChangeView change value) attempt = tt
-  plans_have_codes r (plan.ChangeSession change value) attempt = tt
+  plans_have_codes r _ attempt = tt
 
 -- No note of a plan is SCN_MACRORECORD.
 

@@ -25,7 +25,7 @@ use Rattle.ed_model.specs.Notes as notes
 use Rattle.ed_model.specs.Requests.{Request, Planned, text}
 use Rattle.ed_model.specs.Edits.{steps_of}
 use Rattle.ed_model.specs.FoldingPlans.{levels}
-use Rattle.ed_model.specs.Performing.{Scene, scene_of, session_of, document_after, moved_view, view_after, step_made, steps_made, sealed_scene, edit_made, followed, with_caret, with_target, caret_behind, change_performed, changes_performed, changes_lines, is_last, history_performed, place_behind}
+use Rattle.ed_model.specs.Performing.{Scene, scene_of, session_of, document_after, moved_view, view_after, step_made, sealed_scene, edit_made, followed, with_caret, with_target, caret_behind, change_performed, changes_performed, history_performed, place_behind}
 use Rattle.ed_model.specs.Changes.{changed_lines, changed_view}
 use Rattle.ed_model.specs.Table.{table, answered, plan_of, performed, request, table_from_view, table_from_kind, table_from_document}
 use Rattle.ed_model.specs.TableLaws.{Answered}
@@ -37,10 +37,10 @@ use Rattle.ed_model.specs.History.{appended}
 use Rattle.ed_model.specs.Changes.{with_attached, with_new_document, session_changed}
 use Rattle.ed_model.specs.Run.{after_message}
 use Rattle.run_laws.specs.MacroLaws.{not_recording}
-use Rattle.run_laws.proofs.Finding.{view_id}
+use Rattle.run_laws.proofs.Finding.{view_id, mapped_found}
+use Rattle.run_laws.proofs.Walks.{edit_related, changes_related}
 use Rattle.run_laws.proofs.PlanShapes.{same_converted, same_plan_recording}
 use Rattle.run_laws.proofs.IdLemmas.{view_change_ids}
-use Rattle.run_laws.proofs.Alike.{changed_found}
 
 module _ (view : ℕ) where
   abbrev quiet : View → View
@@ -86,17 +86,13 @@ module _ (view : ℕ) where
   put_like : (new new' : View) (vs ws : List View) → quiet new ≡ quiet new' → new'.id ≡ new.id → Like vs ws → Like (with_view new vs) (with_view new' ws)
   put_like new new' vs ws same id e =
       like_both (λ (v : View). cond (v.id == new.id) new v) (λ (v : View). cond (v.id == new'.id) new' v) (λ (v : View). cond (v.id == new.id) (quiet new) v)
-      (λ v. left v (v.id == new.id))
-      (λ v. ap (λ n. quiet (cond (v.id == n) new' v)) id ∙ right v (v.id == new.id))
+      (λ v. go new v (v.id == new.id) refl)
+      (λ v. ap (λ n. quiet (cond (v.id == n) new' v)) id ∙ go new' v (v.id == new.id) (sym same))
       vs ws e
     where
-      left : (v : View) (b : Bool) → quiet (cond b new v) ≡ cond b (quiet new) (quiet v)
-      left v true = refl
-      left v false = refl
-
-      right : (v : View) (b : Bool) → quiet (cond b new' v) ≡ cond b (quiet new) (quiet v)
-      right v true = sym same
-      right v false = refl
+      go : (x v : View) (b : Bool) → quiet x ≡ quiet new → quiet (cond b x v) ≡ cond b (quiet new) (quiet v)
+      go x v true is = is
+      go x v false is = refl
 
   lines_quiet : (change : DocumentChange) (d : Document) (v : View) → quiet (changed_lines change d v) ≡ changed_lines change d (quiet v)
   lines_quiet (document_change.SetLineEndTypes to) d v = go (v.document == d.id)
@@ -105,26 +101,7 @@ module _ (view : ℕ) where
           ≡ cond b (let w = quiet v in record w { flags = regrouped flags_together d.line_end_types to (text_of d) v.flags }) (quiet v)
       go true = refl
       go false = refl
-  lines_quiet (document_change.SetReadOnly on) d v = refl
-  lines_quiet (document_change.SetLineEnd to) d v = refl
-  lines_quiet document_change.SetSavePoint d v = refl
-  lines_quiet document_change.BeginGroup d v = refl
-  lines_quiet document_change.EndGroup d v = refl
-  lines_quiet document_change.ForgetHistory d v = refl
-  lines_quiet (document_change.CollectUndo on) d v = refl
-  lines_quiet (document_change.AppendContainer token coalesce) d v = refl
-  lines_quiet (document_change.AddMarker line number) d v = refl
-  lines_quiet (document_change.AddMarkers line mask) d v = refl
-  lines_quiet (document_change.DeleteMarker line number) d v = refl
-  lines_quiet (document_change.DeleteMarkers number) d v = refl
-  lines_quiet (document_change.DeleteHandle handle) d v = refl
-  lines_quiet (document_change.SetLevel line level) d v = refl
-  lines_quiet (document_change.SetState line state) d v = refl
-  lines_quiet (document_change.SetEndStyled place) d v = refl
-  lines_quiet (document_change.StyleRun count style) d v = refl
-  lines_quiet (document_change.StyleBytes count) d v = refl
-  lines_quiet (document_change.NeedStyle start past) d v = refl
-  lines_quiet (document_change.FillIndicator indicator start count value) d v = refl
+  lines_quiet _ d v = refl
 
   -- Two scenes of one document that differ only in which views record, and in the notes.
   record Scenes (a b : Scene) : Type 0 where
@@ -142,32 +119,16 @@ module _ (view : ℕ) where
     views = step_views step a b h;
   }
 
-  steps_scenes : (later : Bool) (steps : List Step) (a b : Scene) → Scenes a b → Scenes (steps_made later steps a) (steps_made later steps b)
-  steps_scenes later [] a b h = h
-  steps_scenes later (step ∷ steps) a b h = steps_scenes true steps (step_made later step a) (step_made later step b) (step_scenes later step a b h)
-
   sealed_scenes : (a b : Scene) → Scenes a b → Scenes (sealed_scene a) (sealed_scene b)
   sealed_scenes a b h = record { document = ap (λ (d : Document). record d { history = sealed_outside_groups d.history }) h.document; views = h.views }
 
   edit_scenes : (steps : List Step) (a b : Scene) → Scenes a b → Scenes (edit_made steps a) (edit_made steps b)
-  edit_scenes steps a b h = go (nat_lt 1 (length steps))
-    where
-      go : (c : Bool) → Scenes (cond c (sealed_scene (steps_made false steps (sealed_scene a))) (steps_made false steps a)) (cond c (sealed_scene (steps_made false steps (sealed_scene b))) (steps_made false steps b))
-      go true = sealed_scenes (steps_made false steps (sealed_scene a)) (steps_made false steps (sealed_scene b)) (steps_scenes false steps (sealed_scene a) (sealed_scene b) (sealed_scenes a b h))
-      go false = steps_scenes false steps a b h
+  edit_scenes steps a b h = edit_related Scenes step_scenes sealed_scenes steps a b h
 
-  changes_scenes : (who several : ℕ) (in_a in_b : Bool) (cs : List Change) (a b : Scene) → Scenes a b → Scenes (changes_performed who several in_a cs a) (changes_performed who several in_b cs b)
-  changes_scenes who several in_a in_b [] a b h = h
-  changes_scenes who several in_a in_b (TextStep step ∷ cs) a b h =
-      let changed_a = cond in_a true (changes_lines (TextStep step) a.document) in
-      let changed_b = cond in_b true (changes_lines (TextStep step) b.document) in
-      changes_scenes who several changed_a changed_b cs (change_performed who several (is_last cs) changed_a (TextStep step) a) (change_performed who several (is_last cs) changed_b (TextStep step) b)
-      (record { document = ap (document_after step) h.document; views = step_views step a b h })
-  changes_scenes who several in_a in_b (ContainerStep token coalesce ∷ cs) a b h =
-      let changed_a = cond in_a true (changes_lines (ContainerStep token coalesce) a.document) in
-      let changed_b = cond in_b true (changes_lines (ContainerStep token coalesce) b.document) in
-      changes_scenes who several changed_a changed_b cs (change_performed who several (is_last cs) changed_a (ContainerStep token coalesce) a) (change_performed who several (is_last cs) changed_b (ContainerStep token coalesce) b)
-      (record { document = h.document; views = h.views })
+  change_scenes : (who several : ℕ) (last lines_changed : Bool) (c : Change) (a b : Scene) → Scenes a b
+      → Scenes (change_performed who several last lines_changed c a) (change_performed who several last lines_changed c b)
+  change_scenes who several last lines_changed (TextStep step) a b h = record { document = ap (document_after step) h.document; views = step_views step a b h }
+  change_scenes who several last lines_changed (ContainerStep token coalesce) a b h = record { document = h.document; views = h.views }
 
   -- Two sessions that differ only in whether the view records.
   pub record Same (s t : Session) : Type 0 where
@@ -204,7 +165,7 @@ module _ (view : ℕ) where
       let several = notes.bit_if (nat_lt 1 (length cs)) notes.multi_step in
       let x = changes_performed who several false cs (scene_of r) in
       let y = changes_performed who several false cs (scene_of (other r ws b)) in
-      let h : Scenes x y = changes_scenes who several false false cs (scene_of r) (scene_of (other r ws b)) (record { document = refl; views = e }) in
+      let h : Scenes x y = changes_related Scenes (λ a b k. k.document) change_scenes who several false cs (scene_of r) (scene_of (other r ws b)) (record { document = refl; views = e }) in
       let step = latest_text_step (reverse cs) in
       let s = r.session in
       record {
@@ -218,19 +179,7 @@ module _ (view : ℕ) where
   -- changing a view does the same, whether it records or not
   changed_quiet : (levels : List ℕ) (what : ViewChange) (v : View) (b : Bool) → (v.id == view) ≡ true → quiet (changed_view levels what v) ≡ quiet (changed_view levels what (record v { records = b }))
   changed_quiet levels (view_change.SetRecording on) v b at = refl
-  changed_quiet levels (view_change.Select anchor caret) v b at = ap (λ c. let w = changed_view levels (view_change.Select anchor caret) v in record w { records = c }) (no_flag v b at)
-  changed_quiet levels (view_change.SetTarget start past) v b at = ap (λ c. let w = changed_view levels (view_change.SetTarget start past) v in record w { records = c }) (no_flag v b at)
-  changed_quiet levels (view_change.SetSearchFlags flags) v b at = ap (λ c. let w = changed_view levels (view_change.SetSearchFlags flags) v in record w { records = c }) (no_flag v b at)
-  changed_quiet levels (view_change.SetMask mask) v b at = ap (λ c. let w = changed_view levels (view_change.SetMask mask) v in record w { records = c }) (no_flag v b at)
-  changed_quiet levels (view_change.SetIndicator indicator) v b at = ap (λ c. let w = changed_view levels (view_change.SetIndicator indicator) v in record w { records = c }) (no_flag v b at)
-  changed_quiet levels (view_change.SetIndicatorValue value) v b at = ap (λ c. let w = changed_view levels (view_change.SetIndicatorValue value) v in record w { records = c }) (no_flag v b at)
-  changed_quiet levels (view_change.SetPasteConversion on) v b at = ap (λ c. let w = changed_view levels (view_change.SetPasteConversion on) v in record w { records = c }) (no_flag v b at)
-  changed_quiet levels (view_change.ShowLines first past) v b at = ap (λ c. let w = changed_view levels (view_change.ShowLines first past) v in record w { records = c }) (no_flag v b at)
-  changed_quiet levels (view_change.HideLines first past) v b at = ap (λ c. let w = changed_view levels (view_change.HideLines first past) v in record w { records = c }) (no_flag v b at)
-  changed_quiet levels (view_change.SetExpanded line on) v b at = ap (λ c. let w = changed_view levels (view_change.SetExpanded line on) v in record w { records = c }) (no_flag v b at)
-  changed_quiet levels (view_change.Contract line) v b at = ap (λ c. let w = changed_view levels (view_change.Contract line) v in record w { records = c }) (no_flag v b at)
-  changed_quiet levels (view_change.Expand line) v b at = ap (λ c. let w = changed_view levels (view_change.Expand line) v in record w { records = c }) (no_flag v b at)
-  changed_quiet levels (view_change.EnsureVisible line) v b at = ap (λ c. let w = changed_view levels (view_change.EnsureVisible line) v in record w { records = c }) (no_flag v b at)
+  changed_quiet levels what v b at = ap (λ c. let w = changed_view levels what v in record w { records = c }) (no_flag v b at)
 
   attached_same : (s : Session) (ws : List View) (o : Option Document) (v : View) (b : Bool) → (v.id == view) ≡ true → Like s.views ws → Same (with_attached o v s) (with_attached o (record v { records = b }) (record s { views = ws }))
   attached_same s ws None v b at e = record { same = refl; views = e }
@@ -240,22 +189,14 @@ module _ (view : ℕ) where
   }
 
   session_same : (r : Request) (ws : List View) (b : Bool) (what : SessionChange) → (r.view.id == view) ≡ true → Like r.session.views ws → Same (session_changed r what) (session_changed (other r ws b) what)
-  session_same r ws b (session_change.Copy start count) at e = record { same = refl; views = e }
-  session_same r ws b (session_change.CopyText count) at e = record { same = refl; views = e }
   session_same r ws b (session_change.Attach id) at e = attached_same r.session ws (document_at r.session.documents id) r.view b at e
   session_same r ws b session_change.AttachNew at e =
       let s = r.session in
       let with = with_new_document (new_document s.next_document 0) s in
       attached_same with ws (document_at with.documents s.next_document) r.view b at e
-  session_same r ws b (session_change.Create options) at e = record { same = refl; views = e }
-  session_same r ws b (session_change.AddReference id) at e = record { same = refl; views = e }
-  session_same r ws b (session_change.Release id) at e = record { same = refl; views = e }
+  session_same r ws b _ at e = record { same = refl; views = e }
 
   performed_same : (r : Request) (ws : List View) (b : Bool) (p : Plan) → (r.view.id == view) ≡ true → Like r.session.views ws → Same (performed r p).0 (performed (other r ws b) p).0
-  performed_same r ws b (plan.Answer value) at e = record { same = refl; views = e }
-  performed_same r ws b (plan.HandOut value start count) at e = record { same = refl; views = e }
-  performed_same r ws b (plan.HandOutStyled start count) at e = record { same = refl; views = e }
-  performed_same r ws b plan.Attempt at e = record { same = refl; views = e }
   performed_same r ws b (plan.Edit change value after) at e =
       subst (λ (steps : List Step). Same (performed r (plan.Edit change value after)).0 (followed r.view.id (text r) after (session_of (other r ws b).session (edit_made steps (scene_of (other r ws b)))))) (sym (same_steps r ws b change))
       (let x = edit_made (steps_of r change) (scene_of r) in
@@ -275,6 +216,7 @@ module _ (view : ℕ) where
             (view_change_ids (levels r) change (record v { records = b }) ∙ sym (view_change_ids (levels r) change r.view)) e;
       }
   performed_same r ws b (plan.ChangeSession change value) at e = session_same r ws b change at e
+  performed_same r ws b _ at e = record { same = refl; views = e }
 
   -- Messages to the view.
 
@@ -315,5 +257,5 @@ module _ (view : ℕ) where
   table_after_both s t m h =
       subst (λ (x : Session). After s x (table s view m) (table x view m)) (sym h.same)
       (view_after_both s t.views m (view_at s.views view) (view_at t.views view)
-      (sym (changed_found quiet (λ v. refl) s.views view) ∙ ap (λ (vs : List View). view_at vs view) h.views ∙ changed_found quiet (λ v. refl) t.views view)
+      (sym (mapped_found (λ (v : View). v.id) quiet (λ v. refl) s.views view) ∙ ap (λ (vs : List View). view_at vs view) h.views ∙ mapped_found (λ (v : View). v.id) quiet (λ v. refl) t.views view)
       (λ v sees. view_id s.views view v sees) h.views)

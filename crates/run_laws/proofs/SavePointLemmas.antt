@@ -1,14 +1,13 @@
 -- Undo and redo lead back to the text of the save point, whatever changes come between.
-use Rattle.std.proofs.Common.{◌≡◌, ℕ, zero, suc, ◌+◌, ◌-◌, ◌≤◌, ◌<◌, nat_lt, cond, Bool, true, false, List, [], ◌∷◌, ◌++◌, length, take, drop, replicate, refl, ap, ◌∙◌, sym, subst, arith, inl, inr, Option, Some, None, Result, Ok, Err}
+use Rattle.std.proofs.Common.{◌≡◌, ℕ, suc, ◌+◌, ◌-◌, ◌≤◌, ◌<◌, nat_lt, cond, Bool, true, false, List, [], ◌∷◌, ◌++◌, length, take, drop, replicate, refl, ap, ◌∙◌, sym, subst, arith, inl, inr, Option, Some, None, Ok}
 use Rattle.std.specs.Prelude.{◌⊎◌, ℤ, pos, ◌==◌, ◌&&◌, ◌||◌, not, nat_le, reverse}
 use Rattle.std.proofs.lemmas.Bool.{cases_lt, eqb-true, eqb-false, leb-true, and_parts, ltb-true}
 use Rattle.std.proofs.lemmas.List.{length-map}
 use Rattle.ed_types.specs.declared.kind.Kind.{Kind}
 use Rattle.ed_types.specs.declared.kind.Kind.TheVariants.{GetModify, SetText}
 use Rattle.ed_types.specs.declared.message.Message.{Message}
-use Rattle.ed_types.specs.declared.refusal.Refusal.{Refusal}
 use Rattle.ed_types.specs.declared.script.Command.{Command}
-use Rattle.ed_types.specs.declared.script.Command.TheVariants.{OpenView, CloseView, LoadFile, SendMessage, Expect}
+use Rattle.ed_types.specs.declared.script.Command.TheVariants.{LoadFile, SendMessage}
 use Rattle.ed_types.specs.Notices.{Response}
 use Rattle.ed_types.specs.Messages.{kind_of, marks_of}
 use Rattle.ed_model.specs.declared.plan.DocumentChange.{DocumentChange}
@@ -30,17 +29,17 @@ use Rattle.ed_model.specs.Performing.{Scene, scene_of, document_after, step_made
 use Rattle.ed_model.specs.Changes.{changed_document, restyled, styled}
 use Rattle.ed_model.specs.InverseLaws.{Fits, FitInTurn, after_undo, after_redo, UndoMakesItsSteps, RedoMakesItsSteps, UndoThenRedoGivesBackTheText}
 use Rattle.ed_model.specs.UndoLaws.{undone_text, redone_text, BegunStepIsOneTransactionMore, JoinedStepKeepsEarlierTexts, BegunContainerStepIsOneTransactionMore, JoinedContainerStepKeepsEarlierTexts, UndoKeepsEarlierTexts, RedoIsOneTransactionMore, SealsKeepEarlierTexts}
-use Rattle.ed_model.specs.Table.{table, request, with_recording, record_note, opened, closed_view}
-use Rattle.ed_model.specs.TableLaws.{Answered}
+use Rattle.ed_model.specs.Table.{table, request, with_recording, record_note}
 use Rattle.ed_model.specs.SoundLaws.{IsSound, IsSoundDocument, AreStepsOf, CommandKeepsSound}
 use Rattle.ed_model.specs.PlansFit.{IsSoundRequest, IsFitPlan, PlansFit, EditStepsFit, UndoStepsFit, RedoStepsFit}
-use Rattle.ed_model.specs.Run.{Running, after_command, after_opening, after_closing, after_message, loaded, file_at, set_text_message, run_to}
+use Rattle.ed_model.specs.proved.Steps.{bytes_behind_restyled}
+use Rattle.ed_model.specs.Run.{Running, after_command, set_text_message, run_to}
 use Rattle.run_laws.specs.MessageKinds.{is_saving}
 use Rattle.run_laws.specs.SavePointLaws.{SetsNoSavePoint, IsCollected, KeepsTheSavePoint, UnmodifiedIsTheSavedText, GetModifyTells}
 use Rattle.run_laws.proofs.Finding.{either, document_id, found_all, found_below}
-use Rattle.run_laws.proofs.TableWays.{table_at}
+use Rattle.run_laws.proofs.TableWays.{table_at, OfMessages}
 use Rattle.run_laws.proofs.PlanShapes.{Leave, KeepsTo, IsShaped, leave_of, plan_is_shaped}
-use Rattle.run_laws.proofs.Going.{own_after, AllFrom, From, AnsweredFrom, OpenedFrom, ClosedFrom, table_from, opening_from, closing_from, all_same}
+use Rattle.run_laws.proofs.Going.{own_after, AllFrom, From, MayGo, command_from}
 use Rattle.run_laws.proofs.IdLemmas.{document_ids_never_come_back, next_document_rises}
 
 -- The laws of the history that these proofs use.
@@ -103,21 +102,10 @@ saved_first now h at k e =
     ((λ le. ap (λ (j : ℕ). undone_text j h.past now) zero_left), (λ lt. absurd (omega arith)))
 
 -- a change of styles changes no byte
-
-bytes_restyled : (styles : List ℕ) (cells : List Cell) → bytes_of (restyled styles cells) ≡ bytes_of cells
-bytes_restyled [] cells = refl
-bytes_restyled (s ∷ ss) [] = refl
-bytes_restyled (s ∷ ss) (c ∷ cells) = ap (λ rest. c.byte ∷ rest) (bytes_restyled ss cells)
-
-bytes_restyled_from : (n : ℕ) (styles : List ℕ) (cells : List Cell) → bytes_of (take n cells ++ restyled styles (drop n cells)) ≡ bytes_of cells
-bytes_restyled_from zero styles cells = bytes_restyled styles cells
-bytes_restyled_from (suc n) styles [] = bytes_restyled styles []
-bytes_restyled_from (suc n) styles (c ∷ cells) = ap (λ rest. c.byte ∷ rest) (bytes_restyled_from n styles cells)
-
 pub text_styled : (new : List ℕ) (d : Document) → text_of (styled new d) ≡ text_of d
 text_styled new d =
     either (λ (cells : List Cell). bytes_of cells ≡ bytes_of d.cells) (keeps_no_styles d) d.cells (take d.end_styled d.cells ++ restyled new (drop d.end_styled d.cells)) refl
-    (bytes_restyled_from d.end_styled new d.cells)
+    (bytes_behind_restyled d.end_styled new d.cells)
 
 -- Seals.
 
@@ -351,23 +339,18 @@ module _ (c : Cited) (saved : List ℕ) where
   changed_saved bytes (document_change.AppendContainer token coalesce) d l answer barred keeps s = container_saved token coalesce d.history (text_of d) s
   changed_saved bytes (document_change.StyleRun count style) d l answer barred keeps s = subst (λ (now : List ℕ). Saved saved now d.history) (sym (text_styled (replicate count style) d)) s
   changed_saved bytes (document_change.StyleBytes count) d l answer barred keeps s = subst (λ (now : List ℕ). Saved saved now d.history) (sym (text_styled (take count bytes) d)) s
-  changed_saved bytes (document_change.SetReadOnly on) d l answer barred keeps s = s
-  changed_saved bytes (document_change.SetLineEnd to) d l answer barred keeps s = s
-  changed_saved bytes (document_change.SetLineEndTypes to) d l answer barred keeps s = s
-  changed_saved bytes (document_change.AddMarker line number) d l answer barred keeps s = s
-  changed_saved bytes (document_change.AddMarkers line mask) d l answer barred keeps s = s
-  changed_saved bytes (document_change.DeleteMarker line number) d l answer barred keeps s = s
-  changed_saved bytes (document_change.DeleteMarkers number) d l answer barred keeps s = s
-  changed_saved bytes (document_change.DeleteHandle handle) d l answer barred keeps s = s
-  changed_saved bytes (document_change.SetLevel line level) d l answer barred keeps s = s
-  changed_saved bytes (document_change.SetState line state) d l answer barred keeps s = s
-  changed_saved bytes (document_change.SetEndStyled place) d l answer barred keeps s = s
-  changed_saved bytes (document_change.NeedStyle start past) d l answer barred keeps s = s
-  changed_saved bytes (document_change.FillIndicator indicator start count value) d l answer barred keeps s = s
+  changed_saved bytes _ d l answer barred keeps s = s
 
   in_turn : (steps : List Step) (now : List ℕ) → AreStepsOf now steps → FitInTurn steps now
   in_turn [] now h = tt
   in_turn (step ∷ steps) now h = (h.0.0, in_turn steps (edited step now) h.1)
+
+  -- undo and redo need a transaction
+  none_left : (b : Bool) (ts : List Transaction) → ts ≡ [] → (b && nat_lt 0 (length ts)) ≡ true → ⊥
+  none_left b ts none may =
+      let some : 0 < length ts = ltb-true 0 (length ts) (and_parts b (nat_lt 0 (length ts)) may).1 in
+      let empty : length ts ≡ 0 = ap length none in
+      omega arith
 
   -- the document of a plan's request after the plan
   own_saved : (r : Request) (p : Plan) (l : Leave) → l.saves ≡ false → KeepsTo l p → IsSoundRequest r → IsSoundDocument r.session.limits r.document → IsFitPlan r p
@@ -385,28 +368,15 @@ module _ (c : Cited) (saved : List ℕ) where
   own_saved r plan.Undo l barred keeps sound fit_document fit may s = go r.document.history.past refl
     where
       go : (ts : List Transaction) → r.document.history.past ≡ ts → SavedIn saved (own_after r plan.Undo)
-      go [] none =
-          let some = (and_parts (r.document.history.depth == 0) (nat_lt 0 (length r.document.history.past)) fit.0).1 in
-          let not_empty : 0 < length r.document.history.past = ltb-true 0 (length r.document.history.past) some in
-          let empty : length r.document.history.past ≡ 0 = ap length none in
-          absurd (omega arith)
+      go [] none = absurd (none_left (r.document.history.depth == 0) r.document.history.past none fit.0)
       go (t ∷ ts) some = undo_saved (scene_of r) t ts some (in_turn _ (text r) (c.undo_fits r sound)) s
   own_saved r plan.Redo l barred keeps sound fit_document fit may s = go r.document.history.future refl
     where
       go : (ts : List Transaction) → r.document.history.future ≡ ts → SavedIn saved (own_after r plan.Redo)
-      go [] none =
-          let some = (and_parts (r.document.history.depth == 0) (nat_lt 0 (length r.document.history.future)) fit.0).1 in
-          let not_empty : 0 < length r.document.history.future = ltb-true 0 (length r.document.history.future) some in
-          let empty : length r.document.history.future ≡ 0 = ap length none in
-          absurd (omega arith)
+      go [] none = absurd (none_left (r.document.history.depth == 0) r.document.history.future none fit.0)
       go (t ∷ ts) some = redo_saved (scene_of r) t ts some (in_turn _ (text r) (c.redo_fits r sound)) s
   own_saved r (plan.ChangeDocument change value) l barred keeps sound fit_document fit may s = changed_saved r.message.text change r.document l value barred keeps s
-  own_saved r (plan.Answer value) l barred keeps sound fit_document fit may s = s
-  own_saved r (plan.HandOut value start count) l barred keeps sound fit_document fit may s = s
-  own_saved r (plan.HandOutStyled start count) l barred keeps sound fit_document fit may s = s
-  own_saved r plan.Attempt l barred keeps sound fit_document fit may s = s
-  own_saved r (plan.ChangeView change value) l barred keeps sound fit_document fit may s = s
-  own_saved r (plan.ChangeSession change value) l barred keeps sound fit_document fit may s = s
+  own_saved r _ l barred keeps sound fit_document fit may s = s
 
   -- Commands.
 
@@ -423,52 +393,27 @@ module _ (c : Cited) (saved : List ℕ) where
   Go id s t = AllFrom (Keeps id) (keeps_same id) (keeps_relisted id) s.next_document s.documents t.documents
 
   message_keeps : (id : ℕ) (s : Session) (view : ℕ) (m : Message)
-      → ((v : View) (kind : Kind) → view_at s.views view ≡ Some v → v.document ≡ id → kind_of m.number ≡ Some kind → is_saving kind ≡ false) → IsSound s
-      → AnsweredFrom (Keeps id) (keeps_same id) (keeps_relisted id) s (table s view m)
-  message_keeps id s view m barred sound =
-      table_from (Keeps id) (keeps_same id) (keeps_relisted id) c.fits s view m sound
-      (λ kind r p sent own may saved_there.
+      → ((v : View) (kind : Kind) → view_at s.views view ≡ Some v → v.document ≡ id → kind_of m.number ≡ Some kind → is_saving kind ≡ false)
+      → MayGo (Keeps id) (keeps_same id) (keeps_relisted id) s view m
+  message_keeps id s view m barred kind r p sent own may saved_there =
       let h : IsSoundRequest r = sent.0 in
       let here : r.view.document ≡ id = sym (document_id r.session.documents r.view.document r.document h.document) ∙ own in
       let shaped : IsShaped (leave_of kind) (Ok p) = subst (IsShaped (leave_of kind)) sent.5 (plan_is_shaped kind r) in
       own_saved r p (leave_of kind) (barred r.view kind sent.2 here sent.4) shaped h
       (found_all (IsSoundDocument r.session.limits) (λ (d : Document). d.id == r.view.document) r.session.documents r.document h.sound.documents h.document)
-      sent.6 may saved_there)
-
-  go_same : (id : ℕ) (s : Session) → Go id s s
-  go_same id s = all_same (Keeps id) (keeps_same id) (keeps_relisted id) s.next_document s.documents
-
-  after_message_goes : (id : ℕ) (s : Session) (o : Answered) → AnsweredFrom (Keeps id) (keeps_same id) (keeps_relisted id) s o → Go id s (after_message s o).0.session
-  after_message_goes id s (Ok done) h = h
-  after_message_goes id s (Err refusal) h = go_same id s
-
-  after_opening_goes : (id : ℕ) (s : Session) (o : Result (Session × ℕ) Refusal) → OpenedFrom (Keeps id) (keeps_same id) (keeps_relisted id) s o → Go id s (after_opening s o).0.session
-  after_opening_goes id s (Ok done) h = h
-  after_opening_goes id s (Err refusal) h = go_same id s
-
-  after_closing_goes : (id : ℕ) (s : Session) (o : Result Session Refusal) → ClosedFrom (Keeps id) (keeps_same id) (keeps_relisted id) s o → Go id s (after_closing s o).0.session
-  after_closing_goes id s (Ok t) h = h
-  after_closing_goes id s (Err refusal) h = go_same id s
-
-  loaded_keeps : (id : ℕ) (s : Session) (view : ℕ) (v : Option View) (file : Option (List ℕ)) → IsSound s
-      → AnsweredFrom (Keeps id) (keeps_same id) (keeps_relisted id) s (loaded s view v file)
-  loaded_keeps id s view None file sound = tt
-  loaded_keeps id s view (Some v) None sound = tt
-  loaded_keeps id s view (Some v) (Some bytes) sound =
-      message_keeps id s view (set_text_message bytes) (λ w kind sees on is. set_text_saves_nothing kind is) sound
-    where
-      set_text_saves_nothing : (kind : Kind) → kind_of (set_text_message bytes).number ≡ Some kind → is_saving kind ≡ false
-      set_text_saves_nothing kind is = let same : SetText ≡ kind = cc in subst (λ (k : Kind). is_saving k ≡ false) same refl
+      sent.6 may saved_there
 
   command_goes : (files : List (List ℕ)) (id : ℕ) (command : Command) (s : Running) → IsSound s.session → SetsNoSavePoint id s.session command
       → Go id s.session (after_command files command s).0.session
-  command_goes files id OpenView s sound none = after_opening_goes id s.session (opened s.session) (opening_from (Keeps id) (keeps_same id) (keeps_relisted id) s.session)
-  command_goes files id (CloseView view) s sound none =
-      after_closing_goes id s.session (closed_view s.session (view_at s.session.views view)) (closing_from (Keeps id) (keeps_same id) (keeps_relisted id) s.session (view_at s.session.views view) sound)
-  command_goes files id (LoadFile view file) s sound none =
-      after_message_goes id s.session _ (loaded_keeps id s.session view (view_at s.session.views view) (file_at files file) sound)
-  command_goes files id (SendMessage view message) s sound none = after_message_goes id s.session _ (message_keeps id s.session view message none sound)
-  command_goes files id (Expect value) s sound none = go_same id s.session
+  command_goes files id command s sound none = command_from (Keeps id) (keeps_same id) (keeps_relisted id) c.fits files command s sound (go command none)
+    where
+      set_text_saves_nothing : (bytes : List ℕ) (kind : Kind) → kind_of (set_text_message bytes).number ≡ Some kind → is_saving kind ≡ false
+      set_text_saves_nothing bytes kind is = let same : SetText ≡ kind = cc in subst (λ (k : Kind). is_saving k ≡ false) same refl
+
+      go : (command : Command) → SetsNoSavePoint id s.session command → OfMessages (MayGo (Keeps id) (keeps_same id) (keeps_relisted id) s.session) command
+      go (SendMessage view m) none = message_keeps id s.session view m none
+      go (LoadFile view file) none = λ bytes. message_keeps id s.session view (set_text_message bytes) (λ w kind sees on is. set_text_saves_nothing bytes kind is)
+      go _ none = tt
 
   run_saved : CommandKeepsSound → (files : List (List ℕ)) (cs : List Command) (s : Running) (id : ℕ) (d e : Document) → IsSound s.session → document_at s.session.documents id ≡ Some d
       → SavedIn saved d → KeepsTheSavePoint files id cs s → document_at (run_to files cs s).session.documents id ≡ Some e → SavedIn saved e
@@ -499,13 +444,23 @@ unmodified_is_the_saved_text c keeps files commands s id d e sound found at kept
 
 -- GETMODIFY.
 
-zero_only_if : (at : Bool) (b : Bool) (r : Request) (done : Session × Response) → done ≡ (r.session, cond b (let q = quiet (flag (not at)) in record q { notes = record_note r ∷ [] }) (quiet (flag (not at)))) → done.1.value ≡ pos 0 → at ≡ true
-zero_only_if true b r done e zero_is = refl
-zero_only_if false true r done e zero_is = let one : done.1.value ≡ pos 1 = ap (λ (x : Session × Response). x.1.value) e in absurd (cc)
-zero_only_if false false r done e zero_is = let one : done.1.value ≡ pos 1 = ap (λ (x : Session × Response). x.1.value) e in absurd (cc)
+value_if_recorded : (b : Bool) (r : Request) (reply : Response) → (cond b (record reply { notes = record_note r ∷ reply.notes }) reply).value ≡ reply.value
+value_if_recorded true r reply = refl
+value_if_recorded false r reply = refl
+
+-- the value that GETMODIFY answers
+pub get_modify_value : (s : Session) (view : ℕ) (m : Message) (v : View) (d : Document) (done : Session × Response) → kind_of m.number ≡ Some GetModify
+    → view_at s.views view ≡ Some v → document_at s.documents v.document ≡ Some d → table s view m ≡ Ok done → done.1.value ≡ flag (not (at_save_point d.history))
+get_modify_value s view m v d done is sees finds e =
+    let r = request s v d m in
+    let reply = quiet (flag (not (at_save_point d.history))) in
+    let here : table s view m ≡ Ok (s, with_recording GetModify r reply) = table_at s view m v GetModify d sees is finds in
+    let both : done ≡ (s, with_recording GetModify r reply) = cc in
+    ap (λ (x : Session × Response). x.1.value) both ∙ value_if_recorded (v.records && (marks_of GetModify).r) r reply
 
 pub get_modify_tells : GetModifyTells
-get_modify_tells s view m v d done is sees finds e zero_is =
-    let r = request s v d m in
-    let here : table s view m ≡ Ok (r.session, with_recording GetModify r (quiet (flag (not (at_save_point d.history))))) = table_at s view m v GetModify d sees is finds in
-    zero_only_if (at_save_point d.history) (v.records && (marks_of GetModify).r) r done (let both : done ≡ (r.session, with_recording GetModify r (quiet (flag (not (at_save_point d.history))))) = cc in both) zero_is
+get_modify_tells s view m v d done is sees finds e zero_is = go (at_save_point d.history) (sym (get_modify_value s view m v d done is sees finds e) ∙ zero_is)
+  where
+    go : (at : Bool) → flag (not at) ≡ pos 0 → at ≡ true
+    go true e = refl
+    go false e = absurd (cc)

@@ -11,10 +11,14 @@ use Rattle.ed_model.specs.Run.{starting}
 use Rattle.ed_model.specs.SoundLaws.{CommandKeepsSound, NewSessionIsSound}
 use Rattle.ed_model.specs.PlansFit.{PlansFit}
 use Rattle.run_laws.specs.StyleLaws.{HasNoStyles, DocumentsWithoutStylesHaveNone}
+use Rattle.run_laws.proofs.Finding.{all_joined}
 use Rattle.run_laws.proofs.Invariants.{run_holds}
 
+abbrev IsPlain : Cell → Type 0
+IsPlain c = c.style ≡ 0
+
 abbrev Plain : List Cell → Type 0
-Plain cells = AllByRecursion (λ (c : Cell). c.style ≡ 0) cells
+Plain cells = AllByRecursion IsPlain cells
 
 plain_taken : (n : ℕ) (cells : List Cell) → Plain cells → Plain (take n cells)
 plain_taken zero cells all = tt
@@ -26,18 +30,14 @@ plain_dropped zero cells all = all
 plain_dropped (suc n) [] all = tt
 plain_dropped (suc n) (c ∷ cs) all = plain_dropped n cs all.1
 
-plain_joined : (xs ys : List Cell) → Plain xs → Plain ys → Plain (xs ++ ys)
-plain_joined [] ys a b = b
-plain_joined (x ∷ xs) ys a b = (a.0, plain_joined xs ys a.1 b)
-
 plain_fresh : (bytes : List ℕ) → Plain (plain_cells bytes)
 plain_fresh [] = tt
 plain_fresh (b ∷ bs) = (refl, plain_fresh bs)
 
 plain_edited : (step : Step) (cells : List Cell) → Plain cells → Plain (edited_cells step cells)
 plain_edited (Insert p bytes) cells all =
-    plain_joined (take p cells ++ plain_cells bytes) (drop p cells) (plain_joined (take p cells) (plain_cells bytes) (plain_taken p cells all) (plain_fresh bytes)) (plain_dropped p cells all)
-plain_edited (Delete p bytes) cells all = plain_joined (take p cells) _ (plain_taken p cells all) (plain_dropped _ cells all)
+    all_joined IsPlain (take p cells ++ plain_cells bytes) (drop p cells) (all_joined IsPlain (take p cells) (plain_cells bytes) (plain_taken p cells all) (plain_fresh bytes)) (plain_dropped p cells all)
+plain_edited (Delete p bytes) cells all = all_joined IsPlain (take p cells) _ (plain_taken p cells all) (plain_dropped _ cells all)
 
 -- styling such a document changes no style
 plain_styled : (new : List ℕ) (d : Document) → HasNoStyles d → HasNoStyles (styled new d)
@@ -46,25 +46,7 @@ plain_styled new d h none = rw none (h none)
 changed_plain : (bytes : List ℕ) (change : DocumentChange) (d : Document) → HasNoStyles d → HasNoStyles (changed_document bytes change d)
 changed_plain bytes (change.StyleRun count style) d h = plain_styled (replicate count style) d h
 changed_plain bytes (change.StyleBytes count) d h = plain_styled (take count bytes) d h
-changed_plain bytes (change.SetReadOnly on) d h = h
-changed_plain bytes (change.SetLineEnd to) d h = h
-changed_plain bytes (change.SetLineEndTypes to) d h = h
-changed_plain bytes change.SetSavePoint d h = h
-changed_plain bytes change.BeginGroup d h = h
-changed_plain bytes change.EndGroup d h = h
-changed_plain bytes change.ForgetHistory d h = h
-changed_plain bytes (change.CollectUndo on) d h = h
-changed_plain bytes (change.AppendContainer token coalesce) d h = h
-changed_plain bytes (change.AddMarker line number) d h = h
-changed_plain bytes (change.AddMarkers line mask) d h = h
-changed_plain bytes (change.DeleteMarker line number) d h = h
-changed_plain bytes (change.DeleteMarkers number) d h = h
-changed_plain bytes (change.DeleteHandle handle) d h = h
-changed_plain bytes (change.SetLevel line level) d h = h
-changed_plain bytes (change.SetState line state) d h = h
-changed_plain bytes (change.SetEndStyled place) d h = h
-changed_plain bytes (change.NeedStyle start past) d h = h
-changed_plain bytes (change.FillIndicator indicator start count value) d h = h
+changed_plain bytes _ d h = h
 
 pub documents_without_styles_have_none : PlansFit → CommandKeepsSound → NewSessionIsSound → DocumentsWithoutStylesHaveNone
 documents_without_styles_have_none fits keeps new files commands limits =

@@ -1,33 +1,33 @@
 -- UNDO and REDO between other commands: each UNDO and REDO is answered, and all other commands leave the document alone.
-use Rattle.std.proofs.Common.{◌≡◌, ℕ, zero, suc, ◌≤◌, ◌<◌, cond, Bool, true, false, List, [], ◌∷◌, length, refl, ap, ◌∙◌, sym, subst, arith, inl, inr, Option, Some, None, Result, Ok, Err}
+use Rattle.std.proofs.Common.{◌≡◌, ℕ, zero, suc, ◌≤◌, ◌<◌, cond, Bool, true, false, List, [], ◌∷◌, length, refl, ap, ◌∙◌, sym, subst, arith, inl, inr, Option, Some, None, Ok, Err}
 use Rattle.ed_types.specs.declared.kind.Kind.{Kind}
 use Rattle.ed_types.specs.declared.kind.Kind.TheVariants.{Undo, Redo}
 use Rattle.ed_types.specs.declared.message.Message.{Message}
-use Rattle.ed_types.specs.declared.refusal.Refusal.{Refusal}
 use Rattle.ed_types.specs.declared.refusal.Refusal.TheVariants.{TooLong}
 use Rattle.ed_types.specs.declared.script.Command.{Command}
-use Rattle.ed_types.specs.declared.script.Command.TheVariants.{OpenView, CloseView, LoadFile, SendMessage, Expect}
+use Rattle.ed_types.specs.declared.script.Command.TheVariants.{LoadFile, SendMessage}
+use Rattle.ed_types.specs.declared.script.Outcome.{Outcome}
 use Rattle.ed_types.specs.Notices.{Response}
 use Rattle.ed_types.specs.Messages.{kind_of}
 use Rattle.ed_model.specs.declared.plan.Plan.{Plan}
-use Rattle.ed_model.specs.History.{Change, can_undo, can_redo, undo_changes, redo_changes}
+use Rattle.ed_model.specs.History.{History, Change, can_undo, can_redo, undo_changes, redo_changes}
 use Rattle.ed_model.specs.declared.plan.Plan.TheVariants as plan
 use Rattle.ed_model.specs.Session.{Session, View, Document, view_at, document_at, text_of, new_session, limit_of}
 use Rattle.ed_model.specs.Requests.{Request, size}
 use Rattle.ed_model.specs.Edits.{stays_within}
 use Rattle.ed_model.specs.UndoPlans.{act_on_history, text_steps}
-use Rattle.ed_model.specs.Table.{table, answered, request, opened, closed}
+use Rattle.ed_model.specs.Table.{table, answered, plan_of, request}
 use Rattle.ed_model.specs.TableLaws.{Answered, LeavesSession, QueriesLeaveTheSession}
 use Rattle.ed_model.specs.SoundLaws.{IsSound, CommandKeepsSound, IsSoundInEveryState}
 use Rattle.ed_model.specs.RunUndoLaws.{UndoGoesBackInEveryRun}
 use Rattle.ed_model.specs.UndoLaws.{undone_text}
-use Rattle.ed_model.specs.UndoMessageLaws.{UndoIsNeverTooLong, RedoIsNeverTooLong}
+use Rattle.ed_model.specs.UndoMessageLaws.{IsNeverTooLong, UndoIsNeverTooLong, RedoIsNeverTooLong}
 use Rattle.ed_model.specs.RepeatedUndoLaws.{IsLeftAlone, LeavesAlone, MessagesLeaveOtherDocumentsAlone, OpeningLeavesDocumentsAlone, ClosingLeavesDocumentsAlone, AreAnswered, HasText, UndosGoBackThenRedosGoOn, UndoMessagesGoBack}
 use Rattle.ed_model.specs.PlansFit.{PlansFit}
-use Rattle.ed_model.specs.Run.{Running, starting, after_command, after_opening, after_closing, after_message, loaded, file_at, set_text_message, run_to}
+use Rattle.ed_model.specs.Run.{Running, starting, after_command, after_message, set_text_message, run_to}
 use Rattle.run_laws.specs.UndoRunLaws.{Acts, GoesToOthers, GoesAside, Act, UndoGoesBackOverCommands}
 use Rattle.run_laws.proofs.Finding.{found_below}
-use Rattle.run_laws.proofs.TableWays.{of_table, table_at}
+use Rattle.run_laws.proofs.TableWays.{of_table, table_at, OfMessages, of_command}
 use Rattle.run_laws.proofs.IdLemmas.{document_ids_never_come_back, next_document_rises}
 
 -- The laws that these proofs use.
@@ -72,18 +72,13 @@ IsAlwaysAnswered kind =
     (s : Session) (view : ℕ) (m : Message) (v : View) (d : Document) → IsSound s → kind_of m.number ≡ Some kind → view_at s.views view ≡ Some v → document_at s.documents v.document ≡ Some d
     → (done : Session × Response) × (table s view m ≡ Ok done)
 
-undo_is_answered : UndoIsNeverTooLong → IsAlwaysAnswered Undo
-undo_is_answered fits s view m v d sound is sees finds =
+-- UNDO or REDO, whose plan acts on the history, is answered
+is_answered : (kind : Kind) (can : History → Bool) (changes : History → List Change) (act : Plan)
+    → ((r : Request) → plan_of kind r ≡ act_on_history r (can r.document.history) (changes r.document.history) act) → IsNeverTooLong kind → IsAlwaysAnswered kind
+is_answered kind can changes act plans fits s view m v d sound is sees finds =
     let r = request s v d m in
     done_unless_too_long (table s view m)
-    (subst DoneOrTooLong (sym (table_at s view m v Undo d sees is finds)) (acts_or_too_long Undo r (can_undo d.history) (undo_changes d.history) plan.Undo))
-    (fits s view m sound is)
-
-redo_is_answered : RedoIsNeverTooLong → IsAlwaysAnswered Redo
-redo_is_answered fits s view m v d sound is sees finds =
-    let r = request s v d m in
-    done_unless_too_long (table s view m)
-    (subst DoneOrTooLong (sym (table_at s view m v Redo d sees is finds)) (acts_or_too_long Redo r (can_redo d.history) (redo_changes d.history) plan.Redo))
+    (subst DoneOrTooLong (sym (table_at s view m v kind d sees is finds ∙ ap (answered kind r) (plans r))) (acts_or_too_long kind r (can d.history) (changes d.history) act))
     (fits s view m sound is)
 
 -- Commands that do not concern the document leave it alone.
@@ -94,55 +89,45 @@ alone_same id s d e found still = let same : d ≡ e = cc in subst (IsLeftAlone 
 abbrev LeavesItAlone : ℕ → Session → Session → Type 0
 LeavesItAlone id s t = (d e : Document) → document_at s.documents id ≡ Some d → document_at t.documents id ≡ Some e → IsLeftAlone d e
 
-opening_alone : OpeningLeavesDocumentsAlone → (id : ℕ) (s : Session) (x : Result (Session × ℕ) Refusal) → opened s ≡ x → LeavesItAlone id s (after_opening s x).0.session
-opening_alone law id s (Ok done) is d e found still = law s done is id d e (λ none. none) found still
-opening_alone law id s (Err refusal) is d e found still = alone_same id s d e found still
-
-closing_alone : ClosingLeavesDocumentsAlone → (id : ℕ) (s : Session) (view : ℕ) (x : Result Session Refusal) → IsSound s → closed s view ≡ x → LeavesItAlone id s (after_closing s x).0.session
-closing_alone law id s view (Ok t) sound is d e found still = law s t view sound is id d e (λ none. none) found still
-closing_alone law id s view (Err refusal) sound is d e found still = alone_same id s d e found still
-
-message_alone : MessagesLeaveOtherDocumentsAlone → (id : ℕ) (s : Session) (view : ℕ) (m : Message) (v : View) (x : Answered) → IsSound s → view_at s.views view ≡ Some v → (v.document ≡ id → ⊥)
-    → table s view m ≡ x → LeavesItAlone id s (after_message s x).0.session
-message_alone law id s view m v (Ok done) sound sees other is d e found still = law s view m v done sound sees is id d e (λ same. other (sym same)) found still
-message_alone law id s view m v (Err refusal) sound sees other is d e found still = alone_same id s d e found still
-
 -- a message to a view of another document, or to no view
-others_alone : MessagesLeaveOtherDocumentsAlone → (id : ℕ) (s : Session) (view : ℕ) (m : Message) → IsSound s → GoesToOthers id s view → LeavesItAlone id s (after_message s (table s view m)).0.session
-others_alone law id s view m sound others =
-    of_table (λ x. table s view m ≡ x → LeavesItAlone id s (after_message s x).0.session) (λ is. alone_same id s) (λ is. alone_same id s) (λ is. alone_same id s) s m view
-    (λ v sees kind is d finds e. message_alone law id s view m v _ sound sees (others v sees) e) refl
-
-query_alone : (id : ℕ) (s : Session) (x : Answered) → LeavesSession s x → LeavesItAlone id s (after_message s x).0.session
-query_alone id s (Ok done) same d e found still = alone_same id s d e found (ap (λ (t : Session). document_at t.documents id) (sym same) ∙ still)
-query_alone id s (Err refusal) same d e found still = alone_same id s d e found still
-
-loaded_alone : MessagesLeaveOtherDocumentsAlone → (id : ℕ) (s : Session) (view : ℕ) (o : Option View) (file : Option (List ℕ)) → IsSound s → GoesToOthers id s view
-    → LeavesItAlone id s (after_message s (loaded s view o file)).0.session
-loaded_alone law id s view None file sound others = alone_same id s
-loaded_alone law id s view (Some v) None sound others = alone_same id s
-loaded_alone law id s view (Some v) (Some bytes) sound others = others_alone law id s view (set_text_message bytes) sound others
+others_alone : MessagesLeaveOtherDocumentsAlone → (id : ℕ) (s : Session) (view : ℕ) (m : Message) → IsSound s → GoesToOthers id s view
+    → (done : Session × Response) → table s view m ≡ Ok done → LeavesItAlone id s done.0
+others_alone law id s view m sound others done is =
+    of_table (λ x. x ≡ Ok done → LeavesItAlone id s done.0) (λ e. absurd (cc)) (λ e. absurd (cc)) (λ e. absurd (cc)) s m view
+    (λ v sees kind is_kind c finds e d f found still. law s view m v done sound sees is id d f (λ same. others v sees (sym same)) found still) is
 
 aside_alone : Cited → (files : List (List ℕ)) (id : ℕ) (c : Command) (s : Running) → IsSound s.session → GoesAside id s.session c → LeavesItAlone id s.session (after_command files c s).0.session
-aside_alone laws files id OpenView s sound aside = opening_alone laws.opening id s.session (opened s.session) refl
-aside_alone laws files id (CloseView view) s sound aside = closing_alone laws.closing id s.session view (closed s.session view) sound refl
-aside_alone laws files id (LoadFile view file) s sound aside = loaded_alone laws.messages id s.session view (view_at s.session.views view) (file_at files file) sound aside
-aside_alone laws files id (SendMessage view m) s sound (inl others) = others_alone laws.messages id s.session view m sound others
-aside_alone laws files id (SendMessage view m) s sound (inr query) = query_alone id s.session (table s.session view m) (laws.queries s.session view m query.0 query.1 query.2)
-aside_alone laws files id (Expect value) s sound aside = alone_same id s.session
+aside_alone laws files id c s sound aside =
+    of_command (λ (x : Running × Outcome). LeavesItAlone id s.session x.0.session) files s (λ refusal. alone_same id s.session)
+    (λ done is d e found still. laws.opening s.session done is id d e (λ none. none) found still)
+    (λ view t is d e found still. laws.closing s.session t view sound is id d e (λ none. none) found still)
+    (λ value. alone_same id s.session) c (go c aside)
+  where
+    go : (c : Command) → GoesAside id s.session c
+        → OfMessages (λ view m. (done : Session × Response) → table s.session view m ≡ Ok done → LeavesItAlone id s.session done.0) c
+    go (LoadFile view file) others = λ bytes. others_alone laws.messages id s.session view (set_text_message bytes) sound others
+    go (SendMessage view m) (inl others) = others_alone laws.messages id s.session view m sound others
+    go (SendMessage view m) (inr query) = λ done is d e found still.
+        let same : done.0 ≡ s.session = subst (LeavesSession s.session) is (laws.queries s.session view m query.0 query.1 query.2) in
+        alone_same id s.session d e found (ap (λ (t : Session). document_at t.documents id) (sym same) ∙ still)
+    go _ aside = tt
 
--- A document that exists at the end existed all the time.
+-- a document that exists after some commands, and whose id was given before them, existed before them
+there_before : Cited → (files : List (List ℕ)) (cs : List Command) (s : Running) (id : ℕ) (x : Document) → IsSound s.session → id < s.session.next_document
+    → document_at (run_to files cs s).session.documents id ≡ Some x → (d : Document) × (document_at s.session.documents id ≡ Some d)
+there_before laws files cs s id x sound below end = go (document_at s.session.documents id) refl
+  where
+    go : (o : Option Document) → document_at s.session.documents id ≡ o → (d : Document) × (document_at s.session.documents id ≡ Some d)
+    go (Some d) there = (d, there)
+    go None gone = let none = document_ids_never_come_back laws.fits laws.keeps files cs s id sound below gone in absurd (cc)
+
+-- .. so a document that exists before a command and after further ones exists between
 still_there : Cited → (files : List (List ℕ)) (c : Command) (cs : List Command) (s : Running) (id : ℕ) (d e : Document) → IsSound s.session → document_at s.session.documents id ≡ Some d
     → document_at (run_to files cs (after_command files c s).0).session.documents id ≡ Some e → (x : Document) × (document_at (after_command files c s).0.session.documents id ≡ Some x)
-still_there laws files c cs s id d e sound found end = go (document_at (after_command files c s).0.session.documents id) refl
-  where
-    go : (o : Option Document) → document_at (after_command files c s).0.session.documents id ≡ o → (x : Document) × (document_at (after_command files c s).0.session.documents id ≡ Some x)
-    go (Some x) there = (x, there)
-    go None gone =
-        let below = found_below 0 s.session.next_document s.session.documents id d sound.document_ids found in
-        let rises = next_document_rises files c s in
-        let none = document_ids_never_come_back laws.fits laws.keeps files cs (after_command files c s).0 id (laws.keeps files c s sound) (omega arith) gone in
-        absurd (cc)
+still_there laws files c cs s id d e sound found end =
+    let below = found_below 0 s.session.next_document s.session.documents id d sound.document_ids found in
+    let rises = next_document_rises files c s in
+    there_before laws files cs (after_command files c s).0 id e (laws.keeps files c s sound) (omega arith) end
 
 alone_through : (id : ℕ) (s t u : Session) (l : LeavesAlone id s t) (x : Document) → document_at u.documents id ≡ Some x → IsLeftAlone l.after x → LeavesAlone id s u
 alone_through id s t u l x found left = record {
@@ -165,10 +150,6 @@ module _ (laws : Cited) (files : List (List ℕ)) (kind : Kind) (answers : IsAlw
       → document_at (run_to files cs (after_command files c s).0).session.documents id ≡ Some e
       → ((o : Session) → LeavesAlone id o (after_command files c s).0.session → Chain kind id k o (run_to files cs (after_command files c s).0).session)
       → Chain kind id (suc k) origin (run_to files cs (after_command files c s).0).session
-  acts_next k OpenView cs origin s e sound alone acts end rest = absurd acts
-  acts_next k (CloseView view) cs origin s e sound alone acts end rest = absurd acts
-  acts_next k (LoadFile view file) cs origin s e sound alone acts end rest = absurd acts
-  acts_next k (Expect value) cs origin s e sound alone acts end rest = absurd acts
   acts_next k (SendMessage view m) cs origin s e sound alone acts end rest =
       let v = acts.1.0 in
       let here : document_at s.session.documents v.document ≡ Some alone.after = ap (document_at s.session.documents) acts.1.2 ∙ alone.still_found in
@@ -186,6 +167,7 @@ module _ (laws : Cited) (files : List (List ℕ)) (kind : Kind) (answers : IsAlw
           subst (λ (x : Session). AreAnswered kind id after.0 x (run_to files cs (after_command files (SendMessage view m) s).0).session) next after.2,
         ),
       )
+  acts_next k _ cs origin s e sound alone acts end rest = absurd acts
 
   aside_next : (c : Command) (cs : List Command) (origin : Session) (s : Running) (e : Document) → IsSound s.session → (alone : LeavesAlone id origin s.session) → GoesAside id s.session c
       → document_at (run_to files cs (after_command files c s).0).session.documents id ≡ Some e → LeavesAlone id origin (after_command files c s).0.session
@@ -205,15 +187,6 @@ module _ (laws : Cited) (files : List (List ℕ)) (kind : Kind) (answers : IsAlw
   chained (c ∷ cs) (suc k) origin s e sound alone (inr act) end =
       chained cs (suc k) origin (after_command files c s).0 e (laws.keeps files c s sound) (aside_next c cs origin s e sound alone act.0 end) act.1 end
 
--- a document that exists after some commands, and whose id was given before them, existed before them
-there_before : Cited → (files : List (List ℕ)) (cs : List Command) (s : Running) (id : ℕ) (x : Document) → IsSound s.session → id < s.session.next_document
-    → document_at (run_to files cs s).session.documents id ≡ Some x → (d : Document) × (document_at s.session.documents id ≡ Some d)
-there_before laws files cs s id x sound below end = go (document_at s.session.documents id) refl
-  where
-    go : (o : Option Document) → document_at s.session.documents id ≡ o → (d : Document) × (document_at s.session.documents id ≡ Some d)
-    go (Some d) there = (d, there)
-    go None gone = let none = document_ids_never_come_back laws.fits laws.keeps files cs s id sound below gone in absurd (cc)
-
 text_there : (id : ℕ) (s : Session) (e : Document) (text : List ℕ) → document_at s.documents id ≡ Some e → HasText id s text → text_of e ≡ text
 text_there id s e text found has = let same : has.0 ≡ e = same_found (document_at s.documents id) has.0 e has.1 found in ap text_of (sym same) ∙ has.2
   where
@@ -227,8 +200,8 @@ undo_goes_back_over_commands laws files limits before undos redos id k d found w
     let t = run_to files undos s in
     let sound : IsSound s.session = laws.sound files before limits in
     let sound_after : IsSound t.session = run_keeps undos s sound in
-    let undo = undo_is_answered laws.undo_fits in
-    let redo = redo_is_answered laws.redo_fits in (
+    let undo = is_answered Undo can_undo undo_changes plan.Undo (λ r. refl) laws.undo_fits in
+    let redo = is_answered Redo can_redo redo_changes plan.Redo (λ r. refl) laws.redo_fits in (
       (λ e end.
           let chain = chained laws files Undo undo id undos k s.session s e sound (alone_here id s.session d found) act end in
           let text = laws.there s.session t.session id d chain.0 found written depth (subst (λ n. n ≤ length d.history.past) (sym chain.1) enough) chain.2 in

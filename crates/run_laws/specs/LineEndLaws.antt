@@ -7,7 +7,6 @@ use Rattle.ed_types.specs.Messages.{kind_of}
 use Rattle.ed_model.specs.declared.plan.LineEnd.{LineEnd}
 use Rattle.ed_model.specs.declared.plan.LineEnd.TheVariants.{CrLf, Cr, Lf}
 use Rattle.ed_model.specs.declared.plan.LineEndTypes.{LineEndTypes}
-use Rattle.ed_model.specs.declared.plan.LineEndTypes.TheVariants.{Default}
 use Rattle.ed_model.specs.Text.{stands, line_feed, carriage_return}
 use Rattle.ed_model.specs.Lines.{knows_unicode, unicode_end_before, line_count, start_after_line, end_of_line}
 use Rattle.ed_model.specs.LineEnds.{line_end_bytes, converted, conversion_steps, after_steps}
@@ -52,9 +51,9 @@ is_other byte = not (byte == line_feed || byte == carriage_return)
 abbrev pub OtherBytesStay : Type 0
 OtherBytesStay = (to : LineEnd) (text : List ℕ) → filter is_other (converted to text) ≡ filter is_other text
 
--- the number of lines stays, if Unicode line ends do not count
+-- the number of lines stays, whether the document allows Unicode line ends or not
 abbrev pub LineCountStays : Type 0
-LineCountStays = (to : LineEnd) (text : List ℕ) → line_count Default (converted to text) ≡ line_count Default text
+LineCountStays = (to : LineEnd) (types : LineEndTypes) (text : List ℕ) → line_count types (converted to text) ≡ line_count types text
 
 -- a text that has only line ends of the kind stays as it is
 abbrev pub TextsOfTheKindStay : Type 0
