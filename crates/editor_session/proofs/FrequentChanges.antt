@@ -26,11 +26,11 @@ use Rattle.scene.specs.Scenes.{AreNamed}
 use Rattle.session_changes.specs.Kept.{IsKept, DocumentsAreNamed}
 use Rattle.editor_session.specs.Answers.{message_with}
 use Rattle.editor_session.specs.Doing.{CanBeMade, Changes, IsChangedIn}
-use Rattle.editor_session.specs.Tasks.{IsTask}
+use Rattle.editor_session.specs.Tasks.{IsTask, task_of}
 use Rattle.editor_session.specs.Unheard.{unrecorded, no_notes, IsSent}
-use Rattle.editor_session.proofs.Keeping.{kept_after_message, kept_with}
-use Rattle.editor_session.proofs.Performing.{asked_by, kept_at, for_kept, change_fits, watched_here}
-use Rattle.editor_session.proofs.PlainChanges.{changed_at_once, changes_so}
+use Rattle.editor_session.proofs.Keeping.{kept_with}
+use Rattle.editor_session.proofs.PlanLemmas.{DoneFor, answers, kept_by, asked_by, kept_at, for_kept, change_fits, watched_here}
+use Rattle.editor_session.proofs.PlainChanges.{changed_for, changes_so}
 use Rattle.editor_session.proofs.Questions.{IsPlain, plain, found_plain, unheard}
 use Rattle.editor_session.proofs.Replacing.{change_keeps_id}
 use Rattle.editor_session.proofs.TableWay.{is_found}
@@ -86,22 +86,25 @@ module _ (s : SessionState) (kept : IsKept s) (document view : ℕ) (what : Docu
   can_be_made sent =
       let t = sent.task in
       let r = t.request in
-      let task = unrecorded document view (plan.ChangeDocument what sent.value) in
+      let task = task_of document view (plan.ChangeDocument what sent.value) sent.is_recorded in
       let text = sent.message.text in
       let by = asked_by s view sent.message task t in
       let at = kept_at s task text kept r by in
       for_kept s task text kept r by (CanBeMade what s.views)
       (subst (λ d. IsFitChange d what) (sym at.is) (change_fits s task text kept r by what sent.value t.fit), watched_here s task text kept r by)
 
+  pub made_for : (s' : SessionState) → IfSome (value_at s.documents.entries document) (λ k. (text : List ℕ) (sender : ℕ) → Changes what sender text k s no_notes s' no_notes)
+      → (value : ℤ) (bytes : List ℕ) → DoneFor s document view bytes (plan.ChangeDocument what value) s' [] [] value []
+  made_for s' done value bytes = changed_for s kept document view bytes what s' no_notes no_notes (at_text (value_at s.documents.entries document) done) value
+    where
+      at_text : (o : Option _) → IfSome o (λ k. (text : List ℕ) (sender : ℕ) → Changes what sender text k s no_notes s' no_notes) → IfSome o (λ k. Changes what view bytes k s no_notes s' no_notes)
+      at_text None h = tt
+      at_text (Some k) h = h bytes view
+
   -- the table's answer to a message that asks for the change
   pub made_quickly : (s' : SessionState) → IfSome (value_at s.documents.entries document) (λ k. (text : List ℕ) (sender : ℕ) → Changes what sender text k s no_notes s' no_notes)
       → (m : Message) (value : ℤ) → IsTask (session_in s) view m (unrecorded document view (plan.ChangeDocument what value)) → table (session_in s) view m ≡ Ok (session_in s', quiet value)
-  made_quickly s' done m value t =
-      changed_at_once s kept document view m.text what m value t refl s' no_notes no_notes refl (at_text (value_at s.documents.entries document) done)
-    where
-      at_text : (o : Option _) → IfSome o (λ k. (text : List ℕ) (sender : ℕ) → Changes what sender text k s no_notes s' no_notes) → IfSome o (λ k. Changes what view m.text k s no_notes s' no_notes)
-      at_text None h = tt
-      at_text (Some k) h = h m.text view
+  made_quickly s' done m value t = answers s document view m.text (plan.ChangeDocument what value) s' [] [] value [] (made_for s' done value m.text) m false t refl refl
 
 -- whether it was made or not
 pub same_id : (what : DocumentChange) (old new : Document) (made : Bool) → (made ≡ true → new ≡ changed_document [] what old) → (made ≡ false → new ≡ old) → new.id ≡ old.id
@@ -119,9 +122,9 @@ changes_quickly document what s s' done clipboard next_document next_view limits
 
 -- what holds of a session goes on holding
 pub kept_quickly : MessageKeepsSound → (s s' : SessionState) (document view : ℕ) (what : DocumentChange) (made : Bool) → IsKept s → IsSent (session_in s) document view (plan.ChangeDocument what)
-    → (made ≡ true → (m : Message) (value : ℤ) → IsTask (session_in s) view m (unrecorded document view (plan.ChangeDocument what value)) → table (session_in s) view m ≡ Ok (session_in s', quiet value))
+    → (made ≡ true → (value : ℤ) (bytes : List ℕ) → DoneFor s document view bytes (plan.ChangeDocument what value) s' [] [] value [])
     → (made ≡ false → session_in s' ≡ session_in s) → s'.limits ≡ s.limits → DocumentsAreNamed s'.documents.entries → AreNamed s'.views.entries → IsKept s'
-kept_quickly law s s' document view what true kept sent answer same limits documents views =
-    kept_after_message law s s' view sent.message (quiet sent.value) kept (answer refl sent.message sent.value sent.task) limits documents views
-kept_quickly law s s' document view what false kept sent answer same limits documents views =
+kept_quickly law s s' document view what true kept sent done same limits documents views =
+    kept_by law s document view sent.message.text (plan.ChangeDocument what sent.value) s' [] [] sent.value [] kept (done refl sent.value sent.message.text) sent.message sent.is_recorded sent.task refl limits documents views
+kept_quickly law s s' document view what false kept sent done same limits documents views =
     kept_with s s' kept (subst IsSound (sym (same refl)) kept.sound) limits documents views

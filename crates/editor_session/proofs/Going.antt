@@ -1,13 +1,14 @@
 -- Undo and redo at once.
-use Rattle.std.proofs.Common.{◌≡◌, ◌∙◌, ◌+◌, ℕ, ℤ, max, arith, length, List, ◌∷◌, Option, Some, None, true, false, pos, [], refl, ap, sym, subst, Ok, Err, OnOk, OnErr, IfOk, IfSome, IsSomeAnd}
-use Rattle.std.specs.Prelude.{Result, IfNone}
+use Rattle.std.proofs.Common.{◌≡◌, ◌∙◌, ◌+◌, ℕ, max, arith, length, List, ◌∷◌, Bool, true, false, pos, [], refl, ap, sym, subst, Ok, Err, OnOk, OnErr, IfOk, IfSome, IsSomeAnd}
+use Rattle.std.specs.Prelude.{Result}
 use Rattle.ed_types.specs.declared.message.Message.{Message}
-use Rattle.ed_model.specs.Performing.{history_performed, response}
+use Rattle.ed_model.specs.declared.plan.Plan.TheVariants as plan
+use Rattle.ed_model.specs.Performing.{history_performed}
 use Rattle.ed_model.specs.PlansFit.{UndoStepsFit, RedoStepsFit, IsSoundRequest}
 use Rattle.ed_model.specs.Requests.{Request, text}
 use Rattle.ed_model.specs.Session.{Session, text_of}
 use Rattle.ed_model.specs.SoundLaws.{AreStepsOf}
-use Rattle.ed_model.specs.Table.{table, performed}
+use Rattle.ed_model.specs.Table.{performed}
 use Rattle.ed_model.specs.UndoPlans.{text_steps}
 use Rattle.document.specs.Undoing.{changes_of, history_behind}
 use Rattle.document.specs.declared.undoing.Direction.{Direction}
@@ -20,12 +21,11 @@ use Rattle.message_requests.specs.Requested.{session_in}
 use Rattle.message_requests.specs.declared.state.SessionState.{SessionState}
 use Rattle.session_changes.specs.Kept.{IsKept}
 use Rattle.editor_session.specs.Doing.{CanGoOnceThereIsRoom, Goes}
-use Rattle.editor_session.specs.Plans.{is_free, planned_without_memory}
-use Rattle.editor_session.specs.declared.find.Task.{Task}
-use Rattle.editor_session.specs.Tasks.{IsTask}
-use Rattle.editor_session.specs.Unheard.{unrecorded, going, no_notes, IsSent}
-use Rattle.editor_session.proofs.Performing.{asked_by, answered_so, kept_at, of_kept, for_kept, watched_here, gone}
-use Rattle.editor_session.proofs.TableWay.{free_found}
+use Rattle.editor_session.specs.Plans.{is_free, needs_no_memory}
+use Rattle.editor_session.specs.Tasks.{IsTask, task_of}
+use Rattle.editor_session.specs.Unheard.{going, no_notes, IsSent}
+use Rattle.editor_session.proofs.PlanLemmas.{DoneFor, asked_by, kept_at, of_kept, for_kept, watched_here, gone}
+use Rattle.editor_session.proofs.TableWay.{free_task}
 
 pub on_ok : {A E : Type 0} (r : Result A E) (P Q : Type 0) → OnOk r P → (P → Q) → OnOk r Q
 on_ok (Ok a) P Q h f = f h
@@ -52,44 +52,31 @@ module _ (s : SessionState) (kept : IsKept s) (document view : ℕ) (direction :
   can_go_once undo redo sent =
       let t = sent.task in
       let r = t.request in
-      let task = unrecorded document view (going direction) in
+      let task = task_of document view (going direction) sent.is_recorded in
       let by = asked_by s view sent.message task t in
       let at = kept_at s task sent.message.text kept r by in
       for_kept s task sent.message.text kept r by (CanGoOnceThereIsRoom direction s.views)
       (subst (λ d. AreStepsOf (text_of d) (text_steps (changes_of direction d.history))) (sym at.is) (steps_fit undo redo direction r by.asked.sound), watched_here s task sent.message.text kept r by)
 
-  pub gone_at_once : (s' : SessionState) (notes notes' : Gathered) → notes ≡ no_notes → IfSome (value_at s.documents.entries document) (λ k. Goes view direction s notes k s' notes')
-      → (m : Message) → IsTask (session_in s) view m (unrecorded document view (going direction)) → table (session_in s) view m ≡ Ok (session_in s', response (pos 0) [] notes'.notes)
-  gone_at_once s' notes notes' none done m t =
-      let task = unrecorded document view (going direction) in
+  pub gone_for : (s' : SessionState) (notes notes' : Gathered) → IfSome (value_at s.documents.entries document) (λ k. Goes view direction s notes k s' notes')
+      → (bytes : List ℕ) → DoneFor s document view bytes (going direction) s' notes.notes notes'.notes (pos 0) []
+  gone_for s' notes notes' done bytes = λ m is_recorded t text_is.
+      let task = task_of document view (going direction) is_recorded in
       let by = asked_by s view m task t in
       let here = of_kept s task m.text kept t.request by (λ k. Goes view direction s notes k s' notes') done in
-      answered_so s view m task t s' notes.notes notes'.notes (pos 0) [] (ap (λ (g : Gathered). g.notes) none)
-      (gone s task m.text kept t.request by direction (going direction) (going_is direction t.request) s' notes notes' here)
+      gone s task m.text kept t.request by direction (going direction) (going_is direction t.request) s' notes notes' here
 
--- What was done at once, with a value, or left to the task.
-
-pub some_so : {E : Type 0} (r : Result (Option ℤ) E) (o : Option ℤ) (value : ℤ) (P : ℤ → Type 0) → r ≡ Ok o → o ≡ Some value → IfOk r (λ x. IfSome x P) → P value
-some_so (Ok (Some v)) o value P is some h = let same : v ≡ value = cc in subst P same h
-some_so (Ok None) o value P is some h = absurd (cc)
-some_so (Err e) o value P is some h = absurd (cc)
-
-pub none_so : {E : Type 0} (r : Result (Option ℤ) E) (o : Option ℤ) (Q : Type 0) → r ≡ Ok o → o ≡ None → IfOk r (λ x. IfNone x Q) → Q
-none_so (Ok (Some v)) o Q is none h = absurd (cc)
-none_so (Ok None) o Q is none h = h
-none_so (Err e) o Q is none h = absurd (cc)
-
-pub task_stays : (s s' : Session) (view : ℕ) (m : Message) (task : Task) → s' ≡ s → IsTask s view m task → IsTask s' view m task
-task_stays s s' view m task same t = subst (λ x. IsTask x view m task) (sym same) t
-
-needs_some : (direction : Direction) (r : Request) → planned_without_memory r (Ok (going direction)) ≡ true → false ≡ true
+needs_some : (direction : Direction) (r : Request) → needs_no_memory r (going direction) ≡ true → false ≡ true
 needs_some Undo r h = h
 needs_some Redo r h = h
 
 -- it always needs memory
-pub never_free : (s : Session) (document view : ℕ) (m : Message) (direction : Direction) → IsTask s view m (unrecorded document view (going direction)) → is_free s view m ≡ true → false ≡ true
-never_free s document view m direction t free =
-    needs_some direction t.request (subst (λ p. planned_without_memory t.request p ≡ true) t.planned (free_found s view m t.kind t.request t.found free).0)
+pub never_free : (s : Session) (document view : ℕ) (m : Message) (direction : Direction) (is_recorded : Bool) → IsTask s view m (task_of document view (going direction) is_recorded) → is_free s view m ≡ true → false ≡ true
+never_free s document view m direction is_recorded t free = needs_some direction t.request (free_task s view m (task_of document view (going direction) is_recorded) t free).0
+
+-- so does an attempt
+pub attempt_never_free : (s : Session) (document view : ℕ) (m : Message) (is_recorded : Bool) → IsTask s view m (task_of document view plan.Attempt is_recorded) → is_free s view m ≡ true → false ≡ true
+attempt_never_free s document view m is_recorded t free = (free_task s view m (task_of document view plan.Attempt is_recorded) t free).0
 
 -- No notes came where there was room for none.
 

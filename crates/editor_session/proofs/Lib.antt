@@ -5,10 +5,9 @@ pub mod Styled
 pub mod TableWay
 pub mod Stepping
 pub mod Replacing
-pub mod Performing
+pub mod PlanLemmas
 pub mod Attaching
-pub mod Changing
-pub mod Preparing
+pub mod Held
 pub mod Keeping
 pub mod Unheard
 pub mod OpeningLemmas
@@ -17,9 +16,10 @@ pub mod LendingLemmas
 pub mod WalkLemmas
 pub mod RunLemmas
 pub mod PlainChanges
-pub mod PlainEdits
+pub mod EditLemmas
 pub mod Going
 pub mod HeardChanges
 pub mod Leaving
 pub mod FrequentChanges
 pub mod Targets
+pub mod OtherPlans

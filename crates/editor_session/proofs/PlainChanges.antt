@@ -1,13 +1,10 @@
 -- Changes of a document at once.
-use Rattle.std.proofs.Common.{◌≡◌, ℕ, ◌≤◌, ◌==◌, ℤ, true, false, List, [], length, refl, ap, sym, subst, Ok, Err, OnOk, IfSome, IsSomeAnd}
+use Rattle.std.proofs.Common.{◌≡◌, ℕ, ◌≤◌, ◌==◌, ℤ, false, List, [], length, refl, sym, subst, Ok, Err, OnOk, IfSome, IsSomeAnd}
 use Rattle.std.specs.Prelude.{not, Result}
 use Rattle.std.proofs.lemmas.Bool.{and_parts, eqb-true}
-use Rattle.ed_types.specs.declared.message.Message.{Message}
 use Rattle.ed_model.specs.declared.plan.DocumentChange.{DocumentChange}
 use Rattle.ed_model.specs.declared.plan.Plan.TheVariants as plan
-use Rattle.ed_model.specs.Performing.{response}
 use Rattle.ed_model.specs.Session.{Session, Document, watching}
-use Rattle.ed_model.specs.Table.{table}
 use Rattle.id_table.specs.Entries.{value_at}
 use Rattle.document.specs.Kept.{Kept}
 use Rattle.notify.specs.Gathered.{Gathered}
@@ -18,12 +15,11 @@ use Rattle.message_requests.specs.Requested.{session_in}
 use Rattle.message_requests.specs.declared.state.SessionState.{SessionState}
 use Rattle.session_changes.specs.Kept.{IsKept}
 use Rattle.editor_session.specs.Doing.{CanChangeOnceThereIsRoom, IsChangedIn, Changes}
-use Rattle.editor_session.specs.Unheard.{unrecorded, no_notes, IsSentWith}
-use Rattle.editor_session.specs.Plans.{is_free, planned_without_memory}
-use Rattle.editor_session.specs.Tasks.{IsTask, IsAskedBy}
-use Rattle.editor_session.proofs.Performing.{asked_by, answered_so, kept_at, of_kept, for_kept, session_is, changed, change_fits, read_change, watched_here}
-use Rattle.editor_session.proofs.TableWay.{free_found, not_true}
-use Rattle.editor_session.proofs.Changing.{if_also}
+use Rattle.editor_session.specs.Unheard.{IfFree, IsSentWith}
+use Rattle.editor_session.specs.Tasks.{IsAskedBy, task_of}
+use Rattle.editor_session.proofs.PlanLemmas.{DoneFor, asked_by, kept_at, of_kept, for_kept, session_is, changed, change_fits, read_change, watched_here}
+use Rattle.editor_session.proofs.TableWay.{free_task, not_true}
+use Rattle.editor_session.proofs.Held.{if_also}
 
 -- the session after a change in its tables
 pub changes_so : (what : DocumentChange) (view : ℕ) (text : List ℕ) (s s' : SessionState) (notes notes' : Gathered) (k : Kept) → IsChangedIn what view text k s.documents s.views notes s'.documents s'.views notes'
@@ -47,7 +43,7 @@ module _ (s : SessionState) (kept : IsKept s) (document view : ℕ) (text : List
       let sent = by_text.sent in
       let t = sent.task in
       let r = t.request in
-      let task = unrecorded document view (plan.ChangeDocument what sent.value) in
+      let task = task_of document view (plan.ChangeDocument what sent.value) sent.is_recorded in
       let by = subst (λ x. IsAskedBy (session_in s) task x r) by_text.text_is (asked_by s view sent.message task t) in
       let at = kept_at s task text kept r by in
       for_kept s task text kept r by (CanChangeOnceThereIsRoom what text s.views)
@@ -57,27 +53,26 @@ module _ (s : SessionState) (kept : IsKept s) (document view : ℕ) (text : List
         watched = watched_here s task text kept r by;
       })
 
-  module _ (m : Message) (value : ℤ) (t : IsTask (session_in s) view m (unrecorded document view (plan.ChangeDocument what value))) (text_is : m.text ≡ text) where
-    pub changed_at_once : (s' : SessionState) (notes notes' : Gathered) → notes ≡ no_notes → IfSome (value_at s.documents.entries document) (λ k. Changes what view text k s notes s' notes')
-        → table (session_in s) view m ≡ Ok (session_in s', response value [] notes'.notes)
-    changed_at_once s' notes notes' none done =
-        let task = unrecorded document view (plan.ChangeDocument what value) in
-        let by = subst (λ x. IsAskedBy (session_in s) task x t.request) text_is (asked_by s view m task t) in
-        let here = of_kept s task text kept t.request by (λ k. Changes what view text k s notes s' notes') done in
-        answered_so s view m task t s' notes.notes notes'.notes value [] (ap (λ (g : Gathered). g.notes) none) (changed s task text kept t.request by what value s' notes notes' here)
+  pub changed_for : (s' : SessionState) (notes notes' : Gathered) → IfSome (value_at s.documents.entries document) (λ k. Changes what view text k s notes s' notes')
+      → (value : ℤ) → DoneFor s document view text (plan.ChangeDocument what value) s' notes.notes notes'.notes value []
+  changed_for s' notes notes' done value = λ m is_recorded t text_is.
+      let task = task_of document view (plan.ChangeDocument what value) is_recorded in
+      let by = subst (λ x. IsAskedBy (session_in s) task x t.request) text_is (asked_by s view m task t) in
+      let here = of_kept s task text kept t.request by (λ k. Changes what view text k s notes s' notes') done in
+      changed s task text kept t.request by what value s' notes notes' here
 
-    -- where the message needs no memory, the change needs no room, and no view hears of it
-    pub change_free : (P : Type 0) → IfSome (value_at s.documents.entries document) (λ k. needs_room what ≡ false → notes_of_change what k.document.history (watchers k.document s.views) ≡ 0 → P)
-        → is_free (session_in s) view m ≡ true → P
-    change_free P here free =
-        let task = unrecorded document view (plan.ChangeDocument what value) in
-        let r = t.request in
-        let by = subst (λ x. IsAskedBy (session_in s) task x r) text_is (asked_by s view m task t) in
-        let at = kept_at s task text kept r by in
-        let none = subst (λ p. planned_without_memory r p ≡ true) t.planned (free_found (session_in s) view m t.kind r t.found free).0 in
-        let parts = and_parts (not (needs_room what)) (notes_of_change what r.document.history (watching r.session.views r.document) == 0) none in
-        let unheard = eqb-true (notes_of_change what r.document.history (watching r.session.views r.document)) 0 parts.1 in
-        of_kept s task text kept r by (λ k. needs_room what ≡ false → notes_of_change what k.document.history (watchers k.document s.views) ≡ 0 → P) here
-        (not_true (needs_room what) parts.0)
-        (subst (λ (d : Document). notes_of_change what d.history (watchers d s.views) ≡ 0) (sym at.is)
-        (subst (λ (x : Session). notes_of_change what r.document.history (watching x.views r.document) ≡ 0) (session_is s task text kept r by) unheard))
+  -- where the message needs no memory, the change needs no room, and no view hears of it
+  pub change_free : (P : Type 0) → IfSome (value_at s.documents.entries document) (λ k. needs_room what ≡ false → notes_of_change what k.document.history (watchers k.document s.views) ≡ 0 → P)
+      → (value : ℤ) → IfFree (session_in s) document view text (plan.ChangeDocument what value) P
+  change_free P here value = λ m is_recorded t text_is free.
+      let task = task_of document view (plan.ChangeDocument what value) is_recorded in
+      let r = t.request in
+      let by = subst (λ x. IsAskedBy (session_in s) task x r) text_is (asked_by s view m task t) in
+      let at = kept_at s task text kept r by in
+      let none = (free_task (session_in s) view m task t free).0 in
+      let parts = and_parts (not (needs_room what)) (notes_of_change what r.document.history (watching r.session.views r.document) == 0) none in
+      let unheard = eqb-true (notes_of_change what r.document.history (watching r.session.views r.document)) 0 parts.1 in
+      of_kept s task text kept r by (λ k. needs_room what ≡ false → notes_of_change what k.document.history (watchers k.document s.views) ≡ 0 → P) here
+      (not_true (needs_room what) parts.0)
+      (subst (λ (d : Document). notes_of_change what d.history (watchers d s.views) ≡ 0) (sym at.is)
+      (subst (λ (x : Session). notes_of_change what r.document.history (watching x.views r.document) ≡ 0) (session_is s task text kept r by) unheard))

@@ -1,26 +1,23 @@
 -- The way of a message through the table.
-use Rattle.std.proofs.Common.{inl, ◌&&◌, ◌≡◌, ◌≢◌, ℕ, Bool, true, false, cond, ◌==◌, List, [], ◌∷◌, ℤ, refl, ap, sym, ◌∙◌, subst, Option, Some, None, Ok, Err}
-use Rattle.std.specs.Prelude.{Result, not, ◌+◌, slice_range, IsOk, IfOk, IfErr, OnErr}
+use Rattle.std.proofs.Common.{◌&&◌, ◌≡◌, ◌≢◌, ℕ, Bool, true, false, cond, ◌==◌, List, [], ◌∷◌, ℤ, refl, ap, sym, ◌∙◌, subst, Option, Some, None, Ok, Err}
+use Rattle.std.specs.Prelude.{Result, not, IsOk, IfErr}
 use Rattle.ed_types.specs.declared.message.Message.{Message}
 use Rattle.ed_types.specs.declared.kind.Kind.{Kind}
 use Rattle.ed_types.specs.declared.refusal.Refusal.{Refusal}
 use Rattle.ed_types.specs.declared.refusal.Refusal.TheVariants.{NoSuchView, UnknownMessage, OutOfMemory}
-use Rattle.ed_types.specs.Notices.{Response}
 use Rattle.ed_types.specs.Messages.{kind_of, marks_of}
-use Rattle.ed_model.specs.Session.{Session, View, Document, document_at, view_at, watching, text_of}
+use Rattle.ed_model.specs.Session.{Session, View, Document, document_at, view_at, watching}
 use Rattle.ed_model.specs.Rows.{Flags}
 use Rattle.ed_model.specs.SoundLaws.{IsSound}
 use Rattle.ed_model.specs.Requests.{Request, Planned}
 use Rattle.ed_model.specs.PlansFit.{IsFitPlan, IsFitPlanned}
-use Rattle.ed_model.specs.Performing.{quiet, response}
+use Rattle.ed_model.specs.Performing.{quiet}
 use Rattle.ed_model.specs.declared.plan.Plan.{Plan}
 use Rattle.ed_model.specs.declared.plan.Plan.TheVariants as plan
 use Rattle.ed_model.specs.Table.{table, record_note, table_from_view, table_from_kind, table_from_document, answered, request, plan_of}
 use Rattle.session_changes.specs.proved.Finding.{id_of_view, own_at}
-use Rattle.editor_session.specs.declared.find.Task.{Task}
 use Rattle.editor_session.specs.Plans.{needs_no_fold_room, needs_no_memory, planned_without_memory, is_free, is_free_request, is_free_from_document, is_free_from_kind, is_free_from_view, is_marked_free, is_recorded_by, MarkedMessagesAreFree}
-use Rattle.editor_session.specs.Answers.{AnswersBy}
-use Rattle.editor_session.specs.Tasks.{IsFound, IsTask}
+use Rattle.editor_session.specs.Tasks.{Task, IsFound, IsTask}
 use Rattle.ed_model.specs.FreePlans.{IsFreeDocumentChange, IsFreeViewChange, IsFreeSessionChange, IsFreePlan, IsFreePlanned, MarkedPlansAreFree}
 use Rattle.ed_model.specs.declared.plan.DocumentChange.{DocumentChange}
 use Rattle.ed_model.specs.declared.plan.DocumentChange.TheVariants as document_change
@@ -67,28 +64,9 @@ plain_answer s view m kind r value f planned unheard =
     ∙ ap (λ b. Ok (r.session, cond b (record (quiet value) { notes = record_note r ∷ [] }) (quiet value))) unheard
     ∙ ap (λ (x : Session). Ok (x, quiet value)) f.session
 
--- the same with a text
-pub text_handed_out : (s : Session) (view : ℕ) (m : Message) (kind : Kind) (r : Request) (value : ℤ) (start count : ℕ) → IsFound s view m kind r → plan_of kind r ≡ Ok (plan.HandOut value start count)
-    → (r.view.records && (marks_of kind).r) ≡ false → table s view m ≡ Ok (s, response value (slice_range (text_of r.document) start (start + count)) [])
-text_handed_out s view m kind r value start count f planned unheard =
-    let reply = response value (slice_range (text_of r.document) start (start + count)) [] in
-    f.answer ∙ ap (answered kind r) planned
-    ∙ ap (λ b. Ok (r.session, cond b (record reply { notes = record_note r ∷ [] }) reply)) unheard
-    ∙ ap (λ (x : Session). Ok (x, reply)) f.session
-
--- what hands out this reply or is refused memory, where the table says this reply
-pub handed_so : (says : Result (Session × Response) Refusal) (s : Session) (reply : Response) (result : Result Response Refusal) → says ≡ Ok (s, reply) → IfOk result (λ x. x ≡ reply) → IfErr result (λ e. e ≡ OutOfMemory) → AnswersBy says s s result
-handed_so says s reply (Ok x) is ok err = is ∙ ap (λ y. Ok (s, y)) (sym ok)
-handed_so says s reply (Err e) is ok err = (refl, inl err)
-
 -- the table refuses no message that has a plan
 pub with_a_plan : (P : Refusal → Type 0) (s : Session) (view : ℕ) (m m' : Message) (kind : Kind) (r : Request) (what : Plan) → m ≡ m' → IsFound s view m kind r → plan_of kind r ≡ Ok what → IfErr (table s view m') P
 with_a_plan P s view m m' kind r what same f planned = subst (λ t. IfErr t P) (sym (ap (table s view) (sym same) ∙ f.answer ∙ ap (answered kind r) planned)) tt
-
--- what answers by the table, or is refused memory and leaves the session
-pub carried_so : (says : Result (Session × Response) Refusal) (old new : Session) (result : Result Response Refusal) → IfOk result (λ reply. says ≡ Ok (new, reply)) → OnErr result (new ≡ old) → IfErr result (λ e. e ≡ OutOfMemory) → AnswersBy says old new result
-carried_so says old new (Ok x) ok same err = ok
-carried_so says old new (Err e) ok same err = (same, inl err)
 
 pub never_refused : {R : Type 0} (result : Result R Refusal) → IsOk result → IfErr result (λ e. e ≢ OutOfMemory)
 never_refused (Ok x) h = tt

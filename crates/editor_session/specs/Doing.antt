@@ -7,7 +7,6 @@ use Rattle.ed_model.specs.declared.plan.DocumentChange.{DocumentChange}
 use Rattle.ed_model.specs.Session.{View, text_of, with_document}
 use Rattle.ed_model.specs.Changes.{changed_document, changed_lines, change_told}
 use Rattle.document_changes.specs.Fit.{IsFitChange, bytes_read}
-use Rattle.document_changes.specs.Needs.{notes_of_change}
 use Rattle.ed_model.specs.SoundLaws.{AreStepsOf}
 use Rattle.ed_model.specs.UndoPlans.{text_steps}
 use Rattle.ed_model.specs.Requests.{Request}
@@ -16,11 +15,11 @@ use Rattle.ed_model.specs.Table.{performed}
 use Rattle.id_table.specs.Entries.{Entries}
 use Rattle.notify.specs.Gathered.{Gathered}
 use Rattle.document.specs.declared.undoing.Direction.{Direction}
-use Rattle.document.specs.Kept.{Kept, HasTextRoom}
+use Rattle.document.specs.Kept.{Kept}
 use Rattle.document.specs.Undoing.{changes_of, history_behind}
 use Rattle.ed_view.specs.Kept.{KeptView}
 use Rattle.scene.specs.Scenes.{views_of, scene_in, watchers, IsWatched}
-use Rattle.scene.specs.Undoing.{bits_of, notes_of_history, bytes_of_changes, room_of_changes}
+use Rattle.scene.specs.Undoing.{bits_of}
 use Rattle.message_requests.specs.Requested.{documents_in, session_in}
 use Rattle.message_requests.specs.declared.state.SessionState.{SessionState}
 
@@ -31,13 +30,6 @@ pub record IsDone (r : Request) (what : Plan) (s : SessionState) (before after :
   pub heard : after ≡ before ++ told
 
 -- Undo and redo.
-
-pub record CanGo (direction : Direction) (views : Entries KeptView) (notes : Gathered) (k : Kept) : Type 0 where
-  pub steps : AreStepsOf (text_of k.document) (text_steps (changes_of direction k.document.history))
-  pub room : HasTextRoom k (room_of_changes k.document.line_end_types (changes_of direction k.document.history))
-  pub watched : IsWatched k.document views
-  pub note_room : notes_of_history (watchers k.document views) direction k.document.history ≤ notes.note_room
-  pub text_room : bytes_of_changes (watchers k.document views) (bits_of direction) (changes_of direction k.document.history) ≤ notes.text_room
 
 -- the steps fit the text, and the views stand well on it
 abbrev pub CanGoOnceThereIsRoom : Direction → Entries KeptView → Kept → Type 0
@@ -52,14 +44,7 @@ pub record Goes (view : ℕ) (direction : Direction) (s : SessionState) (notes :
 
 -- Changes of a document.
 
--- the change fits, and there is room for what it tells
-pub record CanTell (change : DocumentChange) (text : List ℕ) (views : Entries KeptView) (notes : Gathered) (k : Kept) : Type 0 where
-  pub fits : IsFitChange k.document change
-  pub read : bytes_read change ≤ length text
-  pub watched : IsWatched k.document views
-  pub room : notes_of_change change k.document.history (watchers k.document views) ≤ notes.note_room
-
--- the same, but for the room
+-- the change fits, whatever room there is
 pub record CanChangeOnceThereIsRoom (change : DocumentChange) (text : List ℕ) (views : Entries KeptView) (k : Kept) : Type 0 where
   pub fits : IsFitChange k.document change
   pub read : bytes_read change ≤ length text

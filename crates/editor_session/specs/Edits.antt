@@ -1,5 +1,5 @@
 -- Edits of a session.
-use Rattle.std.specs.Prelude.{◌≡◌, ℕ, List, length, []}
+use Rattle.std.specs.Prelude.{◌≡◌, ℕ, List, length}
 use Rattle.ed_model.specs.declared.plan.Edit.{Edit}
 use Rattle.ed_model.specs.declared.plan.Edit.TheVariants as edit
 use Rattle.ed_model.specs.declared.plan.Follow.{Follow}
@@ -9,13 +9,10 @@ use Rattle.ed_model.specs.Session.{Document, text_of}
 use Rattle.ed_model.specs.Performing.{Scene, edit_made, followed, session_of}
 use Rattle.notify.specs.Gathered.{Gathered}
 use Rattle.document.specs.Kept.{Kept}
-use Rattle.id_table.specs.Entries.{Entries}
-use Rattle.ed_view.specs.Kept.{KeptView}
-use Rattle.scene.specs.Scenes.{scene_in}
-use Rattle.scene.specs.Conversion.{CanMakeSteps}
+use Rattle.scene.specs.Scenes.{scene_in, IsWatched}
 use Rattle.message_requests.specs.Requested.{session_in}
 use Rattle.message_requests.specs.declared.state.SessionState.{SessionState}
-use Rattle.editor_session.specs.Edited.{IsEditWithin, stored_bytes, CanTake}
+use Rattle.editor_session.specs.Edited.{IsEditWithin, stored_bytes, taken_along}
 
 -- the steps of an edit of the document
 abbrev pub edit_steps : Edit → List ℕ → List ℕ → List ℕ → Document → List Step
@@ -26,16 +23,11 @@ edit_steps (edit.ConvertLineEnds to) text clipboard pasted d = conversion_steps 
 abbrev pub scene_after : Edit → List ℕ → List ℕ → SessionState → Gathered → Kept → Scene
 scene_after change text pasted s notes k = edit_made (edit_steps change text s.clipboard.items pasted k.document) (scene_in k.document s.views.entries notes.notes)
 
--- its ranges lie within, and there is room for its steps
-pub record CanChange (change : Edit) (text clipboard pasted : List ℕ) (views : Entries KeptView) (notes : Gathered) (k : Kept) : Type 0 where
+-- the edit lies within the document and the text, and `taken` is what it takes to the clipboard
+pub record CanEdit (change : Edit) (text : List ℕ) (follow : Follow) (taken : List ℕ) (s : SessionState) (k : Kept) : Type 0 where
   pub within : IsEditWithin change (length k.document.cells) (length text)
-  pub steps : CanMakeSteps (edit_steps change text clipboard pasted k.document) k views notes
-
--- there is room for the edit and for what follows it
-pub record CanEdit (change : Edit) (text pasted : List ℕ) (follow : Follow) (s : SessionState) (taken : List ℕ) (room : ℕ) (notes : Gathered) (k : Kept) : Type 0 where
-  pub can : CanChange change text s.clipboard.items pasted s.views notes k
-  pub empty : taken ≡ []
-  pub take : CanTake follow (length k.document.cells) room
+  pub watched : IsWatched k.document s.views
+  pub take : taken ≡ taken_along follow (text_of k.document)
 
 pub record Edits (view : ℕ) (change : Edit) (text pasted : List ℕ) (follow : Follow) (s : SessionState) (notes : Gathered) (k : Kept) (s' : SessionState) (notes' : Gathered) : Type 0 where
   pub session_after : session_in s' ≡ followed view (text_of k.document) follow (session_of (session_in s) (scene_after change text pasted s notes k))

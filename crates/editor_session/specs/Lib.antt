@@ -6,13 +6,11 @@ pub mod Needs
 pub mod Tasks
 pub mod Lent
 pub mod Lends
-pub mod Prepared
 pub mod Doing
 pub mod Edited
 pub mod Edits
 pub mod Opening
 pub mod PartLends
 pub mod Unheard
-pub mod PlainEdits
 pub mod Left
 pub mod Commands

@@ -9,7 +9,7 @@ use Rattle.ed_model.specs.Session.{Session}
 use Rattle.ed_model.specs.PlansFit.{IsSoundRequest, IsFitPlan}
 use Rattle.ed_model.specs.Requests.{Request}
 use Rattle.ed_model.specs.Table.{table, plan_of, answered}
-use Rattle.editor_session.specs.declared.find.Task.{Task}
+use Rattle.ed_model.specs.declared.plan.Plan.{Plan}
 use Rattle.session_changes.specs.Asked.{IsAsked}
 
 -- a message came this far: its view, its kind and its document are found, and the table's answer is that of its plan
@@ -20,6 +20,13 @@ pub record IsFound (s : Session) (view : ℕ) (m : Message) (kind : Kind) (r : R
   pub view_id : r.view.id ≡ view
   pub message : r.message ≡ m
   pub answer : table s view m ≡ answered kind r (plan_of kind r)
+
+-- What is to be done for a message: the ids of its view and of its document, its plan, and whether the view records it.
+pub record Task : Type 0 where
+  pub view : ℕ
+  pub document : ℕ
+  pub plan : Plan
+  pub is_recorded : Bool
 
 -- the task of a message: the request that it comes of, and its plan
 pub record IsTask (s : Session) (view : ℕ) (m : Message) (task : Task) : Type 0 where
@@ -37,12 +44,6 @@ pub record IsAskedBy (s : Session) (task : Task) (text : List ℕ) (r : Request)
   pub asked : IsAsked s task.document task.view r
   pub message : r.message.text ≡ text
 
--- there is one, and the plan is fit for it
-pub record IsPlanned (s : Session) (task : Task) (text : List ℕ) : Type 0 where
-  pub request : Request
-  pub asked : IsAskedBy s task text request
-  pub fit : IsFitPlan request task.plan
-
 -- the note by which a view that records hears of the message
 abbrev pub recording : ℕ → Message → Notice
 recording view m =
@@ -52,3 +53,7 @@ recording view m =
 abbrev pub first_note : Bool → ℕ → Message → List Notice
 first_note true view m = recording view m ∷ []
 first_note false view m = []
+
+-- the task with this plan
+abbrev pub task_of : ℕ → ℕ → Plan → Bool → Task
+task_of document view what is_recorded = record { view = view; document = document; plan = what; is_recorded = is_recorded }

@@ -1,30 +1,22 @@
-//! Edits that replace bytes: their steps, and what follows them.
+//! The parts of an edit: what it puts in, its steps, and what follows them.
 
-ghost use Rattle.std.specs.Prelude.{◌≡◌, ◌≤◌, ◌<◌, ◌+◌, ◌++◌, length, slice_range, IfSome, IsSome, IsSomeAnd, vec_len, vec_capacity, []};
-ghost use Rattle.ed_model.specs.Steps.{replacement};
+ghost use Rattle.std.specs.Prelude.{◌≡◌, ◌≤◌, ◌<◌, ◌+◌, length};
 ghost use Rattle.ed_model.specs.declared.plan.Follow.TheVariants.{Caret, Target as follow_target};
-ghost use Rattle.ed_model.specs.Session.{text_of};
 ghost use Rattle.ed_model.specs.Performing.{edit_made};
-ghost use Rattle.ed_model.specs.SoundLaws.{Rise};
-ghost use Rattle.id_table.specs.Entries.{value_at};
+ghost use Rattle.ed_model.specs.Session.{text_of};
+ghost use Rattle.ed_model.specs.Steps.{replacement};
 ghost use Rattle.document.specs.Kept.{HasRoom};
-ghost use Rattle.scene.specs.Scenes.{views_of, scene_in, AreNamed, IsWatched};
-ghost use Rattle.session_changes.specs.Kept.{IsKept, DocumentsAreNamed, ViewsRise};
 ghost use Rattle.scene.specs.Conversion.{room_of_steps, notes_for, bytes_for};
-ghost use Rattle.ed_model.specs.LineEnds.{conversion_steps};
-ghost use Rattle.scene.specs.Conversion.{CanMakeSteps};
-ghost use Rattle.editor_session.specs.Edits.{edit_steps, CanChange, CanEdit, Edits};
-ghost use Rattle.editor_session.specs.Edited.{IsStoredIn, stored_bytes, taken_along, CanTake, followed_views, followed_clipboard, CanReplace, Replaces};
+ghost use Rattle.scene.specs.Scenes.{views_of, scene_in, AreNamed, IsWatched};
+ghost use Rattle.session_changes.specs.Kept.{ViewsRise};
+ghost use Rattle.editor_session.specs.Edited.{IsStoredIn, stored_bytes, followed_views, followed_clipboard};
 
-use crate::handing_out::{copy_bytes, line_end_in};
 use document::{Document, TextStep};
-use document_table::DocumentTable;
-use ed_model::{Edit, Follow, LineEnd, Source};
+use ed_model::{Follow, LineEnd, Source};
 use ed_view::{Target, View};
 use id_table::IdTable;
-use message_requests::SessionState;
 use notify::NoteList;
-use scene::{convert, make_step, needs_are_enough};
+use scene::{make_step, needs_are_enough};
 use selection::Selection;
 
 /// The bytes that an edit puts in; `pasted` is what the clipboard was turned into for it.
@@ -128,104 +120,6 @@ pub(crate) fn replace_bytes(
     replace_some(document, views, notes, start, count, bytes);
 }
 
-/// The same in the document of an id.
-pub(crate) fn replace_in(
-    documents: &mut DocumentTable,
-    views: &mut IdTable<View>,
-    notes: &mut NoteList,
-    document: u32,
-    start: usize,
-    count: usize,
-    bytes: &[u8],
-)
-    requires can { IsSomeAnd (value_at documents.old.entries document) (λ k. CanReplace start count bytes.now k views.old notes.old) }
-    requires named { DocumentsAreNamed documents.old.entries }
-    ensures replaced { IfSome (value_at documents.old.entries document) (λ k. Replaces (replacement start count bytes.now (text_of k.document)) k.document documents.old views.old notes.old documents.new views.new notes.new) }
-    ensures documents { DocumentsAreNamed documents.new.entries }
-    ensures views { AreNamed views.new.entries }
-    ensures rise { ViewsRise views.new }
-    ensures next_document { documents.new.next ≡ documents.old.next }
-    ensures next_view { views.new.next ≡ views.old.next }
-{
-    let Some(document) = documents.get_mut(document) else {
-        unreachable!()
-    };
-    replace_bytes(document, views, notes, start, count, bytes);
-}
-
-/// Turns all line ends of the document of an id into this kind.
-fn convert_in(
-    documents: &mut DocumentTable,
-    views: &mut IdTable<View>,
-    notes: &mut NoteList,
-    document: u32,
-    to: LineEnd,
-)
-    requires can { IsSomeAnd (value_at documents.old.entries document) (λ k. CanMakeSteps (conversion_steps to (text_of k.document)) k views.old notes.old) }
-    requires named { DocumentsAreNamed documents.old.entries }
-    ensures replaced { IfSome (value_at documents.old.entries document) (λ k. Replaces (conversion_steps to (text_of k.document)) k.document documents.old views.old notes.old documents.new views.new notes.new) }
-    ensures documents { DocumentsAreNamed documents.new.entries }
-    ensures views { AreNamed views.new.entries }
-    ensures rise { ViewsRise views.new }
-    ensures next_document { documents.new.next ≡ documents.old.next }
-    ensures next_view { views.new.next ≡ views.old.next }
-{
-    let Some(document) = documents.get_mut(document) else {
-        unreachable!()
-    };
-    convert(document, views, notes, to);
-}
-
-/// Makes the steps of an edit of the document of an id.
-fn change_text(
-    documents: &mut DocumentTable,
-    views: &mut IdTable<View>,
-    notes: &mut NoteList,
-    document: u32,
-    edit: Edit,
-    text: &[u8],
-    clipboard: &[u8],
-    pasted: &[u8],
-)
-    requires can { IsSomeAnd (value_at documents.old.entries document) (λ k. CanChange edit text.now clipboard.now pasted.now views.old notes.old k) }
-    requires named { DocumentsAreNamed documents.old.entries }
-    ensures changed { IfSome (value_at documents.old.entries document) (λ k. Replaces (edit_steps edit text.now clipboard.now pasted.now k.document) k.document documents.old views.old notes.old documents.new views.new notes.new) }
-    ensures documents { DocumentsAreNamed documents.new.entries }
-    ensures views { AreNamed views.new.entries }
-    ensures rise { ViewsRise views.new }
-    ensures next_document { documents.new.next ≡ documents.old.next }
-    ensures next_view { views.new.next ≡ views.old.next }
-{
-    match edit {
-        Edit::Replace {
-            start,
-            count,
-            source,
-        } => {
-            let line_end = line_end_in(documents, document);
-            let bytes = source_bytes(source, text, clipboard, pasted, line_end);
-            replace_in(documents, views, notes, document, start, count, bytes);
-        }
-        Edit::ConvertLineEnds { to } => convert_in(documents, views, notes, document, to),
-    }
-}
-
-/// Copies what an edit takes to the clipboard, as it stands before the edit.
-pub(crate) fn take_along(
-    documents: &DocumentTable,
-    document: u32,
-    follow: Follow,
-    target: &mut Vec<u8>,
-)
-    requires empty { target.old.items ≡ [] }
-    requires can { IsSomeAnd (value_at documents.now.entries document) (λ k. CanTake follow (length k.document.cells) (vec_capacity target.old)) }
-    ensures { IfSome (value_at documents.now.entries document) (λ k. target.new.items ≡ taken_along follow (text_of k.document)) }
-{
-    if let Follow::Clipboard { start, count } = follow {
-        copy_bytes(documents, document, start, count, target);
-    }
-}
-
 /// Sets anchor and caret of the view of an id to a place.
 pub(crate) fn set_caret(views: &mut IdTable<View>, view: u32, place: usize)
     requires named { AreNamed views.old.entries }
@@ -273,37 +167,4 @@ pub(crate) fn follow_edit(
         Follow::Target { start, end } => set_target(views, view, start, end),
         Follow::Clipboard { .. } => *clipboard = taken,
     }
-}
-
-/// Makes an edit of the document of an id, and does what follows it for the view of an id; `taken` has room for what goes to
-/// the clipboard, and `pasted` is what the clipboard was turned into.
-pub(crate) fn make_edit(
-    state: &mut SessionState,
-    document: u32,
-    view: u32,
-    text: &[u8],
-    pasted: &[u8],
-    edit: Edit,
-    follow: Follow,
-    mut taken: Vec<u8>,
-    notes: &mut NoteList,
-)
-    requires kept { IsKept state.old }
-    requires can { IsSomeAnd (value_at state.old.documents.entries document) (λ k. CanEdit edit text.now pasted.now follow state.old taken.items (vec_capacity taken) notes.old k) }
-    ensures edited { IfSome (value_at state.old.documents.entries document) (λ k. Edits view edit text.now pasted.now follow state.old notes.old k state.new notes.new) }
-    ensures documents { DocumentsAreNamed state.new.documents.entries }
-    ensures views { AreNamed state.new.views.entries }
-    ensures limits { state.new.limits ≡ state.old.limits }
-{
-    let SessionState {
-        documents,
-        views,
-        clipboard,
-        ..
-    } = state;
-    take_along(documents, document, follow, &mut taken);
-    change_text(
-        documents, views, notes, document, edit, text, clipboard, pasted,
-    );
-    follow_edit(views, clipboard, view, follow, taken);
 }

@@ -1,4 +1,4 @@
-//! From a message to what is to be done for it: its view, its document and its plan.
+//! From a message to its view, its kind and its document.
 
 ghost use Rattle.std.specs.Prelude.{◌≡◌, ◌≢◌, Err, IfOk, IfErr};
 ghost use Rattle.ed_types.specs.declared.refusal.Refusal.TheVariants.{OutOfMemory};
@@ -9,22 +9,8 @@ ghost use Rattle.session_changes.specs.Kept.{IsKept};
 ghost use Rattle.editor_session.specs.Tasks.{IsFound};
 
 use crate::attached::look_up;
-use ed_model::Plan;
 use ed_types::{Kind, Refusal};
 use message_requests::{Request, SentMessage, SessionState};
-
-/// What is to be done for a message.
-#[derive(Clone, Copy, Debug)]
-pub(crate) struct Task {
-    /// The id of the view that it was sent to.
-    pub view: u32,
-    /// The id of the view's document.
-    pub document: u32,
-    /// What it is going to do.
-    pub plan: Plan,
-    /// Whether the view hears of it, since it records.
-    pub is_recorded: bool,
-}
 
 /// Finds the view of a message, its kind, and the view's document.
 ///

@@ -20,8 +20,8 @@ ghost use Rattle.editor_session.specs.Plans.{is_free};
 ghost use Rattle.editor_session.specs.Unheard.{unrecorded, going, no_notes, IsSent, IsSentWith};
 
 use crate::attached::look_up;
+use crate::changing::change_at_once;
 use crate::history::go_unheard;
-use crate::plain_changes::change_at_once;
 use document::Direction;
 use document_changes::change_unheard;
 use document_table::DocumentTable;

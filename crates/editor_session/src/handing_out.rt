@@ -1,35 +1,20 @@
-//! What is read of a document by its id: bytes that are handed out or go to the clipboard, and its line end.
+//! Bytes of a document that a reply hands out.
 
-ghost use Rattle.std.specs.Prelude.{◌≡◌, ◌≤◌, ◌+◌, ◌*◌, ◌++◌, length, slice_range, IfSome, IsSome, IsSomeAnd, vec_len, vec_capacity};
-ghost use Rattle.ed_model.specs.Session.{text_of};
-ghost use Rattle.ed_model.specs.Performing.{styled_text};
-ghost use Rattle.id_table.specs.Entries.{value_at};
+ghost use Rattle.std.specs.Prelude.{◌≡◌, ◌≤◌, ◌+◌, ◌*◌, ◌++◌, ℤ, ℕ, List, pos, length, slice_range, IfOk, IfErr, IsOk, vec_len, vec_capacity};
+ghost use Rattle.ed_types.specs.declared.refusal.Refusal.TheVariants.{OutOfMemory};
+ghost use Rattle.ed_types.specs.Notices.{Notice};
+ghost use Rattle.ed_model.specs.declared.plan.Plan.TheVariants as plan;
+ghost use Rattle.ed_model.specs.Performing.{response, styled_text};
+ghost use Rattle.message_requests.specs.Requested.{session_in};
+ghost use Rattle.session_changes.specs.Kept.{IsKept};
+ghost use Rattle.editor_session.specs.Unheard.{IsAnswered, IfFree, IsSent};
 
 use document::Document;
-use document_table::DocumentTable;
-use ed_model::LineEnd;
+use ed_types::Refusal;
+use message_requests::SessionState;
+use std::alloc::{AllocError, Global};
 
-/// Copies bytes of the document of an id, for which there is room.
-pub(crate) fn copy_bytes(
-    documents: &DocumentTable,
-    document: u32,
-    start: usize,
-    count: usize,
-    target: &mut Vec<u8>,
-)
-    requires range { IsSomeAnd (value_at documents.now.entries document) (λ k. start + count ≤ length k.document.cells) }
-    requires room { vec_len target.old + count ≤ vec_capacity target.old }
-    ensures { IfSome (value_at documents.now.entries document) (λ k. target.new.items ≡ target.old.items ++ slice_range (text_of k.document) start (start + count)) }
-{
-    let Some(document) = documents.get(document) else {
-        unreachable!()
-    };
-    let Ok(()) = document.append_text_to(start, count, target) else {
-        unreachable!()
-    };
-}
-
-/// Appends bytes of a document, each with its style behind it, for which there is room.
+/// Appends bytes of a document, each followed by its style. There must be room for them.
 fn append_styled(document: &Document, start: usize, count: usize, target: &mut Vec<u8>)
     requires range { start + count ≤ length document.now.document.cells }
     requires room { vec_len target.old + 2 * count ≤ vec_capacity target.old }
@@ -42,31 +27,86 @@ fn append_styled(document: &Document, start: usize, count: usize, target: &mut V
     }
 }
 
-/// Copies bytes of the document of an id, each with its style behind it, for which there is room.
-pub(crate) fn copy_styled(
-    documents: &DocumentTable,
-    document: u32,
+/// Returns bytes of a document, each followed by its style.
+///
+/// # Errors
+///
+/// `AllocError` if the allocation fails.
+fn styled_bytes(
+    alloc: Global,
+    document: &Document,
     start: usize,
     count: usize,
-    target: &mut Vec<u8>,
-)
-    requires range { IsSomeAnd (value_at documents.now.entries document) (λ k. start + count ≤ length k.document.cells) }
-    requires room { vec_len target.old + 2 * count ≤ vec_capacity target.old }
-    ensures { IfSome (value_at documents.now.entries document) (λ k. target.new.items ≡ target.old.items ++ styled_text (slice_range k.document.cells start (start + count))) }
+) -> Result<Vec<u8>, AllocError>
+    requires range { start + count ≤ length document.now.document.cells }
+    ensures bytes { IfOk result (λ bytes. bytes.items ≡ styled_text (slice_range document.now.document.cells start (start + count))) }
+    ensures free { count ≡ 0 → IsOk result }
 {
-    let Some(document) = documents.get(document) else {
-        unreachable!()
+    let Some(room) = count.checked_mul(2) else {
+        return Err(AllocError);
     };
-    append_styled(document, start, count, target);
+    let mut bytes = Vec::new(alloc);
+    let Ok(()) = bytes.reserve(room) else {
+        return Err(AllocError);
+    };
+    append_styled(document, start, count, &mut bytes);
+    Ok(bytes)
 }
 
-/// The line end that typing makes in the document of an id.
-pub(crate) fn line_end_in(documents: &DocumentTable, document: u32) -> LineEnd
-    requires { IsSome (value_at documents.now.entries document) }
-    ensures { IfSome (value_at documents.now.entries document) (λ k. result ≡ k.document.line_end) }
+/// Returns bytes of the document with this id.
+///
+/// # Errors
+///
+/// `OutOfMemory` if the allocation fails.
+#[inline(never)]
+pub(crate) fn hand_out(
+    alloc: Global,
+    state: &SessionState,
+    document: u32,
+    view: u32,
+    start: usize,
+    count: usize,
+) -> Result<Vec<u8>, Refusal>
+    requires kept { IsKept state.now }
+    requires sent { IsSent (session_in state.now) document view (λ value. plan.HandOut value start count) }
+    ensures answer { IfOk result (λ bytes. (value : ℤ) (text : List ℕ) (notes : List Notice) → IsAnswered (session_in state.now) document view text (plan.HandOut value start count) notes (session_in state.now) (response value bytes.items notes)) }
+    ensures refused { IfErr result (λ refusal. refusal ≡ OutOfMemory) }
+    ensures free { (value : ℤ) (text : List ℕ) → IfFree (session_in state.now) document view text (plan.HandOut value start count) (IsOk result) }
 {
-    let Some(document) = documents.get(document) else {
+    let Some(document) = state.documents.get(document) else {
         unreachable!()
     };
-    document.typed_line_end()
+    let Ok(bytes) = document.text_to_vec(alloc, start, count, 0) else {
+        return Err(Refusal::OutOfMemory);
+    };
+    Ok(bytes)
+}
+
+/// Returns bytes of the document with this id, each followed by its style.
+///
+/// # Errors
+///
+/// `OutOfMemory` if the allocation fails.
+#[inline(never)]
+pub(crate) fn hand_out_styled(
+    alloc: Global,
+    state: &SessionState,
+    document: u32,
+    view: u32,
+    start: usize,
+    count: usize,
+) -> Result<Vec<u8>, Refusal>
+    requires kept { IsKept state.now }
+    requires sent { IsSent (session_in state.now) document view (λ value. plan.HandOutStyled start count) }
+    ensures answer { IfOk result (λ bytes. (text : List ℕ) (notes : List Notice) → IsAnswered (session_in state.now) document view text (plan.HandOutStyled start count) notes (session_in state.now) (response (pos (length bytes.items)) bytes.items notes)) }
+    ensures refused { IfErr result (λ refusal. refusal ≡ OutOfMemory) }
+    ensures free { (text : List ℕ) → IfFree (session_in state.now) document view text (plan.HandOutStyled start count) (IsOk result) }
+{
+    let Some(document) = state.documents.get(document) else {
+        unreachable!()
+    };
+    let Ok(bytes) = styled_bytes(alloc, document, start, count) else {
+        return Err(Refusal::OutOfMemory);
+    };
+    Ok(bytes)
 }

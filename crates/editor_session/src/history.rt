@@ -1,6 +1,6 @@
-//! Undo and redo in a document of the session: with the room that a task made, or at once.
+//! Undo and redo in a document of the session.
 
-ghost use Rattle.std.specs.Prelude.{◌≡◌, pos, [], map, true, false, Ok, OnOk, OnErr, IfOk, IfErr, IfSome, IsSomeAnd, reverse};
+ghost use Rattle.std.specs.Prelude.{◌≡◌, ℕ, List, pos, [], map, true, false, Ok, OnOk, OnErr, IfOk, IfErr, IfSome, IsSomeAnd, reverse};
 ghost use Rattle.ed_types.specs.declared.message.Message.{Message};
 ghost use Rattle.ed_types.specs.declared.refusal.Refusal.TheVariants.{OutOfMemory};
 ghost use Rattle.ed_model.specs.History.{latest_text_step};
@@ -16,12 +16,12 @@ ghost use Rattle.scene.specs.Undoing.{bits_of, place_behind_any};
 ghost use Rattle.message_requests.specs.Requested.{session_in, documents_in};
 ghost use Rattle.session_changes.specs.Kept.{IsKept, DocumentsAreNamed, ViewsRise};
 ghost use Rattle.editor_session.specs.Edited.{Becomes};
-ghost use Rattle.editor_session.specs.Doing.{CanGo, CanGoOnceThereIsRoom, Goes, scene_gone};
+ghost use Rattle.editor_session.specs.Doing.{CanGoOnceThereIsRoom, Goes, scene_gone};
 ghost use Rattle.editor_session.specs.Tasks.{IsTask};
-ghost use Rattle.editor_session.specs.Unheard.{unrecorded, going, no_notes, IsSent};
+ghost use Rattle.editor_session.specs.Unheard.{unrecorded, going, no_notes, IsAnswered, IsSent};
 
 use crate::edits::set_caret;
-use crate::ready::reserve;
+use crate::need::reserve;
 use document::{Direction, Document};
 use document_table::DocumentTable;
 use ed_model::{plans_are_fit, soundness_is_kept};
@@ -32,55 +32,6 @@ use message_requests::SessionState;
 use notify::NoteList;
 use scene::{history_need, perform_history};
 use std::alloc::{AllocError, Global};
-
-/// Performs undo or redo in the document of an id, and returns where that leaves the caret, if it makes a step of the text.
-fn go_in(
-    documents: &mut DocumentTable,
-    views: &mut IdTable<View>,
-    notes: &mut NoteList,
-    document: u32,
-    direction: Direction,
-) -> Option<usize>
-    requires can { IsSomeAnd (value_at documents.old.entries document) (CanGo direction views.old notes.old) }
-    requires named { DocumentsAreNamed documents.old.entries }
-    ensures gone { IfSome (value_at documents.old.entries document) (λ k. Becomes (scene_gone direction views.old notes.old k) documents.old documents.new views.new notes.new) }
-    ensures place { IfSome (value_at documents.old.entries document) (λ k. result ≡ place_behind_any (latest_text_step (reverse (changes_of direction k.document.history)))) }
-    ensures documents { DocumentsAreNamed documents.new.entries }
-    ensures views { AreNamed views.new.entries }
-    ensures rise { ViewsRise views.new }
-    ensures next_document { documents.new.next ≡ documents.old.next }
-    ensures next_view { views.new.next ≡ views.old.next }
-{
-    let Some(document) = documents.get_mut(document) else {
-        unreachable!()
-    };
-    perform_history(document, views, notes, direction)
-}
-
-/// The same, after which the caret of the view of an id stands there.
-pub(crate) fn go(
-    state: &mut SessionState,
-    document: u32,
-    view: u32,
-    direction: Direction,
-    notes: &mut NoteList,
-)
-    requires kept { IsKept state.old }
-    requires can { IsSomeAnd (value_at state.old.documents.entries document) (CanGo direction state.old.views notes.old) }
-    ensures gone { IfSome (value_at state.old.documents.entries document) (λ k. Goes view direction state.old notes.old k state.new notes.new) }
-    ensures documents { DocumentsAreNamed state.new.documents.entries }
-    ensures views { AreNamed state.new.views.entries }
-    ensures limits { state.new.limits ≡ state.old.limits }
-{
-    let SessionState {
-        documents,
-        views,
-        ..
-    } = state;
-    if let Some(place) = go_in(documents, views, notes, document, direction) {
-        set_caret(views, view, place);
-    }
-}
 
 /// Makes room in a document and for notes for undo or redo, and performs it; returns where that leaves the caret, if it makes a
 /// step of the text.
@@ -189,12 +140,11 @@ fn go_making_room(
     }
 }
 
-/// Does what UNDO or REDO to the view of an id is to do, on the document of that id, where it is not recorded: room is made and all
-/// is done at once, without a task.
+/// Performs UNDO or REDO, sent to the view with this id, on the document with that id.
 ///
 /// # Errors
 ///
-/// `OutOfMemory` where memory is refused. The session is as it was, here too.
+/// `OutOfMemory` if an allocation fails. The session is then as it was.
 #[inline(never)]
 pub(crate) fn go_at_once(
     state: &mut SessionState,
@@ -205,8 +155,7 @@ pub(crate) fn go_at_once(
 ) -> Result<(), Refusal>
     requires kept { IsKept state.old }
     requires sent { IsSent (session_in state.old) document view (λ value. going direction) }
-    requires empty { notes.old ≡ no_notes }
-    ensures answer { OnOk result ((m : Message) → IsTask (session_in state.old) view m (unrecorded document view (going direction)) → table (session_in state.old) view m ≡ Ok (session_in state.new, response (pos 0) [] notes.new.notes)) }
+    ensures answer { OnOk result ((text : List ℕ) → IsAnswered (session_in state.old) document view text (going direction) notes.old.notes (session_in state.new) (response (pos 0) [] notes.new.notes)) }
     ensures same { OnErr result (session_in state.new ≡ session_in state.old) }
     ensures refused { IfErr result (λ refusal. refusal ≡ OutOfMemory) }
     ensures kept { IsKept state.new }

@@ -4,11 +4,10 @@
 //! match to match is answered by its plan alone where the view does not record. All else, and what is refused, is planned, and then
 //! answered at once or carried out.
 
-ghost use Rattle.std.specs.Prelude.{◌≡◌, ◌≢◌, ◌&&◌, ◌≤◌, ◌+◌, [], length, slice_range, true, IfOk, IfErr, IfSome, IfNone, IsOk, Ok, Err, Some};
+ghost use Rattle.std.specs.Prelude.{◌≡◌, ◌≢◌, ◌&&◌, true, IfErr, IfSome, IfNone, Ok, Err, Some};
 ghost use Rattle.ed_types.specs.declared.refusal.Refusal.TheVariants.{OutOfMemory};
 ghost use Rattle.ed_types.specs.Messages.{marks_of};
-ghost use Rattle.ed_model.specs.Performing.{quiet, response};
-ghost use Rattle.ed_model.specs.Session.{text_of};
+ghost use Rattle.ed_model.specs.Performing.{quiet};
 ghost use Rattle.ed_model.specs.Table.{table};
 ghost use Rattle.message_plans.specs.Frequent.{frequent_change_of};
 ghost use Rattle.message_requests.specs.Requested.{session_in};
@@ -21,63 +20,14 @@ use crate::asking::ask;
 use crate::find::find;
 use crate::frequent::{change_and_tell, find_change, heard_change_of, settle};
 use crate::left::{answer, keep, keep_made, whole};
+use crate::performing::perform_message;
 use crate::reading::read;
-use crate::short_way::{do_apart, do_shortly};
 use crate::target::turn_target;
-use document::Document;
-use ed_model::{Plan, plans_are_fit};
+use ed_model::plans_are_fit;
 use ed_types::{Bytes, Kind, Refusal, Reply};
 use message_plans::{frequent_change_of, frequent_plan_of, target_message_of, text_question_of};
 use message_requests::{Request, SessionState};
 use std::alloc::Global;
-
-/// Hands out the `count` bytes of a document from `start` on, with a value. It takes memory for these bytes alone.
-///
-/// # Errors
-///
-/// `OutOfMemory` where memory is refused.
-#[inline(never)]
-fn hand_out(
-    alloc: Global,
-    document: &Document,
-    value: i64,
-    start: usize,
-    count: usize,
-) -> Result<Reply, Refusal>
-    requires range { start + count ≤ length document.now.document.cells }
-    ensures reply { IfOk result (λ reply. reply ≡ response value (slice_range (text_of document.now.document) start (start + count)) []) }
-    ensures refused { IfErr result (λ refusal. refusal ≡ OutOfMemory) }
-    ensures free { count ≡ 0 → IsOk result }
-{
-    let Ok(text) = document.text_to_vec(alloc, start, count, 0) else {
-        return Err(Refusal::OutOfMemory);
-    };
-    Ok(Reply::quiet(alloc, value, Bytes::new(text)))
-}
-
-/// The same, left in a place.
-///
-/// # Errors
-///
-/// `OutOfMemory` where memory is refused. The place is then as it was.
-#[inline(never)]
-fn hand_out_to(
-    alloc: Global,
-    document: &Document,
-    value: i64,
-    start: usize,
-    count: usize,
-    reply: &mut Reply,
-) -> Result<i64, Refusal>
-    requires range { start + count ≤ length document.now.document.cells }
-    ensures reply { IfOk (told result reply.new) (λ whole. whole ≡ response value (slice_range (text_of document.now.document) start (start + count)) []) }
-    ensures place { IsLeft result reply.old reply.new }
-    ensures refused { IfErr (told result reply.new) (λ refusal. refusal ≡ OutOfMemory) }
-    ensures free { count ≡ 0 → IsOk result }
-{
-    let made = hand_out(alloc, document, value, start, count);
-    keep_made(reply, made)
-}
 
 /// Whether the view of a message hears of it, since it records.
 #[inline(always)]
@@ -119,21 +69,21 @@ fn answer_into_by_plan(
     };
     let document = request.document.id();
     let is_recorded = is_recorded(kind, &request);
-    // A plan is not small: it stays where it is made, for which it has a name.
+    // Bound to a local so that the plan of 80 bytes is not copied.
     let planned = frequent_plan_of(kind, &request);
     match &planned {
-        Ok(plan) if is_recorded => do_apart(
-            alloc, state, document, view, number, w, l, text, plan, true, reply,
-        ),
-        Ok(
-            Plan::HandOut {
-                value,
-                start,
-                count,
-            },
-        ) => hand_out_to(alloc, request.document, *value, *start, *count, reply),
-        Ok(plan) => do_shortly(
-            alloc, state, document, view, number, w, l, text, plan, reply,
+        Ok(plan) => perform_message(
+            alloc,
+            state,
+            document,
+            view,
+            number,
+            w,
+            l,
+            text,
+            plan,
+            is_recorded,
+            reply,
         ),
         Err(refusal) => Err(*refusal),
     }

@@ -8,8 +8,8 @@ ghost use Rattle.message_requests.specs.Requested.{session_in};
 ghost use Rattle.session_changes.specs.Kept.{IsKept};
 ghost use Rattle.editor_session.specs.Answers.{message_with};
 
+use crate::changing::{change_lightly, is_light};
 use crate::find::find;
-use crate::quietly::{change_lightly, is_light};
 use ed_model::{Plan, plans_are_fit};
 use message_plans::target_plan_of;
 use message_requests::SessionState;

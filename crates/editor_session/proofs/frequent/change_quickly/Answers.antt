@@ -1,6 +1,6 @@
 use Rattle.std.proofs.Common.{refl}
 use Rattle.message_requests.specs.declared.state.SessionState.{SessionState}
-use Rattle.editor_session.proofs.FrequentChanges.{can_be_made, made_quickly, changes_quickly, kept_quickly}
+use Rattle.editor_session.proofs.FrequentChanges.{can_be_made, made_for, made_quickly, changes_quickly, kept_quickly}
 use Rattle.editor_session.proofs.frequent.change_quickly.Goals as goal
 
 pub change_quickly_in-requires-clause-can : goal.change_quickly_in-requires-clause-can
@@ -22,4 +22,5 @@ returns-clause-kept c =
     let s = a.state.now in
     let e = c.change_quickly_in.ensures in
     let s' : SessionState = record s { documents = c.change_quickly_in.new.documents } in
-    kept_quickly c.soundness_is_kept.ensures.by_messages s s' a.document a.view a.change c.change_quickly_in.result c.requires.kept c.requires.sent (returns-clause-answer c) (λ not. rw (e.same not, e.next) refl) refl e.documents c.requires.kept.views
+    kept_quickly c.soundness_is_kept.ensures.by_messages s s' a.document a.view a.change c.change_quickly_in.result c.requires.kept c.requires.sent
+    (λ so. made_for s c.requires.kept a.document a.view a.change s' (changes_quickly a.document a.change s s' (e.changed so) refl e.next refl refl)) (λ not. rw (e.same not, e.next) refl) refl e.documents c.requires.kept.views

@@ -1,4 +1,4 @@
-use Rattle.std.proofs.Common.{rules, ◌≡◌, pos, to_z, of_z, w64, sym, ap, subst, refl, ◌∙◌, []}
+use Rattle.std.proofs.Common.{rules, ◌≡◌, false, pos, to_z, of_z, w64, sym, ap, subst, refl, ◌∙◌, []}
 use Rattle.ed_model.specs.Table.{table}
 use Rattle.message_requests.specs.Requested.{session_in}
 use Rattle.editor_session.specs.Answers.{message_with}
@@ -10,7 +10,7 @@ pub go_unheard-requires-clause-sent : goal.go_unheard-requires-clause-sent
 go_unheard-requires-clause-sent c =
     let a = c.args in
     let m = message_with a.number (to_z w64 (of_z w64 a.w)) (to_z w64 (of_z w64 a.l)) [] in
-    record { message = m; value = pos 0; task = subst (λ p. IsTask (session_in a.state.now) a.view m (unrecorded c.in-Some.document a.view p)) (sym c.direction_of.ensures) (c.in-Some.ensures []) }
+    record { message = m; value = pos 0; is_recorded = false; task = subst (λ p. IsTask (session_in a.state.now) a.view m (unrecorded c.in-Some.document a.view p)) (sym c.direction_of.ensures) (c.in-Some.ensures []) }
 
 pub returns-then-go_unheard-clause-answer : goal.returns-then-go_unheard-clause-answer
 returns-then-go_unheard-clause-answer c = λ text.

@@ -1,4 +1,4 @@
-use Rattle.std.proofs.Common.{rules, ◌≡◌, to_z, of_z, w64, refl, sym, ap, ◌∙◌, [], Ok}
+use Rattle.std.proofs.Common.{rules, ◌≡◌, to_z, of_z, w64, false, refl, sym, ap, ◌∙◌, [], Ok}
 use Rattle.ed_model.specs.Performing.{quiet}
 use Rattle.ed_model.specs.Table.{table}
 use Rattle.message_requests.specs.Requested.{session_in}
@@ -6,7 +6,7 @@ use Rattle.editor_session.specs.Answers.{message_with}
 use Rattle.editor_session.proofs.frequent.settle_as.Goals as goal
 
 pub change_quickly-requires-clause-sent : goal.change_quickly-requires-clause-sent
-change_quickly-requires-clause-sent c = record { message = _; value = _; task = c.in-Some.ensures [] }
+change_quickly-requires-clause-sent c = record { message = _; value = _; is_recorded = false; task = c.in-Some.ensures [] }
 
 pub returns-then-change_quickly-clause-answer : goal.returns-then-change_quickly-clause-answer
 returns-then-change_quickly-clause-answer c = λ text.

@@ -1,8 +1,10 @@
-use Rattle.std.proofs.Common.{pos, [], Ok, refl, ap, ◌∙◌}
+use Rattle.std.proofs.Common.{pos, [], Ok, false, refl, ap, ◌∙◌}
 use Rattle.ed_model.specs.Performing.{response}
 use Rattle.message_requests.specs.Requested.{session_in}
-use Rattle.editor_session.proofs.Going.{can_go_once, gone_at_once}
-use Rattle.editor_session.proofs.Keeping.{kept_after_message}
+use Rattle.notify.specs.Gathered.{Gathered}
+use Rattle.editor_session.specs.Unheard.{going}
+use Rattle.editor_session.proofs.Going.{can_go_once, gone_for}
+use Rattle.editor_session.proofs.PlanLemmas.{answers, kept_by}
 use Rattle.editor_session.proofs.history.go_unheard.Goals as goal
 
 pub go_making_room-requires-clause-can : goal.go_making_room-requires-clause-can
@@ -13,15 +15,21 @@ go_making_room-requires-clause-can c =
 pub returns-in-Ok-clause-answer : goal.returns-in-Ok-clause-answer
 returns-in-Ok-clause-answer c = λ so m t.
     let a = c.args in
+    let s = a.state.now in
     let n = c.go_making_room.new in
     let e = c.in-Ok.ensures in
-    gone_at_once a.state.now c.requires.kept a.document a.view a.direction n.state c.new-notes.result n.notes c.new-notes.ensures e.gone m t
+    let before = c.new-notes.result in
+    answers s a.document a.view m.text (going a.direction) n.state before.notes n.notes.notes (pos 0) [] (gone_for s c.requires.kept a.document a.view a.direction n.state before n.notes e.gone m.text) m false t refl
+    (ap (λ (g : Gathered). g.notes) c.new-notes.ensures)
     ∙ ap (λ ns. Ok (session_in n.state, response (pos 0) [] ns)) (e.unheard refl c.new-notes.ensures)
 
 pub returns-in-Ok-clause-kept : goal.returns-in-Ok-clause-kept
 returns-in-Ok-clause-kept c =
     let a = c.args in
+    let s = a.state.now in
     let n = c.go_making_room.new in
     let e = c.go_making_room.ensures in
     let sent = c.requires.sent in
-    kept_after_message c.soundness_is_kept.ensures.by_messages a.state.now n.state a.view sent.message _ c.requires.kept (returns-in-Ok-clause-answer c refl sent.message sent.task) e.limits e.documents e.views
+    let before = c.new-notes.result in
+    kept_by c.soundness_is_kept.ensures.by_messages s a.document a.view sent.message.text (going a.direction) n.state before.notes n.notes.notes (pos 0) [] c.requires.kept
+    (gone_for s c.requires.kept a.document a.view a.direction n.state before n.notes c.in-Ok.ensures.gone sent.message.text) sent.message sent.is_recorded sent.task refl e.limits e.documents e.views

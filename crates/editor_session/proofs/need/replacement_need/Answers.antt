@@ -8,7 +8,7 @@ use Rattle.scene.specs.Scenes.{scene_in, views_of}
 use Rattle.scene.specs.Needs.{note_room, notes_of_step, bytes_of_step}
 use Rattle.scene.specs.Conversion.{room_of_steps}
 use Rattle.scene.specs.Undoing.{capped_room}
-use Rattle.editor_session.specs.declared.need.Need.{Need}
+use Rattle.scene.specs.declared.need.SceneNeed.{SceneNeed}
 use Rattle.editor_session.specs.Needs.{NeedsSteps}
 use Rattle.scene.specs.proved.Rooms.{deletion_needs, length_range}
 use Rattle.editor_session.proofs.Stepping.{deletes_some, deletes_none, inserts_none, inserts_some, positive}
@@ -23,7 +23,7 @@ returns-then-count-eq0-clause-document c =
     let come = Insert a.start a.bytes.now in
     let is : replacement a.start a.count a.bytes.now (text_of d) ≡ come ∷ [] =
     deletes_none d a.start a.count c.if-count-eq0.true a.bytes.now ∙ inserts_some a.start a.bytes.now (eqb-false (length a.bytes.now) 0 (sym c.if-is_empty.ensures)) in
-    one_step_room types come c.plus.result c.step_need.result c.of_notes-leaving.result (ap (λ (n : Need). n.document) c.step_need.ensures) (ap (λ (n : Need). n.document) c.of_notes-leaving.ensures) c.plus.ensures
+    one_step_room types come c.plus.result c.step_need.result c.of_notes-leaving.result (ap (λ (n : SceneNeed). n.document) c.step_need.ensures) (ap (λ (n : SceneNeed). n.document) c.of_notes-leaving.ensures) c.plus.ensures
     ∙ ap (λ ss. capped_room (room_of_steps types ss)) (sym is)
 
 pub returns-then-is_empty-2 : goal.returns-then-is_empty-2
@@ -41,7 +41,7 @@ returns-then-is_empty-2 c =
           (one_step_summed scene gone (need_of types (lent.Delete a.start a.count)) c.leaving_need-2.result c.plus-need.result c.step_need-2.result c.of_notes-leaving-2.result
           needs c.leaving_need-2.ensures c.step_need-2.ensures c.of_notes-leaving-2.ensures c.plus-need.ensures);
       document =
-          one_step_room types gone c.plus-need.result c.step_need-2.result c.of_notes-leaving-2.result (ap (λ (n : Need). n.document) c.step_need-2.ensures ∙ sym needs) (ap (λ (n : Need). n.document) c.of_notes-leaving-2.ensures) c.plus-need.ensures
+          one_step_room types gone c.plus-need.result c.step_need-2.result c.of_notes-leaving-2.result (ap (λ (n : SceneNeed). n.document) c.step_need-2.ensures ∙ sym needs) (ap (λ (n : SceneNeed). n.document) c.of_notes-leaving-2.ensures) c.plus-need.ensures
           ∙ ap (λ ss. capped_room (room_of_steps types ss)) (sym is);
     }
 
@@ -57,7 +57,7 @@ returns c =
     let views = watching (views_of a.views.now.entries) d in
     let needs = deletion_needs types d a.start a.count c.requires.range in
     let first_is = c.step_need-2.ensures
-    ∙ ap (λ r. record { text = 0; clipboard = 0; notes = note_room (notes_of_step views gone) (bytes_of_step views gone); document = r }) (sym needs) in
+    ∙ ap (λ r. record { notes = note_room (notes_of_step views gone) (bytes_of_step views gone); document = r }) (sym needs) in
     let frees = frees_all a.start a.count bytes (length_range d.cells a.start a.count c.requires.range) (omega arith) in
     let is : replacement a.start a.count a.bytes.now (text_of d) ≡ gone ∷ come ∷ [] =
     deletes_some d a.start a.count c.requires.range (positive a.count c.if-count-eq0.false) a.bytes.now ∙ ap (λ ss. gone ∷ ss) (inserts_some a.start a.bytes.now (eqb-false (length a.bytes.now) 0 (sym c.if-is_empty-2.ensures))) in
@@ -67,6 +67,6 @@ returns c =
           (omega (arith, frees)) c.leaving_need-2.ensures first_is c.of_notes-leaving-2.ensures c.plus-need.ensures c.step_need-3.ensures c.beside.ensures c.plus-2.ensures);
       document =
           two_steps_room types gone come a.count c.plus-2.result c.step_need-2.result c.of_notes-leaving-2.result c.plus-need.result c.step_need-3.result c.beside.result frees
-          (ap (λ (n : Need). n.document) first_is) (ap (λ (n : Need). n.document) c.of_notes-leaving-2.ensures) c.plus-need.ensures (ap (λ (n : Need). n.document) c.step_need-3.ensures) c.beside.ensures c.plus-2.ensures
+          (ap (λ (n : SceneNeed). n.document) first_is) (ap (λ (n : SceneNeed). n.document) c.of_notes-leaving-2.ensures) c.plus-need.ensures (ap (λ (n : SceneNeed). n.document) c.step_need-3.ensures) c.beside.ensures c.plus-2.ensures
           ∙ ap (λ ss. capped_room (room_of_steps types ss)) (sym is);
     }

@@ -1,4 +1,4 @@
-use Rattle.std.proofs.Common.{rules, ◌≡◌, Err, refl, subst, to_z, of_z, w64}
+use Rattle.std.proofs.Common.{rules, ◌≡◌, false, Err, refl, subst, to_z, of_z, w64}
 use Rattle.std.specs.Prelude.{IfErr}
 use Rattle.ed_model.specs.Table.{table}
 use Rattle.message_requests.specs.Requested.{session_in}
@@ -8,7 +8,7 @@ use Rattle.editor_session.proofs.TableWay.{with_a_plan}
 use Rattle.editor_session.proofs.sending.answer_heard_change.Goals as goal
 
 pub change_and_tell-requires-clause-sent : goal.change_and_tell-requires-clause-sent
-change_and_tell-requires-clause-sent c = record { sent = record { message = _; value = _; task = c.in-Some.ensures c.args.text.now }; text_is = refl }
+change_and_tell-requires-clause-sent c = record { sent = record { message = _; value = _; is_recorded = false; task = c.in-Some.ensures c.args.text.now }; text_is = refl }
 
 pub returns-in_default-clause-refused : goal.returns-in_default-clause-refused
 returns-in_default-clause-refused c =

@@ -3,7 +3,7 @@ use Rattle.std.specs.Prelude.{◌&&◌}
 use Rattle.ed_types.specs.Messages.{marks_of}
 use Rattle.ed_model.specs.declared.plan.Plan.TheVariants as plan
 use Rattle.ed_model.specs.Performing.{quiet}
-use Rattle.ed_model.specs.Table.{table, plan_of}
+use Rattle.ed_model.specs.Table.{table}
 use Rattle.message_requests.specs.Requested.{session_in}
 use Rattle.message_plans.specs.Frequent.{target_plan_of}
 use Rattle.editor_session.specs.Answers.{message_with}
@@ -29,6 +29,7 @@ change_lightly-requires-clause-sent c =
     record {
       message = m;
       value = p.value;
+      is_recorded = false;
       task = unrecorded_task s c.id-document.result a.view m kind r what c.in-Ok.ensures.found (target_planned kind r c.in-Some.planned asked ∙ is) (search rules) unheard (c.plans_are_fit.ensures.in_range kind r c.in-Ok.ensures.found.sound);
     }
 

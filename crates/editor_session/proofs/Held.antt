@@ -1,0 +1,52 @@
+-- Changes of one of the documents of a session.
+use Rattle.std.specs.Prelude.{reverse}
+use Rattle.std.proofs.Common.{◌≡◌, ℕ, List, refl, ap, ◌∙◌, Option, Some, None, IfSome, IsSomeAnd}
+use Rattle.ed_model.specs.Steps.{Step}
+use Rattle.ed_model.specs.Session.{View, with_document}
+use Rattle.ed_model.specs.History.{latest_text_step}
+use Rattle.document.specs.declared.undoing.Direction.{Direction}
+use Rattle.document.specs.Undoing.{changes_of}
+use Rattle.scene.specs.Scenes.{views_of}
+use Rattle.message_requests.specs.Requested.{documents_in}
+use Rattle.message_requests.specs.declared.state.SessionState.{SessionState}
+use Rattle.editor_session.specs.Doing.{scene_gone, Goes}
+use Rattle.ed_model.specs.Performing.{place_behind, with_caret, caret_behind}
+use Rattle.notify.specs.Gathered.{Gathered}
+use Rattle.document.specs.Kept.{Kept}
+use Rattle.scene.specs.Undoing.{place_behind_any}
+
+pub both_if : (o : Option Kept) (P Q R : Kept → Type 0) → ((k : Kept) → P k → Q k → R k) → IfSome o P → IfSome o Q → IfSome o R
+both_if None P Q R f p q = tt
+both_if (Some k) P Q R f p q = f k p q
+
+pub if_also : (o : Option Kept) (P Q : Kept → Type 0) → ((k : Kept) → P k → Q k) → IfSome o P → IfSome o Q
+if_also None P Q f h = tt
+if_also (Some k) P Q f h = f k h
+
+pub and_if : (o : Option Kept) (P Q R : Kept → Type 0) → ((k : Kept) → P k → Q k → R k) → IsSomeAnd o P → IfSome o Q → IsSomeAnd o R
+and_if None P Q R f p q = absurd p
+and_if (Some k) P Q R f p q = f k p q
+
+pub and_also : (o : Option Kept) (P R : Kept → Type 0) → ((k : Kept) → P k → R k) → IsSomeAnd o P → IsSomeAnd o R
+and_also None P R f p = absurd p
+and_also (Some k) P R f p = f k p
+
+-- The caret after undo and redo.
+
+pub caret_set : (view place : ℕ) (latest : Option Step) (views : List View) → Some place ≡ place_behind_any latest → with_caret view place views ≡ caret_behind view latest views
+caret_set view place None views e = absurd (cc)
+caret_set view place (Some step) views e = let same : place ≡ place_behind step = cc in ap (λ p. with_caret view p views) same
+
+pub caret_left : (view : ℕ) (latest : Option Step) (views : List View) → None ≡ place_behind_any latest → views ≡ caret_behind view latest views
+caret_left view None views e = refl
+caret_left view (Some step) views e = absurd (cc)
+
+pub went : (view : ℕ) (direction : Direction) (s s' : SessionState) (notes notes' : Gathered) (k : Kept) (between : List View)
+    → documents_in s'.documents ≡ with_document (scene_gone direction s.views notes k).document (documents_in s.documents) → between ≡ (scene_gone direction s.views notes k).views
+    → views_of s'.views.entries ≡ caret_behind view (latest_text_step (reverse (changes_of direction k.document.history))) between
+    → s'.clipboard ≡ s.clipboard → s'.documents.next ≡ s.documents.next → s'.views.next ≡ s.views.next → s'.limits ≡ s.limits → notes'.notes ≡ (scene_gone direction s.views notes k).notes
+    → Goes view direction s notes k s' notes'
+went view direction s s' notes notes' k between documents moved caret clipboard next_document next_view limits told =
+    let latest = latest_text_step (reverse (changes_of direction k.document.history)) in
+    let views : views_of s'.views.entries ≡ caret_behind view latest (scene_gone direction s.views notes k).views = caret ∙ ap (caret_behind view latest) moved in
+    record { session_after = rw (documents, views, clipboard, next_document, next_view, limits) refl; notes_after = told }

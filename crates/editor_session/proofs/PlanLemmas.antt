@@ -1,0 +1,458 @@
+-- What is done is what the plan says.
+use Rattle.std.proofs.Common.{◌≡◌, ℕ, ◌+◌, ◌-◌, ◌^◌, ◌≤◌, ℤ, pos, ◌==◌, Bool, true, false, cond, ◌&&◌, List, [], ◌∷◌, ◌++◌, length, map, refl, ap, sym, ◌∙◌, subst, arith, Some, Ok, IfSome, IsSome, IsSomeAnd, slice_range, append-nil, append_assoc}
+use Rattle.std.specs.Prelude.{nat_lt, reverse}
+use Rattle.std.specs.List.{AllByRecursion}
+use Rattle.ed_types.specs.declared.message.Message.{Message}
+use Rattle.ed_types.specs.Notices.{Notice, Response}
+use Rattle.ed_types.specs.Messages.{marks_of}
+use Rattle.ed_model.specs.declared.plan.Source.{Source}
+use Rattle.ed_model.specs.declared.plan.Source.TheVariants as source
+use Rattle.ed_model.specs.declared.plan.Edit.{Edit}
+use Rattle.ed_model.specs.declared.plan.Edit.TheVariants as edit
+use Rattle.ed_model.specs.declared.plan.Follow.{Follow}
+use Rattle.ed_model.specs.declared.plan.Follow.TheVariants as follow
+use Rattle.ed_model.specs.declared.plan.DocumentChange.{DocumentChange}
+use Rattle.ed_model.specs.declared.plan.DocumentChange.TheVariants as change
+use Rattle.ed_model.specs.declared.plan.ViewChange.{ViewChange}
+use Rattle.ed_model.specs.declared.plan.SessionChange.{SessionChange}
+use Rattle.ed_types.specs.declared.limits.Limits.{Limits}
+use Rattle.std.proofs.lemmas.Bool.Decides.{nat_tests}
+use Rattle.session_changes.specs.Asked.{CanChangeView, CanChangeSession}
+use Rattle.ed_model.specs.declared.plan.Plan.{Plan}
+use Rattle.ed_model.specs.declared.plan.Plan.TheVariants as plan
+use Rattle.ed_model.specs.Steps.{Step, replacement}
+use Rattle.ed_model.specs.LineEnds.{after_steps}
+use Rattle.ed_model.specs.History.{at_save_point, History, Change, TextStep, ContainerStep, latest_text_step}
+use Rattle.ed_model.specs.Session.{Session, Document, View, is_allowed, view_at, document_at, text_of, with_document, watching}
+use Rattle.ed_model.specs.Notes.{told, modify_attempt, blank, bit_if, multi_step}
+use Rattle.ed_model.specs.Requests.{Request, size, text}
+use Rattle.ed_model.specs.Edits.{steps_of, source_bytes}
+use Rattle.ed_model.specs.Changes.{changed_document, changed_lines, change_told, view_change_performed, session_changed}
+use Rattle.ed_model.specs.SoundLaws.{MessageKeepsSound, IsSoundView, StandsOn, ListsItsViews}
+use Rattle.ed_model.specs.PlansFit.{IsFitPlan, IsFitDocumentChange, IsFitEdit, IsFitSource, IsFitFollow}
+use Rattle.ed_model.specs.Performing.{Scene, scene_of, session_of, step_made, steps_made, edit_made, sealed_scene, change_performed, changes_performed, transaction_performed, history_performed, caret_behind, is_last, changes_lines, save_point_change, followed, response, styled_text}
+use Rattle.ed_model.specs.Table.{table, performed, answered as answered_by, with_recording, record_note}
+use Rattle.id_table.specs.Entries.{value_at}
+use Rattle.notify.specs.Gathered.{Gathered}
+use Rattle.document.specs.Kept.{Kept}
+use Rattle.document.specs.declared.undoing.Direction.{Direction}
+use Rattle.document.specs.Undoing.{changes_of, history_behind}
+use Rattle.document_changes.specs.Fit.{IsFitChange, bytes_read}
+use Rattle.ed_view.specs.Kept.{KeptView}
+use Rattle.scene.specs.Scenes.{views_of, scene_in, watchers, AreNamed, StandsIfOn, IsWatched}
+use Rattle.scene.specs.Conversion.{notes_for, bytes_for}
+use Rattle.scene.specs.Undoing.{bits_of}
+use Rattle.message_requests.specs.Requested.{session_in}
+use Rattle.message_requests.specs.proved.Standing.{found_all}
+use Rattle.message_requests.specs.declared.state.SessionState.{SessionState}
+use Rattle.session_changes.specs.Kept.{IsKept, DocumentsAreNamed}
+use Rattle.editor_session.specs.Unheard.{IsAnswered}
+use Rattle.editor_session.proofs.Keeping.{kept_after_message}
+use Rattle.editor_session.specs.Tasks.{Task, IsTask, IsAskedBy, recording, first_note, task_of}
+use Rattle.editor_session.specs.Edited.{IsStoredIn, IsTurnedFor, IsPastedFor, IsEditWithin, IsWithin, stored_bytes, TakesWithin}
+use Rattle.editor_session.specs.Edits.{edit_steps, scene_after, Edits}
+use Rattle.editor_session.specs.Doing.{IsDone, Goes, Changes}
+use Rattle.session_changes.specs.proved.Finding.{view_in, id_of_view, document_in, id_of_document, own_at, IsKeptAs, kept_as}
+
+-- The scene of a document of a sound session.
+
+stand : (documents : List Document) (d : Document) (views : List View) → document_at documents d.id ≡ Some d → AllByRecursion (IsSoundView documents) views → AllByRecursion (StandsIfOn d) views
+stand documents d [] there all = tt
+stand documents d (v ∷ vs) there all = (
+  (λ e. (let h = all.0 in
+      let hf : document_at documents v.document ≡ Some h.document = h.found in
+      let at : document_at documents v.document ≡ Some d = ap (document_at documents) e ∙ there in
+      let same : h.document ≡ d = cc in
+      subst (λ x. StandsOn x v) same h.stands)),
+  stand documents d vs there all.1,
+)
+
+pub watched_by : (s : SessionState) (d : Document) → IsKept s → document_at (session_in s).documents d.id ≡ Some d → IsWatched d s.views
+watched_by s d kept there = record {
+  named = kept.views;
+  rise = kept.sound.view_ids;
+  listed = found_all (ListsItsViews (session_in s).views) (λ (e : Document). e.id == d.id) (session_in s).documents d kept.sound.lists there;
+  stand = stand (session_in s).documents d (session_in s).views there kept.sound.views;
+}
+
+-- What was told before an edit stays before what the edit tells.
+
+abbrev pub telling : List Notice → Scene → Scene
+telling ns scene = record scene { notes = ns ++ scene.notes }
+
+behind : (ns s a b c : List Notice) → (((ns ++ s) ++ a) ++ b) ++ c ≡ ns ++ (((s ++ a) ++ b) ++ c)
+behind [] s a b c = refl
+behind (n ∷ ns) s a b c = ap (λ xs. n ∷ xs) (behind ns s a b c)
+
+step_told : (ns : List Notice) (later : Bool) (step : Step) (scene : Scene) → step_made later step (telling ns scene) ≡ telling ns (step_made later step scene)
+step_told ns later step scene = ap (λ x. (let made = step_made later step scene in record made { notes = x })) (behind ns scene.notes _ _ _)
+
+steps_told : (ns : List Notice) (later : Bool) (steps : List Step) (scene : Scene) → steps_made later steps (telling ns scene) ≡ telling ns (steps_made later steps scene)
+steps_told ns later [] scene = refl
+steps_told ns later (step ∷ steps) scene = ap (steps_made true steps) (step_told ns later step scene) ∙ steps_told ns true steps (step_made later step scene)
+
+edit_told : (ns : List Notice) (steps : List Step) (scene : Scene) → edit_made steps (telling ns scene) ≡ telling ns (edit_made steps scene)
+edit_told ns steps scene = go (nat_lt 1 (length steps))
+  where
+    go : (b : Bool) → cond b (sealed_scene (steps_made false steps (sealed_scene (telling ns scene)))) (steps_made false steps (telling ns scene))
+        ≡ telling ns (cond b (sealed_scene (steps_made false steps (sealed_scene scene))) (steps_made false steps scene))
+    go true = ap sealed_scene (steps_told ns false steps (sealed_scene scene))
+    go false = steps_told ns false steps scene
+
+pub edit_told_from : (ns : List Notice) (steps : List Step) (d : Document) (views : List View)
+    → edit_made steps (record { document = d; views = views; notes = ns }) ≡ telling ns (edit_made steps (record { document = d; views = views; notes = [] }))
+edit_told_from ns steps d views =
+    ap (λ xs. edit_made steps (record { document = d; views = views; notes = xs })) (sym (append-nil ns)) ∙ edit_told ns steps (record { document = d; views = views; notes = [] })
+
+-- Undo and redo too.
+
+change_told_behind : (ns : List Notice) (who several : ℕ) (last lines_changed : Bool) (c : Change) (scene : Scene) → change_performed who several last lines_changed c (telling ns scene) ≡ telling ns (change_performed who several last lines_changed c scene)
+change_told_behind ns who several last lines_changed (TextStep step) scene = ap (λ x. (let made = change_performed who several last lines_changed (TextStep step) scene in record made { notes = x })) (behind ns scene.notes _ _ _)
+change_told_behind ns who several last lines_changed (ContainerStep token coalesce) scene = ap (λ x. record scene { notes = x }) (append_assoc ns scene.notes _)
+
+changes_told : (ns : List Notice) (who several : ℕ) (lines_changed : Bool) (cs : List Change) (scene : Scene) → changes_performed who several lines_changed cs (telling ns scene) ≡ telling ns (changes_performed who several lines_changed cs scene)
+changes_told ns who several lines_changed [] scene = refl
+changes_told ns who several lines_changed (c ∷ cs) scene =
+    let changed = cond lines_changed true (changes_lines c scene.document) in
+    ap (changes_performed who several changed cs) (change_told_behind ns who several (is_last cs) changed c scene) ∙ changes_told ns who several changed cs (change_performed who several (is_last cs) changed c scene)
+
+transaction_told : (ns : List Notice) (who : ℕ) (cs : List Change) (new : History) (scene : Scene) → transaction_performed who cs new (telling ns scene) ≡ telling ns (transaction_performed who cs new scene)
+transaction_told ns who cs new scene =
+    ap (λ (x : Scene). told_of x) (changes_told ns who _ false cs scene) ∙ ap (λ x. (let d = done.document in record done { document = record d { history = new }; notes = x })) (append_assoc ns done.notes _)
+  where
+    done : Scene
+    done = changes_performed who (bit_if (nat_lt 1 (length cs)) multi_step) false cs scene
+
+    told_of : Scene → Scene
+    told_of x = (let d = x.document in record x { document = record d { history = new }; notes = x.notes ++ save_point_change (watching x.views x.document) (at_save_point scene.document.history) (at_save_point new) })
+
+pub transaction_told_from : (ns : List Notice) (who : ℕ) (cs : List Change) (new : History) (d : Document) (views : List View)
+    → transaction_performed who cs new (record { document = d; views = views; notes = ns }) ≡ telling ns (transaction_performed who cs new (record { document = d; views = views; notes = [] }))
+transaction_told_from ns who cs new d views =
+    ap (λ xs. transaction_performed who cs new (record { document = d; views = views; notes = xs })) (sym (append-nil ns)) ∙ transaction_told ns who cs new (record { document = d; views = views; notes = [] })
+
+-- The bytes of a source.
+
+same_bytes : (r : Request) (from : Source) (pasted : List ℕ) → IsTurnedFor from r.session.clipboard r.document.line_end pasted → stored_bytes from r.message.text r.session.clipboard pasted r.document.line_end ≡ source_bytes r from
+same_bytes r source.Nothing pasted h = refl
+same_bytes r (source.MessageText count) pasted h = refl
+same_bytes r (source.Clipboard true) pasted h = h
+same_bytes r (source.Clipboard false) pasted h = refl
+same_bytes r source.LineEnd pasted h = refl
+
+pub same_edit : (r : Request) (change : Edit) (value : ℤ) (after : Follow) (pasted : List ℕ) → IsPastedFor change r.session.clipboard r.document.line_end pasted
+    → edit_steps change r.message.text r.session.clipboard pasted r.document ≡ steps_of r change
+same_edit r (edit.Replace start count from) value after pasted h = ap (λ xs. replacement start count xs (text r)) (same_bytes r from pasted h)
+same_edit r (edit.ConvertLineEnds to) value after pasted h = refl
+
+stored_in : (r : Request) (from : Source) → IsFitSource r from → IsStoredIn from (length r.message.text)
+stored_in r source.Nothing h = tt
+stored_in r (source.MessageText count) h = h
+stored_in r (source.Clipboard convert) h = tt
+stored_in r source.LineEnd h = tt
+
+edit_within : (r : Request) (change : Edit) → IsFitEdit r change → IsEditWithin change (size r) (length r.message.text)
+edit_within r (edit.Replace start count from) fit = (fit.0, stored_in r from fit.1)
+edit_within r (edit.ConvertLineEnds to) fit = tt
+
+-- a fit plan lies within
+pub fits_within : (r : Request) (what : Plan) → IsFitPlan r what → IsWithin what (size r) (length r.message.text)
+fits_within r (plan.Edit change value after) fit = edit_within r change fit.0
+fits_within r (plan.Answer value) fit = tt
+fits_within r (plan.HandOut value start count) fit = tt
+fits_within r (plan.HandOutStyled start count) fit = tt
+fits_within r plan.Attempt fit = tt
+fits_within r plan.Undo fit = tt
+fits_within r plan.Redo fit = tt
+fits_within r (plan.ChangeDocument change value) fit = tt
+fits_within r (plan.ChangeView change value) fit = tt
+fits_within r (plan.ChangeSession change value) fit = tt
+
+pub same_notes : (steps : List Step) (d : Document) (views : List View) (ns : List Notice) → notes_for steps (record { document = d; views = views; notes = ns }) ≡ notes_for steps (record { document = d; views = views; notes = [] })
+same_notes [] d views ns = refl
+same_notes (s ∷ ss) d views ns = refl
+
+pub same_note_bytes : (steps : List Step) (d : Document) (views : List View) (ns : List Notice) → bytes_for steps (record { document = d; views = views; notes = ns }) ≡ bytes_for steps (record { document = d; views = views; notes = [] })
+same_note_bytes [] d views ns = refl
+same_note_bytes (s ∷ ss) d views ns = refl
+
+-- what a fit edit takes to the clipboard lies in the text
+takes_within : (r : Request) (after : ℕ) (f : Follow) → IsFitFollow r after f → TakesWithin f (size r)
+takes_within r after (follow.Clipboard start count) h = h
+takes_within r after follow.Nothing h = tt
+takes_within r after (follow.Caret place) h = tt
+takes_within r after (follow.Target start past) h = tt
+
+-- A fit change of a document.
+
+bounded : (l : Limits) → is_allowed l ≡ true → (l.handles ≤ 2 ^ 31 - 1) × (l.depth ≤ 255)
+bounded l h = (grind (arith, nat_tests), grind (arith, nat_tests))
+
+pub fit_change : (r : Request) (what : DocumentChange) → is_allowed r.session.limits ≡ true → IsFitDocumentChange r what → IsFitChange r.document what
+fit_change r change.BeginGroup l h = let b = (bounded r.session.limits l).1 in omega (arith, h, b)
+fit_change r (change.AddMarker line number) l h = let b = (bounded r.session.limits l).0 in (h.0, omega (arith, h.1), omega (arith, h.2, b))
+fit_change r (change.AddMarkers line mask) l h = let b = (bounded r.session.limits l).0 in (h.0, omega (arith, h.2, b))
+fit_change r (change.DeleteMarker line number) l h = h.0
+fit_change r (change.DeleteHandle handle) l h = h
+fit_change r (change.SetLevel line level) l h = h.0
+fit_change r (change.SetState line state) l h = (h.0, h.1.0, h.1.1)
+fit_change r (change.StyleRun count style) l h = h
+fit_change r (change.StyleBytes count) l h = h.0
+fit_change r (change.NeedStyle start past) l h = h.1
+fit_change r (change.FillIndicator indicator start count value) l h = h
+fit_change r (change.SetReadOnly on) l h = tt
+fit_change r (change.SetLineEnd to) l h = tt
+fit_change r (change.SetLineEndTypes to) l h = tt
+fit_change r change.SetSavePoint l h = tt
+fit_change r change.EndGroup l h = tt
+fit_change r change.ForgetHistory l h = tt
+fit_change r (change.CollectUndo on) l h = tt
+fit_change r (change.AppendContainer token coalesce) l h = tt
+fit_change r (change.DeleteMarkers number) l h = tt
+fit_change r (change.SetEndStyled place) l h = tt
+
+pub read_change : (r : Request) (what : DocumentChange) → IsFitDocumentChange r what → bytes_read what ≤ length r.message.text
+read_change r (change.StyleBytes count) h = h.1
+read_change r change.BeginGroup h = omega arith
+read_change r (change.AddMarker line number) h = omega arith
+read_change r (change.AddMarkers line mask) h = omega arith
+read_change r (change.DeleteMarker line number) h = omega arith
+read_change r (change.DeleteHandle handle) h = omega arith
+read_change r (change.SetLevel line level) h = omega arith
+read_change r (change.SetState line state) h = omega arith
+read_change r (change.StyleRun count style) h = omega arith
+read_change r (change.NeedStyle start past) h = omega arith
+read_change r (change.FillIndicator indicator start count value) h = omega arith
+read_change r (change.SetReadOnly on) h = omega arith
+read_change r (change.SetLineEnd to) h = omega arith
+read_change r (change.SetLineEndTypes to) h = omega arith
+read_change r change.SetSavePoint h = omega arith
+read_change r change.EndGroup h = omega arith
+read_change r change.ForgetHistory h = omega arith
+read_change r (change.CollectUndo on) h = omega arith
+read_change r (change.AppendContainer token coalesce) h = omega arith
+read_change r (change.DeleteMarkers number) h = omega arith
+read_change r (change.SetEndStyled place) h = omega arith
+
+-- A request of a session that is kept.
+
+pub record AtDocument (s : SessionState) (id : ℕ) (d : Document) : Type 0 where
+  pub k : Kept
+  pub at : value_at s.documents.entries id ≡ Some k
+  pub is : k.document ≡ d
+
+pub at_document : (s : SessionState) (id : ℕ) (d : Document) → IsKept s → document_at (session_in s).documents id ≡ Some d → AtDocument s id d
+at_document s id d kept there = (let known = kept_as document_in id_of_document s.documents.entries id d kept.documents there in record { k = known.value; at = known.there; is = known.is })
+
+module _ (s : SessionState) (task : Task) (bytes : List ℕ) (kept : IsKept s) (r : Request) (by : IsAskedBy (session_in s) task bytes r) where
+  pub session_is : r.session ≡ session_in s
+  session_is = by.asked.session
+
+  pub document_there : document_at (session_in s).documents task.document ≡ Some r.document
+  document_there =
+      let own : r.document.id ≡ r.view.document = own_at id_of_document r.session.documents r.view.document r.document by.asked.sound.document in
+      let there : document_at r.session.documents task.document ≡ Some r.document = ap (document_at r.session.documents) (sym by.asked.document_id ∙ own) ∙ by.asked.sound.document in
+      subst (λ (x : Session). document_at x.documents task.document ≡ Some r.document) session_is there
+
+  pub kept_at : AtDocument s task.document r.document
+  kept_at = at_document s task.document r.document kept document_there
+
+  -- a fact of the document that is kept
+  pub for_kept : (P : Kept → Type 0) → P kept_at.k → IsSomeAnd (value_at s.documents.entries task.document) P
+  for_kept P h = subst (λ o. IsSomeAnd o P) (sym kept_at.at) h
+
+  pub of_kept : (P : Kept → Type 0) → IfSome (value_at s.documents.entries task.document) P → P kept_at.k
+  of_kept P h = subst (λ o. IfSome o P) kept_at.at h
+
+  pub of_room : (P : Kept → Type 0) → IsSomeAnd (value_at s.documents.entries task.document) P → P kept_at.k
+  of_room P h = subst (λ o. IsSomeAnd o P) kept_at.at h
+
+  -- the same, said of the request's document
+  pub for_document : (P : Document → Type 0) → P r.document → IsSomeAnd (value_at s.documents.entries task.document) (λ k. P k.document)
+  for_document P h = for_kept (λ k. P k.document) (subst P (sym kept_at.is) h)
+
+  pub of_document : (P : Document → Type 0) → IfSome (value_at s.documents.entries task.document) (λ k. P k.document) → P r.document
+  of_document P h = subst P kept_at.is (of_kept (λ k. P k.document) h)
+
+  pub document_here : IsSome (value_at s.documents.entries task.document)
+  document_here = subst (λ o. IsSome o) (sym kept_at.at) refl
+
+  view_kept : IsKeptAs view_in id_of_view (value_at s.views.entries task.view) r.view
+  view_kept =
+      let seen : view_at (session_in s).views task.view ≡ Some r.view = subst (λ (x : Session). view_at x.views task.view ≡ Some r.view) session_is (ap (view_at r.session.views) (sym by.asked.view_id) ∙ by.asked.sound.view) in
+      kept_as view_in id_of_view s.views.entries task.view r.view kept.views seen
+
+  pub view_here : IsSome (value_at s.views.entries task.view)
+  view_here = subst (λ o. IsSome o) (sym view_kept.there) refl
+
+  -- a fact of the view that is kept
+  pub for_view : (P : KeptView → Type 0) → ((v : KeptView) → v.view ≡ r.view → P v) → IsSomeAnd (value_at s.views.entries task.view) P
+  for_view P h = subst (λ o. IsSomeAnd o P) (sym view_kept.there) (h view_kept.value view_kept.is)
+
+  pub same_document : (k : Kept) → value_at s.documents.entries task.document ≡ Some k → r.document ≡ k.document
+  same_document k at =
+      let both : Some kept_at.k ≡ Some k = sym kept_at.at ∙ at in
+      let is : kept_at.k ≡ k = cc in
+      sym kept_at.is ∙ ap (λ (x : Kept). x.document) is
+
+  pub within_here : (k : Kept) → value_at s.documents.entries task.document ≡ Some k → IsFitPlan r task.plan → IsWithin task.plan (length k.document.cells) (length bytes)
+  within_here k at fit =
+      subst (λ (d : Document). IsWithin task.plan (length d.cells) (length bytes)) (same_document k at) (subst (λ x. IsWithin task.plan (size r) (length x)) by.message (fits_within r task.plan fit))
+
+  pub watched_here : IsWatched kept_at.k.document s.views
+  watched_here = watched_by s kept_at.k.document kept (subst (λ d. document_at (session_in s).documents d.id ≡ Some d) (sym kept_at.is) (ap (document_at (session_in s).documents) by.asked.document_id ∙ document_there))
+
+  pub watching_is : watching r.session.views r.document ≡ watchers kept_at.k.document s.views
+  watching_is = ap (λ (x : Session). watching x.views r.document) session_is ∙ ap (λ d. watching (views_of s.views.entries) d) (sym kept_at.is)
+
+  -- nothing is told, and the session stays
+  pub answered : (what : Plan) (ns : List Notice) (value : ℤ) (out : List ℕ) → performed r what ≡ (r.session, response value out []) → IsDone r what s ns ns value out
+  answered what ns value out e = record { told = []; done = e ∙ ap (λ x. (x, response value out [])) session_is; heard = sym (append-nil ns) }
+
+  pub handed_out : (value : ℤ) (start count : ℕ) (ns : List Notice) (empty out : List ℕ) → empty ≡ [] → IfSome (value_at s.documents.entries task.document) (λ k. out ≡ empty ++ slice_range (text_of k.document) start (start + count))
+      → IsDone r (plan.HandOut value start count) s ns ns value out
+  handed_out value start count ns empty out e copied =
+      let put : out ≡ slice_range (text r) start (start + count) = of_document (λ d. out ≡ empty ++ slice_range (text_of d) start (start + count)) copied ∙ ap (λ xs. xs ++ slice_range (text r) start (start + count)) e in
+      answered (plan.HandOut value start count) ns value out (ap (λ b. (r.session, response value b [])) (sym put))
+
+  pub handed_out_styled : (start count : ℕ) (ns : List Notice) (empty out : List ℕ) → empty ≡ [] → IfSome (value_at s.documents.entries task.document) (λ k. out ≡ empty ++ styled_text (slice_range k.document.cells start (start + count)))
+      → IsDone r (plan.HandOutStyled start count) s ns ns (pos (length out)) out
+  handed_out_styled start count ns empty out e copied =
+      let put : out ≡ styled_text (slice_range r.document.cells start (start + count)) = of_document (λ d. out ≡ empty ++ styled_text (slice_range d.cells start (start + count))) copied ∙ ap (λ xs. xs ++ styled_text (slice_range r.document.cells start (start + count))) e in
+      answered (plan.HandOutStyled start count) ns (pos (length out)) out (ap (λ b. (r.session, response (pos (length b)) b [])) (sym put))
+
+  pub attempted : (ns ns' : List Notice) → IfSome (value_at s.documents.entries task.document) (λ k. ns' ≡ ns ++ told (watching (views_of s.views.entries) k.document) (blank modify_attempt)) → IsDone r plan.Attempt s ns ns' (pos 0) []
+  attempted ns ns' put = record {
+    told = told (watching r.session.views r.document) (blank modify_attempt);
+    done = ap (λ x. (x, response (pos 0) [] (told (watching r.session.views r.document) (blank modify_attempt)))) session_is;
+    heard = of_document (λ d. ns' ≡ ns ++ told (watching (views_of s.views.entries) d) (blank modify_attempt)) put ∙ ap (λ (x : Session). ns ++ told (watching x.views r.document) (blank modify_attempt)) (sym session_is);
+  }
+
+  -- An edit.
+  pub takes_here : (change : Edit) (value : ℤ) (after : Follow) → IsFitPlan r (plan.Edit change value after) → TakesWithin after (length kept_at.k.document.cells)
+  takes_here change value after fit = subst (λ (d : Document). TakesWithin after (length d.cells)) (sym kept_at.is) (takes_within r (length (after_steps (steps_of r change) (text r))) after fit.1)
+
+  module _ (change : Edit) (value : ℤ) (after : Follow) (pasted : List ℕ) (turned : IsPastedFor change s.clipboard.items kept_at.k.document.line_end pasted) where
+    pub turned_here : IsPastedFor change r.session.clipboard r.document.line_end pasted
+    turned_here =
+        subst (λ (x : Session). IsPastedFor change x.clipboard r.document.line_end pasted) (sym session_is)
+        (subst (λ (d : Document). IsPastedFor change s.clipboard.items d.line_end pasted) kept_at.is turned)
+
+    pub same_steps : edit_steps change bytes s.clipboard.items pasted kept_at.k.document ≡ steps_of r change
+    same_steps =
+        ap (λ x. edit_steps change x s.clipboard.items pasted kept_at.k.document) (sym by.message)
+        ∙ ap (λ (x : Session). edit_steps change r.message.text x.clipboard pasted kept_at.k.document) (sym session_is)
+        ∙ ap (edit_steps change r.message.text r.session.clipboard pasted) kept_at.is
+        ∙ same_edit r change value after pasted turned_here
+
+    -- the scene of the request, from these notes on
+    pub same_scene : (ns : List Notice) → scene_in kept_at.k.document s.views.entries ns ≡ record { document = r.document; views = r.session.views; notes = ns }
+    same_scene ns =
+        ap (λ d. scene_in d s.views.entries ns) kept_at.is ∙ ap (λ (x : Session). record { document = r.document; views = x.views; notes = ns }) (sym session_is)
+
+    pub edited : (s' : SessionState) (notes notes' : Gathered) → Edits task.view change bytes pasted after s notes kept_at.k s' notes' → IsDone r (plan.Edit change value after) s' notes.notes notes'.notes value []
+    edited s' notes notes' done =
+        let base = edit_made (steps_of r change) (scene_of r) in
+        let scene : scene_after change bytes pasted s notes kept_at.k ≡ telling notes.notes base =
+        ap (λ ss. edit_made ss (scene_in kept_at.k.document s.views.entries notes.notes)) same_steps ∙ ap (edit_made (steps_of r change)) (same_scene notes.notes)
+        ∙ edit_told_from notes.notes (steps_of r change) r.document r.session.views in
+        let session : session_in s' ≡ followed r.view.id (text r) after (session_of r.session base) =
+        done.session_after
+        ∙ ap (λ (x : Scene). followed task.view (text_of kept_at.k.document) after (session_of (session_in s) x)) scene
+        ∙ ap (λ (d : Document). followed task.view (text_of d) after (session_of (session_in s) base)) kept_at.is
+        ∙ ap (λ (x : Session). followed task.view (text r) after (session_of x base)) (sym session_is)
+        ∙ ap (λ id. followed id (text r) after (session_of r.session base)) (sym by.asked.view_id) in
+        record { told = base.notes; done = ap (λ x. (x, response value [] base.notes)) (sym session); heard = done.notes_after ∙ ap (λ (x : Scene). x.notes) scene }
+
+  -- Undo and redo.
+  module _ (direction : Direction) where
+    pub gone : (what : Plan) → performed r what ≡ history_performed r (bits_of direction) (changes_of direction r.document.history) (history_behind direction r.document.history)
+        → (s' : SessionState) (notes notes' : Gathered) → Goes task.view direction s notes kept_at.k s' notes' → IsDone r what s' notes.notes notes'.notes (pos 0) []
+    gone what is s' notes notes' done =
+        let cs = changes_of direction r.document.history in
+        let new = history_behind direction r.document.history in
+        let base = transaction_performed (bits_of direction) cs new (scene_of r) in
+        let at : Document → Session → List Notice → Scene = λ d x ns. transaction_performed (bits_of direction) (changes_of direction d.history) (history_behind direction d.history) (record { document = d; views = x.views; notes = ns }) in
+        let scene : at kept_at.k.document (session_in s) notes.notes ≡ telling notes.notes base =
+        ap (λ d. at d (session_in s) notes.notes) kept_at.is ∙ ap (λ x. at r.document x notes.notes) (sym session_is) ∙ transaction_told_from notes.notes (bits_of direction) cs new r.document r.session.views in
+        let after : Session → Scene → ℕ → Document → Session = λ x scene id d. (let t = session_of x scene in record t { views = caret_behind id (latest_text_step (reverse (changes_of direction d.history))) t.views }) in
+        let session : session_in s' ≡ after r.session base r.view.id r.document =
+        done.session_after ∙ ap (λ (x : Scene). after (session_in s) x task.view kept_at.k.document) scene ∙ ap (after (session_in s) base task.view) kept_at.is
+        ∙ ap (λ x. after x base task.view r.document) (sym session_is) ∙ ap (λ id. after r.session base id r.document) (sym by.asked.view_id) in
+        record { told = base.notes; done = is ∙ ap (λ x. (x, response (pos 0) [] base.notes)) (sym session); heard = done.notes_after ∙ ap (λ (x : Scene). x.notes) scene }
+
+  pub changed : (change : DocumentChange) (value : ℤ) (s' : SessionState) (notes notes' : Gathered) → Changes change task.view bytes kept_at.k s notes s' notes' → IsDone r (plan.ChangeDocument change value) s' notes.notes notes'.notes value []
+  changed change value s' notes notes' done =
+      let after : Session → Document → List ℕ → Session = λ t d x. record t { documents = with_document (changed_document x change d) t.documents; views = map (changed_lines change d) t.views } in
+      let heard : List View → Document → List ℕ → List Notice = λ views d x. change_told r.view (watching views d) d (changed_document x change d) change in
+      let session : session_in s' ≡ after r.session r.document r.message.text =
+      done.session_after ∙ ap (λ d. after (session_in s) d bytes) kept_at.is ∙ ap (after (session_in s) r.document) (sym by.message) ∙ ap (λ t. after t r.document r.message.text) (sym session_is) in
+      let notes_are : notes'.notes ≡ notes.notes ++ heard r.session.views r.document r.message.text =
+      done.notes_after r.view by.asked.view_id ∙ ap (λ d. notes.notes ++ heard (views_of s.views.entries) d bytes) kept_at.is ∙ ap (λ x. notes.notes ++ heard (views_of s.views.entries) r.document x) (sym by.message)
+      ∙ ap (λ (t : Session). notes.notes ++ heard t.views r.document r.message.text) (sym session_is) in
+      record { told = heard r.session.views r.document r.message.text; done = ap (λ x. (x, response value [] (heard r.session.views r.document r.message.text))) (sym session); heard = notes_are }
+
+  -- A change of the view, and of the session.
+
+  pub can_change_view : (change : ViewChange) (value : ℤ) → IsFitPlan r (plan.ChangeView change value) → CanChangeView (session_in s) task.document task.view change
+  can_change_view change value fit = record { request = r; asked = by.asked; fit = fit }
+
+  pub view_changed : (change : ViewChange) (value : ℤ) (s' : SessionState) (ns : List Notice) → session_in s' ≡ view_change_performed r change → IsDone r (plan.ChangeView change value) s' ns ns value []
+  view_changed change value s' ns e = record { told = []; done = ap (λ x. (x, response value [] [])) (sym e); heard = sym (append-nil ns) }
+
+  pub can_change_session : (change : SessionChange) (value : ℤ) → IsFitPlan r (plan.ChangeSession change value) → CanChangeSession (session_in s) task.document task.view bytes change
+  can_change_session change value fit = record { request = r; asked = by.asked; message = by.message; fit = fit }
+
+  pub session_is_changed : (change : SessionChange) (value : ℤ) (s' : SessionState) (ns : List Notice) → session_in s' ≡ session_changed r change → IsDone r (plan.ChangeSession change value) s' ns ns value []
+  session_is_changed change value s' ns e = record { told = []; done = ap (λ x. (x, response value [] [])) (sym e); heard = sym (append-nil ns) }
+
+  pub change_fits : (change : DocumentChange) (value : ℤ) → IsFitPlan r (plan.ChangeDocument change value) → IsFitChange r.document change
+  change_fits change value fit = fit_change r change (subst (λ (x : Session). is_allowed x.limits ≡ true) (sym session_is) kept.limits) fit
+
+-- The answer to a message.
+module _ (s : SessionState) (view : ℕ) (m : Message) (task : Task) (t : IsTask (session_in s) view m task) where
+  pub asked_by : IsAskedBy (session_in s) task m.text t.request
+  asked_by = record {
+    asked = record { sound = t.found.sound; session = t.found.session; document_id = sym t.document_id; view_id = t.found.view_id ∙ sym t.view_id };
+    message = ap (λ (x : Message). x.text) t.found.message;
+  }
+
+  -- the reply, with the note by which it is recorded
+  recorded_reply : (reply : Response) → with_recording t.kind t.request reply ≡ record reply { notes = first_note task.is_recorded view m ++ reply.notes }
+  recorded_reply reply =
+      go (t.request.view.records && (marks_of t.kind).r)
+      ∙ ap (λ b. record reply { notes = first_note b view m ++ reply.notes }) (sym t.recorded)
+    where
+      go : (b : Bool) → cond b (record reply { notes = record_note t.request ∷ reply.notes }) reply ≡ record reply { notes = first_note b view m ++ reply.notes }
+      go true = ap (λ n. record reply { notes = recording n t.request.message ∷ reply.notes }) t.found.view_id ∙ ap (λ x. record reply { notes = recording view x ∷ reply.notes }) t.found.message
+      go false = refl
+
+  pub answered_so : (s' : SessionState) (before after : List Notice) (value : ℤ) (out : List ℕ) → before ≡ first_note task.is_recorded view m → IsDone t.request task.plan s' before after value out
+      → table (session_in s) view m ≡ Ok (session_in s', response value out after)
+  answered_so s' before after value out first done =
+      t.found.answer ∙ ap (answered_by t.kind t.request) t.planned
+      ∙ ap (λ (x : Session × Response). Ok (x.0, with_recording t.kind t.request x.1)) done.done
+      ∙ ap (λ x. Ok (session_in s', x)) (recorded_reply (response value out done.told))
+      ∙ ap (λ xs. Ok (session_in s', response value out xs)) (sym (done.heard ∙ ap (λ xs. xs ++ done.told) first))
+
+-- What is done for each message with this text that comes to this plan.
+
+abbrev pub DoneFor : SessionState → ℕ → ℕ → List ℕ → Plan → SessionState → List Notice → List Notice → ℤ → List ℕ → Type 0
+DoneFor s document view bytes what s' before after value out =
+    (m : Message) (is_recorded : Bool) (t : IsTask (session_in s) view m (task_of document view what is_recorded)) → m.text ≡ bytes → IsDone t.request what s' before after value out
+
+-- each is answered so
+pub answers : (s : SessionState) (document view : ℕ) (bytes : List ℕ) (what : Plan) (s' : SessionState) (before after : List Notice) (value : ℤ) (out : List ℕ)
+    → DoneFor s document view bytes what s' before after value out → IsAnswered (session_in s) document view bytes what before (session_in s') (response value out after)
+answers s document view bytes what s' before after value out done = λ m is_recorded t text_is first.
+    answered_so s view m (task_of document view what is_recorded) t s' before after value out first (done m is_recorded t text_is)
+
+-- and the session is sound
+pub kept_by : MessageKeepsSound → (s : SessionState) (document view : ℕ) (bytes : List ℕ) (what : Plan) (s' : SessionState) (before after : List Notice) (value : ℤ) (out : List ℕ) → IsKept s
+    → DoneFor s document view bytes what s' before after value out → (m : Message) (is_recorded : Bool) → IsTask (session_in s) view m (task_of document view what is_recorded) → m.text ≡ bytes
+    → s'.limits ≡ s.limits → DocumentsAreNamed s'.documents.entries → AreNamed s'.views.entries → IsKept s'
+kept_by law s document view bytes what s' before after value out kept done m is_recorded t text_is limits documents views =
+    let is = done m is_recorded t text_is in
+    let first = first_note is_recorded view m in
+    kept_after_message law s s' view m (response value out (first ++ is.told)) kept
+    (answered_so s view m (task_of document view what is_recorded) t s' first (first ++ is.told) value out refl (record { told = is.told; done = is.done; heard = refl })) limits documents views

@@ -1,0 +1,23 @@
+use Rattle.std.proofs.Common.{rules, ◌≡◌, ap, ◌∙◌}
+use Rattle.ed_model.specs.LineEnds.{conversion_steps}
+use Rattle.ed_model.specs.Performing.{edit_made, Scene}
+use Rattle.ed_model.specs.Session.{Document, text_of}
+use Rattle.scene.specs.Scenes.{scene_in}
+use Rattle.editor_session.proofs.Replacing.{edit_keeps_id}
+use Rattle.editor_session.proofs.editing.convert_with_room.Goals as goal
+
+pub returns-clause-scene : goal.returns-clause-scene
+returns-clause-scene c =
+    let a = c.args in
+    let d = a.document.now.document in
+    let views = a.views.now.entries in
+    let before : c.reserve.new.self.notes ≡ a.notes.now.notes = search rules in
+    c.convert.ensures.scene
+    ∙ ap (λ (x : Document). edit_made (conversion_steps a.to (text_of x)) (scene_in x views c.reserve.new.self.notes)) c.reserve-2.ensures.same
+    ∙ ap (λ ns. edit_made (conversion_steps a.to (text_of d)) (scene_in d views ns)) before
+
+pub returns-clause-id : goal.returns-clause-id
+returns-clause-id c =
+    let a = c.args in
+    let d = a.document.now.document in
+    ap (λ (x : Scene). x.document.id) (returns-clause-scene c) ∙ edit_keeps_id (conversion_steps a.to (text_of d)) (scene_in d a.views.now.entries a.notes.now.notes)

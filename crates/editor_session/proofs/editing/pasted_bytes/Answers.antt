@@ -1,0 +1,9 @@
+use Rattle.std.proofs.Common.{rules}
+use Rattle.document.specs.Kept.{Kept}
+use Rattle.editor_session.proofs.EditLemmas.{pasted_none, for_all}
+use Rattle.editor_session.proofs.editing.pasted_bytes.Goals as goal
+
+pub returns-then-not-is_turned-clause-pasted : goal.returns-then-not-is_turned-clause-pasted
+returns-then-not-is_turned-clause-pasted c =
+    let a = c.args in
+    for_all _ _ (λ (k : Kept). pasted_none a.edit a.state.now.clipboard.items c.new.result.items k.document.line_end (search rules))

@@ -1,0 +1,288 @@
+//! Changes that are no edit of the text: of the document, of the view, of the session; and attempts to edit a read-only document. Room is made
+//! for all that a change needs, and then it is made.
+
+ghost use Rattle.std.specs.Prelude.{◌≡◌, ◌++◌, ◌≤◌, ℕ, ℤ, List, [], pos, not, true, false, map, length, OnOk, OnErr, IfErr, IfSome, IsOk, IsSome, IsSomeAnd};
+ghost use Rattle.ed_types.specs.declared.message.Message.{Message};
+ghost use Rattle.ed_types.specs.declared.refusal.Refusal.TheVariants.{OutOfMemory};
+ghost use Rattle.ed_types.specs.Notices.{Notice};
+ghost use Rattle.ed_model.specs.declared.plan.Plan.TheVariants as plan;
+ghost use Rattle.ed_model.specs.Changes.{changed_document, changed_lines, change_told};
+ghost use Rattle.ed_model.specs.Notes.{told, modify_attempt, blank as blank_note};
+ghost use Rattle.ed_model.specs.Performing.{quiet, response};
+ghost use Rattle.ed_model.specs.Session.{Document as ModelDocument, View as ModelView, watching};
+ghost use Rattle.ed_model.specs.SoundLaws.{Rise};
+ghost use Rattle.ed_model.specs.Table.{table};
+ghost use Rattle.id_table.specs.Entries.{value_at};
+ghost use Rattle.document_changes.specs.Fit.{IsFitChange, bytes_read};
+ghost use Rattle.document_changes.specs.Needs.{needs_room, notes_of_change};
+ghost use Rattle.scene.specs.Scenes.{views_of, watchers, AreNamed, IsWatched};
+ghost use Rattle.message_requests.specs.Requested.{session_in, documents_in};
+ghost use Rattle.session_changes.specs.Folding.{takes_fold_room};
+ghost use Rattle.session_changes.specs.Kept.{IsKept, DocumentsAreNamed};
+ghost use Rattle.editor_session.specs.Doing.{CanChangeOnceThereIsRoom, IsChangedIn, Changes};
+ghost use Rattle.editor_session.specs.Tasks.{IsTask};
+ghost use Rattle.editor_session.specs.Unheard.{unrecorded, IsAnswered, IfFree, IsSent, IsSentWith};
+
+use document::Document;
+use document_changes::{change_document, change_note_need, reserve_change};
+use document_table::DocumentTable;
+use ed_model::{DocumentChange, SessionChange, ViewChange, soundness_is_kept};
+use ed_types::Refusal;
+use ed_view::View;
+use id_table::IdTable;
+use message_requests::SessionState;
+use notify::NoteList;
+use scene::attempt;
+use session_changes::{change_session, change_view, prepare_session_change, reserve_view_change};
+use std::alloc::{AllocError, Global};
+
+/// Makes room in a document and for notes for a change, and makes it for the view whose id is `sender`.
+///
+/// # Errors
+///
+/// `AllocError` where memory is refused. The document and the views are as they were, here too.
+#[inline(always)]
+fn change_with_room(
+    alloc: Global,
+    document: &mut Document,
+    views: &mut IdTable<View>,
+    notes: &mut NoteList,
+    sender: u32,
+    text: &[u8],
+    change: DocumentChange,
+) -> Result<(), AllocError>
+    requires fits { IsFitChange document.old.document change }
+    requires text { bytes_read change ≤ length text.now }
+    requires watched { IsWatched document.old.document views.old }
+    ensures document { OnOk result (document.new.document ≡ changed_document text.now change document.old.document) }
+    ensures lines { OnOk result (views_of views.new.entries ≡ map (changed_lines change document.old.document) (views_of views.old.entries)) }
+    ensures told { OnOk result ((v : ModelView) → v.id ≡ sender → notes.new.notes ≡ notes.old.notes ++ change_told v (watchers document.old.document views.old) document.old.document (changed_document text.now change document.old.document) change) }
+    ensures same { OnErr result (document.new.document ≡ document.old.document) }
+    ensures same_views { OnErr result (views.new ≡ views.old) }
+    ensures id { document.new.document.id ≡ document.old.document.id }
+    ensures watched { IsWatched document.new.document views.new }
+    ensures next { views.new.next ≡ views.old.next }
+    ensures free { needs_room change ≡ false → notes_of_change change document.old.document.history (watchers document.old.document views.old) ≡ 0 → IsOk result }
+{
+    let Ok(()) = notes.reserve(change_note_need(document, views, change), 0) else {
+        return Err(AllocError);
+    };
+    let Ok(made) = reserve_change(alloc, document, change) else {
+        return Err(AllocError);
+    };
+    change_document(document, views, notes, sender, text, change, made);
+    Ok(())
+}
+
+/// The same in the document of an id, which is looked up once for all of it.
+///
+/// # Errors
+///
+/// `AllocError` where memory is refused. All documents and views are as they were, here too.
+#[inline(always)]
+fn change_with_room_in(
+    alloc: Global,
+    documents: &mut DocumentTable,
+    views: &mut IdTable<View>,
+    notes: &mut NoteList,
+    document: u32,
+    sender: u32,
+    text: &[u8],
+    change: DocumentChange,
+) -> Result<(), AllocError>
+    requires can { IsSomeAnd (value_at documents.old.entries document) (CanChangeOnceThereIsRoom change text.now views.old) }
+    requires named { DocumentsAreNamed documents.old.entries }
+    requires rise { Rise 0 documents.old.next (map (λ (d : ModelDocument). d.id) (documents_in documents.old)) }
+    ensures changed { OnOk result (IfSome (value_at documents.old.entries document) (λ k. IsChangedIn change sender text.now k documents.old views.old notes.old documents.new views.new notes.new)) }
+    ensures same { OnErr result (documents_in documents.new ≡ documents_in documents.old) }
+    ensures same_views { OnErr result (views.new ≡ views.old) }
+    ensures documents { DocumentsAreNamed documents.new.entries }
+    ensures views { AreNamed views.new.entries }
+    ensures next_document { documents.new.next ≡ documents.old.next }
+    ensures next_view { views.new.next ≡ views.old.next }
+    ensures free { IfSome (value_at documents.old.entries document) (λ k. needs_room change ≡ false → notes_of_change change k.document.history (watchers k.document views.old) ≡ 0 → IsOk result) }
+{
+    let Some(document) = documents.get_mut(document) else {
+        unreachable!()
+    };
+    change_with_room(alloc, document, views, notes, sender, text, change)
+}
+
+/// The same in the session, for the view with this id.
+///
+/// # Errors
+///
+/// `AllocError` if an allocation fails. The session is then as it was.
+#[inline(always)]
+fn change_making_room(
+    alloc: Global,
+    state: &mut SessionState,
+    document: u32,
+    view: u32,
+    text: &[u8],
+    change: DocumentChange,
+    notes: &mut NoteList,
+) -> Result<(), AllocError>
+    requires kept { IsKept state.old }
+    requires can { IsSomeAnd (value_at state.old.documents.entries document) (CanChangeOnceThereIsRoom change text.now state.old.views) }
+    ensures changed { OnOk result (IfSome (value_at state.old.documents.entries document) (λ k. Changes change view text.now k state.old notes.old state.new notes.new)) }
+    ensures same { OnErr result (session_in state.new ≡ session_in state.old) }
+    ensures documents { DocumentsAreNamed state.new.documents.entries }
+    ensures views { AreNamed state.new.views.entries }
+    ensures limits { state.new.limits ≡ state.old.limits }
+    ensures free { IfSome (value_at state.old.documents.entries document) (λ k. needs_room change ≡ false → notes_of_change change k.document.history (watchers k.document state.old.views) ≡ 0 → IsOk result) }
+{
+    let SessionState {
+        documents,
+        views,
+        ..
+    } = state;
+    change_with_room_in(alloc, documents, views, notes, document, view, text, change)
+}
+
+/// Changes the document with this id for the view with this id.
+///
+/// # Errors
+///
+/// `OutOfMemory` if an allocation fails. The session is then as it was.
+#[inline(always)]
+pub(crate) fn change_at_once(
+    alloc: Global,
+    state: &mut SessionState,
+    document: u32,
+    view: u32,
+    text: &[u8],
+    change: DocumentChange,
+    notes: &mut NoteList,
+) -> Result<(), Refusal>
+    requires kept { IsKept state.old }
+    requires sent { IsSentWith (session_in state.old) document view text.now (plan.ChangeDocument change) }
+    ensures answer { OnOk result ((value : ℤ) → IsAnswered (session_in state.old) document view text.now (plan.ChangeDocument change value) notes.old.notes (session_in state.new) (response value [] notes.new.notes)) }
+    ensures same { OnErr result (session_in state.new ≡ session_in state.old) }
+    ensures refused { IfErr result (λ refusal. refusal ≡ OutOfMemory) }
+    ensures kept { IsKept state.new }
+    ensures free { (value : ℤ) → IfFree (session_in state.old) document view text.now (plan.ChangeDocument change value) (IsOk result) }
+{
+    // The law that the session stays sound.
+    soundness_is_kept();
+    match change_making_room(alloc, state, document, view, text, change, notes) {
+        Ok(()) => Ok(()),
+        Err(_) => Err(Refusal::OutOfMemory),
+    }
+}
+
+/// Whether a change of a view takes no memory, whatever the view is.
+#[inline(always)]
+pub(crate) fn is_light(change: ViewChange) -> bool
+    ensures { result ≡ not (takes_fold_room change) }
+{
+    match change {
+        ViewChange::HideLines { .. }
+        | ViewChange::Contract { .. }
+        | ViewChange::Expand { .. }
+        | ViewChange::EnsureVisible { .. } => false,
+        ViewChange::SetExpanded { on, .. } => on,
+        _ => true,
+    }
+}
+
+/// Changes the view with this id, which is on the document with that id, if that takes no memory.
+#[inline(always)]
+pub(crate) fn change_lightly(state: &mut SessionState, document: u32, view: u32, change: ViewChange)
+    requires kept { IsKept state.old }
+    requires sent { IsSent (session_in state.old) document view (plan.ChangeView change) }
+    requires light { takes_fold_room change ≡ false }
+    ensures answer { (m : Message) (value : ℤ) → IsTask (session_in state.old) view m (unrecorded document view (plan.ChangeView change value)) → table (session_in state.old) view m ≡ Ok (session_in state.new, quiet value) }
+    ensures kept { IsKept state.new }
+{
+    // The law that the session stays sound.
+    soundness_is_kept();
+    change_view(state, document, view, change);
+}
+
+/// Changes the view with this id, which is on the document with that id. No view is notified of it.
+///
+/// # Errors
+///
+/// `OutOfMemory` if an allocation fails. The session is then as it was.
+#[inline(never)]
+pub(crate) fn change_view_at_once(
+    state: &mut SessionState,
+    document: u32,
+    view: u32,
+    change: ViewChange,
+) -> Result<(), Refusal>
+    requires kept { IsKept state.old }
+    requires sent { IsSent (session_in state.old) document view (plan.ChangeView change) }
+    ensures answer { OnOk result ((value : ℤ) (text : List ℕ) (notes : List Notice) → IsAnswered (session_in state.old) document view text (plan.ChangeView change value) notes (session_in state.new) (response value [] notes)) }
+    ensures same { OnErr result (session_in state.new ≡ session_in state.old) }
+    ensures refused { IfErr result (λ refusal. refusal ≡ OutOfMemory) }
+    ensures kept { IsKept state.new }
+    ensures free { (value : ℤ) (text : List ℕ) → IfFree (session_in state.old) document view text (plan.ChangeView change value) (IsOk result) }
+{
+    // The law that the session stays sound.
+    soundness_is_kept();
+    let Ok(()) = reserve_view_change(state, view, change) else {
+        return Err(Refusal::OutOfMemory);
+    };
+    change_view(state, document, view, change);
+    Ok(())
+}
+
+/// Changes the session for the view with this id, which is on the document with that id. No view is notified of it.
+///
+/// # Errors
+///
+/// `OutOfMemory` if an allocation fails. The session is then as it was.
+#[inline(never)]
+pub(crate) fn change_session_at_once(
+    alloc: Global,
+    state: &mut SessionState,
+    document: u32,
+    view: u32,
+    text: &[u8],
+    change: SessionChange,
+) -> Result<(), Refusal>
+    requires kept { IsKept state.old }
+    requires sent { IsSentWith (session_in state.old) document view text.now (plan.ChangeSession change) }
+    ensures answer { OnOk result ((value : ℤ) (notes : List Notice) → IsAnswered (session_in state.old) document view text.now (plan.ChangeSession change value) notes (session_in state.new) (response value [] notes)) }
+    ensures same { OnErr result (session_in state.new ≡ session_in state.old) }
+    ensures refused { IfErr result (λ refusal. refusal ≡ OutOfMemory) }
+    ensures kept { IsKept state.new }
+    ensures free { (value : ℤ) → IfFree (session_in state.old) document view text.now (plan.ChangeSession change value) (IsOk result) }
+{
+    // The law that the session stays sound.
+    soundness_is_kept();
+    let Ok(ready) = prepare_session_change(alloc, state, change) else {
+        return Err(Refusal::OutOfMemory);
+    };
+    change_session(state, document, view, text, change, ready);
+    Ok(())
+}
+
+/// Notifies the views that watch the document with this id of an attempt to edit it.
+///
+/// # Errors
+///
+/// `OutOfMemory` if an allocation fails.
+#[inline(never)]
+pub(crate) fn tell_attempt(
+    state: &SessionState,
+    document: u32,
+    view: u32,
+    notes: &mut NoteList,
+) -> Result<(), Refusal>
+    requires kept { IsKept state.now }
+    requires sent { IsSent (session_in state.now) document view (λ value. plan.Attempt) }
+    ensures answer { OnOk result ((text : List ℕ) → IsAnswered (session_in state.now) document view text plan.Attempt notes.old.notes (session_in state.now) (response (pos 0) [] notes.new.notes)) }
+    ensures refused { IfErr result (λ refusal. refusal ≡ OutOfMemory) }
+{
+    let Some(document) = state.documents.get(document) else {
+        unreachable!()
+    };
+    let Ok(()) = notes.reserve(document.views().len(), 0) else {
+        return Err(Refusal::OutOfMemory);
+    };
+    attempt(document, &state.views, notes);
+    Ok(())
+}

@@ -1,0 +1,349 @@
+//! Edits of the text: room is made for all of an edit, and then it is made, with what follows it.
+
+ghost use Rattle.std.specs.Prelude.{◌≡◌, ◌≤◌, ◌+◌, ◌++◌, ℤ, [], true, false, map, length, OnOk, OnErr, IfOk, IfErr, IfSome, IsOk, IsSome, IsSomeAnd};
+ghost use Rattle.ed_types.specs.declared.refusal.Refusal.TheVariants.{OutOfMemory};
+ghost use Rattle.ed_model.specs.declared.plan.Edit.TheVariants as edit;
+ghost use Rattle.ed_model.specs.declared.plan.Plan.TheVariants as plan;
+ghost use Rattle.ed_model.specs.LineEnds.{conversion_steps, converted};
+ghost use Rattle.ed_model.specs.Performing.{edit_made, response};
+ghost use Rattle.ed_model.specs.Session.{Document as ModelDocument, text_of};
+ghost use Rattle.ed_model.specs.SoundLaws.{Rise};
+ghost use Rattle.ed_model.specs.Steps.{replacement};
+ghost use Rattle.id_table.specs.Entries.{value_at};
+ghost use Rattle.scene.specs.Scenes.{scene_in, views_of, AreNamed, IsWatched};
+ghost use Rattle.message_requests.specs.Requested.{session_in, documents_in};
+ghost use Rattle.session_changes.specs.Kept.{IsKept, DocumentsAreNamed, ViewsRise};
+ghost use Rattle.editor_session.specs.Edited.{IsEditWithin, IsPastedFor, TakesWithin, is_turned, clipboard_need, taken_along, followed_views, Becomes};
+ghost use Rattle.editor_session.specs.Edits.{CanEdit, Edits, edit_steps};
+ghost use Rattle.editor_session.specs.Unheard.{IsAnswered, IfFree, IsSentWith};
+
+use crate::edits::{follow_edit, replace_bytes, source_bytes};
+use crate::need::{replacement_need, reserve};
+use document::Document;
+use document_table::DocumentTable;
+use ed_model::{Edit, Follow, LineEnd, Source, soundness_is_kept};
+use ed_types::Refusal;
+use ed_view::View;
+use id_table::IdTable;
+use line_ends::{convert_into, converted_len};
+use message_requests::SessionState;
+use notify::NoteList;
+use scene::{conversion_need, convert};
+use std::alloc::{AllocError, Global};
+
+/// Makes room in a document and for notes, and replaces the `count` bytes from `start` on by these.
+///
+/// # Errors
+///
+/// `AllocError` if an allocation fails. The document and the views are then as they were.
+#[inline(always)]
+fn replace_with_room(
+    document: &mut Document,
+    views: &mut IdTable<View>,
+    notes: &mut NoteList,
+    start: usize,
+    count: usize,
+    bytes: &[u8],
+) -> Result<(), AllocError>
+    requires range { start + count ≤ length document.old.document.cells }
+    requires watched { IsWatched document.old.document views.old }
+    ensures scene { OnOk result (scene_in document.new.document views.new.entries notes.new.notes ≡ edit_made (replacement start count bytes.now (text_of document.old.document)) (scene_in document.old.document views.old.entries notes.old.notes)) }
+    ensures same { OnErr result (document.new.document ≡ document.old.document) }
+    ensures same_views { OnErr result (views.new ≡ views.old) }
+    ensures id { document.new.document.id ≡ document.old.document.id }
+    ensures watched { IsWatched document.new.document views.new }
+    ensures next { views.new.next ≡ views.old.next }
+    ensures free { replacement start count bytes.now (text_of document.old.document) ≡ [] → IsOk result }
+{
+    let need = replacement_need(document, views, start, count, bytes);
+    if !need.is_counted() {
+        return Err(AllocError);
+    }
+    let Ok(()) = notes.reserve(need.notes.notes, need.notes.bytes) else {
+        return Err(AllocError);
+    };
+    let Ok(()) = reserve(document, need.document) else {
+        return Err(AllocError);
+    };
+    replace_bytes(document, views, notes, start, count, bytes);
+    Ok(())
+}
+
+/// Makes room in a document and for notes, and converts all line ends. Out of line, since it is seldom asked for.
+///
+/// # Errors
+///
+/// As of `replace_with_room`.
+#[inline(never)]
+fn convert_with_room(
+    document: &mut Document,
+    views: &mut IdTable<View>,
+    notes: &mut NoteList,
+    to: LineEnd,
+) -> Result<(), AllocError>
+    requires watched { IsWatched document.old.document views.old }
+    ensures scene { OnOk result (scene_in document.new.document views.new.entries notes.new.notes ≡ edit_made (conversion_steps to (text_of document.old.document)) (scene_in document.old.document views.old.entries notes.old.notes)) }
+    ensures same { OnErr result (document.new.document ≡ document.old.document) }
+    ensures same_views { OnErr result (views.new ≡ views.old) }
+    ensures id { document.new.document.id ≡ document.old.document.id }
+    ensures watched { IsWatched document.new.document views.new }
+    ensures next { views.new.next ≡ views.old.next }
+    ensures free { conversion_steps to (text_of document.old.document) ≡ [] → IsOk result }
+{
+    let need = conversion_need(document, views, to);
+    if !need.is_counted() {
+        return Err(AllocError);
+    }
+    let Ok(()) = notes.reserve(need.notes.notes, need.notes.bytes) else {
+        return Err(AllocError);
+    };
+    let Ok(()) = reserve(document, need.document) else {
+        return Err(AllocError);
+    };
+    convert(document, views, notes, to);
+    Ok(())
+}
+
+/// Makes room for an edit, and makes its steps. `pasted` is what the clipboard was turned into for it.
+///
+/// # Errors
+///
+/// As of `replace_with_room`.
+#[inline(always)]
+fn edit_with_room(
+    document: &mut Document,
+    views: &mut IdTable<View>,
+    notes: &mut NoteList,
+    text: &[u8],
+    clipboard: &[u8],
+    pasted: &[u8],
+    edit: Edit,
+) -> Result<(), AllocError>
+    requires within { IsEditWithin edit (length document.old.document.cells) (length text.now) }
+    requires watched { IsWatched document.old.document views.old }
+    ensures scene { OnOk result (scene_in document.new.document views.new.entries notes.new.notes ≡ edit_made (edit_steps edit text.now clipboard.now pasted.now document.old.document) (scene_in document.old.document views.old.entries notes.old.notes)) }
+    ensures same { OnErr result (document.new.document ≡ document.old.document) }
+    ensures same_views { OnErr result (views.new ≡ views.old) }
+    ensures id { document.new.document.id ≡ document.old.document.id }
+    ensures watched { IsWatched document.new.document views.new }
+    ensures next { views.new.next ≡ views.old.next }
+    ensures free { edit_steps edit text.now clipboard.now pasted.now document.old.document ≡ [] → IsOk result }
+{
+    match edit {
+        Edit::Replace {
+            start,
+            count,
+            source,
+        } => {
+            let line_end = document.typed_line_end();
+            let bytes = source_bytes(source, text, clipboard, pasted, line_end);
+            replace_with_room(document, views, notes, start, count, bytes)
+        }
+        Edit::ConvertLineEnds { to } => convert_with_room(document, views, notes, to),
+    }
+}
+
+/// The same in the document with this id, which is looked up once for all of it.
+///
+/// # Errors
+///
+/// As of `replace_with_room`.
+#[inline(always)]
+fn edit_in(
+    documents: &mut DocumentTable,
+    views: &mut IdTable<View>,
+    notes: &mut NoteList,
+    document: u32,
+    text: &[u8],
+    clipboard: &[u8],
+    pasted: &[u8],
+    edit: Edit,
+) -> Result<(), AllocError>
+    requires can { IsSomeAnd (value_at documents.old.entries document) (λ k. IsEditWithin edit (length k.document.cells) (length text.now) × IsWatched k.document views.old) }
+    requires named { DocumentsAreNamed documents.old.entries }
+    requires rise { Rise 0 documents.old.next (map (λ (d : ModelDocument). d.id) (documents_in documents.old)) }
+    ensures made { OnOk result (IfSome (value_at documents.old.entries document) (λ k. Becomes (edit_made (edit_steps edit text.now clipboard.now pasted.now k.document) (scene_in k.document views.old.entries notes.old.notes)) documents.old documents.new views.new notes.new)) }
+    ensures same { OnErr result (documents_in documents.new ≡ documents_in documents.old) }
+    ensures same_views { OnErr result (views.new ≡ views.old) }
+    ensures documents { DocumentsAreNamed documents.new.entries }
+    ensures views { AreNamed views.new.entries }
+    ensures rise { ViewsRise views.new }
+    ensures next_document { documents.new.next ≡ documents.old.next }
+    ensures next_view { views.new.next ≡ views.old.next }
+    ensures free { IfSome (value_at documents.old.entries document) (λ k. edit_steps edit text.now clipboard.now pasted.now k.document ≡ [] → IsOk result) }
+{
+    let Some(document) = documents.get_mut(document) else {
+        unreachable!()
+    };
+    edit_with_room(document, views, notes, text, clipboard, pasted, edit)
+}
+
+/// The same, with what follows the edit for the view with this id. `taken` goes to the clipboard, if anything does.
+///
+/// # Errors
+///
+/// `AllocError` if an allocation fails. The session is then as it was.
+#[inline(always)]
+fn edit_making_room(
+    state: &mut SessionState,
+    document: u32,
+    view: u32,
+    text: &[u8],
+    pasted: &[u8],
+    edit: Edit,
+    follow: Follow,
+    taken: Vec<u8>,
+    notes: &mut NoteList,
+) -> Result<(), AllocError>
+    requires kept { IsKept state.old }
+    requires can { IsSomeAnd (value_at state.old.documents.entries document) (CanEdit edit text.now follow taken.items state.old) }
+    ensures edited { OnOk result (IfSome (value_at state.old.documents.entries document) (λ k. Edits view edit text.now pasted.now follow state.old notes.old k state.new notes.new)) }
+    ensures same { OnErr result (session_in state.new ≡ session_in state.old) }
+    ensures documents { DocumentsAreNamed state.new.documents.entries }
+    ensures views { AreNamed state.new.views.entries }
+    ensures limits { state.new.limits ≡ state.old.limits }
+    ensures free { IfSome (value_at state.old.documents.entries document) (λ k. edit_steps edit text.now state.old.clipboard.items pasted.now k.document ≡ [] → IsOk result) }
+{
+    let SessionState {
+        documents,
+        views,
+        clipboard,
+        ..
+    } = state;
+    match edit_in(
+        documents, views, notes, document, text, clipboard, pasted, edit,
+    ) {
+        Ok(()) => {
+            follow_edit(views, clipboard, view, follow, taken);
+            Ok(())
+        }
+        Err(error) => Err(error),
+    }
+}
+
+/// Whether an edit puts in the clipboard with other line ends.
+#[inline(always)]
+fn is_turned(edit: Edit) -> bool
+    ensures { result ≡ is_turned edit }
+{
+    matches!(
+        edit,
+        Edit::Replace {
+            source: Source::Clipboard { convert: true },
+            ..
+        }
+    )
+}
+
+/// The clipboard with line ends of this kind. Out of line, since it is seldom asked for.
+///
+/// # Errors
+///
+/// `AllocError` if an allocation fails.
+#[inline(never)]
+fn converted_clipboard(
+    alloc: Global,
+    clipboard: &[u8],
+    line_end: LineEnd,
+) -> Result<Vec<u8>, AllocError>
+    ensures converted { IfOk result (λ bytes. bytes.items ≡ converted line_end clipboard.now) }
+    ensures free { converted line_end clipboard.now ≡ [] → IsOk result }
+{
+    let mut bytes = Vec::new(alloc);
+    let Ok(()) = bytes.reserve(converted_len(clipboard, line_end)) else {
+        return Err(AllocError);
+    };
+    convert_into(clipboard, line_end, &mut bytes);
+    Ok(bytes)
+}
+
+/// What an edit puts in of the clipboard with the line ends of the document with this id, or nothing.
+///
+/// # Errors
+///
+/// `AllocError` if an allocation fails.
+#[inline(always)]
+fn pasted_bytes(
+    alloc: Global,
+    state: &SessionState,
+    document: u32,
+    edit: Edit,
+) -> Result<Vec<u8>, AllocError>
+    requires there { IsSome (value_at state.now.documents.entries document) }
+    ensures pasted { IfOk result (λ bytes. IfSome (value_at state.now.documents.entries document) (λ k. IsPastedFor edit state.now.clipboard.items k.document.line_end bytes.items)) }
+    ensures free { is_turned edit ≡ false → IsOk result }
+    ensures empty { IfSome (value_at state.now.documents.entries document) (λ k. converted k.document.line_end state.now.clipboard.items ≡ [] → IsOk result) }
+{
+    if !is_turned(edit) {
+        return Ok(Vec::new(alloc));
+    }
+    let Some(document) = state.documents.get(document) else {
+        unreachable!()
+    };
+    converted_clipboard(alloc, &state.clipboard, document.typed_line_end())
+}
+
+/// The bytes of the document with this id that an edit takes to the clipboard, or nothing.
+///
+/// # Errors
+///
+/// `AllocError` if an allocation fails.
+#[inline(always)]
+fn taken_bytes(
+    alloc: Global,
+    state: &SessionState,
+    document: u32,
+    follow: Follow,
+) -> Result<Vec<u8>, AllocError>
+    requires can { IsSomeAnd (value_at state.now.documents.entries document) (λ k. TakesWithin follow (length k.document.cells)) }
+    ensures taken { IfOk result (λ bytes. IfSome (value_at state.now.documents.entries document) (λ k. bytes.items ≡ taken_along follow (text_of k.document))) }
+    ensures free { clipboard_need follow ≡ 0 → IsOk result }
+{
+    let Follow::Clipboard { start, count } = follow else {
+        return Ok(Vec::new(alloc));
+    };
+    let Some(document) = state.documents.get(document) else {
+        unreachable!()
+    };
+    document.text_to_vec(alloc, start, count, 0)
+}
+
+/// Makes an edit of the document with this id, and what follows it for the view with this id.
+///
+/// # Errors
+///
+/// `OutOfMemory` if an allocation fails. The session is then as it was.
+#[inline(always)]
+pub(crate) fn edit_at_once(
+    alloc: Global,
+    state: &mut SessionState,
+    document: u32,
+    view: u32,
+    text: &[u8],
+    edit: Edit,
+    follow: Follow,
+    notes: &mut NoteList,
+) -> Result<(), Refusal>
+    requires kept { IsKept state.old }
+    requires sent { IsSentWith (session_in state.old) document view text.now (λ value. plan.Edit edit value follow) }
+    ensures answer { OnOk result ((value : ℤ) → IsAnswered (session_in state.old) document view text.now (plan.Edit edit value follow) notes.old.notes (session_in state.new) (response value [] notes.new.notes)) }
+    ensures same { OnErr result (session_in state.new ≡ session_in state.old) }
+    ensures refused { IfErr result (λ refusal. refusal ≡ OutOfMemory) }
+    ensures kept { IsKept state.new }
+    ensures free { (value : ℤ) → IfFree (session_in state.old) document view text.now (plan.Edit edit value follow) (IsOk result) }
+{
+    // The law that the session stays sound.
+    soundness_is_kept();
+    let Ok(pasted) = pasted_bytes(alloc, state, document, edit) else {
+        return Err(Refusal::OutOfMemory);
+    };
+    let Ok(taken) = taken_bytes(alloc, state, document, follow) else {
+        return Err(Refusal::OutOfMemory);
+    };
+    match edit_making_room(
+        state, document, view, text, &pasted, edit, follow, taken, notes,
+    ) {
+        Ok(()) => Ok(()),
+        Err(_) => Err(Refusal::OutOfMemory),
+    }
+}
