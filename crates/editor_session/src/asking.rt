@@ -14,7 +14,7 @@ use ed_types::{Kind, kinds_and_numbers};
 use message_plans::{question_of, value_of};
 use message_requests::{Request, SentMessage, SessionState};
 
-/// The value of this plain question to the view of an id; `None` where the table refuses it.
+/// Returns the value of this plain question to `view`, or `None` if the table refuses it.
 #[inline(always)]
 fn ask_as(state: &SessionState, view: u32, kind: Kind, number: u32, w: i64, l: i64) -> Option<i64>
     requires kept { IsKept state.now }
@@ -22,7 +22,7 @@ fn ask_as(state: &SessionState, view: u32, kind: Kind, number: u32, w: i64, l: i
     ensures value { result ≡ value_to (session_in state.now) view (message_with number w l []) }
     ensures answer { IfSome result (λ value. (text : List ℕ) → table (session_in state.now) view (message_with number w l text) ≡ Ok (session_in state.now, quiet value)) }
 {
-    // The law that each kind is found by its number.
+    // States that each kind is found by its number.
     kinds_and_numbers();
     let Some(found) = look_up(state, view) else {
         return None;
@@ -43,8 +43,8 @@ fn ask_as(state: &SessionState, view: u32, kind: Kind, number: u32, w: i64, l: i
     value_of(kind, &request)
 }
 
-/// The value of a plain question to the view of an id. `None` for all other messages, and for what the table refuses: the message
-/// is then to be sent. Nothing changes, and no memory is taken.
+/// Returns the value of a plain question to `view`. Returns `None` for all other messages and for what the table refuses; such a
+/// message has to be sent. Allocates nothing.
 #[inline(always)]
 pub(crate) fn ask(state: &SessionState, view: u32, number: u32, w: i64, l: i64) -> Option<i64>
     requires kept { IsKept state.now }

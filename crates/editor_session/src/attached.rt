@@ -10,7 +10,7 @@ use document::Document;
 use ed_view::View;
 use message_requests::SessionState;
 
-/// A view of a session with its document, both lent.
+/// A view of a session and its document, both borrowed.
 #[derive(Clone, Copy)]
 pub(crate) struct Attached<'a> {
     /// The view.
@@ -19,7 +19,7 @@ pub(crate) struct Attached<'a> {
     pub document: &'a Document,
 }
 
-/// The view of an id with its document, which is always there. `None` where no view has this id.
+/// Returns the view with this id and its document, or `None` if there is no such view. A view always has a document.
 #[inline(always)]
 pub(crate) fn look_up(state: &SessionState, view: u32) -> Option<Attached<'_>>
     requires kept { IsKept state.now }

@@ -36,11 +36,11 @@ use scene::attempt;
 use session_changes::{change_session, change_view, prepare_session_change, reserve_view_change};
 use std::alloc::{AllocError, Global};
 
-/// Makes room in a document and for notes for a change, and makes it for the view whose id is `sender`.
+/// Makes room in a document and for notes, and makes a change for the view with the id `sender`.
 ///
 /// # Errors
 ///
-/// `AllocError` where memory is refused. The document and the views are as they were, here too.
+/// `AllocError` if an allocation fails. The document and the views are then as they were.
 #[inline(always)]
 fn change_with_room(
     alloc: Global,
@@ -74,11 +74,11 @@ fn change_with_room(
     Ok(())
 }
 
-/// The same in the document of an id, which is looked up once for all of it.
+/// The same in the document with this id, which is looked up once.
 ///
 /// # Errors
 ///
-/// `AllocError` where memory is refused. All documents and views are as they were, here too.
+/// `AllocError` if an allocation fails. All documents and views are then as they were.
 #[inline(always)]
 fn change_with_room_in(
     alloc: Global,
@@ -163,7 +163,7 @@ pub(crate) fn change_at_once(
     ensures kept { IsKept state.new }
     ensures free { (value : ℤ) → IfFree (session_in state.old) document view text.now (plan.ChangeDocument change value) (IsOk result) }
 {
-    // The law that the session stays sound.
+    // States that the session stays sound.
     soundness_is_kept();
     match change_making_room(alloc, state, document, view, text, change, notes) {
         Ok(()) => Ok(()),
@@ -171,7 +171,7 @@ pub(crate) fn change_at_once(
     }
 }
 
-/// Whether a change of a view takes no memory, whatever the view is.
+/// Returns whether a change of a view needs no memory, whatever the view is.
 #[inline(always)]
 pub(crate) fn is_light(change: ViewChange) -> bool
     ensures { result ≡ not (takes_fold_room change) }
@@ -195,7 +195,7 @@ pub(crate) fn change_lightly(state: &mut SessionState, document: u32, view: u32,
     ensures answer { (m : Message) (value : ℤ) → IsTask (session_in state.old) view m (unrecorded document view (plan.ChangeView change value)) → table (session_in state.old) view m ≡ Ok (session_in state.new, quiet value) }
     ensures kept { IsKept state.new }
 {
-    // The law that the session stays sound.
+    // States that the session stays sound.
     soundness_is_kept();
     change_view(state, document, view, change);
 }
@@ -220,7 +220,7 @@ pub(crate) fn change_view_at_once(
     ensures kept { IsKept state.new }
     ensures free { (value : ℤ) (text : List ℕ) → IfFree (session_in state.old) document view text (plan.ChangeView change value) (IsOk result) }
 {
-    // The law that the session stays sound.
+    // States that the session stays sound.
     soundness_is_kept();
     let Ok(()) = reserve_view_change(state, view, change) else {
         return Err(Refusal::OutOfMemory);
@@ -251,7 +251,7 @@ pub(crate) fn change_session_at_once(
     ensures kept { IsKept state.new }
     ensures free { (value : ℤ) → IfFree (session_in state.old) document view text.now (plan.ChangeSession change value) (IsOk result) }
 {
-    // The law that the session stays sound.
+    // States that the session stays sound.
     soundness_is_kept();
     let Ok(ready) = prepare_session_change(alloc, state, change) else {
         return Err(Refusal::OutOfMemory);

@@ -332,7 +332,7 @@ pub(crate) fn edit_at_once(
     ensures kept { IsKept state.new }
     ensures free { (value : ℤ) → IfFree (session_in state.old) document view text.now (plan.Edit edit value follow) (IsOk result) }
 {
-    // The law that the session stays sound.
+    // States that the session stays sound.
     soundness_is_kept();
     let Ok(pasted) = pasted_bytes(alloc, state, document, edit) else {
         return Err(Refusal::OutOfMemory);

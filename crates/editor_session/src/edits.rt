@@ -1,4 +1,4 @@
-//! The parts of an edit: what it puts in, its steps, and what follows them.
+//! The parts of an edit: the bytes that it inserts, its steps, and what follows them.
 
 ghost use Rattle.std.specs.Prelude.{◌≡◌, ◌≤◌, ◌<◌, ◌+◌, length};
 ghost use Rattle.ed_model.specs.declared.plan.Follow.TheVariants.{Caret, Target as follow_target};
@@ -19,7 +19,7 @@ use notify::NoteList;
 use scene::{make_step, needs_are_enough};
 use selection::Selection;
 
-/// The bytes that an edit puts in; `pasted` is what the clipboard was turned into for it.
+/// Returns the bytes that an edit inserts. `pasted` is the clipboard with the document's line ends, if the edit inserts that.
 pub(crate) fn source_bytes<'a>(
     source: Source,
     text: &'a [u8],
@@ -43,8 +43,8 @@ pub(crate) fn source_bytes<'a>(
     }
 }
 
-/// Replaces the `count` bytes from `start` on by these, where there are some of both: a deletion and then an insertion, which
-/// are a transaction of their own. There must be room for them.
+/// Replaces the `count` bytes from `start` on by `bytes`, neither of which is empty: a deletion and then an insertion, in a
+/// transaction of their own. There must be room for both.
 fn replace_some(
     document: &mut Document,
     views: &mut IdTable<View>,
@@ -63,7 +63,7 @@ fn replace_some(
     ensures watched { IsWatched document.new.document views.new }
     ensures next { views.new.next ≡ views.old.next }
 {
-    // The law that what was reserved is enough for each step in its turn.
+    // States that the reserved room is enough for each step in turn.
     needs_are_enough();
     let deletion = TextStep::Delete {
         place: start,
@@ -79,8 +79,8 @@ fn replace_some(
     document.seal_outside_groups();
 }
 
-/// Replaces the `count` bytes from `start` on by these: a deletion, then an insertion, without the one that has no bytes. There
-/// must be room for them.
+/// Replaces the `count` bytes from `start` on by `bytes`: a deletion, then an insertion, each only if it has bytes. There must be
+/// room for them.
 pub(crate) fn replace_bytes(
     document: &mut Document,
     views: &mut IdTable<View>,
@@ -98,7 +98,7 @@ pub(crate) fn replace_bytes(
     ensures watched { IsWatched document.new.document views.new }
     ensures next { views.new.next ≡ views.old.next }
 {
-    // The law that what was reserved is enough.
+    // States that the reserved room is enough.
     needs_are_enough();
     if count == 0 {
         if bytes.is_empty() {
@@ -120,7 +120,7 @@ pub(crate) fn replace_bytes(
     replace_some(document, views, notes, start, count, bytes);
 }
 
-/// Sets anchor and caret of the view of an id to a place.
+/// Sets anchor and caret of the view with this id to `place`.
 pub(crate) fn set_caret(views: &mut IdTable<View>, view: u32, place: usize)
     requires named { AreNamed views.old.entries }
     requires rise { ViewsRise views.old }
@@ -133,7 +133,7 @@ pub(crate) fn set_caret(views: &mut IdTable<View>, view: u32, place: usize)
     }
 }
 
-/// Sets the target of the view of an id.
+/// Sets the target of the view with this id.
 pub(crate) fn set_target(views: &mut IdTable<View>, view: u32, start: usize, end: usize)
     requires named { AreNamed views.old.entries }
     requires rise { ViewsRise views.old }
@@ -146,7 +146,7 @@ pub(crate) fn set_target(views: &mut IdTable<View>, view: u32, start: usize, end
     }
 }
 
-/// Does what follows an edit; `taken` is what it takes to the clipboard.
+/// Does what follows an edit. `taken` becomes the clipboard, if the edit takes bytes there.
 pub(crate) fn follow_edit(
     views: &mut IdTable<View>,
     clipboard: &mut Vec<u8>,

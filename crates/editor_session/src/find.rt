@@ -12,11 +12,11 @@ use crate::attached::look_up;
 use ed_types::{Kind, Refusal};
 use message_requests::{Request, SentMessage, SessionState};
 
-/// Finds the view of a message, its kind, and the view's document.
+/// Looks up the view of a message and its document, and decodes the message's number.
 ///
 /// # Errors
 ///
-/// `NoSuchView` or `UnknownMessage`, whichever holds first.
+/// `NoSuchView`, otherwise `UnknownMessage`.
 #[inline(always)]
 pub(crate) fn find<'a>(
     state: &'a SessionState,

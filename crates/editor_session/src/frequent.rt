@@ -1,5 +1,5 @@
-//! Frequent changes of a document: a run's style, a marker and a fold level, which are made without a task, and without notes where nobody
-//! hears of them; and undo and redo of which nobody hears, which take no plan, notes and reply.
+//! Frequent changes of a document: a run's style, a marker, a fold level. They are made without notes if no view listens. Undo and redo, if
+//! no view listens: they need no plan, notes or reply.
 
 ghost use Rattle.std.specs.Prelude.{◌≡◌, ℕ, ℤ, List, [], map, true, false, Ok, Some, IfNone, IfSome, IfOk, IfErr, IsOk, OnErr, IsSomeAnd};
 ghost use Rattle.ed_types.specs.declared.message.Message.{Message};
@@ -34,10 +34,10 @@ use message_requests::{Request, SentMessage, SessionState};
 use notify::NoteList;
 use std::alloc::Global;
 
-/// The bits of a view's mask by which it hears of frequent changes: CHANGESTYLE, CHANGEFOLD and CHANGEMARKER of Scintilla.
+/// The bits of a mask by which a view listens for frequent changes: SC_MOD_CHANGESTYLE, SC_MOD_CHANGEFOLD and SC_MOD_CHANGEMARKER.
 const FREQUENT_CHANGES: u32 = 0x4 | 0x8 | 0x200;
 
-/// What a frequent change is, and the value that its message answers.
+/// A frequent change, and the value that its message answers.
 #[derive(Clone, Copy, Debug)]
 pub(crate) struct FrequentChange {
     /// The id of the document.
@@ -47,7 +47,7 @@ pub(crate) struct FrequentChange {
 }
 
 /// The kind of a frequent change, if `view` listens for changes of any of the three kinds. Such a view is usually notified, so the message
-/// takes the notifying path directly. `None` otherwise, even where other views listen.
+/// takes the notifying path directly. `None` otherwise, even if other views listen.
 #[inline(always)]
 pub(crate) fn heard_change_of(
     state: &SessionState,
@@ -64,7 +64,7 @@ pub(crate) fn heard_change_of(
     Some(kind)
 }
 
-/// Finds what this message to the view of an id changes. `None` where the table refuses it or it changes nothing.
+/// Finds what this message to `view` changes. `None` if the table refuses it or it changes nothing.
 #[inline(always)]
 pub(crate) fn find_change(
     state: &SessionState,
@@ -78,13 +78,13 @@ pub(crate) fn find_change(
     requires frequent { frequent_change_of number ≡ Some kind }
     ensures { IfSome result (λ found. (text : List ℕ) → IsTask (session_in state.now) view (message_with number w l text) (unrecorded found.document view (plan.ChangeDocument found.change found.value))) }
 {
-    // The laws that each kind is found by its number, and that a plan's numbers are in range.
+    // States that each kind is found by its number, and that a plan's numbers are in range.
     kinds_and_numbers();
     plans_are_fit();
     let Some(found) = look_up(state, view) else {
         return None;
     };
-    // No such message reads a text.
+    // These messages read no text.
     let message = SentMessage {
         number,
         w,
@@ -107,8 +107,8 @@ pub(crate) fn find_change(
     })
 }
 
-/// Makes a change in the document of an id, where nobody hears of it, and returns whether it did. Where not, because memory is refused too,
-/// all documents are as they were.
+/// Applies `change` to the document with this id if no view listens, and returns whether it did. Otherwise, and if an allocation fails, all
+/// documents are as they were.
 #[inline(always)]
 fn change_quickly_in(
     documents: &mut DocumentTable,
@@ -130,7 +130,7 @@ fn change_quickly_in(
     change_unheard(document, views, change)
 }
 
-/// The same for the view of an id, whatever value is answered.
+/// The same in the session, for a message to `view`.
 #[inline(always)]
 fn change_quickly(
     state: &mut SessionState,
@@ -144,7 +144,7 @@ fn change_quickly(
     ensures same { result ≡ false → session_in state.new ≡ session_in state.old }
     ensures kept { IsKept state.new }
 {
-    // The law that the session stays sound.
+    // States that the session stays sound.
     soundness_is_kept();
     let SessionState {
         documents,
@@ -154,8 +154,8 @@ fn change_quickly(
     change_quickly_in(documents, views, document, change)
 }
 
-/// Does what this message to the view of an id asks for, and returns the value that is answered, if that takes no more than a change of
-/// the document of which nobody hears. It stands apart, so that other messages set up nothing of it.
+/// Makes the frequent change that this message to `view` asks for, and returns the value that is answered. `None`, with nothing changed, if
+/// a view listens, the change is refused or an allocation fails. Out of line, so that other messages do not pay for its stack frame.
 #[inline(never)]
 fn settle_as(
     state: &mut SessionState,
@@ -181,12 +181,11 @@ fn settle_as(
     }
 }
 
-/// Makes a change of the document of an id that a message to the view of an id asks for, and answers a value with the notes of it. It takes
-/// memory for the change and its notes alone.
+/// Makes a change that a message to `view` asks for, and returns the reply with its notes. Allocates for the change and its notes only.
 ///
 /// # Errors
 ///
-/// `OutOfMemory` where memory is refused. The session is as it was, here too.
+/// `OutOfMemory` if an allocation fails. The session is then as it was.
 #[inline(always)]
 pub(crate) fn change_and_tell(
     alloc: Global,
@@ -212,8 +211,8 @@ pub(crate) fn change_and_tell(
     }
 }
 
-/// Finds the document whose history moves by undo or redo, sent to the view of an id. `None` where no transaction is performed, and where
-/// that view hears of anything.
+/// Finds the document in which UNDO or REDO, sent to `view`, performs a transaction. `None` if there is no transaction to perform, or if the
+/// view listens for anything.
 #[inline(always)]
 fn find_transaction(
     state: &SessionState,
@@ -227,17 +226,17 @@ fn find_transaction(
     requires transaction { transaction_of number ≡ Some kind }
     ensures { IfSome result (λ document. (text : List ℕ) → IsTask (session_in state.now) view (message_with number w l text) (unrecorded document view (performing kind))) }
 {
-    // The laws that each kind is found by its number, and that a plan's numbers are in range.
+    // States that each kind is found by its number, and that a plan's numbers are in range.
     kinds_and_numbers();
     plans_are_fit();
     let Some(found) = look_up(state, view) else {
         return None;
     };
-    // A view that hears is told of it, mostly: it goes the longer way at once.
+    // A view that listens is usually notified, so the message is planned directly.
     if found.view.mask() != 0 {
         return None;
     }
-    // Neither reads a text.
+    // Neither message reads a text.
     let message = SentMessage {
         number,
         w,
@@ -257,7 +256,7 @@ fn find_transaction(
     }
 }
 
-/// Which way the history moves by undo or redo.
+/// Returns the direction in which UNDO or REDO moves the history.
 #[inline(always)]
 fn direction_of(kind: Kind) -> Direction
     ensures { going result ≡ performing kind }
@@ -268,8 +267,7 @@ fn direction_of(kind: Kind) -> Direction
     }
 }
 
-/// Undoes or redoes a transaction of which nobody hears, by a message to the view of an id, and returns the value that is answered. It
-/// stands apart, as `settle_as` does.
+/// Performs UNDO or REDO, sent to `view`, if no view is notified, and returns the value that is answered. Out of line, as `settle_as` is.
 #[inline(never)]
 fn go_as(
     alloc: Global,
@@ -296,9 +294,9 @@ fn go_as(
     }
 }
 
-/// Does what a message to the view of an id asks for, and returns the value that is answered, if it is one of the frequent changes of a
-/// document, the table does not refuse it, nobody hears of it, and there is memory for it. Of all others it does nothing. `frequent` is
-/// the kind of a change of a run's style, a marker or a fold level, and `None` for all other messages.
+/// Performs a frequent change, UNDO or REDO without notes, and returns the value that is answered. `None`, with nothing changed, for all
+/// other messages, and if the table refuses the message, a view listens or an allocation fails. `frequent` is the kind of the frequent
+/// change, if the message is one.
 #[inline(always)]
 pub(crate) fn settle(
     alloc: Global,

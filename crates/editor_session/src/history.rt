@@ -33,12 +33,12 @@ use notify::NoteList;
 use scene::{history_need, perform_history};
 use std::alloc::{AllocError, Global};
 
-/// Makes room in a document and for notes for undo or redo, and performs it; returns where that leaves the caret, if it makes a
-/// step of the text.
+/// Makes room in a document and for notes, and performs undo or redo. Returns the position of the caret afterwards, if a step of the
+/// text was made.
 ///
 /// # Errors
 ///
-/// `AllocError` where memory is refused, and where it tells more than `most` notes. The document and the views are as they were, here too.
+/// `AllocError` if an allocation fails, or more than `most` notes would be sent. The document and the views are then as they were.
 fn go_with_room(
     document: &mut Document,
     views: &mut IdTable<View>,
@@ -70,11 +70,11 @@ fn go_with_room(
     Ok(perform_history(document, views, notes, direction))
 }
 
-/// The same in the document of an id, which is looked up once for all of it.
+/// The same in the document with this id, which is looked up once.
 ///
 /// # Errors
 ///
-/// As of `go_with_room`. All documents and views are as they were, here too.
+/// As of `go_with_room`. All documents and views are then as they were.
 fn go_with_room_in(
     documents: &mut DocumentTable,
     views: &mut IdTable<View>,
@@ -103,11 +103,11 @@ fn go_with_room_in(
     go_with_room(document, views, notes, direction, most)
 }
 
-/// The same, after which the caret of the view of an id stands where that leaves it.
+/// The same, and then moves the caret of `view`.
 ///
 /// # Errors
 ///
-/// As of `go_with_room`. The session is as it was, here too.
+/// As of `go_with_room`. The session is then as it was.
 fn go_making_room(
     state: &mut SessionState,
     document: u32,
@@ -160,7 +160,7 @@ pub(crate) fn go_at_once(
     ensures refused { IfErr result (λ refusal. refusal ≡ OutOfMemory) }
     ensures kept { IsKept state.new }
 {
-    // The laws that the steps of undo and redo fit the text, and that the session stays sound.
+    // States that the steps of undo and redo fit the text, and that the session stays sound.
     plans_are_fit();
     soundness_is_kept();
     match go_making_room(state, document, view, direction, notes, usize::MAX) {
@@ -169,8 +169,7 @@ pub(crate) fn go_at_once(
     }
 }
 
-/// The same where nobody hears of it, and the save point is neither reached nor left: then it returns that it is done. Where not, and
-/// where memory is refused, nothing is.
+/// The same, if no view is notified, and returns whether it did. Otherwise, and if an allocation fails, nothing changes.
 #[inline(always)]
 pub(crate) fn go_unheard(
     alloc: Global,
@@ -185,7 +184,7 @@ pub(crate) fn go_unheard(
     ensures same { result ≡ false → session_in state.new ≡ session_in state.old }
     ensures kept { IsKept state.new }
 {
-    // The laws that the steps of undo and redo fit the text, and that the session stays sound.
+    // States that the steps of undo and redo fit the text, and that the session stays sound.
     plans_are_fit();
     soundness_is_kept();
     let mut notes = NoteList::new(alloc);

@@ -1,4 +1,4 @@
-//! Where a reply is left: in a place of the caller's, who keeps the value apart.
+//! Replies that are left in a place of the caller's, who keeps the value apart.
 
 ghost use Rattle.std.specs.Prelude.{◌≡◌, ◌==◌, ◌&&◌, ◌⊎◌, length, Ok};
 ghost use Rattle.ed_model.specs.Performing.{quiet};
@@ -7,7 +7,7 @@ ghost use Rattle.editor_session.specs.Left.{told, is_value_alone, IsLeft};
 use ed_types::{Bytes, Refusal, Reply};
 use std::alloc::Global;
 
-/// The reply of a value alone. Takes no memory.
+/// Returns a reply with only a value. Allocates nothing.
 #[inline(always)]
 pub(crate) fn answer(alloc: Global, value: i64) -> Reply
     ensures { result ≡ quiet value }
@@ -15,7 +15,7 @@ pub(crate) fn answer(alloc: Global, value: i64) -> Reply
     Reply::quiet(alloc, value, Bytes::empty(alloc))
 }
 
-/// Whether a reply has neither a text nor notes.
+/// Returns whether a reply has neither a text nor notes.
 #[inline(always)]
 fn is_value_alone(reply: &Reply) -> bool
     ensures { result ≡ is_value_alone reply.now }
@@ -23,7 +23,7 @@ fn is_value_alone(reply: &Reply) -> bool
     reply.text().is_empty() && reply.note_count() == 0
 }
 
-/// Puts a reply in the place of another. It stands apart, since it is seldom needed.
+/// Replaces a reply. Out of line, since it is seldom needed.
 #[inline(never)]
 fn put(reply: &mut Reply, new: Reply)
     ensures { reply.new ≡ new }
@@ -31,7 +31,7 @@ fn put(reply: &mut Reply, new: Reply)
     *reply = new;
 }
 
-/// Leaves a reply in the place of another, and returns its value. Where neither has a text or notes, nothing is written.
+/// Replaces `reply` by `new`, and returns the value. Writes nothing if neither has a text or notes.
 #[inline(always)]
 pub(crate) fn keep(reply: &mut Reply, new: Reply) -> i64
     ensures whole { record reply.new { value = result } ≡ new }
@@ -45,7 +45,7 @@ pub(crate) fn keep(reply: &mut Reply, new: Reply) -> i64
     value
 }
 
-/// The same with a reply that may have been refused.
+/// The same for a result.
 #[inline(always)]
 pub(crate) fn keep_made(reply: &mut Reply, made: Result<Reply, Refusal>) -> Result<i64, Refusal>
     ensures told { told result reply.new ≡ made }
@@ -57,7 +57,7 @@ pub(crate) fn keep_made(reply: &mut Reply, made: Result<Reply, Refusal>) -> Resu
     }
 }
 
-/// The whole reply, of what was left and its value.
+/// Returns the whole reply: what was left, with this value.
 pub(crate) fn whole(alloc: Global, value: i64, reply: Reply) -> Reply
     requires place { (reply.value ≡ value) ⊎ (reply ≡ quiet reply.value) }
     ensures { result ≡ record reply { value = value } }

@@ -16,11 +16,11 @@ use document_table::DocumentTable;
 use ed_types::Refusal;
 use message_requests::SessionState;
 
-/// The id of the document of a view, where so many bytes lie in its text from `start` on. Takes no memory.
+/// Returns the id of the document of `view`, if its text has `count` bytes from `start` on. Allocates nothing.
 ///
 /// # Errors
 ///
-/// `NoSuchView` where no view has this id, `BadArgument` where `start + count` is past the end of the text.
+/// `NoSuchView` if there is no such view, `BadArgument` if `start + count` is past the end of the text.
 #[inline(always)]
 pub(crate) fn document_with(
     state: &SessionState,
@@ -47,7 +47,7 @@ pub(crate) fn document_with(
     Ok(found.view.document())
 }
 
-/// Lends the `count` bytes of a document from `start` on. All documents stay as they are.
+/// Lends the `count` bytes of a document from `start` on. The documents do not change.
 #[inline(always)]
 fn lend_in(documents: &mut DocumentTable, document: u32, start: usize, count: usize) -> &[u8]
     requires there { IsSomeAnd (value_at documents.old.entries document) (λ k. start + count ≤ length k.document.cells) }
@@ -62,7 +62,7 @@ fn lend_in(documents: &mut DocumentTable, document: u32, start: usize, count: us
     document.lend(start, count)
 }
 
-/// The same in a session's state, which stays as it is.
+/// The same in a session's state, which does not change.
 #[inline(always)]
 pub(crate) fn lend(state: &mut SessionState, document: u32, start: usize, count: usize) -> &[u8]
     requires there { IsSomeAnd (value_at state.old.documents.entries document) (λ k. start + count ≤ length k.document.cells) }

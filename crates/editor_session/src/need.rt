@@ -1,4 +1,4 @@
-//! What a replacement of bytes needs of memory, told before any is taken; and room in a document.
+//! The memory that a replacement of bytes needs, counted before any is allocated; and room in a document.
 
 ghost use Rattle.std.specs.Prelude.{◌≡◌, ◌≤◌, ◌+◌, ◌-◌, [], length, OnOk, IsOk};
 ghost use Rattle.ed_model.specs.Steps.{replacement};
@@ -17,7 +17,7 @@ use id_table::IdTable;
 use scene::{NoteRoom, SceneNeed, leaving_need, note_need};
 use std::alloc::AllocError;
 
-/// Nothing.
+/// Returns the need of nothing.
 fn none() -> SceneNeed
     ensures { result ≡ no_need }
 {
@@ -27,7 +27,7 @@ fn none() -> SceneNeed
     }
 }
 
-/// The notes and the room in the document that both need.
+/// Returns the sum of both needs.
 fn plus(first: SceneNeed, second: SceneNeed) -> SceneNeed
     ensures { result ≡ need_sum first second }
 {
@@ -37,7 +37,7 @@ fn plus(first: SceneNeed, second: SceneNeed) -> SceneNeed
     }
 }
 
-/// The same need, after steps that leave so many bytes of room in the text.
+/// Returns the need after steps that free `freed` bytes of the text, which become room.
 fn beside(need: SceneNeed, freed: usize) -> SceneNeed
     ensures { result ≡ record need { document = record need.document { text = need.document.text - freed } } }
 {
@@ -50,7 +50,7 @@ fn beside(need: SceneNeed, freed: usize) -> SceneNeed
     }
 }
 
-/// So many notes without texts.
+/// Returns the need of so many notes without texts.
 fn of_notes(notes: usize) -> SceneNeed
     ensures { result ≡ record no_need { notes = note_room notes 0 } }
 {
@@ -60,7 +60,7 @@ fn of_notes(notes: usize) -> SceneNeed
     }
 }
 
-/// What a step needs of the document and of the notes, but for those that the save point is left.
+/// Returns what a step needs of the document and for its notes, except those that say that the save point is left.
 fn step_need(document: &Document, views: &IdTable<View>, step: TextStep) -> SceneNeed
     requires fits { IsStepOn step (length document.now.document.cells) }
     requires named { AreNamed views.now.entries }
@@ -73,7 +73,7 @@ fn step_need(document: &Document, views: &IdTable<View>, step: TextStep) -> Scen
     }
 }
 
-/// What the steps of an edit need that replaces the `count` bytes from `start` on by these: what goes makes room for what comes.
+/// Returns what the steps need that replace the `count` bytes from `start` on by `bytes`. Deleted bytes become room for inserted ones.
 pub(crate) fn replacement_need(
     document: &Document,
     views: &IdTable<View>,
@@ -110,12 +110,11 @@ pub(crate) fn replacement_need(
     plus(need, beside(step_need(document, views, insertion), count))
 }
 
-/// Makes room for so much in a document.
+/// Makes this room in a document.
 ///
 /// # Errors
 ///
-/// `AllocError` where memory is refused, or the document's places are too narrow for so long a text. Its text and all that is
-/// kept of it are as they were, here too.
+/// `AllocError` if an allocation fails, or the document's places are too narrow for so long a text. The document is then as it was.
 #[inline(always)]
 pub(crate) fn reserve(document: &mut Document, need: DocumentRoom) -> Result<(), AllocError>
     ensures same { document.new.document ≡ document.old.document }

@@ -15,11 +15,11 @@ use ed_view::View;
 use message_requests::SessionState;
 use std::alloc::{AllocError, Global};
 
-/// A new document of this id without text, to which the view of that id is attached, and that view.
+/// Returns a new view with this id, attached to a new document with that id and no text, and the document.
 ///
 /// # Errors
 ///
-/// `AllocError` where memory is refused.
+/// `AllocError` if an allocation fails.
 fn make_view(alloc: Global, document: u32, view: u32) -> Result<(Document, View), AllocError>
     ensures { IfOk result (λ made. (made.0.document ≡ document_for view document) × (made.1.view ≡ new_view view (new_document document 0))) }
 {
@@ -36,7 +36,7 @@ fn make_view(alloc: Global, document: u32, view: u32) -> Result<(Document, View)
 ///
 /// # Errors
 ///
-/// `AllocError` where memory is refused. All is then as it was.
+/// `AllocError` if an allocation fails. The session is then as it was.
 pub(crate) fn open(alloc: Global, state: &mut SessionState) -> Result<u32, AllocError>
     requires document_ids { state.old.documents.next + 1 < 2 ^ 32 }
     requires view_ids { state.old.views.next + 1 < 2 ^ 32 }
@@ -60,11 +60,11 @@ pub(crate) fn open(alloc: Global, state: &mut SessionState) -> Result<u32, Alloc
     Ok(state.views.insert_reserved(view))
 }
 
-/// Closes the view of an id. Its document goes with it, if nothing else refers to it. Takes no memory.
+/// Closes the view with this id, and drops its document if nothing else refers to it. Allocates nothing.
 ///
 /// # Errors
 ///
-/// `NoSuchView` where no view has this id. All is then as it was.
+/// `NoSuchView` if there is no such view. The session is then as it was.
 pub(crate) fn close(state: &mut SessionState, view: u32) -> Result<(), Refusal>
     requires kept { IsKept state.old }
     ensures closed { OnOk result (closed (session_in state.old) view ≡ Ok (session_in state.new)) }
@@ -77,7 +77,7 @@ pub(crate) fn close(state: &mut SessionState, view: u32) -> Result<(), Refusal>
     let Some(open) = state.views.get(view) else {
         return Err(Refusal::NoSuchView);
     };
-    // The law that the documents left are the living.
+    // States that the documents that are left are the living.
     the_living_are_left();
     state.documents.leave(open.document(), view);
     state.views.remove(view);

@@ -18,12 +18,12 @@ use message_plans::{handed_of, text_question_of};
 use message_requests::{Request, SentMessage, SessionState};
 use std::alloc::{AllocError, Global};
 
-/// Puts the `count` bytes of a document from `start` on in the place of what a buffer holds. A buffer that has no room for them becomes
-/// another, which has so much more room that texts which become longer and longer take amortised constant time for each byte.
+/// Replaces the contents of a buffer by the `count` bytes of a document from `start` on. A buffer that is too small is replaced by a larger
+/// one, with so much spare capacity that ever longer texts take amortised constant time for each byte.
 ///
 /// # Errors
 ///
-/// `AllocError` where memory is refused. The buffer is then as it was.
+/// `AllocError` if an allocation fails. The buffer is then as it was.
 fn read_bytes(
     alloc: Global,
     document: &Document,
@@ -49,8 +49,8 @@ fn read_bytes(
     Ok(())
 }
 
-/// Answers this text question to the view of an id. `None` where the table refuses it or no bytes are handed out, and where memory is
-/// refused. It stands apart, so that other messages set up nothing of it.
+/// Answers this text question to `view`. `None` if the table refuses it, it hands out no bytes or an allocation fails. Out of line, so that
+/// other messages do not pay for its stack frame.
 #[inline(never)]
 fn read_as(
     alloc: Global,
@@ -70,13 +70,13 @@ fn read_as(
     ensures room_stays { vec_capacity into.old ≤ vec_capacity into.new }
     ensures same { IfNone result (into.new ≡ into.old) }
 {
-    // The laws that each kind is found by its number, and that what is handed out lies in the text.
+    // States that each kind is found by its number, and that what is handed out lies in the text.
     kinds_and_numbers();
     plans_are_fit();
     let Some(found) = look_up(state, view) else {
         return None;
     };
-    // No text question reads a text.
+    // Text questions read no text of the message.
     let message = SentMessage {
         number,
         w,
@@ -98,8 +98,8 @@ fn read_as(
     }
 }
 
-/// Answers a text question to the view of an id by its value, and puts its bytes in the place of what a buffer holds. `None` for all
-/// other messages, for what the table refuses, where no bytes are handed out, and where memory is refused.
+/// Answers a text question to `view`: returns the value, and replaces the contents of a buffer by the bytes. `None` for all other messages,
+/// and if the table refuses the message, it hands out no bytes or an allocation fails.
 #[inline(always)]
 pub(crate) fn read(
     alloc: Global,

@@ -31,7 +31,7 @@ impl Model for Run {
 }
 
 impl Run {
-    /// A run from a session. Takes no memory.
+    /// Returns a run from a session. Allocates nothing.
     pub fn new(session: Session) -> Self
         ensures { result ≡ starting session }
     {
@@ -41,20 +41,20 @@ impl Run {
         }
     }
 
-    /// The session as it stands.
+    /// Returns the session as it is now.
     pub fn session(&self) -> &Session
         ensures { result.now ≡ self.now.session }
     {
         &self.session
     }
 
-    /// Does one command, and answers what came of it. `load` takes its file from `files`, where the first is 1. A command that is refused
-    /// for another reason than want of memory is an outcome, behind which the run goes on.
+    /// Performs one command, and returns its outcome. `load` takes its file from `files`, where the first is 1. A refusal other than want of
+    /// memory is an outcome, after which the run goes on.
     ///
     /// # Errors
     ///
-    /// `AllocError` where the command was refused for want of memory, which never comes of one that takes none, nor of one that is
-    /// refused by the definitions; the run is then as it was.
+    /// `AllocError` if an allocation fails: never for a command that allocates nothing, or one that the definitions refuse. The run is then
+    /// as it was.
     pub fn step(&mut self, files: &[Bytes], command: &Command) -> Result<Outcome, AllocError>
         ensures state { OnOk result (self.new ≡ (after_command files.now command.now self.old).0) }
         ensures outcome { IfOk result (λ outcome. outcome ≡ (after_command files.now command.now self.old).1) }
@@ -62,7 +62,7 @@ impl Run {
         ensures refused { (refusal : Refusal) → (after_command files.now command.now self.old).1 ≡ Refused refusal → IsOk result }
         ensures free { takes_no_memory self.old.session command.now ≡ true → IsOk result }
     {
-        // The laws that want of memory is no refusal of a plan to a sound session.
+        // States that no plan for a sound session is refused for want of memory.
         plans_are_fit();
         self.session.soundness();
         match command {
@@ -89,11 +89,11 @@ impl Run {
         }
     }
 
-    /// Does commands in order, and answers what came of each.
+    /// Performs commands in order, and returns the outcome of each.
     ///
     /// # Errors
     ///
-    /// `AllocError` where memory is refused; the run then stands behind the commands that were done.
+    /// `AllocError` if an allocation fails. The run is then that after the commands that were performed.
     pub fn run(
         &mut self,
         alloc: Global,
@@ -112,7 +112,7 @@ impl Run {
         Ok(done)
     }
 
-    /// The outcome of a command that was done, whose value is kept.
+    /// Returns the outcome of a command that was performed, and keeps its value.
     fn done(&mut self, value: i64, outcome: Outcome) -> Outcome
         ensures run { self.new ≡ record self.old { value = Some value } }
         ensures outcome { result ≡ outcome }
@@ -121,7 +121,7 @@ impl Run {
         outcome
     }
 
-    /// The outcome of a command that was refused, after which there is no value.
+    /// Returns the outcome of a command that was refused, after which there is no value.
     fn refused(&mut self, refusal: Refusal) -> Result<Outcome, AllocError>
         ensures outcome { IfOk result (λ outcome. outcome ≡ Refused refusal) }
         ensures memory { IsErr result ↔ (refusal ≡ OutOfMemory) }
@@ -139,7 +139,7 @@ impl Run {
     ///
     /// # Errors
     ///
-    /// `NoSuchView`, then `BadArgument` where there is no such file; else those of the message that sets the text.
+    /// `NoSuchView`, then `BadArgument` if there is no such file; otherwise those of the message that sets the text.
     fn load(&mut self, files: &[Bytes], view: u32, file: u32) -> Result<Reply, Refusal>
         ensures answer { AnswersBy (loaded self.old.session view (view_at self.old.session.views view) (file_at files.now file)) self.old.session self.new.session result }
         ensures refused { IfErr (loaded self.old.session view (view_at self.old.session.views view) (file_at files.now file)) (λ refusal. result ≡ Err refusal) }

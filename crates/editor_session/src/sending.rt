@@ -1,8 +1,7 @@
-//! A message on its way through a session. `answer_message` answers a question first; `answer_into` does not, and plans it as others. Then
-//! both try the short ways. A frequent change is made with its notes where the view that it is sent to listens for such changes, and
-//! without notes where no view listens. Undo and redo are performed at once where no view listens. A message by which a search goes from
-//! match to match is answered by its plan alone where the view does not record. All else, and what is refused, is planned, and then
-//! answered at once or carried out.
+//! A message on its way through a session. `answer_message` tries first whether it is a question; `answer_into` does not. Then both try the
+//! fast paths: a frequent change, with notes if the view that it is sent to listens for such changes, and without if no view listens; UNDO
+//! and REDO, if no view listens; and a message by which a search goes from match to match, if the view does not record. All others, and what
+//! is refused, are planned and performed.
 
 ghost use Rattle.std.specs.Prelude.{◌≡◌, ◌≢◌, ◌&&◌, true, IfErr, IfSome, IfNone, Ok, Err, Some};
 ghost use Rattle.ed_types.specs.declared.refusal.Refusal.TheVariants.{OutOfMemory};
@@ -29,7 +28,7 @@ use message_plans::{frequent_change_of, frequent_plan_of, target_message_of, tex
 use message_requests::{Request, SessionState};
 use std::alloc::Global;
 
-/// Whether the view of a message hears of it, since it records.
+/// Returns whether the view of a message records it.
 #[inline(always)]
 fn is_recorded(kind: Kind, request: &Request) -> bool
     ensures { result ≡ (request.now.view.records && (marks_of kind).r) }
@@ -37,12 +36,11 @@ fn is_recorded(kind: Kind, request: &Request) -> bool
     request.view.records() && kind.columns().r
 }
 
-/// Answers a message to the view of an id by its plan: the value is returned, and the text and the notes of its reply take the place
-/// of another's.
+/// Plans and performs a message to `view`. Returns the value; the text and the notes of the reply replace those of `reply`.
 ///
 /// # Errors
 ///
-/// The refusal of the message table; `OutOfMemory` where memory is refused. The session and the place are then as they were.
+/// The refusal of the message table, or `OutOfMemory` if an allocation fails. The session and `reply` are then as they were.
 #[inline(always)]
 fn answer_into_by_plan(
     alloc: Global,
@@ -61,7 +59,7 @@ fn answer_into_by_plan(
     ensures kept { IsKept state.new }
     ensures free { is_free (session_in state.old) view (message_with number w l text.now) ≡ true → IfErr result (λ refusal. refusal ≢ OutOfMemory) }
 {
-    // The laws that a plan's numbers are in range, and that no refusal is for want of memory.
+    // States that a plan's numbers are in range, and that no plan is refused for want of memory.
     plans_are_fit();
     let (kind, request) = match find(state, view, number, w, l, text) {
         Ok(found) => found,
@@ -89,8 +87,8 @@ fn answer_into_by_plan(
     }
 }
 
-/// Does what a message to the view of an id asks for, and returns the value that is answered, if that takes no notes and no plan, or no
-/// more than the view's target. Of all others it does nothing. `frequent` is as for `settle`.
+/// Performs a message to `view` on a fast path that needs no notes, and returns the value. `None`, with nothing changed, if there is none.
+/// `frequent` is as for `settle`.
 #[inline(always)]
 fn settle_at_once(
     alloc: Global,
@@ -114,12 +112,12 @@ fn settle_at_once(
     settle(alloc, state, view, frequent, number, w, l)
 }
 
-/// Answers a message to the view of an id: the value is returned, and the text and the notes of its reply take the place of another's.
-/// It stands apart, so that a plain question sets up nothing of it.
+/// Answers a message to `view`. Returns the value; the text and the notes of the reply replace those of `reply`. Out of line, so that plain
+/// questions do not pay for its stack frame.
 ///
 /// # Errors
 ///
-/// The refusal of the message table; `OutOfMemory` where memory is refused. The session and the place are then as they were.
+/// The refusal of the message table, or `OutOfMemory` if an allocation fails. The session and `reply` are then as they were.
 #[inline(never)]
 pub(crate) fn answer_into(
     alloc: Global,
@@ -149,11 +147,11 @@ pub(crate) fn answer_into(
     }
 }
 
-/// Answers a message to the view of an id by its plan. It stands apart, so that what is answered without one sets up nothing of it.
+/// Plans and performs a message to `view`. Out of line, so that the fast paths do not pay for its stack frame.
 ///
 /// # Errors
 ///
-/// The refusal of the message table; `OutOfMemory` where memory is refused. The session is then as it was.
+/// The refusal of the message table, or `OutOfMemory` if an allocation fails. The session is then as it was.
 #[inline(never)]
 fn answer_by_plan(
     alloc: Global,
@@ -177,13 +175,12 @@ fn answer_by_plan(
     }
 }
 
-/// Answers a message that asks for a frequent change, to the view of an id that hears of such changes: it is made with the notes for all
-/// views that hear of it. What changes nothing, and what is refused, goes by its plan. It stands apart, so that changes of which nobody
-/// hears set up no notes.
+/// Answers a frequent change that is sent to a view that listens for such changes: makes it, with the notes for all views that listen. What
+/// changes nothing or is refused is planned. Out of line, so that changes without listeners do not pay for a list of notes.
 ///
 /// # Errors
 ///
-/// The refusal of the message table; `OutOfMemory` where memory is refused. The session is then as it was.
+/// The refusal of the message table, or `OutOfMemory` if an allocation fails. The session is then as it was.
 #[inline(never)]
 fn answer_heard_change(
     alloc: Global,
@@ -216,12 +213,12 @@ fn answer_heard_change(
     )
 }
 
-/// Answers a message that hands out bytes of the document: they are read into memory that becomes the reply's. Where nothing is read, it
-/// goes by its plan. It stands apart, so that other messages set up no buffer.
+/// Answers a text question: reads the bytes into memory that becomes the reply's. If nothing is read, the message is planned. Out of line, so
+/// that other messages do not pay for a buffer.
 ///
 /// # Errors
 ///
-/// The refusal of the message table; `OutOfMemory` where memory is refused. The session is then as it was.
+/// The refusal of the message table, or `OutOfMemory` if an allocation fails. The session is then as it was.
 #[inline(never)]
 fn answer_text_question(
     alloc: Global,
@@ -245,11 +242,11 @@ fn answer_text_question(
     }
 }
 
-/// Answers a message to the view of an id.
+/// Answers a message to `view`.
 ///
 /// # Errors
 ///
-/// The refusal of the message table; `OutOfMemory` where memory is refused. The session is then as it was.
+/// The refusal of the message table, or `OutOfMemory` if an allocation fails. The session is then as it was.
 pub(crate) fn answer_message(
     alloc: Global,
     state: &mut SessionState,

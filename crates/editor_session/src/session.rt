@@ -25,7 +25,7 @@ use message_requests::SessionState;
 use std::alloc::Global;
 use std::marker::Model;
 
-/// A session: documents, and the views on them. Contracts see it as the session of the message table.
+/// A session: documents, and the views of them. Contracts see it as the session of the message table.
 #[derive(Drop)]
 pub struct Session {
     alloc: Global,
@@ -44,14 +44,14 @@ impl Model for Session {
     ghost invariant = { λ s. IsKept s.state };
 }
 
-/// Whether a limit is from 1 to the greatest that it may be.
+/// Returns whether a limit is from 1 to the greatest that it may be.
 fn is_between_one_and(greatest: u64, limit: u64) -> bool
     ensures { result ≡ is_between_one_and greatest limit }
 {
     0 < limit && limit <= greatest
 }
 
-/// Whether a session may have these limits.
+/// Returns whether a session may have these limits.
 fn is_allowed(limits: &Limits) -> bool
     ensures { result ≡ is_allowed limits.now }
 {
@@ -68,18 +68,18 @@ impl Session {
     ghost use Rattle.std.specs.Borrow.{sem};
     ghost use Rattle.editor_session.specs.Lends.{lent_and_back};
 
-    /// No documents and no views, with the greatest limits. Takes no memory.
+    /// Returns a session without documents and views, with the greatest limits. Allocates nothing.
     pub fn new(alloc: Global) -> Self
         ensures { result ≡ new_session greatest_limits }
     {
         Session::with_allowed(alloc, Limits::GREATEST)
     }
 
-    /// No documents and no views, with lower limits. Takes no memory.
+    /// Returns a session without documents and views, with lower limits. Allocates nothing.
     ///
     /// # Errors
     ///
-    /// `BadArgument` where a limit is 0 or above the greatest.
+    /// `BadArgument` if a limit is 0 or above the greatest.
     pub fn with_limits(alloc: Global, limits: Limits) -> Result<Self, Refusal>
         ensures { result ≡ limited limits }
     {
@@ -90,7 +90,7 @@ impl Session {
         }
     }
 
-    /// The same, with limits that it may have.
+    /// Returns a session without documents and views. It has to be allowed to have these limits.
     fn with_allowed(alloc: Global, limits: Limits) -> Self
         requires { is_allowed limits ≡ true }
         ensures { result ≡ new_session limits }
@@ -106,17 +106,17 @@ impl Session {
         }
     }
 
-    /// Opens a view on a new document, and answers its id: 1, 2, 3 and so on. No id is given twice.
+    /// Opens a view on a new document, and returns its id: 1, 2, 3 and so on. No id is given twice.
     ///
     /// # Errors
     ///
-    /// `TooMany` where the open views are at their limit or ids are used up, before any memory is taken; `OutOfMemory` where a
-    /// growth is refused. The session is then as it was.
+    /// `TooMany` if the open views are at their limit or ids are used up, before anything is allocated; otherwise `OutOfMemory` if an
+    /// allocation fails. The session is then as it was.
     pub fn new_view(&mut self) -> Result<u32, Refusal>
         ensures answer { AnswersBy (opened self.old) self.old self.new result }
         ensures refused { IfErr (opened self.old) (λ refusal. result ≡ Err refusal) }
     {
-        // The law that the session stays sound.
+        // States that the session stays sound.
         soundness_is_kept();
         let state = &self.state;
         if state.limits.views <= state.views.len() as u64
@@ -131,22 +131,22 @@ impl Session {
         Ok(view)
     }
 
-    /// Closes a view. A document that no view is attached to and no caller holds goes with it. Takes no memory.
+    /// Closes a view, and drops its document if no other view is attached to it and no caller holds it. Allocates nothing.
     ///
     /// # Errors
     ///
-    /// `NoSuchView` where no view has this id now; the session is then as it was.
+    /// `NoSuchView` if no open view has this id. The session is then as it was.
     pub fn close_view(&mut self, view: u32) -> Result<(), Refusal>
         ensures closed { OnOk result (closed self.old view ≡ Ok self.new) }
         ensures refused { IfErr result (λ refusal. closed self.old view ≡ Err refusal) }
         ensures same { OnErr result (self.new ≡ self.old) }
     {
-        // The law that the session stays sound.
+        // States that the session stays sound.
         soundness_is_kept();
         close(&mut self.state, view)
     }
 
-    /// Whether a view with this id is open.
+    /// Returns whether a view with this id is open.
     pub(crate) fn has_view(&self, view: u32) -> bool
         ensures { result ≡ is_some (view_at self.now.views view) }
     {
@@ -165,7 +165,7 @@ impl Session {
     /// # Errors
     ///
     /// The first refusal that holds, in the order `NoSuchView`, `UnknownMessage`, `BadArgument`, `NoSuchDocument`, `TooMany`,
-    /// `TooLong`, found before any memory is taken; else `OutOfMemory` where a growth is refused, which never comes of a
+    /// `TooLong`, found before anything is allocated; otherwise `OutOfMemory` if an allocation fails, which is never answered to a
     /// message whose plan needs no memory, unless it is recorded. The session is then as it was.
     pub fn send(&mut self, view: u32, m: &Message) -> Result<Reply, Refusal>
         ensures answer { AnswersBy (table self.old view m.now) self.old self.new result }
@@ -175,7 +175,7 @@ impl Session {
         self.send_lent(view, m.number, m.w, m.l, m.text.as_slice())
     }
 
-    /// Sends a message whose text is lent.
+    /// Sends a message with a borrowed text, which is not copied.
     ///
     /// # Errors
     ///
@@ -195,9 +195,9 @@ impl Session {
         answer_message(self.alloc, &mut self.state, view, number, w, l, text)
     }
 
-    /// Sends any message as `send_lent` does, but leaves its reply in the place of `reply`, and returns its value. Where neither reply
-    /// has a text or notes, nothing is written, and `reply.value()` is not this message's value: the result alone is. It does not try
-    /// first whether the message is a plain question, as `ask` does.
+    /// Sends any message as `send_lent` does, but replaces `reply` by its reply, and returns the value. If neither reply has a text or
+    /// notes, nothing is written, and `reply.value()` is not this message's value: use the result. It does not try first whether the
+    /// message is a question: use `ask` and `read` for these.
     ///
     /// # Errors
     ///
@@ -219,9 +219,10 @@ impl Session {
         answer_into(self.alloc, &mut self.state, view, number, w, l, text, reply)
     }
 
-    /// Asks a view a plain question, as GETLENGTH or GETCHARAT: one of 36 messages that are answered by a number of the document or of
-    /// the view (`questions` of the definitions; `docs/MESSAGES.md` names them). Sent with whatever text, the message is answered by a reply of this value alone, and leaves
-    /// the session as it is. `None` for all other messages, and for what is refused: `send` says why. Takes no memory.
+    /// Asks a view a plain question, such as GETLENGTH or GETCHARAT: one of 36 messages that are answered by a number of the document or
+    /// of the view (`questions` of the definitions; `docs/MESSAGES.md` names them), and that do not change the session. `send` would
+    /// answer the same value, with whatever text. `None` for all other messages, and for what is refused: `send` says why. Allocates
+    /// nothing.
     #[inline(always)]
     pub fn ask(&self, view: u32, number: u32, w: i64, l: i64) -> Option<i64>
         ensures value { result ≡ value_to self.now view (message_with number w l []) }
@@ -230,11 +231,11 @@ impl Session {
         ask(&self.state, view, number, w, l)
     }
 
-    /// Asks a view a text question, as GETTEXTRANGE or GETLINE: a message that hands out bytes of the document (`text_questions` of the
-    /// definitions). Its bytes take the place of what `into` holds, which keeps its room or gets more, and its value is answered. Sent with
-    /// whatever text, the message is answered by a reply of this value and these bytes, and leaves the session as it is. `None` for all
-    /// other messages, for what is refused or hands out no bytes, and where `into` has not the room and memory is refused; `into` is
-    /// then as it was, and `send` says why.
+    /// Asks a view a text question, such as GETTEXTRANGE or GETLINE: a message that hands out bytes of the document (`text_questions` of
+    /// the definitions), and does not change the session. Replaces the contents of `into` by the bytes, and returns the value; the
+    /// capacity of `into` never shrinks. `send` would answer this value and these bytes, with whatever text. `None` for all other
+    /// messages, for what is refused or hands out no bytes, and if `into` is too small and an allocation fails; `into` is then as it was,
+    /// and `send` says why.
     #[inline(always)]
     pub fn read(&self, view: u32, number: u32, w: i64, l: i64, into: &mut Vec<u8>) -> Option<i64>
         ensures reply { IfSome result (λ value. reply_to self.now view (message_with number w l []) ≡ Some (response value into.new.items [])) }
@@ -246,12 +247,12 @@ impl Session {
         read(self.alloc, &self.state, view, number, w, l, into)
     }
 
-    /// Lends the `count` bytes of the view's document from `start` on as one slice, which is not copied. The session stays as
-    /// it is. Takes no memory.
+    /// Lends the `count` bytes of the view's document from `start` on as one slice, without a copy. The session does not change.
+    /// Allocates nothing.
     ///
     /// # Errors
     ///
-    /// `NoSuchView` where no view has this id now; `BadArgument` where `start + count` is past the end of the text.
+    /// `NoSuchView` if no open view has this id, `BadArgument` if `start + count` is past the end of the text.
     #[inline(always)]
     pub fn lend_range(&mut self, view: u32, start: usize, count: usize) -> Result<&[u8], Refusal>
         ensures* back { sem 𝓛 (lent_and_back self.entry) }

@@ -1,5 +1,5 @@
-//! Messages that set the target of a view or search in it, of which a search from match to match sends two for each match. They are
-//! answered without a place for notes and a reply.
+//! Messages that set the target of a view or search in it: a search from match to match sends two of them for each match. They need no notes
+//! and no reply.
 
 ghost use Rattle.std.specs.Prelude.{◌≡◌, Ok, IfNone, IfSome};
 ghost use Rattle.ed_model.specs.Performing.{quiet};
@@ -14,8 +14,8 @@ use ed_model::{Plan, plans_are_fit};
 use message_plans::target_plan_of;
 use message_requests::SessionState;
 
-/// Does what such a message to the view of an id asks for, and returns the value that is answered. Of what the table refuses, and of all
-/// other messages, it does nothing, and where the view records. It stands apart, so that other messages set up nothing of it.
+/// Performs such a message to `view`, and returns the value that is answered. `None`, with nothing changed, for all other messages, and if the
+/// table refuses the message or the view records. Out of line, so that other messages do not pay for its stack frame.
 #[inline(never)]
 pub(crate) fn turn_target(
     state: &mut SessionState,
@@ -30,7 +30,7 @@ pub(crate) fn turn_target(
     ensures same { IfNone result (session_in state.new ≡ session_in state.old) }
     ensures kept { IsKept state.new }
 {
-    // The laws that a plan's numbers are in range, and that no refusal is for want of memory.
+    // States that a plan's numbers are in range, and that no plan is refused for want of memory.
     plans_are_fit();
     let (kind, request) = match find(state, view, number, w, l, text) {
         Ok(found) => found,
