@@ -11,6 +11,7 @@ use Rattle.ed_model.specs.declared.plan.Plan.TheVariants as plan
 use Rattle.ed_model.specs.Edits.{steps_of, has_steps}
 use Rattle.ed_model.specs.LineEnds.{converted}
 use Rattle.ed_model.specs.Performing.{Scene, session_of, followed, with_caret, with_target}
+use Rattle.ed_model.specs.PlansFit.{EditStepsFit}
 use Rattle.ed_model.specs.Requests.{Request}
 use Rattle.ed_model.specs.Session.{Document, Session, text_of}
 use Rattle.ed_model.specs.Steps.{Step, insertion}
@@ -27,8 +28,10 @@ use Rattle.editor_session.specs.Edits.{CanEdit, Edits, edit_steps, scene_after}
 use Rattle.editor_session.specs.Plans.{takes_nothing_along}
 use Rattle.editor_session.specs.Tasks.{IsAskedBy, task_of}
 use Rattle.editor_session.specs.Unheard.{IfFree, IsSentWith}
+use Rattle.editor_session.specs.Widths.{StepsFitWidth}
+use Rattle.editor_session.proofs.Widths.{steps_fit_width}
 use Rattle.editor_session.proofs.Needing.{no_steps, nothing_along}
-use Rattle.editor_session.proofs.PlanLemmas.{DoneFor, asked_by, document_here, kept_at, of_kept, for_kept, session_is, takes_here, within_here, watched_here, same_steps, edited}
+use Rattle.editor_session.proofs.PlanLemmas.{DoneFor, asked_by, document_here, kept_at, of_kept, for_kept, session_is, takes_here, within_here, limits_here, watched_here, same_steps, edited}
 use Rattle.editor_session.proofs.TableWay.{free_task}
 
 -- The session after an edit and what follows it.
@@ -51,14 +54,14 @@ followed_so (follow.Clipboard start count) view before taken s s' between notes'
     rw (done.documents_after, views, held, next_document, next_view, limits) refl
 
 pub edited_with : (s s' : SessionState) (document view : ℕ) (text pasted taken : List ℕ) (change : Edit) (after : Follow) (between : Entries KeptView) (notes notes' : Gathered)
-    → IsSomeAnd (value_at s.documents.entries document) (CanEdit change text after taken s)
+    → IsSomeAnd (value_at s.documents.entries document) (CanEdit change text pasted after taken s)
     → IfSome (value_at s.documents.entries document) (λ k. Becomes (scene_after change text pasted s notes k) s.documents s'.documents between notes')
     → views_of s'.views.entries ≡ followed_views view after (views_of between.entries) → s'.clipboard.items ≡ followed_clipboard after taken s.clipboard.items
     → s'.documents.next ≡ s.documents.next → s'.views.next ≡ s.views.next → s'.limits ≡ s.limits
     → IfSome (value_at s.documents.entries document) (λ k. Edits view change text pasted after s notes k s' notes')
 edited_with s s' document view text pasted taken change after between notes notes' can done moved clipboard next_document next_view limits = go (value_at s.documents.entries document) can done
   where
-    go : (o : Option Kept) → IsSomeAnd o (CanEdit change text after taken s) → IfSome o (λ k. Becomes (scene_after change text pasted s notes k) s.documents s'.documents between notes')
+    go : (o : Option Kept) → IsSomeAnd o (CanEdit change text pasted after taken s) → IfSome o (λ k. Becomes (scene_after change text pasted s notes k) s.documents s'.documents between notes')
         → IfSome o (λ k. Edits view change text pasted after s notes k s' notes')
     go None can done = absurd can
     go (Some k) can done = record {
@@ -116,18 +119,23 @@ module _ (s : SessionState) (kept : IsKept s) (document view : ℕ) (text : List
         let by = asked_by s view sent.message task t in
         for_kept s task sent.message.text kept t.request by (λ k. TakesWithin after (length k.document.cells)) (takes_here s task sent.message.text kept t.request by change sent.value after t.fit)
 
-    pub can_edit : (taken : List ℕ) → IfSome (value_at s.documents.entries document) (λ k. taken ≡ taken_along after (text_of k.document)) → IsSomeAnd (value_at s.documents.entries document) (CanEdit change text after taken s)
-    can_edit taken is =
+    pub can_edit : EditStepsFit → (taken : List ℕ) → IfSome (value_at s.documents.entries document) (λ k. taken ≡ taken_along after (text_of k.document))
+        → (pasted : List ℕ) → IfSome (value_at s.documents.entries document) (λ k. IsPastedFor change s.clipboard.items k.document.line_end pasted)
+        → IsSomeAnd (value_at s.documents.entries document) (CanEdit change text pasted after taken s)
+    can_edit fit taken is pasted turned =
         let sent = by_text.sent in
         let t = sent.task in
         let r = t.request in
         let task = task_of document view (plan.Edit change sent.value after) sent.is_recorded in
         let by = subst (λ x. IsAskedBy (session_in s) task x r) by_text.text_is (asked_by s view sent.message task t) in
         let at = kept_at s task text kept r by in
-        for_kept s task text kept r by (CanEdit change text after taken s)
+        let turned_at = of_kept s task text kept r by (λ k. IsPastedFor change s.clipboard.items k.document.line_end pasted) turned in
+        for_kept s task text kept r by (CanEdit change text pasted after taken s)
         (record {
           within = within_here s task text kept r by at.k at.at t.fit;
           watched = watched_here s task text kept r by;
+          wide = subst (λ ss. StepsFitWidth at.k.document ss) (sym (same_steps s task text kept r by change sent.value after pasted turned_at))
+              (subst (λ d. StepsFitWidth d (steps_of r change)) (sym at.is) (steps_fit_width r (limits_here s task text kept r by) by.asked.sound (steps_of r change) (fit r change t.fit.0) t.fit.2));
           take = of_kept s task text kept r by (λ k. taken ≡ taken_along after (text_of k.document)) is;
         })
 

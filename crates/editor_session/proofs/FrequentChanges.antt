@@ -1,4 +1,4 @@
--- Frequent changes of a document of which nobody hears.
+-- Frequent changes of a document, and undo and redo, without notes.
 use Rattle.std.proofs.Common.{◌≡◌, ℕ, ℤ, Bool, true, false, cond, List, [], refl, ap, sym, subst, ◌∙◌, Option, Some, None, Ok, Err, IfSome, IsSomeAnd}
 use Rattle.std.specs.List.{AllByRecursion}
 use Rattle.std.proofs.lemmas.Bool.{eqb-true}
@@ -24,7 +24,6 @@ use Rattle.message_requests.specs.Requested.{session_in}
 use Rattle.message_requests.specs.declared.state.SessionState.{SessionState}
 use Rattle.scene.specs.Scenes.{AreNamed}
 use Rattle.session_changes.specs.Kept.{IsKept, DocumentsAreNamed}
-use Rattle.editor_session.specs.Answers.{message_with}
 use Rattle.editor_session.specs.Doing.{CanBeMade, Changes, IsChangedIn}
 use Rattle.editor_session.specs.Tasks.{IsTask, task_of}
 use Rattle.editor_session.specs.Unheard.{unrecorded, no_notes, IsSent}
@@ -36,24 +35,23 @@ use Rattle.editor_session.proofs.Replacing.{change_keeps_id}
 use Rattle.editor_session.proofs.TableWay.{is_found}
 use Rattle.editor_session.proofs.Unheard.{unrecorded_task}
 
--- they are not recorded, and read no text
+-- they are not recorded
 changes_plain : AllByRecursion IsPlain frequent_changes
 changes_plain = (plain refl (λ r text. refl), (plain refl (λ r text. refl), (plain refl (λ r text. refl), tt)))
 
 transactions_plain : AllByRecursion IsPlain transactions
 transactions_plain = (plain refl (λ r text. refl), (plain refl (λ r text. refl), tt))
 
--- the task of one of some such messages, with whatever text, by its plan without one
-module _ (fit : PlansFit) (law : EachKindIsFound) (those : List Kind) (all : AllByRecursion IsPlain those) (s : Session) (view number : ℕ) (w l : ℤ) (kind : Kind) (v : View) (d : Document) where
-  plain_task : (what : Plan) → IsSound s → kind_among those number ≡ Some kind → view_at s.views view ≡ Some v → document_at s.documents v.document ≡ Some d
-      → plan_of kind (request s v d (message_with number w l [])) ≡ Ok what → (text : List ℕ) → IsTask s view (message_with number w l text) (unrecorded d.id view what)
-  plain_task what sound is found there e text =
-      let m = message_with number w l text in
+-- the task of one of some such messages
+module _ (fit : PlansFit) (law : EachKindIsFound) (those : List Kind) (all : AllByRecursion IsPlain those) (s : Session) (view : ℕ) (m : Message) (kind : Kind) (v : View) (d : Document) where
+  plain_task : (what : Plan) → IsSound s → kind_among those m.number ≡ Some kind → view_at s.views view ≡ Some v → document_at s.documents v.document ≡ Some d
+      → plan_of kind (request s v d m) ≡ Ok what → IsTask s view m (unrecorded d.id view what)
+  plain_task what sound is found there e =
       let r = request s v d m in
-      let among = found_plain number those kind all is in
-      let decoded = subst (λ n. kind_of n ≡ Some kind) (eqb-true (number_of kind) number among.1) (law kind) in
+      let among = found_plain m.number those kind all is in
+      let decoded = subst (λ n. kind_of n ≡ Some kind) (eqb-true (number_of kind) m.number among.1) (law kind) in
       let reached = is_found s view m v kind d sound found decoded there in
-      unrecorded_task s d.id view m kind r what reached (among.0.any_text (request s v d (message_with number w l [])) text ∙ e) refl (unheard v.records (marks_of kind).r among.0.unrecorded) (fit kind r reached.sound)
+      unrecorded_task s d.id view m kind r what reached e refl (unheard v.records (marks_of kind).r among.0.unrecorded) (fit kind r reached.sound)
 
 planned : (b : Bool) (p : Planned) (what : DocumentChange) (value : ℤ) → cond b (change_planned p) None ≡ Some (what, value) → p ≡ Ok (plan.ChangeDocument what value)
 planned false p what value e = absurd (cc)
@@ -68,18 +66,16 @@ performed_so kinds.Undo (Ok plan.Undo) h = refl
 performed_so kinds.Redo (Ok plan.Redo) h = refl
 performed_so _ _ h = absurd (cc)
 
-module _ (fit : PlansFit) (law : EachKindIsFound) (s : Session) (view number : ℕ) (w l : ℤ) (kind : Kind) (v : View) (d : Document) where
-  pub frequent_task : (what : DocumentChange) (value : ℤ) → IsSound s → frequent_change_of number ≡ Some kind → view_at s.views view ≡ Some v → document_at s.documents v.document ≡ Some d
-      → change_asked kind (request s v d (message_with number w l [])) ≡ Some (what, value) → (text : List ℕ) → IsTask s view (message_with number w l text) (unrecorded d.id view (plan.ChangeDocument what value))
+module _ (fit : PlansFit) (law : EachKindIsFound) (s : Session) (view : ℕ) (m : Message) (kind : Kind) (v : View) (d : Document) where
+  pub frequent_task : (what : DocumentChange) (value : ℤ) → IsSound s → frequent_change_of m.number ≡ Some kind → view_at s.views view ≡ Some v → document_at s.documents v.document ≡ Some d
+      → change_asked kind (request s v d m) ≡ Some (what, value) → IsTask s view m (unrecorded d.id view (plan.ChangeDocument what value))
   frequent_task what value sound is found there e =
-      plain_task fit law frequent_changes changes_plain s view number w l kind v d (plan.ChangeDocument what value) sound is found there
-      (planned (is_frequent_change kind) (plan_of kind (request s v d (message_with number w l []))) what value e)
+      plain_task fit law frequent_changes changes_plain s view m kind v d (plan.ChangeDocument what value) sound is found there (planned (is_frequent_change kind) (plan_of kind (request s v d m)) what value e)
 
-  pub transaction_task : IsSound s → transaction_of number ≡ Some kind → view_at s.views view ≡ Some v → document_at s.documents v.document ≡ Some d
-      → is_performed kind (plan_of kind (request s v d (message_with number w l []))) ≡ true → (text : List ℕ) → IsTask s view (message_with number w l text) (unrecorded d.id view (performing kind))
+  pub transaction_task : IsSound s → transaction_of m.number ≡ Some kind → view_at s.views view ≡ Some v → document_at s.documents v.document ≡ Some d
+      → is_performed kind (plan_of kind (request s v d m)) ≡ true → IsTask s view m (unrecorded d.id view (performing kind))
   transaction_task sound is found there e =
-      plain_task fit law transactions transactions_plain s view number w l kind v d (performing kind) sound is found there
-      (performed_so kind (plan_of kind (request s v d (message_with number w l []))) e)
+      plain_task fit law transactions transactions_plain s view m kind v d (performing kind) sound is found there (performed_so kind (plan_of kind (request s v d m)) e)
 
 module _ (s : SessionState) (kept : IsKept s) (document view : ℕ) (what : DocumentChange) where
   pub can_be_made : IsSent (session_in s) document view (plan.ChangeDocument what) → IsSomeAnd (value_at s.documents.entries document) (CanBeMade what s.views)
@@ -102,9 +98,9 @@ module _ (s : SessionState) (kept : IsKept s) (document view : ℕ) (what : Docu
       at_text (Some k) h = h bytes view
 
   -- the table's answer to a message that asks for the change
-  pub made_quickly : (s' : SessionState) → IfSome (value_at s.documents.entries document) (λ k. (text : List ℕ) (sender : ℕ) → Changes what sender text k s no_notes s' no_notes)
+  pub made_unheard : (s' : SessionState) → IfSome (value_at s.documents.entries document) (λ k. (text : List ℕ) (sender : ℕ) → Changes what sender text k s no_notes s' no_notes)
       → (m : Message) (value : ℤ) → IsTask (session_in s) view m (unrecorded document view (plan.ChangeDocument what value)) → table (session_in s) view m ≡ Ok (session_in s', quiet value)
-  made_quickly s' done m value t = answers s document view m.text (plan.ChangeDocument what value) s' [] [] value [] (made_for s' done value m.text) m false t refl refl
+  made_unheard s' done m value t = answers s document view m.text (plan.ChangeDocument what value) s' [] [] value [] (made_for s' done value m.text) m false t refl refl
 
 -- whether it was made or not
 pub same_id : (what : DocumentChange) (old new : Document) (made : Bool) → (made ≡ true → new ≡ changed_document [] what old) → (made ≡ false → new ≡ old) → new.id ≡ old.id
@@ -112,19 +108,19 @@ same_id what old new true so not = ap (λ (d : Document). d.id) (so refl) ∙ ch
 same_id what old new false so not = ap (λ (d : Document). d.id) (not refl)
 
 -- the session after such a change in its tables
-pub changes_quickly : (document : ℕ) (what : DocumentChange) (s s' : SessionState) → IfSome (value_at s.documents.entries document) (λ k. (text : List ℕ) (sender : ℕ) → IsChangedIn what sender text k s.documents s.views no_notes s'.documents s'.views no_notes)
+pub changes_unheard : (document : ℕ) (what : DocumentChange) (s s' : SessionState) → IfSome (value_at s.documents.entries document) (λ k. (text : List ℕ) (sender : ℕ) → IsChangedIn what sender text k s.documents s.views no_notes s'.documents s'.views no_notes)
     → s'.clipboard ≡ s.clipboard → s'.documents.next ≡ s.documents.next → s'.views.next ≡ s.views.next → s'.limits ≡ s.limits → IfSome (value_at s.documents.entries document) (λ k. (text : List ℕ) (sender : ℕ) → Changes what sender text k s no_notes s' no_notes)
-changes_quickly document what s s' done clipboard next_document next_view limits = go (value_at s.documents.entries document) done
+changes_unheard document what s s' done clipboard next_document next_view limits = go (value_at s.documents.entries document) done
   where
     go : (o : Option _) → IfSome o (λ k. (text : List ℕ) (sender : ℕ) → IsChangedIn what sender text k s.documents s.views no_notes s'.documents s'.views no_notes) → IfSome o (λ k. (text : List ℕ) (sender : ℕ) → Changes what sender text k s no_notes s' no_notes)
     go None h = tt
     go (Some k) h = λ text sender. changes_so what sender text s s' no_notes no_notes k (h text sender) clipboard next_document next_view limits
 
 -- what holds of a session goes on holding
-pub kept_quickly : MessageKeepsSound → (s s' : SessionState) (document view : ℕ) (what : DocumentChange) (made : Bool) → IsKept s → IsSent (session_in s) document view (plan.ChangeDocument what)
+pub kept_unheard : MessageKeepsSound → (s s' : SessionState) (document view : ℕ) (what : DocumentChange) (made : Bool) → IsKept s → IsSent (session_in s) document view (plan.ChangeDocument what)
     → (made ≡ true → (value : ℤ) (bytes : List ℕ) → DoneFor s document view bytes (plan.ChangeDocument what value) s' [] [] value [])
     → (made ≡ false → session_in s' ≡ session_in s) → s'.limits ≡ s.limits → DocumentsAreNamed s'.documents.entries → AreNamed s'.views.entries → IsKept s'
-kept_quickly law s s' document view what true kept sent done same limits documents views =
+kept_unheard law s s' document view what true kept sent done same limits documents views =
     kept_by law s document view sent.message.text (plan.ChangeDocument what sent.value) s' [] [] sent.value [] kept (done refl sent.value sent.message.text) sent.message sent.is_recorded sent.task refl limits documents views
-kept_quickly law s s' document view what false kept sent done same limits documents views =
+kept_unheard law s s' document view what false kept sent done same limits documents views =
     kept_with s s' kept (subst IsSound (sym (same refl)) kept.sound) limits documents views

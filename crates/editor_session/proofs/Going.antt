@@ -4,7 +4,7 @@ use Rattle.std.specs.Prelude.{Result}
 use Rattle.ed_types.specs.declared.message.Message.{Message}
 use Rattle.ed_model.specs.declared.plan.Plan.TheVariants as plan
 use Rattle.ed_model.specs.Performing.{history_performed}
-use Rattle.ed_model.specs.PlansFit.{UndoStepsFit, RedoStepsFit, IsSoundRequest}
+use Rattle.ed_model.specs.PlansFit.{UndoStepsFit, RedoStepsFit, IsSoundRequest, IsFitPlan, IsRoomFor}
 use Rattle.ed_model.specs.Requests.{Request, text}
 use Rattle.ed_model.specs.Session.{Session, text_of}
 use Rattle.ed_model.specs.SoundLaws.{AreStepsOf}
@@ -24,7 +24,9 @@ use Rattle.editor_session.specs.Doing.{CanGoOnceThereIsRoom, Goes}
 use Rattle.editor_session.specs.Plans.{is_free, needs_no_memory}
 use Rattle.editor_session.specs.Tasks.{IsTask, task_of}
 use Rattle.editor_session.specs.Unheard.{going, no_notes, IsSent}
-use Rattle.editor_session.proofs.PlanLemmas.{DoneFor, asked_by, kept_at, of_kept, for_kept, watched_here, gone}
+use Rattle.editor_session.specs.Widths.{ChangesFitWidth}
+use Rattle.editor_session.proofs.Widths.{changes_fit_width}
+use Rattle.editor_session.proofs.PlanLemmas.{DoneFor, asked_by, kept_at, of_kept, for_kept, limits_here, watched_here, gone}
 use Rattle.editor_session.proofs.TableWay.{free_task}
 
 pub on_ok : {A E : Type 0} (r : Result A E) (P Q : Type 0) → OnOk r P → (P → Q) → OnOk r Q
@@ -47,6 +49,10 @@ going_is : (direction : Direction) (r : Request) → performed r (going directio
 going_is Undo r = refl
 going_is Redo r = refl
 
+room_for : (direction : Direction) (r : Request) → IsFitPlan r (going direction) → IsRoomFor r (text_steps (changes_of direction r.document.history))
+room_for Undo r fit = fit.1
+room_for Redo r fit = fit.1
+
 module _ (s : SessionState) (kept : IsKept s) (document view : ℕ) (direction : Direction) where
   pub can_go_once : UndoStepsFit → RedoStepsFit → IsSent (session_in s) document view (λ value. going direction) → IsSomeAnd (value_at s.documents.entries document) (CanGoOnceThereIsRoom direction s.views)
   can_go_once undo redo sent =
@@ -56,7 +62,12 @@ module _ (s : SessionState) (kept : IsKept s) (document view : ℕ) (direction :
       let by = asked_by s view sent.message task t in
       let at = kept_at s task sent.message.text kept r by in
       for_kept s task sent.message.text kept r by (CanGoOnceThereIsRoom direction s.views)
-      (subst (λ d. AreStepsOf (text_of d) (text_steps (changes_of direction d.history))) (sym at.is) (steps_fit undo redo direction r by.asked.sound), watched_here s task sent.message.text kept r by)
+      (record {
+        steps = subst (λ d. AreStepsOf (text_of d) (text_steps (changes_of direction d.history))) (sym at.is) (steps_fit undo redo direction r by.asked.sound);
+        wide = subst (λ d. ChangesFitWidth d (changes_of direction d.history)) (sym at.is)
+            (changes_fit_width r (limits_here s task sent.message.text kept r by) by.asked.sound (changes_of direction r.document.history) (steps_fit undo redo direction r by.asked.sound) (room_for direction r t.fit));
+        watched = watched_here s task sent.message.text kept r by;
+      })
 
   pub gone_for : (s' : SessionState) (notes notes' : Gathered) → IfSome (value_at s.documents.entries document) (λ k. Goes view direction s notes k s' notes')
       → (bytes : List ℕ) → DoneFor s document view bytes (going direction) s' notes.notes notes'.notes (pos 0) []

@@ -23,14 +23,6 @@ pub if_also : (o : Option Kept) (P Q : Kept → Type 0) → ((k : Kept) → P k 
 if_also None P Q f h = tt
 if_also (Some k) P Q f h = f k h
 
-pub and_if : (o : Option Kept) (P Q R : Kept → Type 0) → ((k : Kept) → P k → Q k → R k) → IsSomeAnd o P → IfSome o Q → IsSomeAnd o R
-and_if None P Q R f p q = absurd p
-and_if (Some k) P Q R f p q = f k p q
-
-pub and_also : (o : Option Kept) (P R : Kept → Type 0) → ((k : Kept) → P k → R k) → IsSomeAnd o P → IsSomeAnd o R
-and_also None P R f p = absurd p
-and_also (Some k) P R f p = f k p
-
 -- The caret after undo and redo.
 
 pub caret_set : (view place : ℕ) (latest : Option Step) (views : List View) → Some place ≡ place_behind_any latest → with_caret view place views ≡ caret_behind view latest views

@@ -12,10 +12,6 @@ pub err_told : (P : Refusal → Type 0) (r : Result ℤ Refusal) (left : Respons
 err_told P (Ok value) left made is h = tt
 err_told P (Err refusal) left made is h = subst (λ t. IfErr t P) (sym is) h
 
-pub ok_told : (r : Result ℤ Refusal) (left : Response) (made : Result Response Refusal) → told r left ≡ made → IsOk made → IsOk r
-ok_told (Ok value) left made is h = refl
-ok_told (Err refusal) left made is h = subst IsOk (sym is) h
-
 pub refused_told : (says : Result (Session × Response) Refusal) (r : Result ℤ Refusal) (left : Response) (made : Result Response Refusal) → told r left ≡ made
     → IfErr says (λ refusal. made ≡ Err refusal) → IfErr says (λ refusal. r ≡ Err refusal)
 refused_told (Ok x) r left made is h = tt

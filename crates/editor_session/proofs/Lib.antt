@@ -18,7 +18,7 @@ pub mod RunLemmas
 pub mod PlainChanges
 pub mod EditLemmas
 pub mod Going
-pub mod HeardChanges
+pub mod Widths
 pub mod Leaving
 pub mod FrequentChanges
 pub mod Targets

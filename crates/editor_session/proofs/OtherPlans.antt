@@ -23,10 +23,6 @@ use Rattle.editor_session.specs.Unheard.{IsAnswered, IfFree, IsSent, IsSentAs, I
 use Rattle.editor_session.proofs.PlanLemmas.{DoneFor, answered, asked_by, attempted, can_change_session, document_here, for_document, handed_out, handed_out_styled, session_is_changed}
 use Rattle.editor_session.proofs.TableWay.{free_task, not_true}
 
-pub not_there : (o : Option Kept) → IsSome o → o ≡ None → ⊥
-not_there None there none = absurd (cc)
-not_there (Some k) there none = absurd (cc)
-
 module _ (s : SessionState) (kept : IsKept s) (document view : ℕ) where
   -- the document of a message is there
   pub sent_there : (what : ℤ → Plan) → IsSent (session_in s) document view what → IsSome (value_at s.documents.entries document)

@@ -264,9 +264,6 @@ module _ (s : SessionState) (task : Task) (bytes : List ℕ) (kept : IsKept s) (
   pub of_kept : (P : Kept → Type 0) → IfSome (value_at s.documents.entries task.document) P → P kept_at.k
   of_kept P h = subst (λ o. IfSome o P) kept_at.at h
 
-  pub of_room : (P : Kept → Type 0) → IsSomeAnd (value_at s.documents.entries task.document) P → P kept_at.k
-  of_room P h = subst (λ o. IsSomeAnd o P) kept_at.at h
-
   -- the same, said of the request's document
   pub for_document : (P : Document → Type 0) → P r.document → IsSomeAnd (value_at s.documents.entries task.document) (λ k. P k.document)
   for_document P h = for_kept (λ k. P k.document) (subst P (sym kept_at.is) h)
@@ -299,11 +296,11 @@ module _ (s : SessionState) (task : Task) (bytes : List ℕ) (kept : IsKept s) (
   within_here k at fit =
       subst (λ (d : Document). IsWithin task.plan (length d.cells) (length bytes)) (same_document k at) (subst (λ x. IsWithin task.plan (size r) (length x)) by.message (fits_within r task.plan fit))
 
+  pub limits_here : is_allowed r.session.limits ≡ true
+  limits_here = subst (λ (x : Session). is_allowed x.limits ≡ true) (sym session_is) kept.limits
+
   pub watched_here : IsWatched kept_at.k.document s.views
   watched_here = watched_by s kept_at.k.document kept (subst (λ d. document_at (session_in s).documents d.id ≡ Some d) (sym kept_at.is) (ap (document_at (session_in s).documents) by.asked.document_id ∙ document_there))
-
-  pub watching_is : watching r.session.views r.document ≡ watchers kept_at.k.document s.views
-  watching_is = ap (λ (x : Session). watching x.views r.document) session_is ∙ ap (λ d. watching (views_of s.views.entries) d) (sym kept_at.is)
 
   -- nothing is told, and the session stays
   pub answered : (what : Plan) (ns : List Notice) (value : ℤ) (out : List ℕ) → performed r what ≡ (r.session, response value out []) → IsDone r what s ns ns value out
@@ -407,7 +404,7 @@ module _ (s : SessionState) (task : Task) (bytes : List ℕ) (kept : IsKept s) (
   session_is_changed change value s' ns e = record { told = []; done = ap (λ x. (x, response value [] [])) (sym e); heard = sym (append-nil ns) }
 
   pub change_fits : (change : DocumentChange) (value : ℤ) → IsFitPlan r (plan.ChangeDocument change value) → IsFitChange r.document change
-  change_fits change value fit = fit_change r change (subst (λ (x : Session). is_allowed x.limits ≡ true) (sym session_is) kept.limits) fit
+  change_fits change value fit = fit_change r change limits_here fit
 
 -- The answer to a message.
 module _ (s : SessionState) (view : ℕ) (m : Message) (task : Task) (t : IsTask (session_in s) view m task) where

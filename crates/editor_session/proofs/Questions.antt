@@ -18,7 +18,7 @@ use Rattle.ed_model.specs.PlansFit.{IsSoundRequest}
 use Rattle.ed_model.specs.Table.{table, record_note, table_from_view, table_from_kind, table_from_document, answered, request, plan_of}
 use Rattle.message_plans.specs.Asking.{questions, question_of, is_question, value_planned, value_asked}
 use Rattle.session_changes.specs.proved.Finding.{id_of_view, own_at}
-use Rattle.editor_session.specs.Answers.{message_with}
+use Rattle.editor_session.specs.Answers.{with_text}
 use Rattle.editor_session.specs.Asked.{value_from_document, value_from_view, value_from_kind, value_to}
 
 -- A plain question is not recorded, and its plan is that of the same message with another text.
@@ -90,10 +90,14 @@ plain_reply law s view m value is text = from_kind (question_of m.number) refl i
     from_kind (Some kind) asked e = from_view kind (view_at s.views view) asked e
 
 -- what is answered as a plain question is the table's answer
-pub answers_as_the_table : EachKindIsFound → (s : Session) (view number : ℕ) (w l : ℤ) (o : Option ℤ) → o ≡ value_to s view (message_with number w l [])
-    → IfSome o (λ value. (text : List ℕ) → table s view (message_with number w l text) ≡ Ok (s, quiet value))
-answers_as_the_table law s view number w l None e = tt
-answers_as_the_table law s view number w l (Some value) e = λ text. plain_reply law s view (message_with number w l []) value (let t : value_to s view (message_with number w l []) ≡ Some value = cc in t) text
+pub answers_as_the_table : EachKindIsFound → (s : Session) (view : ℕ) (m : Message) (o : Option ℤ) → o ≡ value_to s view m → IfSome o (λ value. (text : List ℕ) → table s view (with_text m text) ≡ Ok (s, quiet value))
+answers_as_the_table law s view m None e = tt
+answers_as_the_table law s view m (Some value) e = λ text. plain_reply law s view m value (let t : value_to s view m ≡ Some value = cc in t) text
+
+-- the answer to the message with its own text
+pub answer_as_sent : (s : Session) (view : ℕ) (m : Message) (o : Option ℤ) → IfSome o (λ value. (text : List ℕ) → table s view (with_text m text) ≡ Ok (s, quiet value)) → IfSome o (λ value. table s view m ≡ Ok (s, quiet value))
+answer_as_sent s view m None h = tt
+answer_as_sent s view m (Some value) h = h m.text
 
 -- What a plain question comes to, by what is found of it.
 

@@ -51,10 +51,6 @@ becomes_so documents documents' views' notes' id k k' scene named at is made sam
     subst (λ o. IfSome o (λ x. Becomes (scene x) documents documents' views' notes')) (sym at)
     (subst (λ ds. Becomes (scene k) documents ds views' notes') (sym is) (becomes documents views' notes' id k k' (scene k) named at made same))
 
-pub still_named_so : (documents : Entries Kept) (views' : Entries KeptView) (notes' : Gathered) (id : ℕ) (k k' : Kept) (scene : Scene) → DocumentsAreNamed documents.entries → value_at documents.entries id ≡ Some k
-    → scene_in k'.document views'.entries notes'.notes ≡ scene → scene.document.id ≡ k.document.id → DocumentsAreNamed (with_value_at id k' documents.entries)
-still_named_so documents views' notes' id k k' scene named at made same = still_named document_in id_of_document documents.entries id k' (id_after documents views' notes' id k k' scene named at made same) named
-
 -- Undo and redo keep the document's id.
 
 changes_keep_id : (who several : ℕ) (lines_changed : Bool) (cs : List Change) (scene : Scene) → (changes_performed who several lines_changed cs scene).document.id ≡ scene.document.id
@@ -101,8 +97,3 @@ document_put documents id k k' d named at is same =
     replaced document_in id_of_document documents.entries id k' named
     ∙ ap (λ (x : Document). map (λ (e : Document). if e.id == id then x else e) (documents_in documents)) is
     ∙ ap (λ n. map (λ (e : Document). if e.id == n then d else e) (documents_in documents)) (sym (same ∙ own))
-
-pub put_named : (documents : Entries Kept) (id : ℕ) (k k' : Kept) (d : Document) → DocumentsAreNamed documents.entries → value_at documents.entries id ≡ Some k → k'.document ≡ d → d.id ≡ k.document.id → DocumentsAreNamed (with_value_at id k' documents.entries)
-put_named documents id k k' d named at is same =
-    still_named document_in id_of_document documents.entries id k'
-    (ap (λ (x : Document). x.id) is ∙ same ∙ own_at id_of_document (documents_in documents) id k.document (found_some document_in id_of_document documents.entries id k named at)) named

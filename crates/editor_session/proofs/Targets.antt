@@ -1,5 +1,5 @@
 -- Messages about the target of a view, answered by their plan alone.
-use Rattle.std.proofs.Common.{◌≡◌, ℤ, Bool, true, false, cond, Option, Some, None, IfSome}
+use Rattle.std.proofs.Common.{◌≡◌, Bool, true, false, cond, Some, None}
 use Rattle.ed_types.specs.declared.kind.Kind.{Kind}
 use Rattle.ed_model.specs.Requests.{Request, Planned}
 use Rattle.ed_model.specs.Table.{plan_of}
@@ -12,7 +12,3 @@ given false p q e = absurd (cc)
 -- the plan that is found is the table's
 pub target_planned : (kind : Kind) (r : Request) (p : Planned) → target_plan_of kind r ≡ Some p → plan_of kind r ≡ p
 target_planned kind r p e = given (is_target_message kind) (plan_of kind r) p e
-
-pub some_still : (o : Option ℤ) (P Q : ℤ → Type 0) → ((v : ℤ) → P v → Q v) → IfSome o P → IfSome o Q
-some_still None P Q step h = tt
-some_still (Some v) P Q step h = step v h

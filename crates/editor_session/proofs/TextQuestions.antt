@@ -19,7 +19,7 @@ use Rattle.ed_model.specs.Table.{table, record_note, table_from_view, table_from
 use Rattle.message_requests.specs.declared.answers.HandedOut.{HandedOut}
 use Rattle.message_requests.specs.HandingOut.{handed_out}
 use Rattle.message_plans.specs.Asking.{text_questions, text_question_of, is_text_question, handed_planned, handed_asked}
-use Rattle.editor_session.specs.Answers.{message_with}
+use Rattle.editor_session.specs.Answers.{with_text}
 use Rattle.editor_session.specs.Asked.{reply_handing, reply_from_document, reply_from_view, reply_from_kind, reply_to}
 use Rattle.editor_session.proofs.Questions.{IsPlain, plain, found_plain, unheard}
 
@@ -60,16 +60,15 @@ handing_length d h within =
     length_slice (text_of d) h.start h.count (omega (arith, long, within))
 
 -- the table's answer to a text question, with whatever text
-pub text_reply : EachKindIsFound → (s : Session) (view number : ℕ) (w l : ℤ) (kind : Kind) (v : View) (d : Document) (h : HandedOut) → text_question_of number ≡ Some kind → view_at s.views view ≡ Some v
-    → document_at s.documents v.document ≡ Some d → handed_asked kind (request s v d (message_with number w l [])) ≡ Some h → (text : List ℕ) → table s view (message_with number w l text) ≡ Ok (s, handing d h)
-text_reply law s view number w l kind v d h is found there e text =
-    let m = message_with number w l text in
-    let r = request s v d (message_with number w l []) in
-    let with = request s v d m in
-    let p = (found_plain number text_questions kind texts_plain is).0 in
-    ap (table_from_view s m) found
-    ∙ ap (table_from_kind s v m) (decoded law number kind is)
-    ∙ ap (table_from_document s v kind m) there
+pub text_reply : EachKindIsFound → (s : Session) (view : ℕ) (m : Message) (kind : Kind) (v : View) (d : Document) (h : HandedOut) → text_question_of m.number ≡ Some kind → view_at s.views view ≡ Some v
+    → document_at s.documents v.document ≡ Some d → handed_asked kind (request s v d m) ≡ Some h → (text : List ℕ) → table s view (with_text m text) ≡ Ok (s, handing d h)
+text_reply law s view m kind v d h is found there e text =
+    let r = request s v d m in
+    let with = request s v d (with_text m text) in
+    let p = (found_plain m.number text_questions kind texts_plain is).0 in
+    ap (table_from_view s (with_text m text)) found
+    ∙ ap (table_from_kind s v (with_text m text)) (decoded law m.number kind is)
+    ∙ ap (table_from_document s v kind (with_text m text)) there
     ∙ ap (answered kind with) (p.any_text r text ∙ planned_so kind r h e)
     ∙ ap (λ b. Ok (s, cond b (record (handing d h) { notes = record_note with ∷ [] }) (handing d h))) (unheard v.records (marks_of kind).r p.unrecorded)
 

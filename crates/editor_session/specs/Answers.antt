@@ -11,6 +11,10 @@ use Rattle.ed_model.specs.Run.{Running, run_to}
 abbrev pub message_with : ℕ → ℤ → ℤ → List ℕ → Message
 message_with number w l text = record { number = number; w = w; l = l; text = text }
 
+-- the message with this text in the place of its own
+abbrev pub with_text : Message → List ℕ → Message
+with_text m text = record m { text = text }
+
 -- The call did what is said of it, or was refused as is said or for want of memory, and then changed nothing.
 abbrev pub AnswersBy : {R : Type 0} → Result (Session × R) Refusal → Session → Session → Result R Refusal → Type 0
 AnswersBy says old new (Ok reply) = says ≡ Ok (new, reply)

@@ -22,6 +22,7 @@ use Rattle.scene.specs.Scenes.{views_of, scene_in, watchers, IsWatched}
 use Rattle.scene.specs.Undoing.{bits_of}
 use Rattle.message_requests.specs.Requested.{documents_in, session_in}
 use Rattle.message_requests.specs.declared.state.SessionState.{SessionState}
+use Rattle.editor_session.specs.Widths.{ChangesFitWidth}
 
 -- the plan is done: the session is that after it, the value and the bytes are the reply's, and its notes were put behind those before
 pub record IsDone (r : Request) (what : Plan) (s : SessionState) (before after : List Notice) (value : ℤ) (bytes : List ℕ) : Type 0 where
@@ -31,9 +32,11 @@ pub record IsDone (r : Request) (what : Plan) (s : SessionState) (before after :
 
 -- Undo and redo.
 
--- the steps fit the text, and the views stand well on it
-abbrev pub CanGoOnceThereIsRoom : Direction → Entries KeptView → Kept → Type 0
-CanGoOnceThereIsRoom direction views k = AreStepsOf (text_of k.document) (text_steps (changes_of direction k.document.history)) × IsWatched k.document views
+-- the steps fit the text, no text on their way is too long for the document's places, and the views stand well on it
+pub record CanGoOnceThereIsRoom (direction : Direction) (views : Entries KeptView) (k : Kept) : Type 0 where
+  pub steps : AreStepsOf (text_of k.document) (text_steps (changes_of direction k.document.history))
+  pub wide : ChangesFitWidth k.document (changes_of direction k.document.history)
+  pub watched : IsWatched k.document views
 
 abbrev pub scene_gone : Direction → Entries KeptView → Gathered → Kept → Scene
 scene_gone direction views notes k = transaction_performed (bits_of direction) (changes_of direction k.document.history) (history_behind direction k.document.history) (scene_in k.document views.entries notes.notes)

@@ -13,6 +13,7 @@ use Rattle.scene.specs.Scenes.{scene_in, IsWatched}
 use Rattle.message_requests.specs.Requested.{session_in}
 use Rattle.message_requests.specs.declared.state.SessionState.{SessionState}
 use Rattle.editor_session.specs.Edited.{IsEditWithin, stored_bytes, taken_along}
+use Rattle.editor_session.specs.Widths.{StepsFitWidth}
 
 -- the steps of an edit of the document
 abbrev pub edit_steps : Edit → List ℕ → List ℕ → List ℕ → Document → List Step
@@ -23,10 +24,12 @@ edit_steps (edit.ConvertLineEnds to) text clipboard pasted d = conversion_steps 
 abbrev pub scene_after : Edit → List ℕ → List ℕ → SessionState → Gathered → Kept → Scene
 scene_after change text pasted s notes k = edit_made (edit_steps change text s.clipboard.items pasted k.document) (scene_in k.document s.views.entries notes.notes)
 
--- the edit lies within the document and the text, and `taken` is what it takes to the clipboard
-pub record CanEdit (change : Edit) (text : List ℕ) (follow : Follow) (taken : List ℕ) (s : SessionState) (k : Kept) : Type 0 where
+-- the edit lies within the document and the text, no text on its way is too long for the document's places, and `taken` is what it takes to
+-- the clipboard
+pub record CanEdit (change : Edit) (text pasted : List ℕ) (follow : Follow) (taken : List ℕ) (s : SessionState) (k : Kept) : Type 0 where
   pub within : IsEditWithin change (length k.document.cells) (length text)
   pub watched : IsWatched k.document s.views
+  pub wide : StepsFitWidth k.document (edit_steps change text s.clipboard.items pasted k.document)
   pub take : taken ≡ taken_along follow (text_of k.document)
 
 pub record Edits (view : ℕ) (change : Edit) (text pasted : List ℕ) (follow : Follow) (s : SessionState) (notes : Gathered) (k : Kept) (s' : SessionState) (notes' : Gathered) : Type 0 where

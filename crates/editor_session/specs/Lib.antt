@@ -9,6 +9,7 @@ pub mod Lends
 pub mod Doing
 pub mod Edited
 pub mod Edits
+pub mod Widths
 pub mod Opening
 pub mod PartLends
 pub mod Unheard

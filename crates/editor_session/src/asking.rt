@@ -1,58 +1,51 @@
 //! Plain questions to a session, which are answered before any plan is made.
 
-ghost use Rattle.std.specs.Prelude.{◌≡◌, ℕ, List, [], Ok, Some, IfSome};
+ghost use Rattle.std.specs.Prelude.{◌≡◌, ℕ, List, Ok, Some, IfSome};
 ghost use Rattle.ed_model.specs.Performing.{quiet};
 ghost use Rattle.ed_model.specs.Table.{table};
 ghost use Rattle.message_plans.specs.Asking.{question_of};
 ghost use Rattle.message_requests.specs.Requested.{session_in};
 ghost use Rattle.session_changes.specs.Kept.{IsKept};
-ghost use Rattle.editor_session.specs.Answers.{message_with};
+ghost use Rattle.editor_session.specs.Answers.{with_text};
 ghost use Rattle.editor_session.specs.Asked.{value_to};
 
-use crate::attached::look_up;
+use crate::attached::{look_up, request_to};
 use ed_types::{Kind, kinds_and_numbers};
-use message_plans::{question_of, value_of};
-use message_requests::{Request, SentMessage, SessionState};
+use message_plans::{Way, value_of, way_of};
+use message_requests::{SentMessage, SessionState};
 
 /// Returns the value of this plain question to `view`, or `None` if the table refuses it.
 #[inline(always)]
-fn ask_as(state: &SessionState, view: u32, kind: Kind, number: u32, w: i64, l: i64) -> Option<i64>
+pub(crate) fn ask_as(
+    state: &SessionState,
+    view: u32,
+    kind: Kind,
+    message: &SentMessage,
+) -> Option<i64>
     requires kept { IsKept state.now }
-    requires question { question_of number ≡ Some kind }
-    ensures value { result ≡ value_to (session_in state.now) view (message_with number w l []) }
-    ensures answer { IfSome result (λ value. (text : List ℕ) → table (session_in state.now) view (message_with number w l text) ≡ Ok (session_in state.now, quiet value)) }
+    requires question { question_of message.now.number ≡ Some kind }
+    ensures value { result ≡ value_to (session_in state.now) view message.now }
+    ensures answer { IfSome result (λ value. (text : List ℕ) → table (session_in state.now) view (with_text message.now text) ≡ Ok (session_in state.now, quiet value)) }
 {
     // States that each kind is found by its number.
     kinds_and_numbers();
     let Some(found) = look_up(state, view) else {
         return None;
     };
-    // No plain question reads a text.
-    let message = SentMessage {
-        number,
-        w,
-        l,
-        text: &[],
-    };
-    let request = Request {
-        session: state,
-        view: found.view,
-        document: found.document,
-        message,
-    };
+    let request = request_to(state, found, message);
     value_of(kind, &request)
 }
 
 /// Returns the value of a plain question to `view`. Returns `None` for all other messages and for what the table refuses; such a
 /// message has to be sent. Allocates nothing.
 #[inline(always)]
-pub(crate) fn ask(state: &SessionState, view: u32, number: u32, w: i64, l: i64) -> Option<i64>
+pub(crate) fn ask(state: &SessionState, view: u32, message: &SentMessage) -> Option<i64>
     requires kept { IsKept state.now }
-    ensures value { result ≡ value_to (session_in state.now) view (message_with number w l []) }
-    ensures answer { IfSome result (λ value. (text : List ℕ) → table (session_in state.now) view (message_with number w l text) ≡ Ok (session_in state.now, quiet value)) }
+    ensures value { result ≡ value_to (session_in state.now) view message.now }
+    ensures answer { IfSome result (λ value. (text : List ℕ) → table (session_in state.now) view (with_text message.now text) ≡ Ok (session_in state.now, quiet value)) }
 {
-    match question_of(number) {
-        Some(kind) => ask_as(state, view, kind, number, w, l),
-        None => None,
+    match way_of(message.number) {
+        Way::Question(kind) => ask_as(state, view, kind, message),
+        _ => None,
     }
 }

@@ -1,14 +1,15 @@
-//! The view that a message is sent to, and the document that it is attached to.
+//! The view that a message is sent to, and the document that it is attached to; and the request that its plan reads.
 
 ghost use Rattle.std.specs.Prelude.{◌≡◌, IfSome, IfNone, Some, None};
 ghost use Rattle.ed_model.specs.Session.{view_at, document_at};
+ghost use Rattle.ed_model.specs.Table.{request};
 ghost use Rattle.id_table.specs.Entries.{value_at};
 ghost use Rattle.message_requests.specs.Requested.{session_in};
 ghost use Rattle.session_changes.specs.Kept.{IsKept};
 
 use document::Document;
 use ed_view::View;
-use message_requests::SessionState;
+use message_requests::{Request, SentMessage, SessionState};
 
 /// A view of a session and its document, both borrowed.
 #[derive(Clone, Copy)]
@@ -35,4 +36,27 @@ pub(crate) fn look_up(state: &SessionState, view: u32) -> Option<Attached<'_>>
         unreachable!()
     };
     Some(Attached { view, document })
+}
+
+/// Returns the request of a message to a view that was looked up.
+#[inline(always)]
+pub(crate) fn request_to<'a, 'm: 'a>(
+    state: &'a SessionState,
+    found: Attached<'a>,
+    message: &SentMessage<'m>,
+) -> Request<'a>
+    requires kept { IsKept state.now }
+    ensures { result ≡ request (session_in state.now) found.entry.view.now.view found.entry.document.now.document message.now }
+{
+    Request {
+        session: state,
+        view: found.view,
+        document: found.document,
+        message: SentMessage {
+            number: message.number,
+            w: message.w,
+            l: message.l,
+            text: message.text,
+        },
+    }
 }

@@ -1,5 +1,5 @@
-//! Changes that are no edit of the text: of the document, of the view, of the session; and attempts to edit a read-only document. Room is made
-//! for all that a change needs, and then it is made.
+//! Changes of the document, of the view and of the session other than edits of the text; and attempts to edit a read-only document. Room is
+//! made for all that a change needs, before anything changes.
 
 ghost use Rattle.std.specs.Prelude.{◌≡◌, ◌++◌, ◌≤◌, ℕ, ℤ, List, [], pos, not, true, false, map, length, OnOk, OnErr, IfErr, IfSome, IsOk, IsSome, IsSomeAnd};
 ghost use Rattle.ed_types.specs.declared.message.Message.{Message};
@@ -36,7 +36,7 @@ use scene::attempt;
 use session_changes::{change_session, change_view, prepare_session_change, reserve_view_change};
 use std::alloc::{AllocError, Global};
 
-/// Makes room in a document and for notes, and makes a change for the view with the id `sender`.
+/// Makes room in a document and for notes, and makes `change`, which a message to the view with the id `sender` asks for.
 ///
 /// # Errors
 ///
@@ -74,7 +74,7 @@ fn change_with_room(
     Ok(())
 }
 
-/// The same in the document with this id, which is looked up once.
+/// Like `change_with_room`, in the document with this id.
 ///
 /// # Errors
 ///
@@ -108,7 +108,7 @@ fn change_with_room_in(
     change_with_room(alloc, document, views, notes, sender, text, change)
 }
 
-/// The same in the session, for the view with this id.
+/// Like `change_with_room_in`, in a session.
 ///
 /// # Errors
 ///
@@ -140,13 +140,13 @@ fn change_making_room(
     change_with_room_in(alloc, documents, views, notes, document, view, text, change)
 }
 
-/// Changes the document with this id for the view with this id.
+/// Makes `change` in the document with this id, for a message to `view`.
 ///
 /// # Errors
 ///
 /// `OutOfMemory` if an allocation fails. The session is then as it was.
 #[inline(always)]
-pub(crate) fn change_at_once(
+pub(crate) fn perform_change(
     alloc: Global,
     state: &mut SessionState,
     document: u32,
@@ -171,9 +171,9 @@ pub(crate) fn change_at_once(
     }
 }
 
-/// Returns whether a change of a view needs no memory, whatever the view is.
+/// Returns whether a change of a view needs no memory, whatever the state of the view.
 #[inline(always)]
-pub(crate) fn is_light(change: ViewChange) -> bool
+pub(crate) fn is_free_change(change: ViewChange) -> bool
     ensures { result ≡ not (takes_fold_room change) }
 {
     match change {
@@ -186,9 +186,14 @@ pub(crate) fn is_light(change: ViewChange) -> bool
     }
 }
 
-/// Changes the view with this id, which is on the document with that id, if that takes no memory.
+/// Makes a change of `view`, which is attached to `document`, that needs no memory.
 #[inline(always)]
-pub(crate) fn change_lightly(state: &mut SessionState, document: u32, view: u32, change: ViewChange)
+pub(crate) fn perform_free_change(
+    state: &mut SessionState,
+    document: u32,
+    view: u32,
+    change: ViewChange,
+)
     requires kept { IsKept state.old }
     requires sent { IsSent (session_in state.old) document view (plan.ChangeView change) }
     requires light { takes_fold_room change ≡ false }
@@ -200,13 +205,13 @@ pub(crate) fn change_lightly(state: &mut SessionState, document: u32, view: u32,
     change_view(state, document, view, change);
 }
 
-/// Changes the view with this id, which is on the document with that id. No view is notified of it.
+/// Makes a change of `view`, which is attached to `document`. No view is notified of it.
 ///
 /// # Errors
 ///
 /// `OutOfMemory` if an allocation fails. The session is then as it was.
 #[inline(never)]
-pub(crate) fn change_view_at_once(
+pub(crate) fn perform_view_change(
     state: &mut SessionState,
     document: u32,
     view: u32,
@@ -229,13 +234,13 @@ pub(crate) fn change_view_at_once(
     Ok(())
 }
 
-/// Changes the session for the view with this id, which is on the document with that id. No view is notified of it.
+/// Makes a change of the session, for a message to `view`, which is attached to `document`. No view is notified of it.
 ///
 /// # Errors
 ///
 /// `OutOfMemory` if an allocation fails. The session is then as it was.
 #[inline(never)]
-pub(crate) fn change_session_at_once(
+pub(crate) fn perform_session_change(
     alloc: Global,
     state: &mut SessionState,
     document: u32,
@@ -260,21 +265,20 @@ pub(crate) fn change_session_at_once(
     Ok(())
 }
 
-/// Notifies the views that watch the document with this id of an attempt to edit it.
+/// Notifies the listening views of this document of an attempt to edit it while it is read-only.
 ///
 /// # Errors
 ///
 /// `OutOfMemory` if an allocation fails.
 #[inline(never)]
-pub(crate) fn tell_attempt(
+pub(crate) fn perform_attempt(
     state: &SessionState,
     document: u32,
-    view: u32,
     notes: &mut NoteList,
 ) -> Result<(), Refusal>
     requires kept { IsKept state.now }
-    requires sent { IsSent (session_in state.now) document view (λ value. plan.Attempt) }
-    ensures answer { OnOk result ((text : List ℕ) → IsAnswered (session_in state.now) document view text plan.Attempt notes.old.notes (session_in state.now) (response (pos 0) [] notes.new.notes)) }
+    requires there { IsSome (value_at state.now.documents.entries document) }
+    ensures told { OnOk result (IfSome (value_at state.now.documents.entries document) (λ k. notes.new.notes ≡ notes.old.notes ++ told (watching (views_of state.now.views.entries) k.document) (blank_note modify_attempt))) }
     ensures refused { IfErr result (λ refusal. refusal ≡ OutOfMemory) }
 {
     let Some(document) = state.documents.get(document) else {

@@ -15,13 +15,14 @@ ghost use Rattle.message_requests.specs.Requested.{session_in, documents_in};
 ghost use Rattle.session_changes.specs.Kept.{IsKept, DocumentsAreNamed, ViewsRise};
 ghost use Rattle.editor_session.specs.Edited.{IsEditWithin, IsPastedFor, TakesWithin, is_turned, clipboard_need, taken_along, followed_views, Becomes};
 ghost use Rattle.editor_session.specs.Edits.{CanEdit, Edits, edit_steps};
+ghost use Rattle.editor_session.specs.Widths.{StepsFitWidth};
 ghost use Rattle.editor_session.specs.Unheard.{IsAnswered, IfFree, IsSentWith};
 
 use crate::edits::{follow_edit, replace_bytes, source_bytes};
-use crate::need::{replacement_need, reserve};
+use crate::need::replacement_need;
 use document::Document;
 use document_table::DocumentTable;
-use ed_model::{Edit, Follow, LineEnd, Source, soundness_is_kept};
+use ed_model::{Edit, Follow, LineEnd, Source, plans_are_fit, soundness_is_kept};
 use ed_types::Refusal;
 use ed_view::View;
 use id_table::IdTable;
@@ -31,7 +32,7 @@ use notify::NoteList;
 use scene::{conversion_need, convert};
 use std::alloc::{AllocError, Global};
 
-/// Makes room in a document and for notes, and replaces the `count` bytes from `start` on by these.
+/// Makes room in a document and for notes, and replaces the `count` bytes from `start` on by `bytes`.
 ///
 /// # Errors
 ///
@@ -46,6 +47,7 @@ fn replace_with_room(
     bytes: &[u8],
 ) -> Result<(), AllocError>
     requires range { start + count ≤ length document.old.document.cells }
+    requires wide { StepsFitWidth document.old.document (replacement start count bytes.now (text_of document.old.document)) }
     requires watched { IsWatched document.old.document views.old }
     ensures scene { OnOk result (scene_in document.new.document views.new.entries notes.new.notes ≡ edit_made (replacement start count bytes.now (text_of document.old.document)) (scene_in document.old.document views.old.entries notes.old.notes)) }
     ensures same { OnErr result (document.new.document ≡ document.old.document) }
@@ -62,18 +64,18 @@ fn replace_with_room(
     let Ok(()) = notes.reserve(need.notes.notes, need.notes.bytes) else {
         return Err(AllocError);
     };
-    let Ok(()) = reserve(document, need.document) else {
+    let Ok(()) = document.reserve(need.document) else {
         return Err(AllocError);
     };
     replace_bytes(document, views, notes, start, count, bytes);
     Ok(())
 }
 
-/// Makes room in a document and for notes, and converts all line ends. Out of line, since it is seldom asked for.
+/// Makes room in a document and for notes, and converts all line ends to `to`. Out of line, since CONVERTEOLS is rare.
 ///
 /// # Errors
 ///
-/// As of `replace_with_room`.
+/// Those of `replace_with_room`.
 #[inline(never)]
 fn convert_with_room(
     document: &mut Document,
@@ -81,6 +83,7 @@ fn convert_with_room(
     notes: &mut NoteList,
     to: LineEnd,
 ) -> Result<(), AllocError>
+    requires wide { StepsFitWidth document.old.document (conversion_steps to (text_of document.old.document)) }
     requires watched { IsWatched document.old.document views.old }
     ensures scene { OnOk result (scene_in document.new.document views.new.entries notes.new.notes ≡ edit_made (conversion_steps to (text_of document.old.document)) (scene_in document.old.document views.old.entries notes.old.notes)) }
     ensures same { OnErr result (document.new.document ≡ document.old.document) }
@@ -97,18 +100,18 @@ fn convert_with_room(
     let Ok(()) = notes.reserve(need.notes.notes, need.notes.bytes) else {
         return Err(AllocError);
     };
-    let Ok(()) = reserve(document, need.document) else {
+    let Ok(()) = document.reserve(need.document) else {
         return Err(AllocError);
     };
     convert(document, views, notes, to);
     Ok(())
 }
 
-/// Makes room for an edit, and makes its steps. `pasted` is what the clipboard was turned into for it.
+/// Makes room for an edit, and makes its steps. `pasted` is the clipboard with the document's line ends, if the edit inserts that.
 ///
 /// # Errors
 ///
-/// As of `replace_with_room`.
+/// Those of `replace_with_room`.
 #[inline(always)]
 fn edit_with_room(
     document: &mut Document,
@@ -120,6 +123,7 @@ fn edit_with_room(
     edit: Edit,
 ) -> Result<(), AllocError>
     requires within { IsEditWithin edit (length document.old.document.cells) (length text.now) }
+    requires wide { StepsFitWidth document.old.document (edit_steps edit text.now clipboard.now pasted.now document.old.document) }
     requires watched { IsWatched document.old.document views.old }
     ensures scene { OnOk result (scene_in document.new.document views.new.entries notes.new.notes ≡ edit_made (edit_steps edit text.now clipboard.now pasted.now document.old.document) (scene_in document.old.document views.old.entries notes.old.notes)) }
     ensures same { OnErr result (document.new.document ≡ document.old.document) }
@@ -143,11 +147,11 @@ fn edit_with_room(
     }
 }
 
-/// The same in the document with this id, which is looked up once for all of it.
+/// Like `edit_with_room`, in the document with this id.
 ///
 /// # Errors
 ///
-/// As of `replace_with_room`.
+/// Those of `replace_with_room`.
 #[inline(always)]
 fn edit_in(
     documents: &mut DocumentTable,
@@ -159,7 +163,7 @@ fn edit_in(
     pasted: &[u8],
     edit: Edit,
 ) -> Result<(), AllocError>
-    requires can { IsSomeAnd (value_at documents.old.entries document) (λ k. IsEditWithin edit (length k.document.cells) (length text.now) × IsWatched k.document views.old) }
+    requires can { IsSomeAnd (value_at documents.old.entries document) (λ k. IsEditWithin edit (length k.document.cells) (length text.now) × StepsFitWidth k.document (edit_steps edit text.now clipboard.now pasted.now k.document) × IsWatched k.document views.old) }
     requires named { DocumentsAreNamed documents.old.entries }
     requires rise { Rise 0 documents.old.next (map (λ (d : ModelDocument). d.id) (documents_in documents.old)) }
     ensures made { OnOk result (IfSome (value_at documents.old.entries document) (λ k. Becomes (edit_made (edit_steps edit text.now clipboard.now pasted.now k.document) (scene_in k.document views.old.entries notes.old.notes)) documents.old documents.new views.new notes.new)) }
@@ -178,7 +182,8 @@ fn edit_in(
     edit_with_room(document, views, notes, text, clipboard, pasted, edit)
 }
 
-/// The same, with what follows the edit for the view with this id. `taken` goes to the clipboard, if anything does.
+/// Like `edit_in`, in a session, and then does what follows the edit for `view`. `taken` becomes the clipboard, if the edit takes bytes
+/// there.
 ///
 /// # Errors
 ///
@@ -196,7 +201,7 @@ fn edit_making_room(
     notes: &mut NoteList,
 ) -> Result<(), AllocError>
     requires kept { IsKept state.old }
-    requires can { IsSomeAnd (value_at state.old.documents.entries document) (CanEdit edit text.now follow taken.items state.old) }
+    requires can { IsSomeAnd (value_at state.old.documents.entries document) (CanEdit edit text.now pasted.now follow taken.items state.old) }
     ensures edited { OnOk result (IfSome (value_at state.old.documents.entries document) (λ k. Edits view edit text.now pasted.now follow state.old notes.old k state.new notes.new)) }
     ensures same { OnErr result (session_in state.new ≡ session_in state.old) }
     ensures documents { DocumentsAreNamed state.new.documents.entries }
@@ -221,7 +226,7 @@ fn edit_making_room(
     }
 }
 
-/// Whether an edit puts in the clipboard with other line ends.
+/// Returns whether an edit inserts the clipboard with the document's line ends.
 #[inline(always)]
 fn is_turned(edit: Edit) -> bool
     ensures { result ≡ is_turned edit }
@@ -235,7 +240,7 @@ fn is_turned(edit: Edit) -> bool
     )
 }
 
-/// The clipboard with line ends of this kind. Out of line, since it is seldom asked for.
+/// Returns the clipboard with line ends of this kind. Out of line, since only a PASTE that converts line ends needs it.
 ///
 /// # Errors
 ///
@@ -257,7 +262,7 @@ fn converted_clipboard(
     Ok(bytes)
 }
 
-/// What an edit puts in of the clipboard with the line ends of the document with this id, or nothing.
+/// Returns the clipboard with the line ends of the document with this id, if the edit inserts that; otherwise nothing.
 ///
 /// # Errors
 ///
@@ -283,7 +288,7 @@ fn pasted_bytes(
     converted_clipboard(alloc, &state.clipboard, document.typed_line_end())
 }
 
-/// The bytes of the document with this id that an edit takes to the clipboard, or nothing.
+/// Returns the bytes of the document with this id that an edit takes to the clipboard, or nothing.
 ///
 /// # Errors
 ///
@@ -308,13 +313,13 @@ fn taken_bytes(
     document.text_to_vec(alloc, start, count, 0)
 }
 
-/// Makes an edit of the document with this id, and what follows it for the view with this id.
+/// Makes an edit of the document with this id, and then does what follows it for `view`.
 ///
 /// # Errors
 ///
 /// `OutOfMemory` if an allocation fails. The session is then as it was.
 #[inline(always)]
-pub(crate) fn edit_at_once(
+pub(crate) fn perform_edit(
     alloc: Global,
     state: &mut SessionState,
     document: u32,
@@ -332,7 +337,8 @@ pub(crate) fn edit_at_once(
     ensures kept { IsKept state.new }
     ensures free { (value : ℤ) → IfFree (session_in state.old) document view text.now (plan.Edit edit value follow) (IsOk result) }
 {
-    // States that the session stays sound.
+    // States that the steps of an edit fit the text and its limit, and that the session stays sound.
+    plans_are_fit();
     soundness_is_kept();
     let Ok(pasted) = pasted_bytes(alloc, state, document, edit) else {
         return Err(Refusal::OutOfMemory);

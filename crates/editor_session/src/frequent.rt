@@ -11,17 +11,18 @@ ghost use Rattle.ed_model.specs.SoundLaws.{Rise};
 ghost use Rattle.ed_model.specs.Table.{table};
 ghost use Rattle.id_table.specs.Entries.{value_at};
 ghost use Rattle.message_plans.specs.Frequent.{frequent_change_of, transaction_of, performing};
+ghost use Rattle.message_plans.specs.Ways.{frequent_change_in};
 ghost use Rattle.message_requests.specs.Requested.{session_in, documents_in};
 ghost use Rattle.session_changes.specs.Kept.{IsKept, DocumentsAreNamed};
-ghost use Rattle.editor_session.specs.Answers.{message_with};
+ghost use Rattle.editor_session.specs.Answers.{AnswersBy};
 ghost use Rattle.editor_session.specs.Doing.{CanBeMade, IsChangedIn};
 ghost use Rattle.editor_session.specs.Tasks.{IsTask};
 ghost use Rattle.editor_session.specs.Plans.{is_free};
-ghost use Rattle.editor_session.specs.Unheard.{unrecorded, going, no_notes, IsSent, IsSentWith};
+ghost use Rattle.editor_session.specs.Unheard.{unrecorded, going, no_notes, IsSent};
 
-use crate::attached::look_up;
-use crate::changing::change_at_once;
-use crate::history::go_unheard;
+use crate::attached::{look_up, request_to};
+use crate::changing::perform_change;
+use crate::history::perform_transaction_unheard;
 use document::Direction;
 use document_changes::change_unheard;
 use document_table::DocumentTable;
@@ -29,8 +30,8 @@ use ed_model::{DocumentChange, plans_are_fit, soundness_is_kept};
 use ed_types::{Bytes, Kind, Refusal, Reply, kinds_and_numbers};
 use ed_view::View;
 use id_table::IdTable;
-use message_plans::{change_of, is_performed, transaction_of};
-use message_requests::{Request, SentMessage, SessionState};
+use message_plans::{Way, change_of, is_performed};
+use message_requests::{SentMessage, SessionState};
 use notify::NoteList;
 use std::alloc::Global;
 
@@ -46,17 +47,16 @@ pub(crate) struct FrequentChange {
     pub value: i64,
 }
 
-/// The kind of a frequent change, if `view` listens for changes of any of the three kinds. Such a view is usually notified, so the message
-/// takes the notifying path directly. `None` otherwise, even if other views listen.
+/// Returns the kind of a frequent change, if `view` listens for changes of any of the three kinds. Such a view is usually notified, so the
+/// message takes the notifying path directly. `None` otherwise, even if other views listen.
 #[inline(always)]
-pub(crate) fn heard_change_of(
-    state: &SessionState,
-    view: u32,
-    frequent: Option<Kind>,
-) -> Option<Kind>
-    ensures { IfSome result (λ kind. frequent ≡ Some kind) }
+pub(crate) fn heard_change_of(state: &SessionState, view: u32, way: Way) -> Option<Kind>
+    ensures { IfSome result (λ kind. frequent_change_in way ≡ Some kind) }
 {
-    let kind = frequent?;
+    let kind = match way {
+        Way::FrequentChange(kind) => kind,
+        _ => return None,
+    };
     let view = state.views.get(view)?;
     if view.mask() & FREQUENT_CHANGES == 0 {
         return None;
@@ -70,13 +70,11 @@ pub(crate) fn find_change(
     state: &SessionState,
     view: u32,
     kind: Kind,
-    number: u32,
-    w: i64,
-    l: i64,
+    message: &SentMessage,
 ) -> Option<FrequentChange>
     requires kept { IsKept state.now }
-    requires frequent { frequent_change_of number ≡ Some kind }
-    ensures { IfSome result (λ found. (text : List ℕ) → IsTask (session_in state.now) view (message_with number w l text) (unrecorded found.document view (plan.ChangeDocument found.change found.value))) }
+    requires frequent { frequent_change_of message.now.number ≡ Some kind }
+    ensures { IfSome result (λ found. IsTask (session_in state.now) view message.now (unrecorded found.document view (plan.ChangeDocument found.change found.value))) }
 {
     // States that each kind is found by its number, and that a plan's numbers are in range.
     kinds_and_numbers();
@@ -84,19 +82,7 @@ pub(crate) fn find_change(
     let Some(found) = look_up(state, view) else {
         return None;
     };
-    // These messages read no text.
-    let message = SentMessage {
-        number,
-        w,
-        l,
-        text: &[],
-    };
-    let request = Request {
-        session: state,
-        view: found.view,
-        document: found.document,
-        message,
-    };
+    let request = request_to(state, found, message);
     let Some((change, value)) = change_of(kind, &request) else {
         return None;
     };
@@ -110,7 +96,7 @@ pub(crate) fn find_change(
 /// Applies `change` to the document with this id if no view listens, and returns whether it did. Otherwise, and if an allocation fails, all
 /// documents are as they were.
 #[inline(always)]
-fn change_quickly_in(
+fn change_unheard_in(
     documents: &mut DocumentTable,
     views: &IdTable<View>,
     document: u32,
@@ -130,9 +116,9 @@ fn change_quickly_in(
     change_unheard(document, views, change)
 }
 
-/// The same in the session, for a message to `view`.
+/// Like `change_unheard_in`, in the session, for a message to `view`.
 #[inline(always)]
-fn change_quickly(
+fn perform_change_unheard(
     state: &mut SessionState,
     document: u32,
     view: u32,
@@ -151,61 +137,70 @@ fn change_quickly(
         views,
         ..
     } = state;
-    change_quickly_in(documents, views, document, change)
+    change_unheard_in(documents, views, document, change)
 }
 
 /// Makes the frequent change that this message to `view` asks for, and returns the value that is answered. `None`, with nothing changed, if
 /// a view listens, the change is refused or an allocation fails. Out of line, so that other messages do not pay for its stack frame.
 #[inline(never)]
-fn settle_as(
+pub(crate) fn answer_unheard_change(
     state: &mut SessionState,
     view: u32,
     kind: Kind,
-    number: u32,
-    w: i64,
-    l: i64,
+    message: &SentMessage,
 ) -> Option<i64>
     requires kept { IsKept state.old }
-    requires frequent { frequent_change_of number ≡ Some kind }
-    ensures answer { IfSome result (λ value. (text : List ℕ) → table (session_in state.old) view (message_with number w l text) ≡ Ok (session_in state.new, quiet value)) }
+    requires frequent { frequent_change_of message.now.number ≡ Some kind }
+    ensures answer { IfSome result (λ value. table (session_in state.old) view message.now ≡ Ok (session_in state.new, quiet value)) }
     ensures same { IfNone result (session_in state.new ≡ session_in state.old) }
     ensures kept { IsKept state.new }
 {
-    let Some(found) = find_change(state, view, kind, number, w, l) else {
+    let Some(found) = find_change(state, view, kind, message) else {
         return None;
     };
-    if change_quickly(state, found.document, view, found.change) {
+    if perform_change_unheard(state, found.document, view, found.change) {
         Some(found.value)
     } else {
         None
     }
 }
 
-/// Makes a change that a message to `view` asks for, and returns the reply with its notes. Allocates for the change and its notes only.
+/// Makes the frequent change that was found for this message to `view`, and returns the reply with its notes. Allocates for the change and
+/// its notes only.
 ///
 /// # Errors
 ///
 /// `OutOfMemory` if an allocation fails. The session is then as it was.
 #[inline(always)]
-pub(crate) fn change_and_tell(
+pub(crate) fn answer_found_change(
     alloc: Global,
     state: &mut SessionState,
-    document: u32,
     view: u32,
-    text: &[u8],
-    change: DocumentChange,
-    value: i64,
+    found: FrequentChange,
+    message: &SentMessage,
 ) -> Result<Reply, Refusal>
     requires kept { IsKept state.old }
-    requires sent { IsSentWith (session_in state.old) document view text.now (plan.ChangeDocument change) }
-    ensures answer { IfOk result (λ reply. (m : Message) → IsTask (session_in state.old) view m (unrecorded document view (plan.ChangeDocument change value)) → m.text ≡ text.now → table (session_in state.old) view m ≡ Ok (session_in state.new, reply)) }
-    ensures same { OnErr result (session_in state.new ≡ session_in state.old) }
+    requires task { IsTask (session_in state.old) view message.now (unrecorded found.document view (plan.ChangeDocument found.change found.value)) }
+    ensures answer { AnswersBy (table (session_in state.old) view message.now) (session_in state.old) (session_in state.new) result }
     ensures refused { IfErr result (λ refusal. refusal ≡ OutOfMemory) }
     ensures kept { IsKept state.new }
-    ensures free { (m : Message) → IsTask (session_in state.old) view m (unrecorded document view (plan.ChangeDocument change value)) → m.text ≡ text.now → is_free (session_in state.old) view m ≡ true → IsOk result }
+    ensures free { is_free (session_in state.old) view message.now ≡ true → IsOk result }
 {
+    let FrequentChange {
+        document,
+        change,
+        value,
+    } = found;
     let mut notes = NoteList::new(alloc);
-    match change_at_once(alloc, state, document, view, text, change, &mut notes) {
+    match perform_change(
+        alloc,
+        state,
+        document,
+        view,
+        message.text,
+        change,
+        &mut notes,
+    ) {
         Ok(()) => Ok(notes.finish(value, Bytes::empty(alloc))),
         Err(refusal) => Err(refusal),
     }
@@ -218,13 +213,11 @@ fn find_transaction(
     state: &SessionState,
     view: u32,
     kind: Kind,
-    number: u32,
-    w: i64,
-    l: i64,
+    message: &SentMessage,
 ) -> Option<u32>
     requires kept { IsKept state.now }
-    requires transaction { transaction_of number ≡ Some kind }
-    ensures { IfSome result (λ document. (text : List ℕ) → IsTask (session_in state.now) view (message_with number w l text) (unrecorded document view (performing kind))) }
+    requires transaction { transaction_of message.now.number ≡ Some kind }
+    ensures { IfSome result (λ document. IsTask (session_in state.now) view message.now (unrecorded document view (performing kind))) }
 {
     // States that each kind is found by its number, and that a plan's numbers are in range.
     kinds_and_numbers();
@@ -236,19 +229,7 @@ fn find_transaction(
     if found.view.mask() != 0 {
         return None;
     }
-    // Neither message reads a text.
-    let message = SentMessage {
-        number,
-        w,
-        l,
-        text: &[],
-    };
-    let request = Request {
-        session: state,
-        view: found.view,
-        document: found.document,
-        message,
-    };
+    let request = request_to(state, found, message);
     if is_performed(kind, &request) {
         Some(found.document.id())
     } else {
@@ -267,57 +248,28 @@ fn direction_of(kind: Kind) -> Direction
     }
 }
 
-/// Performs UNDO or REDO, sent to `view`, if no view is notified, and returns the value that is answered. Out of line, as `settle_as` is.
+/// Performs this UNDO or REDO, sent to `view`, and returns the value that is answered. `None`, with nothing changed, if a view is notified,
+/// nothing is left to undo or redo, or an allocation fails. Out of line, so that other messages do not pay for its stack frame.
 #[inline(never)]
-fn go_as(
+pub(crate) fn answer_unheard_transaction(
     alloc: Global,
     state: &mut SessionState,
     view: u32,
     kind: Kind,
-    number: u32,
-    w: i64,
-    l: i64,
+    message: &SentMessage,
 ) -> Option<i64>
     requires kept { IsKept state.old }
-    requires transaction { transaction_of number ≡ Some kind }
-    ensures answer { IfSome result (λ value. (text : List ℕ) → table (session_in state.old) view (message_with number w l text) ≡ Ok (session_in state.new, quiet value)) }
+    requires transaction { transaction_of message.now.number ≡ Some kind }
+    ensures answer { IfSome result (λ value. table (session_in state.old) view message.now ≡ Ok (session_in state.new, quiet value)) }
     ensures same { IfNone result (session_in state.new ≡ session_in state.old) }
     ensures kept { IsKept state.new }
 {
-    let Some(document) = find_transaction(state, view, kind, number, w, l) else {
+    let Some(document) = find_transaction(state, view, kind, message) else {
         return None;
     };
-    if go_unheard(alloc, state, document, view, direction_of(kind)) {
+    if perform_transaction_unheard(alloc, state, document, view, direction_of(kind)) {
         Some(0)
     } else {
         None
-    }
-}
-
-/// Performs a frequent change, UNDO or REDO without notes, and returns the value that is answered. `None`, with nothing changed, for all
-/// other messages, and if the table refuses the message, a view listens or an allocation fails. `frequent` is the kind of the frequent
-/// change, if the message is one.
-#[inline(always)]
-pub(crate) fn settle(
-    alloc: Global,
-    state: &mut SessionState,
-    view: u32,
-    frequent: Option<Kind>,
-    number: u32,
-    w: i64,
-    l: i64,
-) -> Option<i64>
-    requires kept { IsKept state.old }
-    requires frequent { frequent ≡ frequent_change_of number }
-    ensures answer { IfSome result (λ value. (text : List ℕ) → table (session_in state.old) view (message_with number w l text) ≡ Ok (session_in state.new, quiet value)) }
-    ensures same { IfNone result (session_in state.new ≡ session_in state.old) }
-    ensures kept { IsKept state.new }
-{
-    if let Some(kind) = frequent {
-        return settle_as(state, view, kind, number, w, l);
-    }
-    match transaction_of(number) {
-        Some(kind) => go_as(alloc, state, view, kind, number, w, l),
-        None => None,
     }
 }

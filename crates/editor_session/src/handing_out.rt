@@ -1,13 +1,10 @@
 //! Bytes of a document that a reply hands out.
 
-ghost use Rattle.std.specs.Prelude.{◌≡◌, ◌≤◌, ◌+◌, ◌*◌, ◌++◌, ℤ, ℕ, List, pos, length, slice_range, IfOk, IfErr, IsOk, vec_len, vec_capacity};
+ghost use Rattle.std.specs.Prelude.{◌≡◌, ◌≤◌, ◌+◌, ◌*◌, ◌++◌, length, slice_range, IfOk, IfErr, IfSome, IsOk, IsSomeAnd, vec_len, vec_capacity};
 ghost use Rattle.ed_types.specs.declared.refusal.Refusal.TheVariants.{OutOfMemory};
-ghost use Rattle.ed_types.specs.Notices.{Notice};
-ghost use Rattle.ed_model.specs.declared.plan.Plan.TheVariants as plan;
-ghost use Rattle.ed_model.specs.Performing.{response, styled_text};
-ghost use Rattle.message_requests.specs.Requested.{session_in};
-ghost use Rattle.session_changes.specs.Kept.{IsKept};
-ghost use Rattle.editor_session.specs.Unheard.{IsAnswered, IfFree, IsSent};
+ghost use Rattle.ed_model.specs.Performing.{styled_text};
+ghost use Rattle.ed_model.specs.Session.{text_of};
+ghost use Rattle.id_table.specs.Entries.{value_at};
 
 use document::Document;
 use ed_types::Refusal;
@@ -20,7 +17,8 @@ fn append_styled(document: &Document, start: usize, count: usize, target: &mut V
     requires room { vec_len target.old + 2 * count ≤ vec_capacity target.old }
     ensures { target.new.items ≡ target.old.items ++ styled_text (slice_range document.now.document.cells start (start + count)) }
 {
-    let _ = document.len(); // it says that no place runs out of numbers
+    // States that no place of the text is past the numbers of `usize`.
+    let _ = document.len();
     for place in start..start + count {
         target.push_reserved(document.byte(place));
         target.push_reserved(document.style(place));
@@ -63,15 +61,13 @@ pub(crate) fn hand_out(
     alloc: Global,
     state: &SessionState,
     document: u32,
-    view: u32,
     start: usize,
     count: usize,
 ) -> Result<Vec<u8>, Refusal>
-    requires kept { IsKept state.now }
-    requires sent { IsSent (session_in state.now) document view (λ value. plan.HandOut value start count) }
-    ensures answer { IfOk result (λ bytes. (value : ℤ) (text : List ℕ) (notes : List Notice) → IsAnswered (session_in state.now) document view text (plan.HandOut value start count) notes (session_in state.now) (response value bytes.items notes)) }
+    requires range { IsSomeAnd (value_at state.now.documents.entries document) (λ k. start + count ≤ length k.document.cells) }
+    ensures bytes { IfOk result (λ bytes. IfSome (value_at state.now.documents.entries document) (λ k. bytes.items ≡ slice_range (text_of k.document) start (start + count))) }
     ensures refused { IfErr result (λ refusal. refusal ≡ OutOfMemory) }
-    ensures free { (value : ℤ) (text : List ℕ) → IfFree (session_in state.now) document view text (plan.HandOut value start count) (IsOk result) }
+    ensures free { count ≡ 0 → IsOk result }
 {
     let Some(document) = state.documents.get(document) else {
         unreachable!()
@@ -92,15 +88,13 @@ pub(crate) fn hand_out_styled(
     alloc: Global,
     state: &SessionState,
     document: u32,
-    view: u32,
     start: usize,
     count: usize,
 ) -> Result<Vec<u8>, Refusal>
-    requires kept { IsKept state.now }
-    requires sent { IsSent (session_in state.now) document view (λ value. plan.HandOutStyled start count) }
-    ensures answer { IfOk result (λ bytes. (text : List ℕ) (notes : List Notice) → IsAnswered (session_in state.now) document view text (plan.HandOutStyled start count) notes (session_in state.now) (response (pos (length bytes.items)) bytes.items notes)) }
+    requires range { IsSomeAnd (value_at state.now.documents.entries document) (λ k. start + count ≤ length k.document.cells) }
+    ensures bytes { IfOk result (λ bytes. IfSome (value_at state.now.documents.entries document) (λ k. bytes.items ≡ styled_text (slice_range k.document.cells start (start + count)))) }
     ensures refused { IfErr result (λ refusal. refusal ≡ OutOfMemory) }
-    ensures free { (text : List ℕ) → IfFree (session_in state.now) document view text (plan.HandOutStyled start count) (IsOk result) }
+    ensures free { count ≡ 0 → IsOk result }
 {
     let Some(document) = state.documents.get(document) else {
         unreachable!()

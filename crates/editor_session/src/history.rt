@@ -18,10 +18,10 @@ ghost use Rattle.session_changes.specs.Kept.{IsKept, DocumentsAreNamed, ViewsRis
 ghost use Rattle.editor_session.specs.Edited.{Becomes};
 ghost use Rattle.editor_session.specs.Doing.{CanGoOnceThereIsRoom, Goes, scene_gone};
 ghost use Rattle.editor_session.specs.Tasks.{IsTask};
+ghost use Rattle.editor_session.specs.Widths.{ChangesFitWidth};
 ghost use Rattle.editor_session.specs.Unheard.{unrecorded, going, no_notes, IsAnswered, IsSent};
 
 use crate::edits::set_caret;
-use crate::need::reserve;
 use document::{Direction, Document};
 use document_table::DocumentTable;
 use ed_model::{plans_are_fit, soundness_is_kept};
@@ -47,6 +47,7 @@ fn go_with_room(
     most: usize,
 ) -> Result<Option<usize>, AllocError>
     requires steps { AreStepsOf (text_of document.old.document) (text_steps (changes_of direction document.old.document.history)) }
+    requires wide { ChangesFitWidth document.old.document (changes_of direction document.old.document.history) }
     requires watched { IsWatched document.old.document views.old }
     ensures scene { OnOk result (scene_in document.new.document views.new.entries notes.new.notes ≡ transaction_performed (bits_of direction) (changes_of direction document.old.document.history) (history_behind direction document.old.document.history) (scene_in document.old.document views.old.entries notes.old.notes)) }
     ensures place { IfOk result (λ place. place ≡ place_behind_any (latest_text_step (reverse (changes_of direction document.old.document.history)))) }
@@ -64,17 +65,17 @@ fn go_with_room(
     let Ok(()) = notes.reserve(need.notes.notes, need.notes.bytes) else {
         return Err(AllocError);
     };
-    let Ok(()) = reserve(document, need.document) else {
+    let Ok(()) = document.reserve(need.document) else {
         return Err(AllocError);
     };
     Ok(perform_history(document, views, notes, direction))
 }
 
-/// The same in the document with this id, which is looked up once.
+/// Like `go_with_room`, in the document with this id.
 ///
 /// # Errors
 ///
-/// As of `go_with_room`. All documents and views are then as they were.
+/// Those of `go_with_room`. All documents and views are then as they were.
 fn go_with_room_in(
     documents: &mut DocumentTable,
     views: &mut IdTable<View>,
@@ -103,11 +104,11 @@ fn go_with_room_in(
     go_with_room(document, views, notes, direction, most)
 }
 
-/// The same, and then moves the caret of `view`.
+/// Like `go_with_room_in`, in a session, and then moves the caret of `view` behind the last step.
 ///
 /// # Errors
 ///
-/// As of `go_with_room`. The session is then as it was.
+/// Those of `go_with_room`. The session is then as it was.
 fn go_making_room(
     state: &mut SessionState,
     document: u32,
@@ -140,13 +141,13 @@ fn go_making_room(
     }
 }
 
-/// Performs UNDO or REDO, sent to the view with this id, on the document with that id.
+/// Performs UNDO or REDO, sent to `view`, in the document with this id.
 ///
 /// # Errors
 ///
 /// `OutOfMemory` if an allocation fails. The session is then as it was.
 #[inline(never)]
-pub(crate) fn go_at_once(
+pub(crate) fn perform_transaction(
     state: &mut SessionState,
     document: u32,
     view: u32,
@@ -169,9 +170,10 @@ pub(crate) fn go_at_once(
     }
 }
 
-/// The same, if no view is notified, and returns whether it did. Otherwise, and if an allocation fails, nothing changes.
+/// Like `perform_transaction`, but only if no view is notified; returns whether it was performed. Otherwise, and if an allocation fails,
+/// nothing changes.
 #[inline(always)]
-pub(crate) fn go_unheard(
+pub(crate) fn perform_transaction_unheard(
     alloc: Global,
     state: &mut SessionState,
     document: u32,

@@ -23,7 +23,7 @@ fn is_value_alone(reply: &Reply) -> bool
     reply.text().is_empty() && reply.note_count() == 0
 }
 
-/// Replaces a reply. Out of line, since it is seldom needed.
+/// Replaces a reply. Out of line, since most replies are a value alone.
 #[inline(never)]
 fn put(reply: &mut Reply, new: Reply)
     ensures { reply.new ≡ new }
@@ -45,7 +45,7 @@ pub(crate) fn keep(reply: &mut Reply, new: Reply) -> i64
     value
 }
 
-/// The same for a result.
+/// Like `keep`, for a result: replaces `reply` if a reply was made.
 #[inline(always)]
 pub(crate) fn keep_made(reply: &mut Reply, made: Result<Reply, Refusal>) -> Result<i64, Refusal>
     ensures told { told result reply.new ≡ made }

@@ -1,9 +1,8 @@
-//! The memory that a replacement of bytes needs, counted before any is allocated; and room in a document.
+//! The memory that a replacement of bytes needs, counted before any is allocated.
 
-ghost use Rattle.std.specs.Prelude.{◌≡◌, ◌≤◌, ◌+◌, ◌-◌, [], length, OnOk, IsOk};
+ghost use Rattle.std.specs.Prelude.{◌≡◌, ◌≤◌, ◌+◌, ◌-◌, [], length};
 ghost use Rattle.ed_model.specs.Steps.{replacement};
 ghost use Rattle.ed_model.specs.Session.{text_of, watching};
-ghost use Rattle.document.specs.Kept.{HasRoom, no_room};
 ghost use Rattle.document.specs.TextSteps.{step_in, IsStepOn, need_of};
 ghost use Rattle.scene.specs.Conversion.{room_of_steps};
 ghost use Rattle.scene.specs.Needs.{note_room, notes_of_step, bytes_of_step};
@@ -15,7 +14,6 @@ use document::{Document, DocumentRoom, TextStep};
 use ed_view::View;
 use id_table::IdTable;
 use scene::{NoteRoom, SceneNeed, leaving_need, note_need};
-use std::alloc::AllocError;
 
 /// Returns the need of nothing.
 fn none() -> SceneNeed
@@ -108,21 +106,4 @@ pub(crate) fn replacement_need(
         return need;
     }
     plus(need, beside(step_need(document, views, insertion), count))
-}
-
-/// Makes this room in a document.
-///
-/// # Errors
-///
-/// `AllocError` if an allocation fails, or the document's places are too narrow for so long a text. The document is then as it was.
-#[inline(always)]
-pub(crate) fn reserve(document: &mut Document, need: DocumentRoom) -> Result<(), AllocError>
-    ensures same { document.new.document ≡ document.old.document }
-    ensures ok { OnOk result (HasRoom document.new need) }
-    ensures free { need ≡ no_room → IsOk result }
-{
-    if need.text >= document.bound() - document.len() {
-        return Err(AllocError);
-    }
-    document.reserve(need)
 }

@@ -6,25 +6,25 @@ ghost use Rattle.ed_model.specs.Performing.{response};
 ghost use Rattle.ed_model.specs.Table.{table};
 ghost use Rattle.message_requests.specs.Requested.{session_in};
 ghost use Rattle.session_changes.specs.Kept.{IsKept};
-ghost use Rattle.editor_session.specs.Answers.{AnswersBy, message_with};
+ghost use Rattle.editor_session.specs.Answers.{AnswersBy};
 ghost use Rattle.editor_session.specs.Left.{told, IsLeft};
 ghost use Rattle.editor_session.specs.Plans.{is_free};
 ghost use Rattle.editor_session.specs.Tasks.{IsTask, task_of};
 ghost use Rattle.editor_session.specs.Unheard.{IsAnswered, IfFree, IsSentAs};
 
 use crate::changing::{
-    change_at_once, change_lightly, change_session_at_once, change_view_at_once, is_light,
-    tell_attempt,
+    is_free_change, perform_attempt, perform_change, perform_free_change, perform_session_change,
+    perform_view_change,
 };
-use crate::editing::edit_at_once;
+use crate::editing::perform_edit;
 use crate::handing_out::{hand_out, hand_out_styled};
-use crate::history::go_at_once;
+use crate::history::perform_transaction;
 use crate::left::{answer, keep};
 use crate::recording::record_if;
 use document::Direction;
 use ed_model::Plan;
 use ed_types::{Bytes, Refusal, Reply};
-use message_requests::SessionState;
+use message_requests::{SentMessage, SessionState};
 use notify::NoteList;
 use std::alloc::Global;
 
@@ -61,11 +61,11 @@ fn perform(
             start,
             count,
         } => {
-            *handed_out = hand_out(alloc, state, document, view, start, count)?;
+            *handed_out = hand_out(alloc, state, document, start, count)?;
             Ok(value)
         }
         Plan::HandOutStyled { start, count } => {
-            *handed_out = hand_out_styled(alloc, state, document, view, start, count)?;
+            *handed_out = hand_out_styled(alloc, state, document, start, count)?;
             Ok(handed_out.len() as i64)
         }
         Plan::Edit {
@@ -73,31 +73,31 @@ fn perform(
             value,
             follow,
         } => {
-            edit_at_once(alloc, state, document, view, text, edit, follow, notes)?;
+            perform_edit(alloc, state, document, view, text, edit, follow, notes)?;
             Ok(value)
         }
         Plan::Attempt => {
-            tell_attempt(state, document, view, notes)?;
+            perform_attempt(state, document, notes)?;
             Ok(0)
         }
         Plan::Undo => {
-            go_at_once(state, document, view, Direction::Undo, notes)?;
+            perform_transaction(state, document, view, Direction::Undo, notes)?;
             Ok(0)
         }
         Plan::Redo => {
-            go_at_once(state, document, view, Direction::Redo, notes)?;
+            perform_transaction(state, document, view, Direction::Redo, notes)?;
             Ok(0)
         }
         Plan::ChangeDocument { change, value } => {
-            change_at_once(alloc, state, document, view, text, change, notes)?;
+            perform_change(alloc, state, document, view, text, change, notes)?;
             Ok(value)
         }
         Plan::ChangeView { change, value } => {
-            change_view_at_once(state, document, view, change)?;
+            perform_view_change(state, document, view, change)?;
             Ok(value)
         }
         Plan::ChangeSession { change, value } => {
-            change_session_at_once(alloc, state, document, view, text, change)?;
+            perform_session_change(alloc, state, document, view, text, change)?;
             Ok(value)
         }
     }
@@ -114,24 +114,21 @@ fn perform_with_notes(
     state: &mut SessionState,
     document: u32,
     view: u32,
-    number: u32,
-    w: i64,
-    l: i64,
-    text: &[u8],
+    message: &SentMessage,
     plan: &Plan,
     is_recorded: bool,
     reply: &mut Reply,
 ) -> Result<i64, Refusal>
     requires kept { IsKept state.old }
-    requires task { IsTask (session_in state.old) view (message_with number w l text.now) (task_of document view plan.now is_recorded) }
-    ensures answer { AnswersBy (table (session_in state.old) view (message_with number w l text.now)) (session_in state.old) (session_in state.new) (told result reply.new) }
+    requires task { IsTask (session_in state.old) view message.now (task_of document view plan.now is_recorded) }
+    ensures answer { AnswersBy (table (session_in state.old) view message.now) (session_in state.old) (session_in state.new) (told result reply.new) }
     ensures place { IsLeft result reply.old reply.new }
     ensures refused { IfErr result (λ refusal. refusal ≡ OutOfMemory) }
     ensures kept { IsKept state.new }
-    ensures free { is_free (session_in state.old) view (message_with number w l text.now) ≡ true → IsOk result }
+    ensures free { is_free (session_in state.old) view message.now ≡ true → IsOk result }
 {
     let mut notes = NoteList::new(alloc);
-    let Ok(()) = record_if(is_recorded, view, number, w, l, text, &mut notes) else {
+    let Ok(()) = record_if(is_recorded, view, message, &mut notes) else {
         return Err(Refusal::OutOfMemory);
     };
     let mut handed_out = Vec::new(alloc);
@@ -140,7 +137,7 @@ fn perform_with_notes(
         state,
         document,
         view,
-        text,
+        message.text,
         plan,
         &mut handed_out,
         &mut notes,
@@ -150,37 +147,34 @@ fn perform_with_notes(
     }
 }
 
-/// The same. If only a value is answered, or the view changes without an allocation, nothing is set up for notes.
+/// Like `perform_with_notes`, but sets up nothing for notes if only a value is answered, or if the view changes without an allocation.
 ///
 /// # Errors
 ///
-/// As of `perform_with_notes`.
+/// Those of `perform_with_notes`.
 #[inline(always)]
 pub(crate) fn perform_message(
     alloc: Global,
     state: &mut SessionState,
     document: u32,
     view: u32,
-    number: u32,
-    w: i64,
-    l: i64,
-    text: &[u8],
+    message: &SentMessage,
     plan: &Plan,
     is_recorded: bool,
     reply: &mut Reply,
 ) -> Result<i64, Refusal>
     requires kept { IsKept state.old }
-    requires task { IsTask (session_in state.old) view (message_with number w l text.now) (task_of document view plan.now is_recorded) }
-    ensures answer { AnswersBy (table (session_in state.old) view (message_with number w l text.now)) (session_in state.old) (session_in state.new) (told result reply.new) }
+    requires task { IsTask (session_in state.old) view message.now (task_of document view plan.now is_recorded) }
+    ensures answer { AnswersBy (table (session_in state.old) view message.now) (session_in state.old) (session_in state.new) (told result reply.new) }
     ensures place { IsLeft result reply.old reply.new }
     ensures refused { IfErr result (λ refusal. refusal ≡ OutOfMemory) }
     ensures kept { IsKept state.new }
-    ensures free { is_free (session_in state.old) view (message_with number w l text.now) ≡ true → IsOk result }
+    ensures free { is_free (session_in state.old) view message.now ≡ true → IsOk result }
 {
     match *plan {
         Plan::Answer { value } if !is_recorded => Ok(keep(reply, answer(alloc, value))),
-        Plan::ChangeView { change, value } if !is_recorded && is_light(change) => {
-            change_lightly(state, document, view, change);
+        Plan::ChangeView { change, value } if !is_recorded && is_free_change(change) => {
+            perform_free_change(state, document, view, change);
             Ok(keep(reply, answer(alloc, value)))
         }
         _ => perform_with_notes(
@@ -188,10 +182,7 @@ pub(crate) fn perform_message(
             state,
             document,
             view,
-            number,
-            w,
-            l,
-            text,
+            message,
             plan,
             is_recorded,
             reply,

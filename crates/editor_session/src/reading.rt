@@ -7,15 +7,15 @@ ghost use Rattle.ed_model.specs.Table.{table};
 ghost use Rattle.message_plans.specs.Asking.{text_question_of};
 ghost use Rattle.message_requests.specs.Requested.{session_in};
 ghost use Rattle.session_changes.specs.Kept.{IsKept};
-ghost use Rattle.editor_session.specs.Answers.{message_with};
+ghost use Rattle.editor_session.specs.Answers.{with_text};
 ghost use Rattle.editor_session.specs.Asked.{reply_to};
 
-use crate::attached::look_up;
+use crate::attached::{look_up, request_to};
 use document::Document;
 use ed_model::plans_are_fit;
 use ed_types::{Kind, kinds_and_numbers};
-use message_plans::{handed_of, text_question_of};
-use message_requests::{Request, SentMessage, SessionState};
+use message_plans::{Way, handed_of, way_of};
+use message_requests::{SentMessage, SessionState};
 use std::alloc::{AllocError, Global};
 
 /// Replaces the contents of a buffer by the `count` bytes of a document from `start` on. A buffer that is too small is replaced by a larger
@@ -52,21 +52,19 @@ fn read_bytes(
 /// Answers this text question to `view`. `None` if the table refuses it, it hands out no bytes or an allocation fails. Out of line, so that
 /// other messages do not pay for its stack frame.
 #[inline(never)]
-fn read_as(
+pub(crate) fn read_as(
     alloc: Global,
     state: &SessionState,
     view: u32,
     kind: Kind,
-    number: u32,
-    w: i64,
-    l: i64,
+    message: &SentMessage,
     into: &mut Vec<u8>,
 ) -> Option<i64>
     requires kept { IsKept state.now }
-    requires question { text_question_of number ≡ Some kind }
-    ensures reply { IfSome result (λ value. reply_to (session_in state.now) view (message_with number w l []) ≡ Some (response value into.new.items [])) }
-    ensures answer { IfSome result (λ value. (text : List ℕ) → table (session_in state.now) view (message_with number w l text) ≡ Ok (session_in state.now, response value into.new.items [])) }
-    ensures room { IfSome (reply_to (session_in state.now) view (message_with number w l [])) (λ reply. length reply.text ≤ vec_capacity into.old → IsSome result) }
+    requires question { text_question_of message.now.number ≡ Some kind }
+    ensures reply { IfSome result (λ value. reply_to (session_in state.now) view message.now ≡ Some (response value into.new.items [])) }
+    ensures answer { IfSome result (λ value. (text : List ℕ) → table (session_in state.now) view (with_text message.now text) ≡ Ok (session_in state.now, response value into.new.items [])) }
+    ensures room { IfSome (reply_to (session_in state.now) view message.now) (λ reply. length reply.text ≤ vec_capacity into.old → IsSome result) }
     ensures room_stays { vec_capacity into.old ≤ vec_capacity into.new }
     ensures same { IfNone result (into.new ≡ into.old) }
 {
@@ -76,19 +74,7 @@ fn read_as(
     let Some(found) = look_up(state, view) else {
         return None;
     };
-    // Text questions read no text of the message.
-    let message = SentMessage {
-        number,
-        w,
-        l,
-        text: &[],
-    };
-    let request = Request {
-        session: state,
-        view: found.view,
-        document: found.document,
-        message,
-    };
+    let request = request_to(state, found, message);
     let Some(handed) = handed_of(kind, &request) else {
         return None;
     };
@@ -105,20 +91,18 @@ pub(crate) fn read(
     alloc: Global,
     state: &SessionState,
     view: u32,
-    number: u32,
-    w: i64,
-    l: i64,
+    message: &SentMessage,
     into: &mut Vec<u8>,
 ) -> Option<i64>
     requires kept { IsKept state.now }
-    ensures reply { IfSome result (λ value. reply_to (session_in state.now) view (message_with number w l []) ≡ Some (response value into.new.items [])) }
-    ensures answer { IfSome result (λ value. (text : List ℕ) → table (session_in state.now) view (message_with number w l text) ≡ Ok (session_in state.now, response value into.new.items [])) }
-    ensures room { IfSome (reply_to (session_in state.now) view (message_with number w l [])) (λ reply. length reply.text ≤ vec_capacity into.old → IsSome result) }
+    ensures reply { IfSome result (λ value. reply_to (session_in state.now) view message.now ≡ Some (response value into.new.items [])) }
+    ensures answer { IfSome result (λ value. (text : List ℕ) → table (session_in state.now) view (with_text message.now text) ≡ Ok (session_in state.now, response value into.new.items [])) }
+    ensures room { IfSome (reply_to (session_in state.now) view message.now) (λ reply. length reply.text ≤ vec_capacity into.old → IsSome result) }
     ensures room_stays { vec_capacity into.old ≤ vec_capacity into.new }
     ensures same { IfNone result (into.new ≡ into.old) }
 {
-    match text_question_of(number) {
-        Some(kind) => read_as(alloc, state, view, kind, number, w, l, into),
-        None => None,
+    match way_of(message.number) {
+        Way::TextQuestion(kind) => read_as(alloc, state, view, kind, message, into),
+        _ => None,
     }
 }

@@ -1,31 +1,36 @@
-//! A message on its way through a session. `answer_message` tries first whether it is a question; `answer_into` does not. Then both try the
-//! fast paths: a frequent change, with notes if the view that it is sent to listens for such changes, and without if no view listens; UNDO
-//! and REDO, if no view listens; and a message by which a search goes from match to match, if the view does not record. All others, and what
-//! is refused, are planned and performed.
+//! A message on its way through a session. `way_of` says by its number which fast path it takes: a question is read; a frequent change is
+//! made with notes if the view that it is sent to listens for such changes, and without if no view listens; UNDO and REDO are performed
+//! without notes if no view listens, and a target message if the view does not record. All others, and what is refused, are planned and
+//! performed.
 
 ghost use Rattle.std.specs.Prelude.{◌≡◌, ◌≢◌, ◌&&◌, true, IfErr, IfSome, IfNone, Ok, Err, Some};
 ghost use Rattle.ed_types.specs.declared.refusal.Refusal.TheVariants.{OutOfMemory};
 ghost use Rattle.ed_types.specs.Messages.{marks_of};
 ghost use Rattle.ed_model.specs.Performing.{quiet};
 ghost use Rattle.ed_model.specs.Table.{table};
+ghost use Rattle.message_plans.specs.Asking.{text_question_of};
 ghost use Rattle.message_plans.specs.Frequent.{frequent_change_of};
+ghost use Rattle.message_plans.specs.Ways.{IsWayOf};
 ghost use Rattle.message_requests.specs.Requested.{session_in};
 ghost use Rattle.session_changes.specs.Kept.{IsKept};
-ghost use Rattle.editor_session.specs.Answers.{AnswersBy, message_with};
+ghost use Rattle.editor_session.specs.Answers.{AnswersBy};
 ghost use Rattle.editor_session.specs.Left.{told, IsLeft};
 ghost use Rattle.editor_session.specs.Plans.{is_free};
 
-use crate::asking::ask;
+use crate::asking::ask_as;
 use crate::find::find;
-use crate::frequent::{change_and_tell, find_change, heard_change_of, settle};
+use crate::frequent::{
+    answer_found_change, answer_unheard_change, answer_unheard_transaction, find_change,
+    heard_change_of,
+};
 use crate::left::{answer, keep, keep_made, whole};
 use crate::performing::perform_message;
-use crate::reading::read;
-use crate::target::turn_target;
+use crate::reading::read_as;
+use crate::target::answer_target_message;
 use ed_model::plans_are_fit;
 use ed_types::{Bytes, Kind, Refusal, Reply};
-use message_plans::{frequent_change_of, frequent_plan_of, target_message_of, text_question_of};
-use message_requests::{Request, SessionState};
+use message_plans::{Way, frequent_plan_of, way_of};
+use message_requests::{Request, SentMessage, SessionState};
 use std::alloc::Global;
 
 /// Returns whether the view of a message records it.
@@ -46,22 +51,19 @@ fn answer_into_by_plan(
     alloc: Global,
     state: &mut SessionState,
     view: u32,
-    number: u32,
-    w: i64,
-    l: i64,
-    text: &[u8],
+    message: &SentMessage,
     reply: &mut Reply,
 ) -> Result<i64, Refusal>
     requires kept { IsKept state.old }
-    ensures answer { AnswersBy (table (session_in state.old) view (message_with number w l text.now)) (session_in state.old) (session_in state.new) (told result reply.new) }
-    ensures refused { IfErr (table (session_in state.old) view (message_with number w l text.now)) (λ refusal. result ≡ Err refusal) }
+    ensures answer { AnswersBy (table (session_in state.old) view message.now) (session_in state.old) (session_in state.new) (told result reply.new) }
+    ensures refused { IfErr (table (session_in state.old) view message.now) (λ refusal. result ≡ Err refusal) }
     ensures place { IsLeft result reply.old reply.new }
     ensures kept { IsKept state.new }
-    ensures free { is_free (session_in state.old) view (message_with number w l text.now) ≡ true → IfErr result (λ refusal. refusal ≢ OutOfMemory) }
+    ensures free { is_free (session_in state.old) view message.now ≡ true → IfErr result (λ refusal. refusal ≢ OutOfMemory) }
 {
     // States that a plan's numbers are in range, and that no plan is refused for want of memory.
     plans_are_fit();
-    let (kind, request) = match find(state, view, number, w, l, text) {
+    let (kind, request) = match find(state, view, message) {
         Ok(found) => found,
         Err(refusal) => return Err(refusal),
     };
@@ -75,10 +77,7 @@ fn answer_into_by_plan(
             state,
             document,
             view,
-            number,
-            w,
-            l,
-            text,
+            message,
             plan,
             is_recorded,
             reply,
@@ -87,29 +86,30 @@ fn answer_into_by_plan(
     }
 }
 
-/// Performs a message to `view` on a fast path that needs no notes, and returns the value. `None`, with nothing changed, if there is none.
-/// `frequent` is as for `settle`.
+/// Answers a message to `view` that needs no notes: a plain question; a frequent change, UNDO or REDO if no view listens; a target message if
+/// the view does not record. Returns the value. `None`, with nothing changed, for all other messages, and if the message is refused or an
+/// allocation fails.
 #[inline(always)]
-fn settle_at_once(
+fn answer_without_notes(
     alloc: Global,
     state: &mut SessionState,
     view: u32,
-    frequent: Option<Kind>,
-    number: u32,
-    w: i64,
-    l: i64,
-    text: &[u8],
+    way: Way,
+    message: &SentMessage,
 ) -> Option<i64>
     requires kept { IsKept state.old }
-    requires frequent { frequent ≡ frequent_change_of number }
-    ensures answer { IfSome result (λ value. table (session_in state.old) view (message_with number w l text.now) ≡ Ok (session_in state.new, quiet value)) }
+    requires way { IsWayOf message.now.number way }
+    ensures answer { IfSome result (λ value. table (session_in state.old) view message.now ≡ Ok (session_in state.new, quiet value)) }
     ensures same { IfNone result (session_in state.new ≡ session_in state.old) }
     ensures kept { IsKept state.new }
 {
-    if frequent.is_none() && target_message_of(number).is_some() {
-        return turn_target(state, view, number, w, l, text);
+    match way {
+        Way::Question(kind) => ask_as(state, view, kind, message),
+        Way::FrequentChange(kind) => answer_unheard_change(state, view, kind, message),
+        Way::Transaction(kind) => answer_unheard_transaction(alloc, state, view, kind, message),
+        Way::Target(_) => answer_target_message(state, view, message),
+        Way::TextQuestion(_) | Way::Planned => None,
     }
-    settle(alloc, state, view, frequent, number, w, l)
 }
 
 /// Answers a message to `view`. Returns the value; the text and the notes of the reply replace those of `reply`. Out of line, so that plain
@@ -123,27 +123,24 @@ pub(crate) fn answer_into(
     alloc: Global,
     state: &mut SessionState,
     view: u32,
-    number: u32,
-    w: i64,
-    l: i64,
-    text: &[u8],
+    message: &SentMessage,
     reply: &mut Reply,
 ) -> Result<i64, Refusal>
     requires kept { IsKept state.old }
-    ensures answer { AnswersBy (table (session_in state.old) view (message_with number w l text.now)) (session_in state.old) (session_in state.new) (told result reply.new) }
-    ensures refused { IfErr (table (session_in state.old) view (message_with number w l text.now)) (λ refusal. result ≡ Err refusal) }
+    ensures answer { AnswersBy (table (session_in state.old) view message.now) (session_in state.old) (session_in state.new) (told result reply.new) }
+    ensures refused { IfErr (table (session_in state.old) view message.now) (λ refusal. result ≡ Err refusal) }
     ensures place { IsLeft result reply.old reply.new }
     ensures kept { IsKept state.new }
-    ensures free { is_free (session_in state.old) view (message_with number w l text.now) ≡ true → IfErr result (λ refusal. refusal ≢ OutOfMemory) }
+    ensures free { is_free (session_in state.old) view message.now ≡ true → IfErr result (λ refusal. refusal ≢ OutOfMemory) }
 {
-    let frequent = frequent_change_of(number);
-    if let Some(kind) = heard_change_of(state, view, frequent) {
-        let made = answer_heard_change(alloc, state, view, kind, number, w, l, text);
+    let way = way_of(message.number);
+    if let Some(kind) = heard_change_of(state, view, way) {
+        let made = answer_heard_change(alloc, state, view, kind, message);
         return keep_made(reply, made);
     }
-    match settle_at_once(alloc, state, view, frequent, number, w, l, text) {
+    match answer_without_notes(alloc, state, view, way, message) {
         Some(value) => Ok(keep(reply, answer(alloc, value))),
-        None => answer_into_by_plan(alloc, state, view, number, w, l, text, reply),
+        None => answer_into_by_plan(alloc, state, view, message, reply),
     }
 }
 
@@ -157,19 +154,16 @@ fn answer_by_plan(
     alloc: Global,
     state: &mut SessionState,
     view: u32,
-    number: u32,
-    w: i64,
-    l: i64,
-    text: &[u8],
+    message: &SentMessage,
 ) -> Result<Reply, Refusal>
     requires kept { IsKept state.old }
-    ensures answer { AnswersBy (table (session_in state.old) view (message_with number w l text.now)) (session_in state.old) (session_in state.new) result }
-    ensures refused { IfErr (table (session_in state.old) view (message_with number w l text.now)) (λ refusal. result ≡ Err refusal) }
+    ensures answer { AnswersBy (table (session_in state.old) view message.now) (session_in state.old) (session_in state.new) result }
+    ensures refused { IfErr (table (session_in state.old) view message.now) (λ refusal. result ≡ Err refusal) }
     ensures kept { IsKept state.new }
-    ensures free { is_free (session_in state.old) view (message_with number w l text.now) ≡ true → IfErr result (λ refusal. refusal ≢ OutOfMemory) }
+    ensures free { is_free (session_in state.old) view message.now ≡ true → IfErr result (λ refusal. refusal ≢ OutOfMemory) }
 {
     let mut reply = answer(alloc, 0);
-    match answer_into_by_plan(alloc, state, view, number, w, l, text, &mut reply) {
+    match answer_into_by_plan(alloc, state, view, message, &mut reply) {
         Ok(value) => Ok(whole(alloc, value, reply)),
         Err(refusal) => Err(refusal),
     }
@@ -187,30 +181,19 @@ fn answer_heard_change(
     state: &mut SessionState,
     view: u32,
     kind: Kind,
-    number: u32,
-    w: i64,
-    l: i64,
-    text: &[u8],
+    message: &SentMessage,
 ) -> Result<Reply, Refusal>
     requires kept { IsKept state.old }
-    requires frequent { frequent_change_of number ≡ Some kind }
-    ensures answer { AnswersBy (table (session_in state.old) view (message_with number w l text.now)) (session_in state.old) (session_in state.new) result }
-    ensures refused { IfErr (table (session_in state.old) view (message_with number w l text.now)) (λ refusal. result ≡ Err refusal) }
+    requires frequent { frequent_change_of message.now.number ≡ Some kind }
+    ensures answer { AnswersBy (table (session_in state.old) view message.now) (session_in state.old) (session_in state.new) result }
+    ensures refused { IfErr (table (session_in state.old) view message.now) (λ refusal. result ≡ Err refusal) }
     ensures kept { IsKept state.new }
-    ensures free { is_free (session_in state.old) view (message_with number w l text.now) ≡ true → IfErr result (λ refusal. refusal ≢ OutOfMemory) }
+    ensures free { is_free (session_in state.old) view message.now ≡ true → IfErr result (λ refusal. refusal ≢ OutOfMemory) }
 {
-    let Some(found) = find_change(state, view, kind, number, w, l) else {
-        return answer_by_plan(alloc, state, view, number, w, l, text);
-    };
-    change_and_tell(
-        alloc,
-        state,
-        found.document,
-        view,
-        text,
-        found.change,
-        found.value,
-    )
+    match find_change(state, view, kind, message) {
+        Some(found) => answer_found_change(alloc, state, view, found, message),
+        None => answer_by_plan(alloc, state, view, message),
+    }
 }
 
 /// Answers a text question: reads the bytes into memory that becomes the reply's. If nothing is read, the message is planned. Out of line, so
@@ -224,21 +207,20 @@ fn answer_text_question(
     alloc: Global,
     state: &mut SessionState,
     view: u32,
-    number: u32,
-    w: i64,
-    l: i64,
-    text: &[u8],
+    kind: Kind,
+    message: &SentMessage,
 ) -> Result<Reply, Refusal>
     requires kept { IsKept state.old }
-    ensures answer { AnswersBy (table (session_in state.old) view (message_with number w l text.now)) (session_in state.old) (session_in state.new) result }
-    ensures refused { IfErr (table (session_in state.old) view (message_with number w l text.now)) (λ refusal. result ≡ Err refusal) }
+    requires question { text_question_of message.now.number ≡ Some kind }
+    ensures answer { AnswersBy (table (session_in state.old) view message.now) (session_in state.old) (session_in state.new) result }
+    ensures refused { IfErr (table (session_in state.old) view message.now) (λ refusal. result ≡ Err refusal) }
     ensures kept { IsKept state.new }
-    ensures free { is_free (session_in state.old) view (message_with number w l text.now) ≡ true → IfErr result (λ refusal. refusal ≢ OutOfMemory) }
+    ensures free { is_free (session_in state.old) view message.now ≡ true → IfErr result (λ refusal. refusal ≢ OutOfMemory) }
 {
     let mut bytes = Vec::new(alloc);
-    match read(alloc, state, view, number, w, l, &mut bytes) {
+    match read_as(alloc, state, view, kind, message, &mut bytes) {
         Some(value) => Ok(Reply::quiet(alloc, value, Bytes::new(bytes))),
-        None => answer_by_plan(alloc, state, view, number, w, l, text),
+        None => answer_by_plan(alloc, state, view, message),
     }
 }
 
@@ -251,29 +233,23 @@ pub(crate) fn answer_message(
     alloc: Global,
     state: &mut SessionState,
     view: u32,
-    number: u32,
-    w: i64,
-    l: i64,
-    text: &[u8],
+    message: &SentMessage,
 ) -> Result<Reply, Refusal>
     requires kept { IsKept state.old }
-    ensures answer { AnswersBy (table (session_in state.old) view (message_with number w l text.now)) (session_in state.old) (session_in state.new) result }
-    ensures refused { IfErr (table (session_in state.old) view (message_with number w l text.now)) (λ refusal. result ≡ Err refusal) }
+    ensures answer { AnswersBy (table (session_in state.old) view message.now) (session_in state.old) (session_in state.new) result }
+    ensures refused { IfErr (table (session_in state.old) view message.now) (λ refusal. result ≡ Err refusal) }
     ensures kept { IsKept state.new }
-    ensures free { is_free (session_in state.old) view (message_with number w l text.now) ≡ true → IfErr result (λ refusal. refusal ≢ OutOfMemory) }
+    ensures free { is_free (session_in state.old) view message.now ≡ true → IfErr result (λ refusal. refusal ≢ OutOfMemory) }
 {
-    if let Some(value) = ask(state, view, number, w, l) {
+    let way = way_of(message.number);
+    if let Way::TextQuestion(kind) = way {
+        return answer_text_question(alloc, state, view, kind, message);
+    }
+    if let Some(kind) = heard_change_of(state, view, way) {
+        return answer_heard_change(alloc, state, view, kind, message);
+    }
+    if let Some(value) = answer_without_notes(alloc, state, view, way, message) {
         return Ok(answer(alloc, value));
     }
-    if let Some(_) = text_question_of(number) {
-        return answer_text_question(alloc, state, view, number, w, l, text);
-    }
-    let frequent = frequent_change_of(number);
-    if let Some(kind) = heard_change_of(state, view, frequent) {
-        return answer_heard_change(alloc, state, view, kind, number, w, l, text);
-    }
-    if let Some(value) = settle_at_once(alloc, state, view, frequent, number, w, l, text) {
-        return Ok(answer(alloc, value));
-    }
-    answer_by_plan(alloc, state, view, number, w, l, text)
+    answer_by_plan(alloc, state, view, message)
 }

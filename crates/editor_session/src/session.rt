@@ -21,7 +21,7 @@ use document_table::DocumentTable;
 use ed_model::soundness_is_kept;
 use ed_types::{Limits, Message, Refusal, Reply};
 use id_table::IdTable;
-use message_requests::SessionState;
+use message_requests::{SentMessage, SessionState};
 use std::alloc::Global;
 use std::marker::Model;
 
@@ -192,7 +192,8 @@ impl Session {
         ensures refused { IfErr (table self.old view (message_with number w l text.now)) (λ refusal. result ≡ Err refusal) }
         ensures free { is_free self.old view (message_with number w l text.now) ≡ true → IfErr result (λ refusal. refusal ≢ OutOfMemory) }
     {
-        answer_message(self.alloc, &mut self.state, view, number, w, l, text)
+        let message = SentMessage { number, w, l, text };
+        answer_message(self.alloc, &mut self.state, view, &message)
     }
 
     /// Sends any message as `send_lent` does, but replaces `reply` by its reply, and returns the value. If neither reply has a text or
@@ -216,10 +217,11 @@ impl Session {
         ensures place { IsLeft result reply.old reply.new }
         ensures free { is_free self.old view (message_with number w l text.now) ≡ true → IfErr result (λ refusal. refusal ≢ OutOfMemory) }
     {
-        answer_into(self.alloc, &mut self.state, view, number, w, l, text, reply)
+        let message = SentMessage { number, w, l, text };
+        answer_into(self.alloc, &mut self.state, view, &message, reply)
     }
 
-    /// Asks a view a plain question, such as GETLENGTH or GETCHARAT: one of 36 messages that are answered by a number of the document or
+    /// Asks a view a plain question, such as GETLENGTH or GETCHARAT: one of the messages that are answered by a number of the document or
     /// of the view (`questions` of the definitions; `docs/MESSAGES.md` names them), and that do not change the session. `send` would
     /// answer the same value, with whatever text. `None` for all other messages, and for what is refused: `send` says why. Allocates
     /// nothing.
@@ -228,7 +230,14 @@ impl Session {
         ensures value { result ≡ value_to self.now view (message_with number w l []) }
         ensures answer { IfSome result (λ value. (text : List ℕ) → table self.now view (message_with number w l text) ≡ Ok (self.now, quiet value)) }
     {
-        ask(&self.state, view, number, w, l)
+        // No plain question reads a text.
+        let message = SentMessage {
+            number,
+            w,
+            l,
+            text: &[],
+        };
+        ask(&self.state, view, &message)
     }
 
     /// Asks a view a text question, such as GETTEXTRANGE or GETLINE: a message that hands out bytes of the document (`text_questions` of
@@ -244,7 +253,14 @@ impl Session {
         ensures room_stays { vec_capacity into.old ≤ vec_capacity into.new }
         ensures same { IfNone result (into.new ≡ into.old) }
     {
-        read(self.alloc, &self.state, view, number, w, l, into)
+        // No text question reads a text.
+        let message = SentMessage {
+            number,
+            w,
+            l,
+            text: &[],
+        };
+        read(self.alloc, &self.state, view, &message, into)
     }
 
     /// Lends the `count` bytes of the view's document from `start` on as one slice, without a copy. The session does not change.

@@ -6,33 +6,29 @@ ghost use Rattle.ed_model.specs.Performing.{quiet};
 ghost use Rattle.ed_model.specs.Table.{table};
 ghost use Rattle.message_requests.specs.Requested.{session_in};
 ghost use Rattle.session_changes.specs.Kept.{IsKept};
-ghost use Rattle.editor_session.specs.Answers.{message_with};
 
-use crate::changing::{change_lightly, is_light};
+use crate::changing::{is_free_change, perform_free_change};
 use crate::find::find;
 use ed_model::{Plan, plans_are_fit};
 use message_plans::target_plan_of;
-use message_requests::SessionState;
+use message_requests::{SentMessage, SessionState};
 
 /// Performs such a message to `view`, and returns the value that is answered. `None`, with nothing changed, for all other messages, and if the
 /// table refuses the message or the view records. Out of line, so that other messages do not pay for its stack frame.
 #[inline(never)]
-pub(crate) fn turn_target(
+pub(crate) fn answer_target_message(
     state: &mut SessionState,
     view: u32,
-    number: u32,
-    w: i64,
-    l: i64,
-    text: &[u8],
+    message: &SentMessage,
 ) -> Option<i64>
     requires kept { IsKept state.old }
-    ensures answer { IfSome result (λ value. table (session_in state.old) view (message_with number w l text.now) ≡ Ok (session_in state.new, quiet value)) }
+    ensures answer { IfSome result (λ value. table (session_in state.old) view message.now ≡ Ok (session_in state.new, quiet value)) }
     ensures same { IfNone result (session_in state.new ≡ session_in state.old) }
     ensures kept { IsKept state.new }
 {
     // States that a plan's numbers are in range, and that no plan is refused for want of memory.
     plans_are_fit();
-    let (kind, request) = match find(state, view, number, w, l, text) {
+    let (kind, request) = match find(state, view, message) {
         Ok(found) => found,
         Err(_) => return None,
     };
@@ -45,8 +41,8 @@ pub(crate) fn turn_target(
     };
     match planned {
         Ok(Plan::Answer { value }) => Some(value),
-        Ok(Plan::ChangeView { change, value }) if is_light(change) => {
-            change_lightly(state, document, view, change);
+        Ok(Plan::ChangeView { change, value }) if is_free_change(change) => {
+            perform_free_change(state, document, view, change);
             Some(value)
         }
         _ => None,

@@ -1,4 +1,4 @@
--- The value of a plan that only answers one, and what a plan hands out.
+-- The value of an `Answer` plan, and what a `HandOut` plan hands out.
 use Rattle.std.proofs.Common.{◌≡◌, ℤ, Option, Some, None, refl, subst}
 use Rattle.message_requests.specs.declared.answers.HandedOut.{HandedOut}
 use Rattle.ed_model.specs.Requests.{Planned, answer, with_argument}

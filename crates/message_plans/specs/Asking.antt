@@ -1,5 +1,5 @@
--- Plain questions: the messages asked most of those that are answered by a number of the document or of the view; and text questions, which
--- are answered by bytes of the document. They change nothing, are not recorded, and read no text of the message.
+-- Plain questions: the most frequent messages among those that are answered by a number of the document or of the view. Text questions: messages
+-- that are answered by bytes of the document. Both change nothing, are not recorded, and do not read the message's text.
 use Rattle.std.specs.Prelude.{ℕ, ℤ, if◌then◌else◌, Bool, List, [], ◌∷◌, Ok, Option, Some, None, is_some}
 use Rattle.ed_types.specs.declared.kind.Kind.{Kind}
 use Rattle.ed_types.specs.declared.kind.Kind.TheVariants as kinds
@@ -9,42 +9,42 @@ use Rattle.ed_model.specs.Requests.{Request, Planned}
 use Rattle.ed_model.specs.Table.{plan_of}
 use Rattle.message_requests.specs.declared.answers.HandedOut.{HandedOut}
 
--- by rising numbers
+-- the plain questions, in rising order of their numbers
 abbrev pub questions : List Kind
 questions = kinds.GetLength ∷ kinds.GetCharAt ∷ kinds.GetCurrentPos ∷ kinds.GetAnchor ∷ kinds.GetStyleAt ∷ kinds.CanRedo ∷ kinds.GetEndStyled ∷ kinds.MarkerGet ∷ kinds.MarkerNext ∷ kinds.MarkerPrevious ∷ kinds.GetLineState ∷ kinds.GetLineEndPosition ∷ kinds.GetReadOnly ∷ kinds.GetSelectionStart ∷ kinds.GetSelectionEnd ∷ kinds.GetLineCount ∷ kinds.GetModify ∷ kinds.LineFromPosition ∷ kinds.PositionFromLine ∷ kinds.CanUndo ∷ kinds.GetTextLength ∷ kinds.GetTargetStart ∷ kinds.GetTargetEnd ∷ kinds.VisibleFromDocLine ∷ kinds.DocLineFromVisible ∷ kinds.GetFoldLevel ∷ kinds.GetFoldParent ∷ kinds.GetLineVisible ∷ kinds.GetFoldExpanded ∷ kinds.LineLength ∷ kinds.PositionBefore ∷ kinds.PositionAfter ∷ kinds.IndicatorValueAt ∷ kinds.IndicatorStart ∷ kinds.IndicatorEnd ∷ kinds.GetSelectionEmpty ∷ []
 
--- the plain question that has the number
+-- the plain question with this number
 abbrev pub question_of : ℕ → Option Kind
 question_of number = kind_among questions number
 
 abbrev pub is_question : Kind → Bool
 is_question kind = is_some (question_of (number_of kind))
 
--- the value of a plan that answers one, and does nothing
+-- the value of an `Answer` plan; none for other plans
 abbrev pub value_planned : Planned → Option ℤ
 value_planned (Ok (plan.Answer value)) = Some value
 value_planned other = None
 
--- the value that the plan of a plain question answers; none for all other messages, and where the question is refused
+-- the value that the plan of a plain question answers; none for all other messages, and if the question is refused
 abbrev pub value_asked : Kind → Request → Option ℤ
 value_asked kind r = if is_question kind then value_planned (plan_of kind r) else None
 
--- Text questions, by rising numbers.
+-- the text questions, in rising order of their numbers
 abbrev pub text_questions : List Kind
 text_questions = kinds.GetCurLine ∷ kinds.GetLine ∷ kinds.GetSelText ∷ kinds.GetTextRange ∷ kinds.GetText ∷ kinds.GetTargetText ∷ []
 
--- the text question that has the number
+-- the text question with this number
 abbrev pub text_question_of : ℕ → Option Kind
 text_question_of number = kind_among text_questions number
 
 abbrev pub is_text_question : Kind → Bool
 is_text_question kind = is_some (text_question_of (number_of kind))
 
--- what a plan that hands out bytes does, and it does nothing else
+-- what a `HandOut` plan hands out; none for other plans
 abbrev pub handed_planned : Planned → Option HandedOut
 handed_planned (Ok (plan.HandOut value start count)) = Some (record { value = value; start = start; count = count })
 handed_planned other = None
 
--- what the plan of a text question hands out; none for all other messages, and where the question is refused or hands out nothing
+-- what the plan of a text question hands out; none for all other messages, and if the question is refused or hands out nothing
 abbrev pub handed_asked : Kind → Request → Option HandedOut
 handed_asked kind r = if is_text_question kind then handed_planned (plan_of kind r) else None

@@ -1,9 +1,9 @@
-//! The plan of a message, found soonest for the messages that are sent most, and the changes of a document that are.
+//! Plans of frequent messages, which are matched before all others, and the changes that some of them make.
 
 ghost use Rattle.std.specs.Prelude.{◌≡◌};
 ghost use Rattle.ed_model.specs.PlansFit.{IsSoundRequest};
 ghost use Rattle.ed_model.specs.Table.{plan_of};
-ghost use Rattle.message_plans.specs.Frequent.{frequent_change_of, change_asked, transaction_of, is_performed, target_message_of, target_plan_of};
+ghost use Rattle.message_plans.specs.Frequent.{change_asked, is_performed, target_plan_of};
 
 use crate::plan::plan_of;
 use ed_model::{DocumentChange, Plan, Planned};
@@ -12,12 +12,11 @@ use message_requests::Request;
 use state_plans::{folding_plans, line_plans, style_plans, undo_plans};
 use text_plans::{key_plans, selection_plans, target_plans, texts};
 
-/// The plan of a message, as `plan_of` has it. The match of frequent messages here sets up nothing of what the others need; these are
-/// left to `plan_of`.
+/// Like `plan_of`, but faster for frequent messages: they do not pay for the stack frame of `plan_of`, which plans all other messages.
 ///
 /// # Errors
 ///
-/// As of `plan_of`.
+/// Those of `plan_of`.
 pub fn frequent_plan_of(kind: Kind, r: &Request) -> Planned
     requires sound { IsSoundRequest r.now }
     ensures { result ≡ plan_of kind r.now }
@@ -50,21 +49,8 @@ pub fn frequent_plan_of(kind: Kind, r: &Request) -> Planned
     }
 }
 
-/// The message with this number, if it is one of those that change a document and are sent most.
-#[inline(always)]
-pub fn frequent_change_of(number: u32) -> Option<Kind>
-    ensures { result ≡ frequent_change_of number }
-{
-    match number {
-        2033 => Some(Kind::SetStyling),
-        2043 => Some(Kind::MarkerAdd),
-        2222 => Some(Kind::SetFoldLevel),
-        _ => None,
-    }
-}
-
-/// The change that the plan of such a message makes, and the value that it answers. `None` for all other messages, and where it is refused
-/// or changes nothing.
+/// Returns the change that the plan of SETSTYLING, MARKERADD or SETFOLDLEVEL makes, and the value that the message answers. `None` for all
+/// other messages, and if the message is refused or changes nothing.
 #[inline(always)]
 pub fn change_of(kind: Kind, r: &Request) -> Option<(DocumentChange, i64)>
     requires sound { IsSoundRequest r.now }
@@ -82,19 +68,7 @@ pub fn change_of(kind: Kind, r: &Request) -> Option<(DocumentChange, i64)>
     }
 }
 
-/// Redo or undo, if the message with this number is one of them.
-#[inline(always)]
-pub fn transaction_of(number: u32) -> Option<Kind>
-    ensures { result ≡ transaction_of number }
-{
-    match number {
-        2011 => Some(Kind::Redo),
-        2176 => Some(Kind::Undo),
-        _ => None,
-    }
-}
-
-/// Whether the plan of redo or undo performs a transaction. That of no other message does.
+/// Returns whether the message is UNDO or REDO, and its plan performs a transaction.
 #[inline(always)]
 pub fn is_performed(kind: Kind, r: &Request) -> bool
     requires sound { IsSoundRequest r.now }
@@ -113,26 +87,12 @@ pub fn is_performed(kind: Kind, r: &Request) -> bool
     }
 }
 
-/// SETTARGETSTART, SETTARGETEND, SEARCHINTARGET or SETTARGETRANGE, if the message with this number is one of them.
-#[inline(always)]
-pub fn target_message_of(number: u32) -> Option<Kind>
-    ensures { result ≡ target_message_of number }
-{
-    match number {
-        2190 => Some(Kind::SetTargetStart),
-        2192 => Some(Kind::SetTargetEnd),
-        2197 => Some(Kind::SearchInTarget),
-        2686 => Some(Kind::SetTargetRange),
-        _ => None,
-    }
-}
-
-/// The plan of SETTARGETSTART, SETTARGETEND, SETTARGETRANGE and SEARCHINTARGET, by which a search goes from match to match, as `plan_of`
-/// has it. `None` for all other messages.
+/// Like `plan_of`, but only for SETTARGETSTART, SETTARGETEND, SETTARGETRANGE and SEARCHINTARGET, by which a search goes from match to
+/// match. `None` for all other messages.
 ///
 /// # Errors
 ///
-/// As of `plan_of`.
+/// Those of `plan_of`.
 #[inline(always)]
 pub fn target_plan_of(kind: Kind, r: &Request) -> Option<Planned>
     requires sound { IsSoundRequest r.now }

@@ -1,17 +1,19 @@
 //! Plans of messages: what each is going to do, or why it is refused.
 //!
-//! A plan is found before anything changes: `plan_of` reads a `Request` and answers the model's plan. One function a message stands in
-//! `text_plans` and `state_plans`; here is which message has which plan, and what questions are answered without one.
-//! `frequent_plan_of` has the same plans, and finds those of frequent messages sooner, `target_plan_of` those about the target alone.
+//! A plan is made before anything changes: `plan_of` reads a `Request` and returns the model's plan. It calls the message's function in
+//! `text_plans` or `state_plans`. `frequent_plan_of` returns the same plans, and is faster for frequent messages. `target_plan_of` returns
+//! only those of SETTARGETSTART, SETTARGETEND, SETTARGETRANGE and SEARCHINTARGET. `value_of` and `handed_of` answer questions without a
+//! plan. `way_of` says which of these a message is for, by its number.
 #![tactic(auto)]
 
 mod asking;
 mod frequent;
 mod plan;
+mod way;
+mod ways;
 
-pub use asking::{handed_of, question_of, text_question_of, value_of};
-pub use frequent::{
-    change_of, frequent_change_of, frequent_plan_of, is_performed, target_message_of,
-    target_plan_of, transaction_of,
-};
+pub use asking::{handed_of, value_of};
+pub use frequent::{change_of, frequent_plan_of, is_performed, target_plan_of};
 pub use plan::plan_of;
+pub use way::Way;
+pub use ways::way_of;

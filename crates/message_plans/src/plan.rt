@@ -11,11 +11,12 @@ use message_requests::answers::{answer, answer_some, hand_out, hand_out_or_zero,
 use state_plans::{folding_plans, line_plans, session_plans, style_plans, undo_plans};
 use text_plans::{key_plans, selection_plans, target_plans, texts};
 
-/// The plan of a message: what it is going to do. It takes no memory, and nothing changes.
+/// Returns the plan of a message: what it is going to do. Allocates nothing, and changes nothing. Out of line, so that `frequent_plan_of`
+/// does not pay for its stack frame.
 ///
 /// # Errors
 ///
-/// The first refusal that holds of the message, as the model's table has it.
+/// The first refusal that applies to the message, by the model's table.
 #[inline(never)]
 pub fn plan_of(kind: Kind, r: &Request) -> Planned
     requires sound { IsSoundRequest r.now }

@@ -1,4 +1,4 @@
--- What the table of documents has under an id is what the model finds by it.
+-- The table of documents has under an id the document that the model finds by this id.
 use Rattle.std.proofs.Common.{◌≡◌, ℕ, ◌+◌, ◌<◌, ◌≤◌, Bool, true, false, cond, List, [], ◌∷◌, map, refl, subst, arith}
 use Rattle.std.specs.Prelude.{ℤ, pos, negsuc, ◌==◌, Some, None, find, option_map}
 use Rattle.std.specs.List.{AllByRecursion}

@@ -1,4 +1,4 @@
--- What the plan of a replacement is: by the lengths of what goes and of what comes alone.
+-- The plan of a replacement does not depend on which bytes are deleted and inserted, but only on how many.
 use Rattle.std.proofs.Common.{◌≡◌, ℕ, ℤ, suc, ◌+◌, ◌-◌, ◌≤◌, ◌<◌, ◌==◌, ◌||◌, ◌&&◌, nat_le, Bool, true, false, List, [], ◌∷◌, ◌++◌, length, refl, ap, sym, ◌∙◌, arith, slice_range, length-take, length-drop}
 use Rattle.std.proofs.lemmas.List.{length-map}
 use Rattle.std.proofs.lemmas.Bool.Decides.{nat_tests}
@@ -61,7 +61,7 @@ replacement_planned r start count from added done within is =
     ∙ ap (λ some. edit_if (r.document.read_only && some) (keeps_limit limit (size r) (length gone) (length (source_bytes r from))) done) (sym (has start gone (source_bytes r from)))
     ∙ ap (λ fits. edit_if (r.document.read_only && has_steps (steps_of r (edit.Replace start count from))) fits done) (sym (keeps limit (size r) start gone (source_bytes r from)))
 
--- the same, where both decisions are known under names of their own
+-- the same, with both decisions as arguments
 pub replacement_decided : (r : Request) (start count : ℕ) (from : Source) (added : ℕ) (done : Plan) (kept_out within : Bool) → start + count ≤ size r → added ≡ length (source_bytes r from) →
     kept_out ≡ (r.document.read_only && (nat_lt 0 count || nat_lt 0 added)) → within ≡ keeps_limit (limit_of r.session.limits r.document) (size r) count added →
     edit_if kept_out within done ≡ edit_of_steps r done (steps_of r (edit.Replace start count from))
@@ -76,7 +76,7 @@ beyond limit n start count added within some far =
     let more : nat_le (n - count + added) limit ≡ false = grind (arith, nat_tests) in
     rw none (rw more (and-false (count == 0 || nat_le (n - count) limit)))
 
--- what would follow an edit that passes the limit does not matter
+-- if the text would pass its limit, it does not matter what the edit does after its steps
 pub passed_over : (r : Request) (start count : ℕ) (from : Source) (added : ℕ) (value : ℤ) (one other : Follow) → start + count ≤ size r → added ≡ length (source_bytes r from)
     → 0 < added → limit_of r.session.limits r.document < start + added → edit_plan r (edit.Replace start count from) value one ≡ edit_plan r (edit.Replace start count from) value other
 passed_over r start count from added value one other within is some far =

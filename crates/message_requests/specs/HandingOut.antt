@@ -4,7 +4,7 @@ use Rattle.ed_model.specs.declared.plan.Plan.TheVariants as plan
 use Rattle.ed_model.specs.Requests.{Planned, answer}
 use Rattle.message_requests.specs.declared.answers.HandedOut.{HandedOut}
 
--- the plan that hands this out; where there is none, 0 may be answered
+-- the plan that hands out these bytes; `handed_or_zero` answers 0 if there are none
 abbrev pub handed_out : HandedOut → Planned
 handed_out h = Ok (plan.HandOut h.value h.start h.count)
 

@@ -1,4 +1,4 @@
--- What a session keeps, and a request to it, as the model has them.
+-- The model's session in what a `SessionState` keeps.
 use Rattle.std.specs.Prelude.{◌≡◌, List, map}
 use Rattle.std.specs.List.{AllByRecursion}
 use Rattle.ed_model.specs.Session.{Session, Document, View}
@@ -7,7 +7,7 @@ use Rattle.ed_view.specs.Kept.{KeptView}
 use Rattle.id_table.specs.Entries.{Entries, Entry}
 use Rattle.message_requests.specs.declared.state.SessionState.{SessionState}
 
--- the documents and the views of a table, in the order of their ids
+-- the documents of a table, and the views of a table, in the order of their ids
 abbrev pub documents_in : Entries Kept → List Document
 documents_in table = map (λ (e : Entry Kept). e.value.document) table.entries
 

@@ -1,3 +1,3 @@
--- Statements about requests for the proofs of the crates above, each with its own proof: nothing here has to be believed.
+-- Statements about requests, for the proofs of the crates above. Each has its own proof, so none of them has to be trusted.
 pub mod Ranges
 pub mod Standing

@@ -1,4 +1,4 @@
-//! Plans that answer a value, hand out text, or make one change and answer 0.
+//! Plans that answer a value, hand out bytes of the text, or make one change and answer 0.
 
 ghost use Rattle.std.specs.Prelude.{◌≡◌, ◌<◌, ◌^◌, IfSome};
 ghost use Rattle.ed_model.specs.Numbers.{flag};
@@ -10,25 +10,25 @@ ghost use Rattle.message_requests.specs.HandingOut.{handed_out, handed_or_zero};
 use ed_model::{DocumentChange, Plan, Planned, SessionChange, ViewChange};
 use ed_types::Refusal;
 
-/// What a text question is answered by: a value, and the `count` bytes of the document's text from `start` on.
+/// The answer to a text question: a value, and the `count` bytes of the document's text from `start` on.
 #[derive(Clone, Copy, Debug)]
 pub struct HandedOut {
     /// The value that the message answers.
     pub value: i64,
-    /// Where the bytes begin, in bytes from the text's start.
+    /// The place of the first byte, in bytes from 0.
     pub start: usize,
-    /// How many they are.
+    /// The number of bytes.
     pub count: usize,
 }
 
-/// Answers a value, and does nothing.
+/// Returns the plan that answers `value` and changes nothing.
 pub fn answer(value: i64) -> Planned
     ensures { result ≡ answer value }
 {
     Ok(Plan::Answer { value })
 }
 
-/// Answers a number, and does nothing.
+/// Like `answer`, for an unsigned number.
 pub fn answer_number(number: usize) -> Planned
     requires { number < 2 ^ 63 }
     ensures { result ≡ answer_number number }
@@ -36,7 +36,11 @@ pub fn answer_number(number: usize) -> Planned
     answer(number as i64)
 }
 
-/// Answers a value that there is, and does nothing; none is a bad argument.
+/// Like `answer`, for a value that may be missing.
+///
+/// # Errors
+///
+/// `BadArgument` if `value` is `None`.
 pub fn answer_some(value: Option<i64>) -> Planned
     ensures { result ≡ with_argument value answer }
 {
@@ -46,7 +50,7 @@ pub fn answer_some(value: Option<i64>) -> Planned
     }
 }
 
-/// A line as a value: -1 for none.
+/// Returns a line as a value, counted from 0. `None` becomes -1.
 pub fn line_or_none(line: Option<usize>) -> i64
     requires { IfSome line (λ line. line < 2 ^ 63) }
     ensures { result ≡ line_or_none line }
@@ -57,21 +61,21 @@ pub fn line_or_none(line: Option<usize>) -> i64
     }
 }
 
-/// The value of a flag: 1 for yes and 0 for no.
+/// Returns a flag as a value: 1 if it is on, 0 if it is off.
 pub fn flag(on: bool) -> i64
     ensures { result ≡ flag on }
 {
     i64::from(on)
 }
 
-/// Answers 1 for yes and 0 for no, and does nothing.
+/// Like `answer`, for a flag: the value is 1 if it is on, 0 if it is off.
 pub fn answer_flag(on: bool) -> Planned
     ensures { result ≡ answer (flag on) }
 {
     answer(flag(on))
 }
 
-/// The bytes from one place up to another, and how many they are.
+/// Returns the bytes from `start` up to `past`, with their number as the value. There are none if `past` is before `start`.
 pub fn bytes_between(start: usize, past: usize) -> HandedOut
     requires { past < 2 ^ 63 }
     ensures { handed_out result ≡ hand_out_plan start past }
@@ -84,7 +88,7 @@ pub fn bytes_between(start: usize, past: usize) -> HandedOut
     }
 }
 
-/// Hands out bytes with a value.
+/// Returns the plan that answers the value of `handed` and hands out its bytes.
 pub fn hand_out(handed: HandedOut) -> Planned
     ensures { result ≡ handed_out handed }
 {
@@ -100,7 +104,11 @@ pub fn hand_out(handed: HandedOut) -> Planned
     })
 }
 
-/// Hands out bytes that there are; none is a bad argument.
+/// Like `hand_out`, for bytes that may be missing.
+///
+/// # Errors
+///
+/// `BadArgument` if `handed` is `None`.
 pub fn hand_out_some(handed: Option<HandedOut>) -> Planned
     ensures { result ≡ with_argument handed handed_out }
 {
@@ -110,7 +118,7 @@ pub fn hand_out_some(handed: Option<HandedOut>) -> Planned
     }
 }
 
-/// Hands out bytes that there are; for none it answers 0.
+/// Like `hand_out`, for bytes that may be missing. If `handed` is `None`, the plan answers 0 and hands out nothing.
 pub fn hand_out_or_zero(handed: Option<HandedOut>) -> Planned
     ensures { result ≡ handed_or_zero handed }
 {
@@ -120,21 +128,21 @@ pub fn hand_out_or_zero(handed: Option<HandedOut>) -> Planned
     }
 }
 
-/// A change of the document, which answers 0.
+/// Returns the plan that makes this change of the document and answers 0.
 pub fn change_document(change: DocumentChange) -> Planned
     ensures { result ≡ change_document change }
 {
     Ok(Plan::ChangeDocument { change, value: 0 })
 }
 
-/// A change of the view, which answers 0.
+/// Returns the plan that makes this change of the view and answers 0.
 pub fn change_view(change: ViewChange) -> Planned
     ensures { result ≡ change_view change }
 {
     Ok(Plan::ChangeView { change, value: 0 })
 }
 
-/// A change of the session, which answers 0.
+/// Returns the plan that makes this change of the session and answers 0.
 pub fn change_session(change: SessionChange) -> Planned
     ensures { result ≡ change_session change }
 {

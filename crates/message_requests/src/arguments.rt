@@ -3,7 +3,7 @@
 ghost use Rattle.std.specs.Prelude.{◌≡◌, ◌≤◌, ◌<◌, IfSome};
 ghost use Rattle.ed_model.specs.Numbers.{at_least_zero, clamped, is_minus_one, is_on, line_among, low_bits, some_or_all, within};
 
-/// The argument as a number from `low` to `high`, if it is one.
+/// Returns the argument as a number, or `None` if it is not in the range from `low` to `high`, both included.
 pub fn within(low: usize, high: usize, argument: i64) -> Option<usize>
     ensures within { result ≡ within low high argument }
     ensures high { IfSome result (λ number. number ≤ high) }
@@ -19,7 +19,7 @@ pub fn within(low: usize, high: usize, argument: i64) -> Option<usize>
     }
 }
 
-/// The argument as one of so many lines, if it is one.
+/// Returns the argument as one of `lines` lines, counted from 0, or `None` if there is no such line.
 pub fn line_among(lines: usize, argument: i64) -> Option<usize>
     ensures line { result ≡ line_among lines argument }
     ensures among { IfSome result (λ line. line < lines) }
@@ -31,14 +31,14 @@ pub fn line_among(lines: usize, argument: i64) -> Option<usize>
     if line < lines { Some(line) } else { None }
 }
 
-/// Whether the argument is -1.
+/// Returns whether the argument is -1.
 pub fn is_minus_one(argument: i64) -> bool
     ensures { result ≡ is_minus_one argument }
 {
     argument == -1
 }
 
-/// The argument brought into 0 to `high`.
+/// Returns the argument clamped to the range from 0 to `high`.
 pub fn clamped(high: usize, argument: i64) -> usize
     ensures { result ≡ clamped high argument }
 {
@@ -49,14 +49,15 @@ pub fn clamped(high: usize, argument: i64) -> usize
     }
 }
 
-/// Whether the argument is a flag that is on: all but 0 are.
+/// Returns whether the argument, a flag, is on. Only 0 is off.
 pub fn is_on(argument: i64) -> bool
     ensures { result ≡ is_on argument }
 {
     argument != 0
 }
 
-/// The argument as a number from 0 to `high`, or as all of them, which is none, for -1.
+/// Returns `Some(Some(number))` if the argument is a number from 0 to `high`, and `Some(None)` if it is -1, which stands for all numbers.
+/// Returns `None` for all other arguments.
 pub fn some_or_all(high: u32, argument: i64) -> Option<Option<u32>>
     ensures { result ≡ some_or_all high argument }
 {
@@ -69,14 +70,14 @@ pub fn some_or_all(high: u32, argument: i64) -> Option<Option<u32>>
     }
 }
 
-/// The argument, or 0 for a negative one.
+/// Returns the argument, or 0 if it is negative.
 pub fn at_least_zero(argument: i64) -> usize
     ensures { result ≡ at_least_zero argument }
 {
     if argument < 0 { 0 } else { argument as usize }
 }
 
-/// The low 32 bits of the argument, those of a negative one by its two's complement.
+/// Returns the low 32 bits of the argument in two's complement.
 pub fn low_bits(argument: i64) -> u32
     ensures { result ≡ low_bits argument }
 {

@@ -1,5 +1,5 @@
-//! Edits: the plans of messages that change the text. They go into the functions that call them, since a plan is not small: it is
-//! then made where it is wanted, and not copied from function to function.
+//! Edits: the plans of messages that change the text. The functions that plan a replacement are always inlined, so that a plan is made in
+//! its place and not copied from function to function.
 
 ghost use Rattle.std.specs.Prelude.{◌≡◌, ◌≤◌, ◌+◌, ◌&&◌, ◌||◌, nat_le, nat_lt, length, pos};
 ghost use Rattle.ed_model.specs.Session.{limit_of};
@@ -15,21 +15,21 @@ use ed_model::{Edit, Follow, LineEnd, Plan, Planned, Source};
 use ed_types::Refusal;
 use line_ends::{conversion_stays_within, has_conversion};
 
-/// Bytes that go, and bytes that come in their place.
+/// The replacement of a range of the text by other bytes. Both may be empty.
 #[derive(Clone, Copy, Debug, PartialEq, Eq)]
 pub struct Replacement {
-    /// From which place on.
+    /// The place of the first byte to delete, in bytes from 0. The new bytes are inserted there.
     pub start: usize,
-    /// How many bytes go.
+    /// How many bytes are deleted.
     pub count: usize,
-    /// What comes.
+    /// Which bytes are inserted.
     pub source: Source,
-    /// How many bytes come.
+    /// How many bytes are inserted: the length of `source`.
     pub added: usize,
 }
 
 impl Replacement {
-    /// `count` bytes go from `start` on.
+    /// Returns the deletion of the `count` bytes from `start` on.
     pub fn deletion(start: usize, count: usize) -> Self
         ensures { result ≡ record { start = start; count = count; source = Nothing; added = 0 } }
     {
@@ -41,7 +41,7 @@ impl Replacement {
         }
     }
 
-    /// The first `added` bytes of the message's text come at `start`.
+    /// Returns the insertion of the first `added` bytes of the message's text at `start`.
     pub fn insertion(start: usize, added: usize) -> Self
         ensures { result ≡ record { start = start; count = 0; source = MessageText added; added = added } }
     {
@@ -54,7 +54,7 @@ impl Replacement {
     }
 }
 
-/// Whether the document is read-only, and the edit has a step that it keeps out.
+/// Returns whether the document is read-only and the edit has a step: it deletes or inserts at least one byte.
 #[inline(always)]
 fn is_kept_out(r: &Request, count: usize, added: usize) -> bool
     ensures { result ≡ (r.now.document.read_only && (nat_lt 0 count || nat_lt 0 added)) }
@@ -62,7 +62,7 @@ fn is_kept_out(r: &Request, count: usize, added: usize) -> bool
     r.document.is_read_only() && (count > 0 || added > 0)
 }
 
-/// Whether so many bytes more keep within a limit.
+/// Returns whether `left` bytes and `added` more are at most `limit`, without computing a sum that may overflow.
 #[inline(always)]
 fn fits(left: usize, added: usize, limit: u64) -> bool
     ensures { result ≡ nat_le (left + added) limit }
@@ -70,7 +70,8 @@ fn fits(left: usize, added: usize, limit: u64) -> bool
     left as u64 <= limit && added as u64 <= limit - left as u64
 }
 
-/// Whether neither a deletion of `count` bytes nor an insertion of `added` bytes behind it takes the text past its limit.
+/// Returns whether the text is within its limit after each step: a deletion of `count` bytes, and then an insertion of `added` bytes. A
+/// number of 0 makes no step.
 #[inline(always)]
 fn keeps_limit(r: &Request, count: usize, added: usize) -> bool
     requires range { count ≤ size r.now }
@@ -81,7 +82,11 @@ fn keeps_limit(r: &Request, count: usize, added: usize) -> bool
     (count == 0 || left as u64 <= limit) && (added == 0 || fits(left, added, limit))
 }
 
-/// What an edit comes to, kept out or not, and within the limit or not.
+/// Returns the plan of an attempt if the edit is kept out, otherwise `edit`.
+///
+/// # Errors
+///
+/// `TooLong` if the edit is neither kept out nor within the limit.
 #[inline(always)]
 fn edit_if(kept_out: bool, within: bool, edit: Plan) -> Planned
     ensures { result ≡ edit_if kept_out within edit }
@@ -96,12 +101,12 @@ fn edit_if(kept_out: bool, within: bool, edit: Plan) -> Planned
     }
 }
 
-/// The plan of an edit that replaces bytes, with the value that it answers and what follows it. On a read-only document an edit
-/// that has a step is only attempted.
+/// Returns the plan of an edit that replaces bytes, answers `value`, and does `follow` after its steps. If the document is read-only and
+/// the edit has a step, the plan is only an attempt.
 ///
 /// # Errors
 ///
-/// `TooLong` where one of its steps takes the text past its limit.
+/// `TooLong` if the document is not read-only and a step takes the text past its limit.
 #[inline(always)]
 pub fn edit_plan(r: &Request, replacement: Replacement, value: i64, follow: Follow) -> Planned
     requires range { replacement.start + replacement.count ≤ size r.now }
@@ -130,7 +135,11 @@ pub fn edit_plan(r: &Request, replacement: Replacement, value: i64, follow: Foll
     )
 }
 
-/// The plan of an edit that replaces bytes, answers 0, and is followed by nothing.
+/// Like `edit_plan`, for an edit that answers 0 and does nothing after its steps.
+///
+/// # Errors
+///
+/// Those of `edit_plan`.
 #[inline(always)]
 pub fn replace_plan(r: &Request, replacement: Replacement) -> Planned
     requires range { replacement.start + replacement.count ≤ size r.now }
@@ -140,7 +149,11 @@ pub fn replace_plan(r: &Request, replacement: Replacement) -> Planned
     edit_plan(r, replacement, 0, Follow::Nothing)
 }
 
-/// The plan of an edit that replaces bytes, answers 0, and leaves anchor and caret behind what it put in.
+/// Like `edit_plan`, for an edit that answers 0 and then moves the anchor and the caret to the end of the inserted bytes.
+///
+/// # Errors
+///
+/// Those of `edit_plan`.
 #[inline(always)]
 pub fn replace_and_go(r: &Request, replacement: Replacement) -> Planned
     requires range { replacement.start + replacement.count ≤ size r.now }
@@ -150,12 +163,17 @@ pub fn replace_and_go(r: &Request, replacement: Replacement) -> Planned
     prove!(r.limit() <= u64::MAX);
     match replacement.start.checked_add(replacement.added) {
         Some(place) => edit_plan(r, replacement, 0, Follow::Caret { place }),
-        // Such a text passes every limit, so that nothing follows.
+        // The sum overflows, so the text would pass every limit: the edit is refused or only attempted, and nothing follows it.
         None => edit_plan(r, replacement, 0, Follow::Nothing),
     }
 }
 
-/// The plan of turning the line ends of the whole text into one kind, which answers 0 and is followed by nothing.
+/// Returns the plan that converts all line ends of the text to `to` and answers 0 (CONVERTEOLS). If the document is read-only and the
+/// conversion has a step, the plan is only an attempt.
+///
+/// # Errors
+///
+/// `TooLong` if the document is not read-only and a step takes the text past its limit.
 #[tactic(auto, using(crate::specs::proved::Standing::length_text))]
 pub fn conversion_plan(r: &Request, to: LineEnd) -> Planned
     ensures { result ≡ edit_plan r.now (ConvertLineEnds to) (pos 0) Follows.Nothing }

@@ -1,6 +1,6 @@
-//! Requests: a message on its way, with all that its plan reads, and what plans are made of: arguments, answers and edits.
+//! Requests: a message with all that its plan reads, and what plans are made of: arguments, answers and edits.
 //!
-//! The plans of the messages stand on this, a crate for each group of families: `text_plans` and `state_plans`.
+//! The crates with the plans of the messages use this one: `text_plans`, `state_plans` and `message_plans`.
 #![tactic(auto)]
 
 pub mod answers;

@@ -1,4 +1,4 @@
-//! `Request`: a message on its way, with all that its plan reads.
+//! `Request`: a message with all that its plan reads.
 
 ghost use Rattle.std.specs.Prelude.{◌≡◌, ◌≤◌, ◌<◌, ◌^◌, length, option_copied, option_map, slice_get, IfSome, Some};
 ghost use Rattle.ed_model.specs.Session.{limit_of, lines_in};
@@ -19,14 +19,14 @@ use ed_view::View;
 use line_rows::LineRows;
 use std::marker::Model;
 
-/// A message as it was sent, with its text lent.
+/// A message as it was sent. It borrows its text.
 #[derive(Drop)]
 pub struct SentMessage<'a> {
-    /// Which message, by the numbers of Scintilla's documentation.
+    /// The number of the message, by Scintilla's documentation.
     pub number: u32,
-    /// The first argument, `wParam` there.
+    /// The first argument, `wParam` in Scintilla.
     pub w: i64,
-    /// The second argument, `lParam` there.
+    /// The second argument, `lParam` in Scintilla.
     pub l: i64,
     /// The text that goes with the message; a NUL is an ordinary byte.
     pub text: &'a [u8],
@@ -40,17 +40,17 @@ impl<'a> Model for SentMessage<'a> {
     ghost view = { λ m. record { number = m.number; w = m.w; l = m.l; text = m.text.now } };
 }
 
-/// A message to a view: the session, the view, its document and the message, all lent. Contracts see the model's request. The
+/// A message, and what it is sent to: the session, the view and the view's document, all borrowed. Contracts see the model's request. The
 /// session keeps each document under its own id.
 #[derive(Drop)]
 pub struct Request<'a> {
-    /// What the session keeps.
+    /// The state of the session.
     pub session: &'a SessionState,
     /// The view that the message is sent to.
     pub view: &'a View,
     /// The view's document.
     pub document: &'a Document,
-    /// What is asked.
+    /// The message.
     pub message: SentMessage<'a>,
 }
 
@@ -67,9 +67,9 @@ impl<'a> Model for Request<'a> {
     ghost invariant = { λ r. DocumentsAreNamed r.session.now };
 }
 
-// What plans read of a request, in the words of the model's `Requests`.
+// What plans read of a request. Most functions are named like the model's definition.
 impl<'a> Request<'a> {
-    /// The length of the text, in bytes.
+    /// Returns the length of the text, in bytes (GETLENGTH).
     #[inline(always)]
     pub fn size(&self) -> usize
         ensures size { result ≡ size self.now }
@@ -78,7 +78,7 @@ impl<'a> Request<'a> {
         self.document.len()
     }
 
-    /// The number of lines.
+    /// Returns the number of lines, which is at least 1 (GETLINECOUNT).
     #[inline(always)]
     pub fn line_total(&self) -> usize
         ensures lines { result ≡ line_total self.now }
@@ -88,7 +88,7 @@ impl<'a> Request<'a> {
         self.document.line_count()
     }
 
-    /// Where a line starts.
+    /// Returns where a line starts, in bytes from 0 (POSITIONFROMLINE). Lines count from 0.
     #[inline(always)]
     pub fn line_start(&self, line: usize) -> usize
         requires { line < line_total self.now }
@@ -98,7 +98,7 @@ impl<'a> Request<'a> {
         self.document.line_start(line)
     }
 
-    /// Where the line behind a line starts, or the length of the text where there is none.
+    /// Returns where the line behind a line starts, or the length of the text if there is none.
     #[inline(always)]
     pub fn line_past(&self, line: usize) -> usize
         ensures past { result ≡ line_past self.now line }
@@ -107,7 +107,8 @@ impl<'a> Request<'a> {
         self.document.line_past(line)
     }
 
-    /// Where the end of a line begins, or the length of the text for the last line and all behind it.
+    /// Returns where the line end of a line begins (GETLINEENDPOSITION). For the last line and all lines behind it, this is the length of
+    /// the text.
     #[inline(always)]
     pub fn line_end(&self, line: usize) -> usize
         ensures end { result ≡ line_end self.now line }
@@ -116,7 +117,7 @@ impl<'a> Request<'a> {
         self.document.line_end(line)
     }
 
-    /// The line that holds a place.
+    /// Returns the line that contains a place, counted from 0 (LINEFROMPOSITION). For a place behind the text, this is the last line.
     #[inline(always)]
     pub fn line_at(&self, place: usize) -> usize
         ensures line { result ≡ line_at self.now place }
@@ -126,7 +127,7 @@ impl<'a> Request<'a> {
         self.document.line_of(place)
     }
 
-    /// The byte at a place.
+    /// Returns the byte at a place (GETCHARAT).
     #[inline(always)]
     pub fn byte(&self, place: usize) -> u8
         requires { place < size self.now }
@@ -135,7 +136,7 @@ impl<'a> Request<'a> {
         self.document.byte(place)
     }
 
-    /// The last cut between characters before a place, or 0.
+    /// Returns the last cut between characters before a place, or 0 if there is none (POSITIONBEFORE).
     #[inline(always)]
     #[tactic(auto, using(crate::specs::proved::Standing::length_text))]
     pub fn cut_before(&self, place: usize) -> usize
@@ -147,7 +148,7 @@ impl<'a> Request<'a> {
         char_cut::before(first, second, place)
     }
 
-    /// The next cut between characters behind a place, or the length of the text.
+    /// Returns the next cut between characters behind a place, or the length of the text if there is none (POSITIONAFTER).
     #[inline(always)]
     #[tactic(auto, using(crate::specs::proved::Standing::length_text))]
     pub fn cut_after(&self, place: usize) -> usize
@@ -159,7 +160,7 @@ impl<'a> Request<'a> {
         char_cut::after(first, second, place)
     }
 
-    /// The anchor's place, which lies in the text.
+    /// Returns the view's anchor, in bytes from 0 (GETANCHOR). It lies in the text.
     #[inline(always)]
     #[tactic(auto, using(crate::specs::proved::Standing::anchor_in_text))]
     pub fn anchor(&self) -> usize
@@ -173,7 +174,7 @@ impl<'a> Request<'a> {
         anchor
     }
 
-    /// The caret's place, which lies in the text.
+    /// Returns the view's caret, in bytes from 0 (GETCURRENTPOS). It lies in the text.
     #[inline(always)]
     #[tactic(auto, using(crate::specs::proved::Standing::caret_in_text))]
     pub fn caret(&self) -> usize
@@ -187,7 +188,7 @@ impl<'a> Request<'a> {
         caret
     }
 
-    /// Where the selection starts.
+    /// Returns where the selection starts: the lesser of anchor and caret (GETSELECTIONSTART).
     #[inline(always)]
     pub fn selection_start(&self) -> usize
         requires { IsSoundRequest self.now }
@@ -197,7 +198,7 @@ impl<'a> Request<'a> {
         self.anchor().min(self.caret())
     }
 
-    /// Where the selection ends.
+    /// Returns where the selection ends: the greater of anchor and caret (GETSELECTIONEND).
     #[inline(always)]
     pub fn selection_end(&self) -> usize
         requires { IsSoundRequest self.now }
@@ -208,7 +209,7 @@ impl<'a> Request<'a> {
         self.anchor().max(self.caret())
     }
 
-    /// Up to where the text is styled, which lies in it.
+    /// Returns the position up to which the document is styled, in bytes from 0 (GETENDSTYLED). It lies in the text.
     #[inline(always)]
     #[tactic(auto, using(crate::specs::proved::Standing::styled_in_text))]
     pub fn end_styled(&self) -> usize
@@ -222,7 +223,7 @@ impl<'a> Request<'a> {
         end
     }
 
-    /// Where the target starts, which lies in the text.
+    /// Returns the start of the view's target, in bytes from 0 (GETTARGETSTART). It lies in the text.
     #[inline(always)]
     #[tactic(auto, using(crate::specs::proved::Standing::target_start_in_text))]
     pub fn target_start(&self) -> usize
@@ -236,7 +237,7 @@ impl<'a> Request<'a> {
         start
     }
 
-    /// Where the target ends, which lies in the text; it may lie before its start.
+    /// Returns the end of the view's target, in bytes from 0 (GETTARGETEND). It lies in the text, possibly before the start of the target.
     #[inline(always)]
     #[tactic(auto, using(crate::specs::proved::Standing::target_end_in_text))]
     pub fn target_end(&self) -> usize
@@ -250,7 +251,7 @@ impl<'a> Request<'a> {
         end
     }
 
-    /// The lesser end of the target.
+    /// Returns the lesser of the start and the end of the target.
     pub fn target_least(&self) -> usize
         requires { IsSoundRequest self.now }
         ensures least { result ≡ target_least self.now }
@@ -259,7 +260,7 @@ impl<'a> Request<'a> {
         self.target_start().min(self.target_end())
     }
 
-    /// The greater end of the target.
+    /// Returns the greater of the start and the end of the target.
     pub fn target_greatest(&self) -> usize
         requires { IsSoundRequest self.now }
         ensures greatest { result ≡ target_greatest self.now }
@@ -269,7 +270,7 @@ impl<'a> Request<'a> {
         self.target_start().max(self.target_end())
     }
 
-    /// The rows of all lines.
+    /// Returns the rows of the document: one for each line.
     #[inline(always)]
     pub fn rows(&self) -> &LineRows
         ensures rows { result.now.rows ≡ self.now.document.rows }
@@ -282,7 +283,7 @@ impl<'a> Request<'a> {
         rows
     }
 
-    /// The fold levels of all lines.
+    /// Returns the fold levels of the document's lines (GETFOLDLEVEL): one for each line.
     #[inline(always)]
     pub fn levels(&self) -> Levels<'_>
         ensures levels { result ≡ levels self.now }
@@ -291,19 +292,19 @@ impl<'a> Request<'a> {
         self.document.rows().fold_levels()
     }
 
-    /// The document whose id the argument is, if there is one.
+    /// Returns the document whose id is the argument, or `None` if there is no such document.
     #[tactic(auto, using(crate::proofs::Named::named, crate::proofs::Named::not_named))]
     pub fn document_named(&self, argument: i64) -> Option<&Document>
         requires { IsSoundRequest self.now }
         ensures { option_map document_of (option_copied result) ≡ document_named self.now.session argument }
     {
         let documents = &self.session.documents;
-        // The ids of all documents are below the next one.
+        // All ids of documents are below the next id.
         let id = within(0, documents.next() as usize, argument)?;
         documents.get(id as u32)
     }
 
-    /// How many bytes the document may have.
+    /// Returns the greatest length of the document's text, in bytes. It depends on whether the document is for large texts.
     pub fn limit(&self) -> u64
         ensures { result ≡ limit_of self.now.session.limits self.now.document }
     {
@@ -316,7 +317,8 @@ impl<'a> Request<'a> {
     }
 }
 
-/// Where a range that starts there ends by `l`, if it may end there; -1 is the end of the text.
+/// Returns where a range that starts at `start` ends, by the message's `l`, in bytes from 0, as in GETTEXTRANGE. `l` = -1 is the end of the
+/// text. Returns `None` if `l` lies before `start` or behind the text.
 pub fn past_argument(r: &Request, start: usize) -> Option<usize>
     requires { start ≤ size r.now }
     ensures past { result ≡ within start (size r.now) (end_or_size (size r.now) r.now.message.l) }

@@ -1,11 +1,11 @@
-//! What a session keeps.
+//! The state of a session.
 
 use document_table::DocumentTable;
 use ed_types::Limits;
 use ed_view::View;
 use id_table::IdTable;
 
-/// What a session keeps. Contracts see it as the model's session by `session_in`.
+/// What a session keeps. Contracts see the model's session in it by `session_in`.
 #[derive(Drop)]
 pub struct SessionState {
     /// The documents, by id.
@@ -14,6 +14,6 @@ pub struct SessionState {
     pub views: IdTable<View>,
     /// The bytes of the clipboard.
     pub clipboard: Vec<u8>,
-    /// What the session may reach.
+    /// The greatest values that the session may reach.
     pub limits: Limits,
 }

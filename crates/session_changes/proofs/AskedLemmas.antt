@@ -1,4 +1,4 @@
--- The view and the document of a request, as they are kept.
+-- The view and the document of a request, as the session keeps them.
 use Rattle.std.proofs.Common.{◌≡◌, ℕ, ◌==◌, List, map, length, refl, ap, sym, ◌∙◌, subst, true, Some, None, IsSomeAnd}
 use Rattle.std.specs.Prelude.{if◌then◌else◌}
 use Rattle.ed_model.specs.declared.plan.ViewChange.{ViewChange}
@@ -35,7 +35,7 @@ module _ (s : SessionState) (document view : ℕ) (r : Request) (kept : IsKept s
   pub kept_document : IsKeptAs document_in id_of_document (value_at s.documents.entries document) r.document
   kept_document = kept_as document_in id_of_document s.documents.entries document r.document kept.documents document_found
 
-  -- of what is kept at the id
+  -- the id has a document, and what holds of the request's document, whatever its room, holds of it
   pub of_document : (P : Kept → Type 0) → ((k : Kept) → k.document ≡ r.document → P k) → IsSomeAnd (value_at s.documents.entries document) P
   of_document P h = subst (λ o. IsSomeAnd o P) (sym kept_document.there) (h kept_document.value kept_document.is)
 
@@ -73,7 +73,7 @@ id_stays levels (view_change.Contract line) v = refl
 id_stays levels (view_change.Expand line) v = refl
 id_stays levels (view_change.EnsureVisible line) v = refl
 
--- a setting leaves the lines as they are, and so the room for more that are hidden or contracted
+-- a setting does not change which lines are hidden or contracted, and so not the room for more of them
 flags_stay : (levels : List ℕ) (change : ViewChange) (v : View) → is_setting change ≡ true → (changed_view levels change v).flags ≡ v.flags
 flags_stay levels (view_change.Select anchor caret) v h = refl
 flags_stay levels (view_change.SetTarget start past) v h = refl
@@ -89,7 +89,7 @@ pub setting_rooms : (levels : List ℕ) (change : ViewChange) (k k' : KeptView) 
 setting_rooms levels change k k' setting e =
     ap fold_rooms_in e ∙ ap (λ flags. fold_rooms_in (record k { view = record k.view { flags = flags } })) (flags_stay levels change k.view setting)
 
--- the view of an id in place of itself, once it has changed
+-- to change the view with the id is to put the changed view in the place of the request's view
 pub in_its_place : (s : SessionState) (document view : ℕ) (r : Request) → IsKept s → IsAsked (session_in s) document view r → (g : View → View) → (g r.view).id ≡ r.view.id
     → changed_at view g (session_in s).views ≡ with_view (g r.view) r.session.views
 in_its_place s document view r kept asked g stays =
@@ -99,7 +99,7 @@ in_its_place s document view r kept asked g stays =
     ∙ ap (λ id. map (λ (v : View). if v.id == id then g r.view else v) views) (sym (stays ∙ asked.view_id))
     ∙ ap (λ (x : Session). with_view (g r.view) x.views) (sym asked.session)
 
--- what is asked of the change of a view holds
+-- what the change of a view requires holds
 pub can_change : FitChangesAreWithin → (s : SessionState) (document view : ℕ) (change : ViewChange) → IsKept s → CanChangeView (session_in s) document view change → HasFoldRoomAt s.views.entries view change
     → (k : Kept) → value_at s.documents.entries document ≡ Some k → (levels : List ℕ) → length levels ≡ lines_in k.document → IsSomeAnd (value_at s.views.entries view) (CanChange levels change)
 can_change law s document view change kept can room k at levels lines =
@@ -113,7 +113,7 @@ can_change law s document view change kept can room k at levels lines =
     let has : HasFoldRoom v.room (fold_need v.view.flags change) = subst (λ o. IsSomeAnd o (λ w. HasFoldRoom w.room (fold_need w.view.flags change))) there.there room in
     subst (λ o. IsSomeAnd o (CanChange levels change)) (sym there.there) (lines ∙ ap lines_in same ∙ sym flags, within, has)
 
--- the session with the views changed so is that of the request
+-- the session with these views is the model's session after the change of the request's view
 pub view_changed_so : (s : SessionState) (document view : ℕ) (change : ViewChange) (views : Entries KeptView) → IsKept s → (k : Kept) → value_at s.documents.entries document ≡ Some k
     → (levels : List ℕ) → levels ≡ levels_of k.document → views_of views.entries ≡ changed_at view (changed_view levels change) (views_of s.views.entries) → views.next ≡ s.views.next
     → (r : Request) → IsAsked (session_in s) document view r → session_in (record s { views = views }) ≡ view_change_performed r change

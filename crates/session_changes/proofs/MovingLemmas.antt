@@ -1,4 +1,4 @@
--- A view goes from one document to another.
+-- A view is moved from one document to another.
 use Rattle.std.proofs.Common.{◌≡◌, ◌≢◌, ℕ, ◌+◌, ◌<◌, ◌==◌, Bool, true, false, cond, List, [], ◌∷◌, ◌++◌, map, refl, ap, sym, ◌∙◌, subst, arith, Option, Some, None, option_map}
 use Rattle.std.specs.Prelude.{nat_lt, not, if◌then◌else◌}
 use Rattle.std.specs.List.{AllByRecursion}
@@ -16,7 +16,7 @@ use Rattle.session_changes.specs.Moving.{CanMove, with_last}
 use Rattle.session_changes.specs.proved.Finding.{id_of_document, still_named}
 use Rattle.session_changes.specs.proved.Names.{IsNamedDocument, named_in, named_out, id_at}
 
--- Documents in their entries, without their room.
+-- The documents of a table without their room.
 
 abbrev pub seen : List (Entry Kept) → List Document
 seen entries = map (λ (e : Entry Kept). e.value.document) entries
@@ -40,7 +40,7 @@ in_entries : (P : Document → Type 0) (entries : List (Entry Kept)) → AllByRe
 in_entries P [] all = tt
 in_entries P (e ∷ es) all = (all.0, in_entries P es all.1)
 
--- the model changes a document as one of that id is changed
+-- `each` changes a document as `change` does if the document has this id, and not at all otherwise
 abbrev pub ChangesAlike : ℕ → (Document → Document) → (Document → Document) → Document → Type 0
 ChangesAlike id change each d = (d.id ≡ id → each d ≡ change d) × (d.id ≢ id → each d ≡ d)
 
@@ -52,7 +52,7 @@ alike_in_entries id change each (e ∷ es) named all = (
   alike_in_entries id change each es named.1 all.1,
 )
 
--- what is left where a document loses a reference
+-- the documents that are left after one has lost a reference
 pub living_left : LeavesTheLiving → (id next : ℕ) (change each : Document → Document) (entries left : List (Entry Kept)) → DocumentsAreNamed entries → Rise 0 next (ids_of (seen entries))
     → AllByRecursion (λ (d : Document). 0 < references d) (seen entries) → AllByRecursion (ChangesAlike id change each) (seen entries)
     → entries_in left ≡ let_go id change (entries_in entries) → seen left ≡ living (map each (seen entries))
@@ -63,7 +63,7 @@ living_left law id next change each entries left named rise referenced alike is 
     (in_entries (λ d. 0 < references d) entries referenced) (alike_in_entries id change each entries named alike)
     ∙ ap (λ ds. living (map each ds)) (values_same entries)
 
--- Names stay.
+-- Documents stay under their own ids.
 
 all_without : (P : Entry Document → Type 0) (id : ℕ) (entries : List (Entry Document)) → AllByRecursion P entries → AllByRecursion P (without_id id entries)
 all_without P id [] all = tt
@@ -84,7 +84,7 @@ pub still_named_left : (id : ℕ) (change : Document → Document) → ((d : Doc
     → entries_in left ≡ let_go id change (entries_in old) → DocumentsAreNamed left
 still_named_left id change stays old left all is = named_out left (subst (AllByRecursion IsNamedDocument) (sym is) (named_left id change stays (entries_in old) (named_in old all)))
 
--- The view is attached last, and leaves the other document.
+-- The view is attached behind the others, and then detached from its old document.
 
 one_more : (d : Document) (view : ℕ) (views : List ℕ) → 0 < references (record d { views = views ++ view ∷ [] })
 one_more d view views = omega (arith, length-append views (view ∷ []))

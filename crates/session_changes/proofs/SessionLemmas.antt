@@ -1,4 +1,4 @@
--- Sessions, and results.
+-- Whole sessions, and results.
 use Rattle.std.proofs.Common.{◌≡◌, ◌≢◌, ℕ, ◌+◌, ◌-◌, ◌<◌, ◌≤◌, ◌==◌, ◌^◌, Bool, true, false, cond, List, [], ◌∷◌, ◌++◌, map, length, refl, ap, sym, ◌∙◌, subst, arith, Option, Some, None, Ok, Err, OnOk, IfSome, IsSomeAnd}
 use Rattle.std.specs.Global.{Vec, Box}
 use Rattle.std.specs.Prelude.{Result, vec_capacity, filter}
@@ -54,7 +54,7 @@ of_some P o v e h = subst (λ x. IfSome x P) e h
 pub there_of_some : {V : Type 0} (P : V → Type 0) (o : Option V) (v : V) → o ≡ Some v → IsSomeAnd o P → P v
 there_of_some P o v e h = subst (λ x. IsSomeAnd x P) e h
 
--- Room that is made, and room that is there.
+-- Room that is made, and room that is there already.
 
 pub places_most : (entries : List (Entry Kept)) (id : ℕ) (old new : Kept) → value_at entries id ≡ Some old → HasPlacesAtMost old new → ArePlacesAtMost entries (with_value_at id new entries) id
 places_most entries id old new at most =
@@ -134,7 +134,7 @@ few_pass p (x ∷ xs) = omega (arith, one_more (p x) x (filter p xs) (length xs)
 few_lines : (types : LineEndTypes) (text : List ℕ) → line_count types text ≤ length text + 1
 few_lines types text = omega (arith, few_pass (is_line_start types text) (range_with_len 0 (length text + 1)), length-range_with_len 0 (length text + 1))
 
--- a view has not too many lines
+-- a view has fewer than 2^63 lines
 pub few_flags : (s : SessionState) (document view : ℕ) (r : Request) → IsKept s → IsAsked (session_in s) document view r → IsSomeAnd (value_at s.views.entries view) (λ v. length v.view.flags < 2 ^ 63)
 few_flags s document view r kept asked =
     let there = kept_view s document view r kept asked in
@@ -157,7 +157,7 @@ references_few s r id kept is fit =
     let less : there.value.document.held_by_callers + 1 < 2 ^ 32 = omega (arith, few, held_few s.limits kept.limits, held) in
     subst (λ o. IsSomeAnd o (λ k. k.document.held_by_callers + 1 < 2 ^ 32)) (sym there.there) less
 
--- releasing
+-- a reference is released
 alike_held : (id : ℕ) (ds : List Document) → AllByRecursion (ChangesAlike id released (held_less id)) ds
 alike_held id [] = tt
 alike_held id (d ∷ ds) = (
@@ -208,7 +208,7 @@ can_attach s document view to r kept asked fit place =
           (of_some (λ k. 0 < k.spare.views) (value_at s.documents.entries to) there.value there.there place);
     }
 
--- the session once the view is attached, where `old` may have a document more than what the request was to
+-- the session after the view is attached; `old` may have one document more than the session of the request
 pub attached_so : (old new : SessionState) (view to : ℕ) (v : View) (k : Kept) → DocumentsAreNamed old.documents.entries → value_at old.documents.entries to ≡ Some k → v.id ≡ view
     → changed_at view (attached_to k.document) (views_of old.views.entries) ≡ with_view (attached_to k.document v) (views_of old.views.entries)
     → documents_in new.documents ≡ living (map (attached_last view to) (documents_in old.documents))
@@ -254,7 +254,7 @@ value_last low next (e ∷ es) k named rise =
     let other : (e.id == next) ≡ false = ne_eqb e.id next (λ is. absurd (omega (arith, is, id, below))) in
     rw other (value_last (e.value.document.id + 1) next es k named.1 rise.2)
 
--- with a new document at the end, to which a view can move
+-- a session with a new document at the end, to which a view can be attached
 module _ (s : SessionState) (document view : ℕ) (r : Request) (kept : IsKept s) (asked : IsAsked (session_in s) document view r) (more : Entries Kept) (k : Kept)
     (entries : more.entries ≡ s.documents.entries ++ entry s.documents.next k ∷ []) (next : more.next ≡ s.documents.next + 1) where
   abbrev pub with_more : SessionState
@@ -295,7 +295,7 @@ module _ (s : SessionState) (document view : ℕ) (r : Request) (kept : IsKept s
         place = subst (λ o. IsSomeAnd o (λ k. 0 < k.spare.views)) (sym last_at) awaits.1;
       }
 
-  -- the session has that document more
+  -- it is the model's session with this new document
   pub session_more : (d : Document) → k.document ≡ d → session_in with_more ≡ with_new_document d (session_in s)
   session_more d is =
       let old = session_in s in
@@ -344,7 +344,7 @@ can_copy_at s document view what bytes text kept can ready =
     of_document s document view can.request kept can.asked (λ k. CanCopy what (length k.document.cells) (length text) (vec_capacity bytes))
     (λ k is. subst (λ (d : Document). CanCopy what (length d.cells) (length text) (vec_capacity bytes)) (sym is) (can_copy s.documents what bytes can.request text ready can.message can.fit))
 
--- a document that awaits no view was made for a caller
+-- a new document that no view is going to be attached to was made for a caller
 pub record IsCreation (documents : Entries Kept) (what : SessionChange) (k : Kept) : Type 0 where
   pub options : ℕ
   pub is : what ≡ change.Create options

@@ -1,4 +1,4 @@
--- Changes of a view, and the room in it that they need.
+-- Changes of a view, and the room that they need in it.
 use Rattle.std.specs.Prelude.{◌≡◌, ℕ, ◌+◌, ◌*◌, ◌≤◌, max, ◌==◌, if◌then◌else◌, Bool, true, false, not, List, map, length, IfSome, IsSomeAnd}
 use Rattle.ed_model.specs.declared.plan.ViewChange.{ViewChange}
 use Rattle.ed_model.specs.declared.plan.ViewChange.TheVariants.{HideLines, SetExpanded, Contract, Expand, EnsureVisible}
@@ -11,7 +11,7 @@ use Rattle.ed_view.specs.Folding.{fold_need, IsWithin, HasFoldRoom}
 use Rattle.ed_view.specs.Kept.{KeptView}
 use Rattle.id_table.specs.Entries.{Entry, value_at}
 
--- whether the change may take memory for lines to be hidden or contracted
+-- whether the change may need an allocation, for lines that it hides or contracts
 abbrev pub takes_fold_room : ViewChange → Bool
 takes_fold_room (HideLines first past) = true
 takes_fold_room (SetExpanded line on) = not on
@@ -20,16 +20,16 @@ takes_fold_room (Expand line) = true
 takes_fold_room (EnsureVisible line) = true
 takes_fold_room other = false
 
--- the view is there, and has the room
+-- the view with this id exists, and has room for the change
 abbrev pub HasFoldRoomAt : List (Entry KeptView) → ℕ → ViewChange → Type 0
 HasFoldRoomAt entries view change = IsSomeAnd (value_at entries view) (λ v. HasFoldRoom v.room (fold_need v.view.flags change))
 
--- the room is at most what making so much of it for a view comes to
+-- the room is at most this need, or about what the view has once it has doubled its memory
 abbrev pub IsFoldRoomAtMost : KeptView → FoldRoom → FoldNeed → Type 0
 IsFoldRoomAtMost old room need =
     (room.hidden ≤ max need.hidden (2 * old.room.hidden + 1)) × (room.contracted ≤ most_room (contracted_lines old.view.flags + 1) old.room.contracted need.contracted)
 
--- .. and so is that of the view of that id, for the change
+-- this holds of the view with this id, by the need of the change
 abbrev pub IsRoomAtMostAt : List (Entry KeptView) → List (Entry KeptView) → ℕ → ViewChange → Type 0
 IsRoomAtMostAt old new view change =
     IfSome (value_at old view) (λ before. IfSome (value_at new view) (λ after. IsFoldRoomAtMost before after.room (fold_need before.view.flags change)))
@@ -38,11 +38,11 @@ IsRoomAtMostAt old new view change =
 abbrev pub levels_of : Document → List ℕ
 levels_of d = map (λ (row : Row). row.level) d.rows
 
--- the view of that id changes
+-- the view with this id is changed
 abbrev pub changed_at : ℕ → (View → View) → List View → List View
 changed_at id change views = map (λ (v : View). if v.id == id then change v else v) views
 
--- the levels are of as many lines as the view has, the change is within them, and there is room for it
+-- there is a level for each line of the view, the lines that the change names exist, and there is room for it
 abbrev pub CanChange : List ℕ → ViewChange → KeptView → Type 0
 CanChange levels change v =
     (length levels ≡ length v.view.flags) × IsWithin (length v.view.flags) change × HasFoldRoom v.room (fold_need v.view.flags change)

@@ -1,4 +1,4 @@
--- What holds of what a session keeps, between calls.
+-- What holds of a session between calls.
 use Rattle.std.specs.Prelude.{◌≡◌, true, List, map}
 use Rattle.std.specs.List.{AllByRecursion}
 use Rattle.ed_model.specs.Session.{View, is_allowed}
@@ -14,7 +14,7 @@ use Rattle.message_requests.specs.declared.state.SessionState.{SessionState}
 abbrev pub DocumentsAreNamed : List (Entry Kept) → Type 0
 DocumentsAreNamed entries = AllByRecursion (λ (e : Entry Kept). e.id ≡ e.value.document.id) entries
 
--- it is sound, has limits that it may have, and keeps documents and views under their own ids
+-- the session is sound, its limits are allowed, and it keeps documents and views under their own ids
 pub record IsKept (s : SessionState) : Type 0 where
   pub sound : IsSound (session_in s)
   pub limits : is_allowed s.limits ≡ true

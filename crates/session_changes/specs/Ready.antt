@@ -1,4 +1,4 @@
--- What is made before a session changes, so that the change cannot fail.
+-- What is allocated before a session changes, so that the change cannot fail.
 use Rattle.std.specs.Prelude.{◌≡◌, ◌≢◌, ℕ, ◌<◌, ◌≤◌, nat_lt, max, Bool, true, false, List, [], length, IfSome, vec_capacity}
 use Rattle.ed_model.specs.declared.plan.SessionChange.{SessionChange}
 use Rattle.ed_model.specs.declared.plan.SessionChange.TheVariants as change
@@ -8,17 +8,17 @@ use Rattle.document.specs.Kept.{Kept, no_room}
 use Rattle.session_changes.specs.declared.ready.SessionReady.{SessionReady}
 use Rattle.session_changes.specs.declared.ready.SessionReady.TheVariants as ready
 
--- no bytes yet, and room for so many
+-- an empty clipboard with room for `count` bytes
 abbrev pub IsClipboardFor : ℕ → SessionReady → Type 0
 IsClipboardFor count (ready.Clipboard bytes) = (bytes.items ≡ []) × (vec_capacity bytes ≡ count)
 IsClipboardFor count other = ⊥
 
--- this document
+-- a new document: this one
 abbrev pub IsDocument : Kept → SessionReady → Type 0
 IsDocument k (ready.NewDocument made) = made.value ≡ k
 IsDocument k other = ⊥
 
--- a document of which that holds, and room for it in the table
+-- a new document with this property, and room for it in the table
 abbrev pub IsNewDocument : Entries Kept → (Kept → Type 0) → SessionReady → Type 0
 IsNewDocument table IsSo (ready.NewDocument made) = (0 < table.room) × IsSo made.value
 IsNewDocument table IsSo other = ⊥
@@ -27,19 +27,19 @@ abbrev pub IsNothing : SessionReady → Type 0
 IsNothing ready.Nothing = Unit {0}
 IsNothing other = ⊥
 
--- a document of that id without text and room for any, with a place for a view
+-- an empty document with this id, without room for steps, and with room for a view
 abbrev pub AwaitsView : ℕ → Kept → Type 0
 AwaitsView id k = (k.document ≡ new_document id 0) × (0 < k.spare.views) × (k.room ≡ no_room)
 
--- a document of that id without text and room for any, with these options, which a caller holds
+-- an empty document with this id and these options, without room for steps, and with one reference, which a caller holds
 abbrev pub IsHeld : ℕ → ℕ → Kept → Type 0
 IsHeld id options k = (k.document ≡ (let d = new_document id options in record d { held_by_callers = 1 })) × (k.room ≡ no_room)
 
--- the document of that id, if it is there, has a place for a view
+-- the document with this id, if it exists, has room for a view
 abbrev pub HasPlace : List (Entry Kept) → ℕ → Type 0
 HasPlace entries id = IfSome (value_at entries id) (λ k. 0 < k.spare.views)
 
--- all that the change needs is there
+-- all that the change needs was allocated
 abbrev pub IsReady : Entries Kept → SessionChange → SessionReady → Type 0
 IsReady documents (change.Copy start count) r = IsClipboardFor count r
 IsReady documents (change.CopyText count) r = IsClipboardFor count r
@@ -49,7 +49,7 @@ IsReady documents (change.Create options) r = IsNewDocument documents (IsHeld do
 IsReady documents (change.AddReference id) r = IsNothing r
 IsReady documents (change.Release id) r = IsNothing r
 
--- what it needs is there already
+-- all that the change needs is there already, so that nothing has to be allocated
 abbrev pub IsThere : List (Entry Kept) → SessionChange → Type 0
 IsThere entries (change.Attach id) = HasPlace entries id
 IsThere entries (change.Copy start count) = count ≡ 0
@@ -59,23 +59,23 @@ IsThere entries (change.Create options) = ⊥
 IsThere entries (change.AddReference id) = Unit {0}
 IsThere entries (change.Release id) = Unit {0}
 
--- a document is as it was, but for at most as many places for views as it had, or as views are on it, or one
+-- only the room of a document for views changes, to at most the greatest of its old room, the number of its views, and 1
 abbrev pub HasPlacesAtMost : Kept → Kept → Type 0
 HasPlacesAtMost was now =
     (now ≡ record was { spare = record was.spare { views = now.spare.views } }) × (now.spare.views ≤ max was.spare.views (max 1 (length was.document.views)))
 
--- .. and so is that of that id; each other one is as it was
+-- this holds of the document with this id, and no other document changes
 abbrev pub ArePlacesAtMost : List (Entry Kept) → List (Entry Kept) → ℕ → Type 0
 ArePlacesAtMost old new id =
     IfSome (value_at old id) (λ was. IfSome (value_at new id) (λ now. HasPlacesAtMost was now))
     × ((other : ℕ) → other ≢ id → value_at new other ≡ value_at old other)
 
--- no document but that of the change has another room, and the table has at most as much as it had, or room for one document
+-- for an attach, only the room of its document changes; for other changes only that of the table, to at most its old room or 1
 abbrev pub IsRoomAtMost : SessionChange → Entries Kept → Entries Kept → Type 0
 IsRoomAtMost (change.Attach id) old new = ArePlacesAtMost old.entries new.entries id × (new.room ≡ old.room)
 IsRoomAtMost other old new = (new.entries ≡ old.entries) × (new.room ≤ max old.room 1)
 
--- whether the change may take memory
+-- whether the change may need an allocation
 abbrev pub takes_memory : SessionChange → Bool
 takes_memory (change.Copy start count) = nat_lt 0 count
 takes_memory (change.CopyText count) = nat_lt 0 count

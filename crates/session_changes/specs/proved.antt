@@ -1,3 +1,4 @@
--- Statements about what is kept by id for these proofs and those of the crates above, each with its own proof: nothing here has to be believed.
+-- Statements about values that are kept by id, for the proofs of this crate and of those above. Each has its own proof, so none of them has to
+-- be trusted.
 pub mod Finding
 pub mod Names

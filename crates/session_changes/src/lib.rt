@@ -1,7 +1,8 @@
-//! What messages change in a session beside texts: settings and folds of a view, the clipboard, and which documents there are.
+//! Changes of a session that are no changes of a document's content: settings and folds of a view, the clipboard, and the documents with
+//! their references.
 //!
-//! Each change goes in two calls. The first takes all memory that the change needs, and leaves the session as it is; the
-//! second makes the change, and cannot fail.
+//! Each change takes two calls. The first allocates all that the change needs, and leaves the session as it is. The second makes the
+//! change, and cannot fail.
 #![tactic(auto)]
 
 mod moving;

@@ -1,4 +1,4 @@
-//! A view goes from one document to another.
+//! A view is moved from its document to another (SETDOCPOINTER).
 
 ghost use Rattle.std.specs.Prelude.{◌≡◌, ◌≢◌, ◌<◌, ◌^◌, map, length, IfSome, IsSomeAnd};
 ghost use Rattle.ed_model.specs.Session.{living, attached_to};
@@ -16,7 +16,7 @@ use ed_view::View;
 use id_table::IdTable;
 use message_requests::SessionState;
 
-/// Attaches a view behind those of the document of an id, which has a place for it.
+/// Attaches a view to the document with this id, behind the views of the document, which has room for it.
 fn put_last(documents: &mut DocumentTable, document: u32, view: u32)
     requires named { DocumentsAreNamed documents.old.entries }
     requires rise { DocumentsRise documents.old }
@@ -31,7 +31,7 @@ fn put_last(documents: &mut DocumentTable, document: u32, view: u32)
     document.attach_reserved(view);
 }
 
-/// Takes a view out of the list of the document of an id, and attaches it there behind all others.
+/// Moves a view to the end of the list of its document, which has this id.
 fn move_last(documents: &mut DocumentTable, document: u32, view: u32)
     requires can { CanMove documents.old document view document }
     ensures documents { documents_in documents.new ≡ living (map (attached_last view document) (documents_in documents.old)) }
@@ -45,7 +45,7 @@ fn move_last(documents: &mut DocumentTable, document: u32, view: u32)
     document.attach_reserved(view);
 }
 
-/// The same, where the view comes from another document, which goes with its last reference.
+/// Moves a view from document `from` to the end of the list of another document, `to`. Drops `from` if the view was its last reference.
 fn pass_on(documents: &mut DocumentTable, from: u32, view: u32, to: u32)
     requires other { from ≢ to }
     requires can { CanMove documents.old from view to }
@@ -53,13 +53,14 @@ fn pass_on(documents: &mut DocumentTable, from: u32, view: u32, to: u32)
     ensures named { DocumentsAreNamed documents.new.entries }
     ensures next { documents.new.next ≡ documents.old.next }
 {
-    // The law that the documents left are the living.
+    // States that the documents that are left are those with a reference.
     the_living_are_left();
     put_last(documents, to, view);
     documents.leave(from, view);
 }
 
-/// Moves a view from its document to the end of the list of another, or of its own.
+/// Moves a view from document `from` to the end of the list of document `to`, which may be the same. Drops `from` if it has no reference
+/// then.
 pub(crate) fn move_view(documents: &mut DocumentTable, from: u32, view: u32, to: u32)
     requires can { CanMove documents.old from view to }
     ensures documents { documents_in documents.new ≡ living (map (attached_last view to) (documents_in documents.old)) }
@@ -73,7 +74,8 @@ pub(crate) fn move_view(documents: &mut DocumentTable, from: u32, view: u32, to:
     }
 }
 
-/// Puts the view of an id at the start of a document: it stands there, and all lines are visible and expanded.
+/// Makes `document` the document of the view with this id. Moves the view's anchor, caret and target to the start, and makes all lines
+/// visible and expanded. The list of the document's views stays as it is.
 fn stand_on(views: &mut IdTable<View>, view: u32, document: &Document)
     requires few { IsSomeAnd (value_at views.old.entries view) (λ v. length v.view.flags < 2 ^ 63) }
     requires named { AreNamed views.old.entries }
@@ -90,7 +92,7 @@ fn stand_on(views: &mut IdTable<View>, view: u32, document: &Document)
     view.attach_to(document.id(), document.line_count());
 }
 
-/// Attaches the view of an id, which is on the document `from`, to the document `to`, or to its own once more.
+/// Attaches a view of document `from` to document `to`, which may be the same. Drops `from` if it has no reference then.
 pub(crate) fn attach(state: &mut SessionState, from: u32, view: u32, to: u32)
     requires can { CanMove state.old.documents from view to }
     requires few { IsSomeAnd (value_at state.old.views.entries view) (λ v. length v.view.flags < 2 ^ 63) }

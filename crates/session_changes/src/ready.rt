@@ -1,4 +1,4 @@
-//! What is made before a session changes.
+//! Allocations for a change of a session, before anything changes.
 
 ghost use Rattle.std.specs.Prelude.{◌≡◌, ◌≤◌, max, false, IsOk, IfOk, OnOk};
 ghost use Rattle.scene.specs.Scenes.{AreNamed};
@@ -13,22 +13,22 @@ use ed_model::SessionChange;
 use message_requests::SessionState;
 use std::alloc::{AllocError, Global};
 
-/// What was made for a change of a session.
+/// What was allocated for a change of a session.
 #[derive(Drop)]
 pub enum SessionReady {
-    /// Nothing, but perhaps room in a document.
+    /// No value. The document of an attach has room for the view.
     Nothing,
-    /// Room for the bytes that the clipboard becomes.
+    /// An empty vector with room for the bytes of the new clipboard.
     Clipboard { bytes: Vec<u8> },
-    /// A new document, for which the session's table has room. It lies on the heap, so that what other changes need is small.
+    /// A new document, for which the session's table has room. Boxed, so that the other variants stay small.
     NewDocument { document: Box<Document> },
 }
 
-/// Room for so many bytes that go to the clipboard.
+/// Allocates room for `count` bytes that go to the clipboard.
 ///
 /// # Errors
 ///
-/// `AllocError` where memory is refused.
+/// `AllocError` if the allocation fails.
 fn clipboard_for(alloc: Global, count: usize) -> Result<SessionReady, AllocError>
     ensures ok { IfOk result (IsClipboardFor count) }
     ensures free { count ≡ 0 → IsOk result }
@@ -40,11 +40,11 @@ fn clipboard_for(alloc: Global, count: usize) -> Result<SessionReady, AllocError
     Ok(SessionReady::Clipboard { bytes })
 }
 
-/// Makes a place for a view in the document of an id, if it is there.
+/// Makes room for a view in the document with this id, if it exists.
 ///
 /// # Errors
 ///
-/// `AllocError` where memory is refused. All documents are as they were, here too.
+/// `AllocError` if the allocation fails. All documents are then as they were.
 fn reserve_view_in(documents: &mut DocumentTable, document: u32) -> Result<(), AllocError>
     requires named { DocumentsAreNamed documents.old.entries }
     requires rise { DocumentsRise documents.old }
@@ -62,11 +62,11 @@ fn reserve_view_in(documents: &mut DocumentTable, document: u32) -> Result<(), A
     document.reserve_view()
 }
 
-/// A new document with these, for which the session's table has room.
+/// Boxes a new document. The caller has made room for it in the session's table.
 ///
 /// # Errors
 ///
-/// `AllocError` where memory is refused.
+/// `AllocError` if the allocation fails.
 fn new_document(alloc: Global, document: Document) -> Result<SessionReady, AllocError>
     ensures ok { IfOk result (IsDocument document) }
 {
@@ -76,11 +76,11 @@ fn new_document(alloc: Global, document: Document) -> Result<SessionReady, Alloc
     }
 }
 
-/// A new document with the table's next id, which has a place for a view; and room for it in the table.
+/// Makes a new document with the table's next id and room for a view, and room for it in the table.
 ///
 /// # Errors
 ///
-/// `AllocError` where memory is refused. All documents are as they were, here too.
+/// `AllocError` if an allocation fails. All documents are then as they were.
 fn document_for_view(
     alloc: Global,
     documents: &mut DocumentTable,
@@ -100,11 +100,11 @@ fn document_for_view(
     new_document(alloc, document)
 }
 
-/// A new document with the table's next id and these options, which a caller holds; and room for it in the table.
+/// Makes a new document with the table's next id and these options, held by a caller, and room for it in the table.
 ///
 /// # Errors
 ///
-/// `AllocError` where memory is refused. All documents are as they were, here too.
+/// `AllocError` if an allocation fails. All documents are then as they were.
 fn document_for_caller(
     alloc: Global,
     documents: &mut DocumentTable,
@@ -123,12 +123,12 @@ fn document_for_caller(
     new_document(alloc, document)
 }
 
-/// Makes all that a change of the session needs. Neither views nor the clipboard get any, nor another document than the one that a
+/// Allocates all that a change of the session needs. Gives no room to the views, to the clipboard, or to any document except one that a
 /// view is to be attached to.
 ///
 /// # Errors
 ///
-/// `AllocError` where memory is refused. The session is as it was, here too.
+/// `AllocError` if an allocation fails. The session is then as it was.
 pub fn prepare_session_change(
     alloc: Global,
     state: &mut SessionState,

@@ -1,4 +1,4 @@
-//! Changes of a session: its clipboard, and which documents there are.
+//! Changes of a session: of its clipboard, and of its documents and their references.
 
 ghost use Rattle.std.specs.Prelude.{◌≡◌, ◌+◌, ◌<◌, ◌^◌, [], map, length, vec_capacity, IfSome, IsSomeAnd};
 ghost use Rattle.ed_model.specs.Session.{living, text_of};
@@ -21,7 +21,8 @@ use document_table::{DocumentTable, the_living_are_left};
 use ed_model::SessionChange;
 use message_requests::SessionState;
 
-/// Copies what goes to the clipboard, for which there is room: bytes of the document of an id, or of the message's text.
+/// Copies the bytes that go to the clipboard into `bytes`, which is empty and has room for them. They come from the document with this id,
+/// or from the message's text.
 fn copy(
     documents: &DocumentTable,
     document: u32,
@@ -44,7 +45,7 @@ fn copy(
     let Ok(()) = copied else { unreachable!() };
 }
 
-/// Changes the clipboard; `bytes` has room for what it becomes.
+/// Replaces the clipboard (COPY, COPYRANGE, COPYTEXT). `bytes` is empty and has room for the bytes of the new clipboard.
 fn change_clipboard(
     state: &mut SessionState,
     document: u32,
@@ -67,7 +68,7 @@ fn change_clipboard(
     state.clipboard = bytes;
 }
 
-/// Gives callers a reference more to the document of an id.
+/// Adds a reference held by a caller to the document with this id (ADDREFDOCUMENT).
 fn hold(documents: &mut DocumentTable, document: u32)
     requires few { IsSomeAnd (value_at documents.old.entries document) (λ k. k.document.held_by_callers + 1 < 2 ^ 32) }
     requires named { DocumentsAreNamed documents.old.entries }
@@ -82,7 +83,7 @@ fn hold(documents: &mut DocumentTable, document: u32)
     document.hold();
 }
 
-/// Takes a reference of a caller to the document of an id away, which goes with its last reference.
+/// Releases a reference held by a caller to the document with this id (RELEASEDOCUMENT). Drops the document if that was its last reference.
 fn release(state: &mut SessionState, document: u32)
     requires kept { IsKept state.old }
     ensures changed { session_in state.new ≡ (let s = session_in state.old in record s { documents = living (map (held_less document) s.documents) }) }
@@ -90,12 +91,12 @@ fn release(state: &mut SessionState, document: u32)
     ensures documents { DocumentsAreNamed state.new.documents.entries }
     ensures views { state.new.views ≡ state.old.views }
 {
-    // The law that the documents left are the living.
+    // States that the documents that are left are those with a reference.
     the_living_are_left();
     state.documents.release(document);
 }
 
-/// Changes who refers to a document.
+/// Attaches the view to a document that exists, or adds or releases a reference held by a caller.
 fn change_references(state: &mut SessionState, document: u32, view: u32, change: SessionChange)
     requires kept { IsKept state.old }
     requires can { CanChangeDocuments (session_in state.old) document view change }
@@ -115,7 +116,7 @@ fn change_references(state: &mut SessionState, document: u32, view: u32, change:
     }
 }
 
-/// Puts a new document into the table, and attaches the view to it where that is the change.
+/// Adds a new document to the table (CREATEDOCUMENT), and attaches the view to it if that is the change (SETDOCPOINTER with 0).
 fn add_document(
     state: &mut SessionState,
     document: u32,
@@ -139,9 +140,9 @@ fn add_document(
     }
 }
 
-/// Makes a change of the session for the view of an id, which is on the document of that id, with what was made for it before.
-/// `text` is the message's. Each view has in all the room for hidden and contracted lines that it had, and there is as much for more
-/// views.
+/// Makes a change of the session for a message with this text to `view`, which is attached to `document`. Cannot fail: `ready` is what
+/// `prepare_session_change` allocated for the change. Each view keeps its capacity for hidden and for contracted lines, and the session
+/// keeps its room for more views.
 pub fn change_session(
     state: &mut SessionState,
     document: u32,

@@ -20,11 +20,11 @@ use id_table::IdTable;
 use message_requests::SessionState;
 use std::alloc::AllocError;
 
-/// Makes room in the view of an id for a change of it. Only a change that hides or contracts lines needs any.
+/// Makes room in the view with this id for a change of it. Only a change that may hide or contract lines needs room.
 ///
 /// # Errors
 ///
-/// `AllocError` where memory is refused. All views are as they were, here too.
+/// `AllocError` if an allocation fails. All views are then as they were.
 fn reserve_in(views: &mut IdTable<View>, view: u32, change: ViewChange) -> Result<(), AllocError>
     requires there { IsSome (value_at views.old.entries view) }
     requires named { AreNamed views.old.entries }
@@ -46,11 +46,12 @@ fn reserve_in(views: &mut IdTable<View>, view: u32, change: ViewChange) -> Resul
     view.reserve_folding(need)
 }
 
-/// Makes room in the view of an id for a change of it. Only a change that hides or contracts lines needs any.
+/// Makes room in the view with this id for a change of it. Only a change that may hide or contract lines needs room. If the view has the
+/// room already, this allocates nothing and cannot fail.
 ///
 /// # Errors
 ///
-/// `AllocError` where memory is refused. The session is as it was, here too. Where the room is there, none is made.
+/// `AllocError` if an allocation fails. The session is then as it was.
 pub fn reserve_view_change(
     state: &mut SessionState,
     view: u32,
@@ -73,7 +74,7 @@ pub fn reserve_view_change(
     reserve_in(&mut state.views, view, change)
 }
 
-/// The fold levels of a document's lines.
+/// Returns the fold levels of a document's lines.
 fn levels_of(document: &Document) -> Levels<'_>
     ensures levels { result ≡ levels_of document.now.document }
     ensures lines { length result ≡ lines_in document.now.document }
@@ -81,7 +82,7 @@ fn levels_of(document: &Document) -> Levels<'_>
     document.rows().fold_levels()
 }
 
-/// Changes the view of an id; the levels are those of its document.
+/// Makes a change of the view with this id. `levels` are the fold levels of its document.
 fn change_in(views: &mut IdTable<View>, view: u32, levels: &Levels, change: ViewChange)
     requires can { IsSomeAnd (value_at views.old.entries view) (CanChange levels.now change) }
     requires named { AreNamed views.old.entries }
@@ -98,7 +99,7 @@ fn change_in(views: &mut IdTable<View>, view: u32, levels: &Levels, change: View
     view.change(levels, change);
 }
 
-/// Changes a setting of the view of an id: no levels are read.
+/// Like `change_in`, but only for a change of a setting, which reads no levels.
 #[inline(always)]
 fn set_in(views: &mut IdTable<View>, view: u32, change: ViewChange)
     requires setting { is_setting change ≡ true }
@@ -117,8 +118,8 @@ fn set_in(views: &mut IdTable<View>, view: u32, change: ViewChange)
     view.set(change);
 }
 
-/// Changes the view of an id, for which there is room, by the levels of the document of the other id, which is its own. It stands
-/// apart from what sets something alone.
+/// Makes a change of `view`, which is attached to `document`, by the fold levels of that document. There is room for the change. Out of
+/// line, so that a change of a setting does not pay for its stack frame.
 #[inline(never)]
 fn change_by_levels(state: &mut SessionState, document: u32, view: u32, change: ViewChange)
     requires kept { IsKept state.old }
@@ -132,7 +133,7 @@ fn change_by_levels(state: &mut SessionState, document: u32, view: u32, change: 
     ensures view_room { state.new.views.room ≡ state.old.views.room }
     ensures clipboard { state.new.clipboard ≡ state.old.clipboard }
 {
-    // The law that the lines of a fit change are there.
+    // States that the lines that a fit change names exist.
     fit_changes_are_within();
     let SessionState {
         documents,
@@ -145,8 +146,8 @@ fn change_by_levels(state: &mut SessionState, document: u32, view: u32, change: 
     change_in(views, view, &levels_of(document), change);
 }
 
-/// Changes the view of an id, for which there is room; its document is that of the other id. All else stays as it is. Each view has
-/// in all the room for hidden and contracted lines that it had.
+/// Makes a change of `view`, which is attached to `document`. Cannot fail: `reserve_view_change` has made room for the change. All else in
+/// the session stays as it is. Each view keeps its capacity for hidden and for contracted lines.
 #[inline]
 pub fn change_view(state: &mut SessionState, document: u32, view: u32, change: ViewChange)
     requires kept { IsKept state.old }

@@ -1,4 +1,4 @@
--- What is found among numbers in a row is one of them.
+-- A number that is found in a range lies in this range.
 use Rattle.std.proofs.Common.{◌≡◌, ℕ, zero, suc, ◌+◌, ◌<◌, ◌≤◌, Bool, true, false, cond, List, [], ◌∷◌, ◌++◌, reverse, refl, sym, subst, arith}
 use Rattle.std.specs.Prelude.{pos, Some, None, find, nat_le, ◌&&◌}
 use Rattle.std.specs.List.{range_with_len, AllByRecursion}
@@ -7,7 +7,7 @@ use Rattle.std.proofs.lemmas.Bool.Decides.{nat_tests}
 use Rattle.ed_model.specs.Numbers.{within}
 use Rattle.message_requests.specs.proved.Standing.{found_all}
 
--- a number that is not among those up to another is above it
+-- a number that is not in the range from 0 to `high` is above `high`
 pub outside : (high n : ℕ) → within 0 high (pos n) ≡ None → high < n
 outside high n e = go (nat_le 0 n && nat_le n high) refl e
   where

@@ -1,4 +1,4 @@
--- The view of a sound request stands on its document.
+-- In a sound request, the positions and lines of the view are those of its document.
 use Rattle.std.proofs.Common.{◌≡◌, ℕ, ◌≤◌, ◌∙◌, Bool, true, false, cond, List, [], ◌∷◌, refl, ap, sym, subst, length, ◌++◌, ◌+◌, length-append}
 use Rattle.std.specs.Prelude.{Some, ◌==◌, find}
 use Rattle.std.specs.List.{AllByRecursion}
@@ -41,7 +41,7 @@ target_start_in_text r s = (stands r s).target_start
 pub target_end_in_text : (r : Request) → IsSoundRequest r → r.view.target_end ≤ size r
 target_end_in_text r s = (stands r s).target_end
 
--- the two halves of a text are as long as it is
+-- the two halves of a text are together as long as the text
 pub length_text : (first second : List ℕ) (r : Request) → first ++ second ≡ text r → length first + length second ≡ size r
 length_text first second r e =
     sym (length-append first second) ∙ ap length e ∙ length-map r.document.cells (λ (c : Cell). c.byte)

@@ -1,4 +1,4 @@
--- What is kept by id, and what the model finds by id.
+-- Values that are kept by id, and what the model finds by id.
 use Rattle.std.proofs.Common.{◌≡◌, ◌≢◌, ℕ, ◌+◌, ◌<◌, ◌≤◌, ◌==◌, Bool, true, false, cond, List, [], ◌∷◌, map, refl, ap, sym, ◌∙◌, subst, arith, Option, Some, None, option_map, IsSomeAnd}
 use Rattle.std.specs.Prelude.{find, if◌then◌else◌}
 use Rattle.std.specs.List.{AllByRecursion}
@@ -9,7 +9,7 @@ use Rattle.document.specs.Kept.{Kept}
 use Rattle.ed_view.specs.Kept.{KeptView, contracted_in_all}
 use Rattle.id_table.specs.Entries.{Entry, entry, value_of, value_at, with_value_at}
 
--- Values that know their ids.
+-- Values with ids of their own.
 module _ {X : Type 0} (own : X → ℕ) where
   abbrev pub at_id : List X → ℕ → Option X
   at_id xs id = find (λ x. own x == id) xs
@@ -35,7 +35,7 @@ module _ {X : Type 0} (own : X → ℕ) where
   none_above P id low high (x ∷ xs) r l =
       let ge : low ≤ own x = r.0 in ((λ e. absurd (omega (arith, e, ge, l))), none_above P id (own x + 1) high xs r.2 (omega (arith, ge, l)))
 
-  -- an id is given once
+  -- ids rise, so no two values have the same id
   pub found_once : (low high : ℕ) (xs : List X) (id : ℕ) (w : X) → Rise low high (map own xs) → at_id xs id ≡ Some w → AllByRecursion (λ x. own x ≡ id → x ≡ w) xs
   found_once low high [] id w r e = tt
   found_once low high (x ∷ xs) id w r e = go (own x == id) refl e (λ e. found_once (own x + 1) high xs id w r.2 e)
@@ -59,7 +59,7 @@ module _ {X : Type 0} (own : X → ℕ) where
       go true t rest = let is : x ≡ w = all.0 (eqb-true (own x) id t) in cc
       go false t rest = ap (λ ys. x ∷ ys) rest
 
--- The value of an id is another.
+-- The value of an id is replaced.
 module _ {V : Type 0} where
   pub replaced_alike : {Y : Type 0} (g : V → Y) (entries : List (Entry V)) (id : ℕ) (old new : V) → AllByRecursion (λ (e : Entry V). e.id ≡ id → e.value ≡ old) entries → g new ≡ g old
       → map (λ (e : Entry V). g e.value) (with_value_at id new entries) ≡ map (λ (e : Entry V). g e.value) entries
@@ -99,7 +99,7 @@ module _ {V : Type 0} where
           by_other true rest = refl
           by_other false rest = rest
 
--- A value's id is its entry's.
+-- Entries whose values have the entry's id.
 module _ {V X : Type 0} (f : V → X) (own : X → ℕ) where
   abbrev pub IsNamed : Entry V → Type 0
   IsNamed e = e.id ≡ own (f e.value)
@@ -122,7 +122,7 @@ module _ {V X : Type 0} (f : V → X) (own : X → ℕ) where
   pub found_none : (entries : List (Entry V)) (id : ℕ) → AllByRecursion IsNamed entries → value_at entries id ≡ None → at_id own (seen entries) id ≡ None
   found_none entries id all e = found entries id all ∙ ap (option_map f) e
 
-  -- what the model finds is kept
+  -- a value is kept, and `x` is what the model sees of it
   pub record IsKeptAs (o : Option V) (x : X) : Type 0 where
     pub value : V
     pub there : o ≡ Some value
@@ -161,7 +161,7 @@ module _ {V X : Type 0} (f : V → X) (own : X → ℕ) where
       let is : e.id ≡ own (f e.value) = all.0 in
       ((λ same. absurd (omega (arith, same, is, ge, l))), none_behind P id (own (f e.value) + 1) high es all.1 r.2 (omega (arith, ge, l)))
 
-  -- an id has one value
+  -- ids rise, so no two entries have the same id
   pub kept_once : (low high : ℕ) (entries : List (Entry V)) (id : ℕ) (w : V) → AllByRecursion IsNamed entries → Rise low high (map own (seen entries)) → value_at entries id ≡ Some w
       → AllByRecursion (λ (e : Entry V). e.id ≡ id → e.value ≡ w) entries
   kept_once low high [] id w all r e = tt
@@ -177,7 +177,7 @@ module _ {V X : Type 0} (f : V → X) (own : X → ℕ) where
           ((λ _. is), none_behind (λ v. v ≡ w) id (own (f x.value) + 1) high xs all.1 r.2 (omega (arith, same, own_is)))
       go false t e rest = ((λ same. absurd (eqb-false x.id id t same)), rest e)
 
-  -- one value changes, which is kept with its id
+  -- the value of one id is replaced
   module _ (entries : List (Entry V)) (id high : ℕ) (named : AllByRecursion IsNamed entries) (rise : Rise 0 high (map own (seen entries))) (old new : V) (at : value_at entries id ≡ Some old) where
     pub id_of_old : own (f old) ≡ id
     id_of_old = own_at own (seen entries) id (f old) (found_some entries id old named at)
@@ -187,7 +187,7 @@ module _ {V X : Type 0} (f : V → X) (own : X → ℕ) where
         replaced entries id new named ∙ ap (λ y. map (λ x. if own x == id then y else x) (seen entries)) made
         ∙ one_changes own g id (f old) (seen entries) (found_once own 0 high (seen entries) id (f old) rise (found_some entries id old named at))
 
-    -- .. and one that is made anew as it was
+    -- if the model sees no difference between the old and the new value, it sees none between the tables
     pub unchanged : f new ≡ f old → seen (with_value_at id new entries) ≡ seen entries
     unchanged same = changed (λ x. x) same ∙ itself (seen entries)
       where
@@ -202,11 +202,11 @@ module _ {V X : Type 0} (f : V → X) (own : X → ℕ) where
     pub named_with : own (f new) ≡ own (f old) → AllByRecursion IsNamed (with_value_at id new entries)
     named_with same = still_named entries id new (same ∙ id_of_old) named
 
-    -- .. what all have that the new one has as the old one had
+    -- what is the same of the old and the new value stays the same of all values
     pub keeping : {Y : Type 0} (g : V → Y) → g new ≡ g old → map (λ (e : Entry V). g e.value) (with_value_at id new entries) ≡ map (λ (e : Entry V). g e.value) entries
     keeping g same = replaced_alike g entries id old new (kept_once 0 high entries id old named rise at) same
 
-    -- .. and all, where it is the old one
+    -- if the new value is the old one, no entry changes
     pub staying : new ≡ old → with_value_at id new entries ≡ entries
     staying same = ap (λ v. with_value_at id v entries) same ∙ replaced_by_itself entries id old (kept_once 0 high entries id old named rise at)
 
@@ -227,7 +227,7 @@ module _ {V : Type 0} where
 abbrev pub view_in : KeptView → View
 view_in k = k.view
 
--- for how many lines of it there is room to be hidden, and for how many to be contracted, in all
+-- how many hidden lines the view has room for, and how many contracted ones, in all
 abbrev pub fold_rooms_in : KeptView → ℕ × ℕ
 fold_rooms_in k = (k.room.hidden, contracted_in_all k)
 

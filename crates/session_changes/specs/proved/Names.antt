@@ -1,4 +1,4 @@
--- Documents are kept under their own ids, and list the views that are on them.
+-- Documents are kept under their own ids, and list the views that are attached to them.
 use Rattle.std.proofs.Common.{◌≡◌, ◌≢◌, ℕ, ◌==◌, Bool, true, false, cond, List, [], ◌∷◌, refl, ap, sym, ◌∙◌, Some, option_map}
 use Rattle.std.specs.Prelude.{find}
 use Rattle.std.specs.List.{AllByRecursion}
@@ -29,7 +29,7 @@ id_at (x ∷ xs) id d all e = go (x.id == id) refl e (λ e. id_at xs id d all.1 
     go true t e rest = let same : x.value ≡ d = cc in ap (λ (y : Document). y.id) (sym same) ∙ sym all.0 ∙ eqb-true x.id id t
     go false t e rest = rest e
 
--- A view is in the list of its own document alone.
+-- No document lists a view except the view's own.
 
 pub without_itself : (view : ℕ) (ids : List ℕ) → AllByRecursion (λ id. id ≢ view) ids → without view ids ≡ ids
 without_itself view [] all = refl

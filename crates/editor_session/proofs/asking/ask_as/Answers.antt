@@ -1,33 +1,29 @@
-use Rattle.std.proofs.Common.{rules, ◌≡◌, to_z, of_z, w64, sym, ap, ◌∙◌, []}
-use Rattle.ed_model.specs.Table.{request}
+use Rattle.std.proofs.Common.{◌≡◌, sym, ap, subst, ◌∙◌}
+use Rattle.ed_model.specs.PlansFit.{IsSoundRequest}
 use Rattle.message_requests.specs.Requested.{session_in}
 use Rattle.message_plans.specs.Asking.{value_asked}
-use Rattle.editor_session.specs.Answers.{message_with}
 use Rattle.editor_session.proofs.Questions.{asked_of_no_view, asked_of, sound_request, answers_as_the_table}
 use Rattle.editor_session.proofs.asking.ask_as.Goals as goal
 
 pub returns-in_default-clause-value : goal.returns-in_default-clause-value
 returns-in_default-clause-value c =
     let a = c.args in
-    sym (asked_of_no_view (session_in a.state.now) a.view (message_with a.number a.w a.l []) a.kind c.requires.question c.in_default.ensures.none)
+    sym (asked_of_no_view (session_in a.state.now) a.view a.message.now a.kind c.requires.question c.in_default.ensures.none)
 
 pub value_of-requires : goal.value_of-requires
 value_of-requires c =
     let a = c.args in
     let f = c.in-Some.found in
-    record { sound = sound_request (session_in a.state.now) a.view (message_with a.number (to_z w64 (of_z w64 a.w)) (to_z w64 (of_z w64 a.l)) []) f.view.now.view f.document.now.document c.requires.kept.sound c.in-Some.ensures.view c.in-Some.ensures.document }
+    record { sound = subst IsSoundRequest (sym c.request_to-request.ensures) (sound_request (session_in a.state.now) a.view a.message.now f.view.now.view f.document.now.document c.requires.kept.sound c.in-Some.ensures.view c.in-Some.ensures.document) }
 
 pub returns-clause-value : goal.returns-clause-value
 returns-clause-value c =
     let a = c.args in
-    let s = session_in a.state.now in
-    let m = message_with a.number a.w a.l [] in
     let v = c.in-Some.found.view.now.view in
     let d = c.in-Some.found.document.now.document in
-    let same : message_with a.number (to_z w64 (of_z w64 a.w)) (to_z w64 (of_z w64 a.l)) [] ≡ m = search rules in
-    c.value_of.ensures ∙ ap (λ x. value_asked a.kind (request s v d x)) same ∙ sym (asked_of s a.view m a.kind v d c.requires.question c.in-Some.ensures.view c.in-Some.ensures.document)
+    c.value_of.ensures ∙ ap (value_asked a.kind) c.request_to-request.ensures ∙ sym (asked_of (session_in a.state.now) a.view a.message.now a.kind v d c.requires.question c.in-Some.ensures.view c.in-Some.ensures.document)
 
 pub returns-clause-answer : goal.returns-clause-answer
 returns-clause-answer c =
     let a = c.args in
-    answers_as_the_table c.kinds_and_numbers.ensures.found (session_in a.state.now) a.view a.number a.w a.l c.value_of.result (returns-clause-value c)
+    answers_as_the_table c.kinds_and_numbers.ensures.found (session_in a.state.now) a.view a.message.now c.value_of.result (returns-clause-value c)

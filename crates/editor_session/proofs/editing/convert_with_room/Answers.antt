@@ -3,8 +3,16 @@ use Rattle.ed_model.specs.LineEnds.{conversion_steps}
 use Rattle.ed_model.specs.Performing.{edit_made, Scene}
 use Rattle.ed_model.specs.Session.{Document, text_of}
 use Rattle.scene.specs.Scenes.{scene_in}
+use Rattle.scene.specs.Conversion.{room_of_steps}
 use Rattle.editor_session.proofs.Replacing.{edit_keeps_id}
+use Rattle.editor_session.proofs.Widths.{capped_fits}
 use Rattle.editor_session.proofs.editing.convert_with_room.Goals as goal
+
+pub reserve-requires-2 : goal.reserve-requires-2
+reserve-requires-2 c =
+    let a = c.args in
+    let d = a.document.now.document in
+    record { wide = capped_fits d (room_of_steps d.line_end_types (conversion_steps a.to (text_of d))) c.conversion_need-need.result.document c.conversion_need-need.ensures.document c.requires.wide }
 
 pub returns-clause-scene : goal.returns-clause-scene
 returns-clause-scene c =

@@ -5,6 +5,7 @@ use Rattle.ed_model.specs.Steps.{replacement}
 use Rattle.scene.specs.Scenes.{scene_in}
 use Rattle.editor_session.specs.Edited.{IsEditWithin, stored_bytes}
 use Rattle.editor_session.specs.Edits.{edit_steps}
+use Rattle.editor_session.specs.Widths.{StepsFitWidth}
 use Rattle.editor_session.proofs.Going.{on_ok}
 use Rattle.editor_session.proofs.editing.edit_with_room.Goals as goal
 
@@ -13,6 +14,21 @@ source_bytes-bytes-requires c = (subst (λ x. IsEditWithin x (length c.args.docu
 
 pub replace_with_room-requires-clause-range : goal.replace_with_room-requires-clause-range
 replace_with_room-requires-clause-range c = (subst (λ x. IsEditWithin x (length c.args.document.now.document.cells) (length c.args.text.now)) c.in-Replace.is c.requires.within).0
+
+pub replace_with_room-requires-clause-wide : goal.replace_with_room-requires-clause-wide
+replace_with_room-requires-clause-wide c =
+    let a = c.args in
+    let p = c.in-Replace in
+    let d = a.document.now.document in
+    let bytes : c.source_bytes-bytes.result.now ≡ stored_bytes p.source a.text.now a.clipboard.now a.pasted.now d.line_end =
+    c.source_bytes-bytes.ensures ∙ ap (stored_bytes p.source a.text.now a.clipboard.now a.pasted.now) c.typed_line_end-line_end.ensures in
+    subst (λ ss. StepsFitWidth d ss) (ap (λ x. edit_steps x a.text.now a.clipboard.now a.pasted.now d) p.is ∙ ap (λ xs. replacement p.start p.count xs (text_of d)) (sym bytes)) c.requires.wide
+
+pub convert_with_room-requires-clause-wide : goal.convert_with_room-requires-clause-wide
+convert_with_room-requires-clause-wide c =
+    let a = c.args in
+    let d = a.document.now.document in
+    subst (λ x. StepsFitWidth d (edit_steps x a.text.now a.clipboard.now a.pasted.now d)) c.in-ConvertLineEnds.is c.requires.wide
 
 pub returns-in-Replace-clause-scene : goal.returns-in-Replace-clause-scene
 returns-in-Replace-clause-scene c =

@@ -1,8 +1,8 @@
-use Rattle.std.proofs.Common.{rules, ◌≡◌, to_z, of_z, w64, sym, subst, [], true, Some}
+use Rattle.std.proofs.Common.{rules, ◌≡◌, sym, subst, true}
+use Rattle.ed_model.specs.PlansFit.{IsSoundRequest}
 use Rattle.ed_model.specs.Table.{request, plan_of}
 use Rattle.message_requests.specs.Requested.{session_in}
-use Rattle.message_plans.specs.Frequent.{transaction_of, performing, is_performed}
-use Rattle.editor_session.specs.Answers.{message_with}
+use Rattle.message_plans.specs.Frequent.{performing, is_performed}
 use Rattle.editor_session.specs.Tasks.{IsTask}
 use Rattle.editor_session.specs.Unheard.{unrecorded}
 use Rattle.editor_session.proofs.FrequentChanges.{transaction_task}
@@ -12,20 +12,16 @@ use Rattle.editor_session.proofs.frequent.find_transaction.Goals as goal
 pub is_performed-requires : goal.is_performed-requires
 is_performed-requires c =
     let a = c.args in
-    let s = session_in a.state.now in
-    let v = c.in-Some.found.view.now.view in
-    let d = c.in-Some.found.document.now.document in
-    record { sound = sound_request s a.view (message_with a.number (to_z w64 (of_z w64 a.w)) (to_z w64 (of_z w64 a.l)) []) v d c.requires.kept.sound c.in-Some.ensures.view c.in-Some.ensures.document }
+    let f = c.in-Some.found in
+    record { sound = subst IsSoundRequest (sym c.request_to-request.ensures) (sound_request (session_in a.state.now) a.view a.message.now f.view.now.view f.document.now.document c.requires.kept.sound c.in-Some.ensures.view c.in-Some.ensures.document) }
 
 pub returns-then-is_performed : goal.returns-then-is_performed
-returns-then-is_performed c = λ text.
+returns-then-is_performed c =
     let a = c.args in
     let s = session_in a.state.now in
+    let m = a.message.now in
     let v = c.in-Some.found.view.now.view in
     let d = c.in-Some.found.document.now.document in
-    let is : transaction_of a.number ≡ Some a.kind = c.requires.transaction in
-    let same : message_with a.number (to_z w64 (of_z w64 a.w)) (to_z w64 (of_z w64 a.l)) [] ≡ message_with a.number a.w a.l [] = search rules in
-    let asked : is_performed a.kind (plan_of a.kind (request s v d (message_with a.number a.w a.l []))) ≡ true =
-    subst (λ m. is_performed a.kind (plan_of a.kind (request s v d m)) ≡ true) same (search rules) in
-    subst (λ n. IsTask s a.view (message_with a.number a.w a.l text) (unrecorded n a.view (performing a.kind))) (sym c.id.ensures)
-    (transaction_task c.plans_are_fit.ensures.in_range c.kinds_and_numbers.ensures.found s a.view a.number a.w a.l a.kind v d c.requires.kept.sound is c.in-Some.ensures.view c.in-Some.ensures.document asked text)
+    let asked : is_performed a.kind (plan_of a.kind (request s v d m)) ≡ true = subst (λ r. is_performed a.kind (plan_of a.kind r) ≡ true) c.request_to-request.ensures (search rules) in
+    subst (λ n. IsTask s a.view m (unrecorded n a.view (performing a.kind))) (sym c.id.ensures)
+    (transaction_task c.plans_are_fit.ensures.in_range c.kinds_and_numbers.ensures.found s a.view m a.kind v d c.requires.kept.sound c.requires.transaction c.in-Some.ensures.view c.in-Some.ensures.document asked)

@@ -1,13 +1,10 @@
-use Rattle.std.proofs.Common.{rules, ◌≡◌, ◌⊎◌, ℤ, true, Ok, Err, sym, ap, subst, ◌∙◌, to_z, of_z, w64}
-use Rattle.std.specs.Prelude.{◌≢◌, IfErr}
-use Rattle.ed_types.specs.declared.refusal.Refusal.TheVariants.{OutOfMemory}
+use Rattle.std.proofs.Common.{rules, ◌≡◌, ◌⊎◌, Ok, Err, sym, ap, subst, ◌∙◌, to_z, of_z, w64}
+use Rattle.std.specs.Prelude.{IfErr}
 use Rattle.ed_model.specs.Performing.{quiet}
 use Rattle.ed_model.specs.Table.{table}
 use Rattle.message_requests.specs.Requested.{session_in}
-use Rattle.editor_session.specs.Answers.{AnswersBy, message_with}
 use Rattle.editor_session.specs.Left.{IsLeft}
-use Rattle.editor_session.specs.Plans.{is_free}
-use Rattle.editor_session.proofs.Leaving.{left_of_quiet, refusing, refused_too}
+use Rattle.editor_session.proofs.Leaving.{left_of_quiet, refused_too}
 use Rattle.editor_session.proofs.sending.answer_by_plan.Goals as goal
 
 pub whole-requires : goal.whole-requires
@@ -19,32 +16,14 @@ whole-requires c =
 
 pub returns-in-Ok-clause-answer : goal.returns-in-Ok-clause-answer
 returns-in-Ok-clause-answer c =
-    let a = c.args in
     let n = session_in c.answer_into_by_plan.new.state in
-    let same : message_with a.number (to_z w64 (of_z w64 a.w)) (to_z w64 (of_z w64 a.l)) a.text.now ≡ message_with a.number a.w a.l a.text.now = search rules in
     let value : to_z w64 (of_z w64 c.in-Ok.value) ≡ c.in-Ok.value = search rules in
-    ap (table (session_in a.state.now) a.view) (sym same) ∙ c.in-Ok.ensures.answer ∙ ap (λ v. Ok (n, record c.answer_into_by_plan.new.reply { value = v })) (sym value) ∙ ap (λ x. Ok (n, x)) (sym c.whole.ensures)
+    c.in-Ok.ensures.answer ∙ ap (λ v. Ok (n, record c.answer_into_by_plan.new.reply { value = v })) (sym value) ∙ ap (λ x. Ok (n, x)) (sym c.whole.ensures)
 
 pub returns-in-Ok-clause-refused : goal.returns-in-Ok-clause-refused
 returns-in-Ok-clause-refused c = subst (λ t. IfErr t (λ refusal. Ok c.whole.result ≡ Err refusal)) (sym (returns-in-Ok-clause-answer c)) tt
 
-pub returns-in-Err-clause-answer : goal.returns-in-Err-clause-answer
-returns-in-Err-clause-answer c =
-    let a = c.args in
-    let s = session_in a.state.now in
-    let same : message_with a.number (to_z w64 (of_z w64 a.w)) (to_z w64 (of_z w64 a.l)) a.text.now ≡ message_with a.number a.w a.l a.text.now = search rules in
-    subst (λ x. AnswersBy (table s a.view x) s (session_in c.answer_into_by_plan.new.state) (Err c.in-Err.refusal)) same c.in-Err.ensures.answer
-
 pub returns-in-Err-clause-refused : goal.returns-in-Err-clause-refused
 returns-in-Err-clause-refused c =
     let a = c.args in
-    let s = session_in a.state.now in
-    let same : message_with a.number (to_z w64 (of_z w64 a.w)) (to_z w64 (of_z w64 a.l)) a.text.now ≡ message_with a.number a.w a.l a.text.now = search rules in
-    refused_too (table s a.view (message_with a.number a.w a.l a.text.now)) c.in-Err.refusal (subst (λ x. IfErr (table s a.view x) (λ r. refusing ℤ c.in-Err.refusal ≡ Err r)) same c.in-Err.ensures.refused)
-
-pub returns-in-Err-clause-free : goal.returns-in-Err-clause-free
-returns-in-Err-clause-free c =
-    let a = c.args in
-    let s = session_in a.state.now in
-    let same : message_with a.number (to_z w64 (of_z w64 a.w)) (to_z w64 (of_z w64 a.l)) a.text.now ≡ message_with a.number a.w a.l a.text.now = search rules in
-    subst (λ x. is_free s a.view x ≡ true → c.in-Err.refusal ≢ OutOfMemory) same c.in-Err.ensures.free
+    refused_too (table (session_in a.state.now) a.view a.message.now) c.in-Err.refusal c.in-Err.ensures.refused

@@ -1,0 +1,27 @@
+use Rattle.std.proofs.Common.{rules, ◌≡◌, ◌++◌, length, max, sym, ap, subst, ◌∙◌, arith, IfSome}
+use Rattle.std.specs.Prelude.{option_copied}
+use Rattle.ed_model.specs.Notes.{told, modify_attempt, blank}
+use Rattle.ed_model.specs.Session.{watching}
+use Rattle.notify.specs.Gathered.{Gathered}
+use Rattle.scene.specs.Scenes.{views_of}
+use Rattle.editor_session.proofs.Needing.{watched_few}
+use Rattle.editor_session.proofs.changing.perform_attempt.Goals as goal
+
+pub attempt-requires-clause-room : goal.attempt-requires-clause-room
+attempt-requires-clause-room c =
+    let d = c.in-Some.document.now.document in
+    let few = watched_few (views_of c.args.state.now.views.entries) d.views in
+    let room : c.reserve.new.self.note_room ≡ max c.args.notes.now.note_room (length d.views) = search rules in
+    omega (arith, few, room)
+
+pub returns-clause-told : goal.returns-clause-told
+returns-clause-told c =
+    let a = c.args in
+    let s = a.state.now in
+    let old = c.in-Some.document.now in
+    let n = c.attempt.new.notes in
+    let at = sym c.get.ensures ∙ ap option_copied c.in-Some.is in
+    let same : c.reserve.new.self.notes ≡ a.notes.now.notes = search rules in
+    let put : n.notes ≡ a.notes.now.notes ++ told (watching (views_of s.views.entries) old.document) (blank modify_attempt) =
+    ap (λ (g : Gathered). g.notes) c.attempt.ensures ∙ ap (λ ns. ns ++ told (watching (views_of s.views.entries) old.document) (blank modify_attempt)) same in
+    subst (λ o. IfSome o (λ k. n.notes ≡ a.notes.now.notes ++ told (watching (views_of s.views.entries) k.document) (blank modify_attempt))) (sym at) put
