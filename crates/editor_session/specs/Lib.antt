@@ -1,5 +1,6 @@
 -- Definitions that the contracts cite.
 pub mod Answers
+pub mod Answering
 pub mod Asked
 pub mod Plans
 pub mod Needs

@@ -1,13 +1,11 @@
 //! Plain questions to a session, which are answered before any plan is made.
 
-ghost use Rattle.std.specs.Prelude.{◌≡◌, ℕ, List, Ok, Some, IfSome};
-ghost use Rattle.ed_model.specs.Performing.{quiet};
-ghost use Rattle.ed_model.specs.Table.{table};
+ghost use Rattle.std.specs.Prelude.{◌≡◌, Some};
 ghost use Rattle.message_plans.specs.Asking.{question_of};
 ghost use Rattle.message_requests.specs.Requested.{session_in};
 ghost use Rattle.session_changes.specs.Kept.{IsKept};
-ghost use Rattle.editor_session.specs.Answers.{with_text};
 ghost use Rattle.editor_session.specs.Asked.{value_to};
+ghost use Rattle.editor_session.specs.Answering.{AnswersWithAnyText};
 
 use crate::attached::{look_up, request_to};
 use ed_types::{Kind, kinds_and_numbers};
@@ -25,7 +23,7 @@ pub(crate) fn ask_as(
     requires kept { IsKept state.now }
     requires question { question_of message.now.number ≡ Some kind }
     ensures value { result ≡ value_to (session_in state.now) view message.now }
-    ensures answer { IfSome result (λ value. (text : List ℕ) → table (session_in state.now) view (with_text message.now text) ≡ Ok (session_in state.now, quiet value)) }
+    ensures answer { AnswersWithAnyText state.now view message.now result }
 {
     // States that each kind is found by its number.
     kinds_and_numbers();
@@ -42,7 +40,7 @@ pub(crate) fn ask_as(
 pub(crate) fn ask(state: &SessionState, view: u32, message: &SentMessage) -> Option<i64>
     requires kept { IsKept state.now }
     ensures value { result ≡ value_to (session_in state.now) view message.now }
-    ensures answer { IfSome result (λ value. (text : List ℕ) → table (session_in state.now) view (with_text message.now text) ≡ Ok (session_in state.now, quiet value)) }
+    ensures answer { AnswersWithAnyText state.now view message.now result }
 {
     match way_of(message.number) {
         Way::Question(kind) => ask_as(state, view, kind, message),

@@ -1,7 +1,7 @@
 //! Frequent changes of a document: a run's style, a marker, a fold level. They are made without notes if no view listens. Undo and redo, if
 //! no view listens: they need no plan, notes or reply.
 
-ghost use Rattle.std.specs.Prelude.{◌≡◌, ℕ, ℤ, List, [], map, true, false, Ok, Some, IfNone, IfSome, IfOk, IfErr, IsOk, OnErr, IsSomeAnd};
+ghost use Rattle.std.specs.Prelude.{◌≡◌, ℕ, ℤ, List, map, true, false, Ok, Some, IfNone, IfSome, IfErr, IsOk, IsSomeAnd};
 ghost use Rattle.ed_types.specs.declared.message.Message.{Message};
 ghost use Rattle.ed_types.specs.declared.refusal.Refusal.TheVariants.{OutOfMemory};
 ghost use Rattle.ed_model.specs.declared.plan.Plan.TheVariants as plan;
@@ -14,11 +14,11 @@ ghost use Rattle.message_plans.specs.Frequent.{frequent_change_of, transaction_o
 ghost use Rattle.message_plans.specs.Ways.{frequent_change_in};
 ghost use Rattle.message_requests.specs.Requested.{session_in, documents_in};
 ghost use Rattle.session_changes.specs.Kept.{IsKept, DocumentsAreNamed};
-ghost use Rattle.editor_session.specs.Answers.{AnswersBy};
 ghost use Rattle.editor_session.specs.Doing.{CanBeMade, IsChangedIn};
 ghost use Rattle.editor_session.specs.Tasks.{IsTask};
 ghost use Rattle.editor_session.specs.Plans.{is_free};
 ghost use Rattle.editor_session.specs.Unheard.{unrecorded, going, no_notes, IsSent};
+ghost use Rattle.editor_session.specs.Answering.{IsAnswer, AnswersValue};
 
 use crate::attached::{look_up, request_to};
 use crate::changing::perform_change;
@@ -151,7 +151,7 @@ pub(crate) fn answer_unheard_change(
 ) -> Option<i64>
     requires kept { IsKept state.old }
     requires frequent { frequent_change_of message.now.number ≡ Some kind }
-    ensures answer { IfSome result (λ value. table (session_in state.old) view message.now ≡ Ok (session_in state.new, quiet value)) }
+    ensures answer { AnswersValue state.old view message.now state.new result }
     ensures same { IfNone result (session_in state.new ≡ session_in state.old) }
     ensures kept { IsKept state.new }
 {
@@ -181,7 +181,7 @@ pub(crate) fn answer_found_change(
 ) -> Result<Reply, Refusal>
     requires kept { IsKept state.old }
     requires task { IsTask (session_in state.old) view message.now (unrecorded found.document view (plan.ChangeDocument found.change found.value)) }
-    ensures answer { AnswersBy (table (session_in state.old) view message.now) (session_in state.old) (session_in state.new) result }
+    ensures answer { IsAnswer state.old view message.now state.new result }
     ensures refused { IfErr result (λ refusal. refusal ≡ OutOfMemory) }
     ensures kept { IsKept state.new }
     ensures free { is_free (session_in state.old) view message.now ≡ true → IsOk result }
@@ -260,7 +260,7 @@ pub(crate) fn answer_unheard_transaction(
 ) -> Option<i64>
     requires kept { IsKept state.old }
     requires transaction { transaction_of message.now.number ≡ Some kind }
-    ensures answer { IfSome result (λ value. table (session_in state.old) view message.now ≡ Ok (session_in state.new, quiet value)) }
+    ensures answer { AnswersValue state.old view message.now state.new result }
     ensures same { IfNone result (session_in state.new ≡ session_in state.old) }
     ensures kept { IsKept state.new }
 {

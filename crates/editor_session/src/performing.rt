@@ -1,16 +1,15 @@
 //! Performing a plan: room is made for all that it needs, and then all is done. If an allocation fails, nothing has changed.
 
-ghost use Rattle.std.specs.Prelude.{◌≡◌, [], true, false, OnErr, IfOk, IfErr, IsOk};
+ghost use Rattle.std.specs.Prelude.{◌≡◌, [], true, OnErr, IfOk, IfErr, IsOk};
 ghost use Rattle.ed_types.specs.declared.refusal.Refusal.TheVariants.{OutOfMemory};
 ghost use Rattle.ed_model.specs.Performing.{response};
-ghost use Rattle.ed_model.specs.Table.{table};
 ghost use Rattle.message_requests.specs.Requested.{session_in};
 ghost use Rattle.session_changes.specs.Kept.{IsKept};
-ghost use Rattle.editor_session.specs.Answers.{AnswersBy};
 ghost use Rattle.editor_session.specs.Left.{told, IsLeft};
 ghost use Rattle.editor_session.specs.Plans.{is_free};
 ghost use Rattle.editor_session.specs.Tasks.{IsTask, task_of};
 ghost use Rattle.editor_session.specs.Unheard.{IsAnswered, IfFree, IsSentAs};
+ghost use Rattle.editor_session.specs.Answering.{IsAnswer};
 
 use crate::changing::{
     is_free_change, perform_attempt, perform_change, perform_free_change, perform_session_change,
@@ -121,7 +120,7 @@ fn perform_with_notes(
 ) -> Result<i64, Refusal>
     requires kept { IsKept state.old }
     requires task { IsTask (session_in state.old) view message.now (task_of document view plan.now is_recorded) }
-    ensures answer { AnswersBy (table (session_in state.old) view message.now) (session_in state.old) (session_in state.new) (told result reply.new) }
+    ensures answer { IsAnswer state.old view message.now state.new (told result reply.new) }
     ensures place { IsLeft result reply.old reply.new }
     ensures refused { IfErr result (λ refusal. refusal ≡ OutOfMemory) }
     ensures kept { IsKept state.new }
@@ -165,7 +164,7 @@ pub(crate) fn perform_message(
 ) -> Result<i64, Refusal>
     requires kept { IsKept state.old }
     requires task { IsTask (session_in state.old) view message.now (task_of document view plan.now is_recorded) }
-    ensures answer { AnswersBy (table (session_in state.old) view message.now) (session_in state.old) (session_in state.new) (told result reply.new) }
+    ensures answer { IsAnswer state.old view message.now state.new (told result reply.new) }
     ensures place { IsLeft result reply.old reply.new }
     ensures refused { IfErr result (λ refusal. refusal ≡ OutOfMemory) }
     ensures kept { IsKept state.new }

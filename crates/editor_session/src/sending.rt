@@ -3,19 +3,15 @@
 //! without notes if no view listens, and a target message if the view does not record. All others, and what is refused, are planned and
 //! performed.
 
-ghost use Rattle.std.specs.Prelude.{◌≡◌, ◌≢◌, ◌&&◌, true, IfErr, IfSome, IfNone, Ok, Err, Some};
-ghost use Rattle.ed_types.specs.declared.refusal.Refusal.TheVariants.{OutOfMemory};
+ghost use Rattle.std.specs.Prelude.{◌≡◌, ◌&&◌, IfNone, Some};
 ghost use Rattle.ed_types.specs.Messages.{marks_of};
-ghost use Rattle.ed_model.specs.Performing.{quiet};
-ghost use Rattle.ed_model.specs.Table.{table};
 ghost use Rattle.message_plans.specs.Asking.{text_question_of};
 ghost use Rattle.message_plans.specs.Frequent.{frequent_change_of};
 ghost use Rattle.message_plans.specs.Ways.{IsWayOf};
 ghost use Rattle.message_requests.specs.Requested.{session_in};
 ghost use Rattle.session_changes.specs.Kept.{IsKept};
-ghost use Rattle.editor_session.specs.Answers.{AnswersBy};
 ghost use Rattle.editor_session.specs.Left.{told, IsLeft};
-ghost use Rattle.editor_session.specs.Plans.{is_free};
+ghost use Rattle.editor_session.specs.Answering.{IsAnswer, RefusesAsTable, NeverWantsMemory, AnswersValue};
 
 use crate::asking::ask_as;
 use crate::find::find;
@@ -55,11 +51,11 @@ fn answer_into_by_plan(
     reply: &mut Reply,
 ) -> Result<i64, Refusal>
     requires kept { IsKept state.old }
-    ensures answer { AnswersBy (table (session_in state.old) view message.now) (session_in state.old) (session_in state.new) (told result reply.new) }
-    ensures refused { IfErr (table (session_in state.old) view message.now) (λ refusal. result ≡ Err refusal) }
+    ensures answer { IsAnswer state.old view message.now state.new (told result reply.new) }
+    ensures refused { RefusesAsTable state.old view message.now result }
     ensures place { IsLeft result reply.old reply.new }
     ensures kept { IsKept state.new }
-    ensures free { is_free (session_in state.old) view message.now ≡ true → IfErr result (λ refusal. refusal ≢ OutOfMemory) }
+    ensures free { NeverWantsMemory state.old view message.now result }
 {
     // States that a plan's numbers are in range, and that no plan is refused for want of memory.
     plans_are_fit();
@@ -99,7 +95,7 @@ fn answer_without_notes(
 ) -> Option<i64>
     requires kept { IsKept state.old }
     requires way { IsWayOf message.now.number way }
-    ensures answer { IfSome result (λ value. table (session_in state.old) view message.now ≡ Ok (session_in state.new, quiet value)) }
+    ensures answer { AnswersValue state.old view message.now state.new result }
     ensures same { IfNone result (session_in state.new ≡ session_in state.old) }
     ensures kept { IsKept state.new }
 {
@@ -127,11 +123,11 @@ pub(crate) fn answer_into(
     reply: &mut Reply,
 ) -> Result<i64, Refusal>
     requires kept { IsKept state.old }
-    ensures answer { AnswersBy (table (session_in state.old) view message.now) (session_in state.old) (session_in state.new) (told result reply.new) }
-    ensures refused { IfErr (table (session_in state.old) view message.now) (λ refusal. result ≡ Err refusal) }
+    ensures answer { IsAnswer state.old view message.now state.new (told result reply.new) }
+    ensures refused { RefusesAsTable state.old view message.now result }
     ensures place { IsLeft result reply.old reply.new }
     ensures kept { IsKept state.new }
-    ensures free { is_free (session_in state.old) view message.now ≡ true → IfErr result (λ refusal. refusal ≢ OutOfMemory) }
+    ensures free { NeverWantsMemory state.old view message.now result }
 {
     let way = way_of(message.number);
     if let Some(kind) = heard_change_of(state, view, way) {
@@ -157,10 +153,10 @@ fn answer_by_plan(
     message: &SentMessage,
 ) -> Result<Reply, Refusal>
     requires kept { IsKept state.old }
-    ensures answer { AnswersBy (table (session_in state.old) view message.now) (session_in state.old) (session_in state.new) result }
-    ensures refused { IfErr (table (session_in state.old) view message.now) (λ refusal. result ≡ Err refusal) }
+    ensures answer { IsAnswer state.old view message.now state.new result }
+    ensures refused { RefusesAsTable state.old view message.now result }
     ensures kept { IsKept state.new }
-    ensures free { is_free (session_in state.old) view message.now ≡ true → IfErr result (λ refusal. refusal ≢ OutOfMemory) }
+    ensures free { NeverWantsMemory state.old view message.now result }
 {
     let mut reply = answer(alloc, 0);
     match answer_into_by_plan(alloc, state, view, message, &mut reply) {
@@ -185,10 +181,10 @@ fn answer_heard_change(
 ) -> Result<Reply, Refusal>
     requires kept { IsKept state.old }
     requires frequent { frequent_change_of message.now.number ≡ Some kind }
-    ensures answer { AnswersBy (table (session_in state.old) view message.now) (session_in state.old) (session_in state.new) result }
-    ensures refused { IfErr (table (session_in state.old) view message.now) (λ refusal. result ≡ Err refusal) }
+    ensures answer { IsAnswer state.old view message.now state.new result }
+    ensures refused { RefusesAsTable state.old view message.now result }
     ensures kept { IsKept state.new }
-    ensures free { is_free (session_in state.old) view message.now ≡ true → IfErr result (λ refusal. refusal ≢ OutOfMemory) }
+    ensures free { NeverWantsMemory state.old view message.now result }
 {
     match find_change(state, view, kind, message) {
         Some(found) => answer_found_change(alloc, state, view, found, message),
@@ -212,10 +208,10 @@ fn answer_text_question(
 ) -> Result<Reply, Refusal>
     requires kept { IsKept state.old }
     requires question { text_question_of message.now.number ≡ Some kind }
-    ensures answer { AnswersBy (table (session_in state.old) view message.now) (session_in state.old) (session_in state.new) result }
-    ensures refused { IfErr (table (session_in state.old) view message.now) (λ refusal. result ≡ Err refusal) }
+    ensures answer { IsAnswer state.old view message.now state.new result }
+    ensures refused { RefusesAsTable state.old view message.now result }
     ensures kept { IsKept state.new }
-    ensures free { is_free (session_in state.old) view message.now ≡ true → IfErr result (λ refusal. refusal ≢ OutOfMemory) }
+    ensures free { NeverWantsMemory state.old view message.now result }
 {
     let mut bytes = Vec::new(alloc);
     match read_as(alloc, state, view, kind, message, &mut bytes) {
@@ -236,10 +232,10 @@ pub(crate) fn answer_message(
     message: &SentMessage,
 ) -> Result<Reply, Refusal>
     requires kept { IsKept state.old }
-    ensures answer { AnswersBy (table (session_in state.old) view message.now) (session_in state.old) (session_in state.new) result }
-    ensures refused { IfErr (table (session_in state.old) view message.now) (λ refusal. result ≡ Err refusal) }
+    ensures answer { IsAnswer state.old view message.now state.new result }
+    ensures refused { RefusesAsTable state.old view message.now result }
     ensures kept { IsKept state.new }
-    ensures free { is_free (session_in state.old) view message.now ≡ true → IfErr result (λ refusal. refusal ≢ OutOfMemory) }
+    ensures free { NeverWantsMemory state.old view message.now result }
 {
     let way = way_of(message.number);
     if let Way::TextQuestion(kind) = way {

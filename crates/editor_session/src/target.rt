@@ -1,11 +1,10 @@
 //! Messages that set the target of a view or search in it: a search from match to match sends two of them for each match. They need no notes
 //! and no reply.
 
-ghost use Rattle.std.specs.Prelude.{◌≡◌, Ok, IfNone, IfSome};
-ghost use Rattle.ed_model.specs.Performing.{quiet};
-ghost use Rattle.ed_model.specs.Table.{table};
+ghost use Rattle.std.specs.Prelude.{◌≡◌, IfNone};
 ghost use Rattle.message_requests.specs.Requested.{session_in};
 ghost use Rattle.session_changes.specs.Kept.{IsKept};
+ghost use Rattle.editor_session.specs.Answering.{AnswersValue};
 
 use crate::changing::{is_free_change, perform_free_change};
 use crate::find::find;
@@ -22,7 +21,7 @@ pub(crate) fn answer_target_message(
     message: &SentMessage,
 ) -> Option<i64>
     requires kept { IsKept state.old }
-    ensures answer { IfSome result (λ value. table (session_in state.old) view message.now ≡ Ok (session_in state.new, quiet value)) }
+    ensures answer { AnswersValue state.old view message.now state.new result }
     ensures same { IfNone result (session_in state.new ≡ session_in state.old) }
     ensures kept { IsKept state.new }
 {
