@@ -16,6 +16,7 @@
 #define _GNU_SOURCE
 #include "fuzz_draw.h"
 #include "model.h"
+#include "questions.h"
 
 #include <hongpilas_scintilla.h>
 #include <inttypes.h>
@@ -195,28 +196,27 @@ static int64_t ask(side *s, uint32_t view, uint32_t number, int64_t w, int64_t l
   return send_numbers(s, view, number, w, l) == HONGPILAS_DONE ? model_value(s->plain) : 0;
 }
 
+/* Asks each question that is asked of `of` alone and answers a number. */
+static void ask_each(side *s, uint32_t view, domain of, int64_t w) {
+  static const question asked[] = {NUMBER_QUESTIONS(QUESTION)};
+  for (size_t i = 0; i < sizeof asked / sizeof *asked; i++)
+    if (asked[i].w == of && asked[i].l == NOTHING) ask(s, view, asked[i].number, w, 0);
+}
+
 /* Looking at a whole view: text, styles and what has no argument; then lines, places and indicators, `most` of each. */
 static void look_at(side *s, uint32_t view, int64_t most) {
-  static const uint32_t plain[] = {SCI_GETCURRENTPOS,  SCI_GETANCHOR,     SCI_GETENDSTYLED,          SCI_GETMODIFY,
-                                   SCI_CANUNDO,        SCI_CANREDO,        SCI_GETREADONLY,   SCI_GETTARGETSTART,        SCI_GETTARGETEND,
-                                   SCI_GETDOCPOINTER,  SCI_GETEOLMODE,     SCI_GETSEARCHFLAGS, SCI_GETUNDOCOLLECTION,    SCI_GETALLLINESVISIBLE,
-                                   SCI_GETMODEVENTMASK, SCI_GETDOCUMENTOPTIONS, SCI_GETLINEENDTYPESALLOWED, SCI_GETPASTECONVERTENDINGS, SCI_GETINDICATORCURRENT,
-                                   SCI_GETINDICATORVALUE};
-  static const uint32_t of_line[] = {SCI_POSITIONFROMLINE, SCI_GETLINEENDPOSITION, SCI_MARKERGET,          SCI_GETFOLDLEVEL,  SCI_GETLINESTATE,
-                                     SCI_GETLINEVISIBLE,   SCI_GETFOLDEXPANDED,    SCI_VISIBLEFROMDOCLINE, SCI_GETFOLDPARENT, SCI_DOCLINEFROMVISIBLE};
-  static const uint32_t of_place[] = {SCI_LINEFROMPOSITION, SCI_POSITIONBEFORE, SCI_POSITIONAFTER, SCI_GETSTYLEAT};
   int64_t length = ask(s, view, SCI_GETLENGTH, 0, 0), lines = ask(s, view, SCI_GETLINECOUNT, 0, 0);
   ask(s, view, SCI_GETTEXT, length, 0);
-  for (size_t i = 0; i < sizeof plain / sizeof *plain; i++) ask(s, view, plain[i], 0, 0);
+  ask_each(s, view, NOTHING, 0);
   ask(s, view, SCI_GETSTYLEDTEXT, 0, -1);
   for (int64_t line = 0, step = lines / most + 1; line < lines; line += step) {
-    for (size_t i = 0; i < sizeof of_line / sizeof *of_line; i++) ask(s, view, of_line[i], line, 0);
+    ask_each(s, view, LINES, line);
     ask(s, view, SCI_GETLASTCHILD, line, -1);
   }
   for (int64_t handle = model_peek(s->plain, view, SCI_MARKERADD), end = handle - most; handle > end; handle--)
     ask(s, view, SCI_MARKERLINEFROMHANDLE, handle, 0);
   for (int64_t place = 0, step = length / most + 1; place < length; place += step) {
-    for (size_t i = 0; i < sizeof of_place / sizeof *of_place; i++) ask(s, view, of_place[i], place, 0);
+    ask_each(s, view, POSITIONS, place);
     /* A mask may be an int, whose highest bit is its sign. */
     int64_t mask = (int64_t)(uint32_t)ask(s, view, SCI_INDICATORALLONFOR, place, 0);
     for (int64_t indicator = 0; indicator < 32; indicator++) {
@@ -374,7 +374,8 @@ static void do_lend(side *s, uint32_t view, const record *r) {
 }
 
 static void do_record(side *s, const record *r) {
-  const uint32_t *numbers = model_numbers();
+  size_t count;
+  const uint32_t *numbers = model_numbers(&count);
   counts.records++;
   now.number = 0;
   now.w = now.l = 0;
@@ -385,7 +386,7 @@ static void do_record(side *s, const record *r) {
   }
   if (s->view_count == 0) return;
   uint32_t view = s->views[(r->who >> 1) % s->view_count];
-  if (r->operation < 144) send_drawn(s, view, numbers[r->operation], r);
+  if (r->operation < count) send_drawn(s, view, numbers[r->operation], r);
   else if (r->operation < 224) send_drawn(s, view, favoured[r->operation % (sizeof favoured / sizeof *favoured)], r);
   else switch (r->operation) {
     case 224: case 225: case 226:
@@ -407,7 +408,7 @@ static void do_record(side *s, const record *r) {
     case 244: /* a number that is no message, and a view that is none */
       send_drawn(s, view, r->w_kind < 128 ? 2000u + r->w * 9u % 2100u : (uint32_t)hostile_number(r->w_kind, r->w, &(around){0}), r);
       break;
-    case 245: send_numbers(s, 5000 + r->w, numbers[r->l % 144], r->w, r->l); break;
+    case 245: send_numbers(s, 5000 + r->w, numbers[r->l % count], r->w, r->l); break;
     case 246: by->try_edges(s, view, r); break;
     case 247: /* a new session in place of this one */
       if (r->who < 64) {

@@ -31,9 +31,9 @@ bool model_note(const model *session, size_t index, hongpilas_note_data *note);
  * handle, aside from the last reply; 0 of no view. */
 int64_t model_peek(const model *session, uint32_t view, uint32_t number);
 
-/* The marks of a message, as "Q N", or NULL where there is none with this number; and the numbers of all messages, a 0 behind them. */
+/* The marks of a message, as "Q N", or NULL where there is none with this number; and the numbers of all `count` messages. */
 const char *model_marks(uint32_t number);
-const uint32_t *model_numbers(void);
+const uint32_t *model_numbers(size_t *count);
 
 #ifdef __cplusplus
 }

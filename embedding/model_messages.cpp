@@ -690,8 +690,9 @@ hongpilas_answer Session::send_session(const Message &m, View &v, Document &d) {
 
 const char *model_marks(uint32_t number) { return plain::marks_of(number); }
 
-const uint32_t *model_numbers(void) {
-  static uint32_t numbers[sizeof plain::table / sizeof *plain::table + 1];
-  for (size_t i = 0; i < sizeof plain::table / sizeof *plain::table; i++) numbers[i] = plain::table[i].number;
+const uint32_t *model_numbers(size_t *count) {
+  static uint32_t numbers[sizeof plain::table / sizeof *plain::table];
+  *count = sizeof numbers / sizeof *numbers;
+  for (size_t i = 0; i < *count; i++) numbers[i] = plain::table[i].number;
   return numbers;
 }

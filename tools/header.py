@@ -1,5 +1,5 @@
 #!/usr/bin/env python3
-"""Writes Scintilla's names and numbers into include/hongpilas.h, from the definitions.
+"""Writes Scintilla's names and numbers into include/hongpilas.h, and their count into README.md, from the definitions.
 
 SCI_ has its numbers from the rows of crates/ed_types/specs/Messages.antt; SCN_, SC_, SCFIND_ and UNDO_ have theirs from the definitions of
 crates/ed_model/specs that DEFINED names, and what no definition reads from a constant of the code. Run it at the top of the repository after a
@@ -10,7 +10,7 @@ message or a constant was added. With --check it writes nothing, and fails where
 - docs/MESSAGES.md names a constant or a note that DEFINED does not have, or the other way round, or with another number, or never with its number;
 - its calls and structs, with their names and types, its refusals, its version or the greatest limits are not those of the crates;
 - a checked form is declared otherwise than embedding/checked.c has it, a call that takes a pointer has no checked form, or one has no such call;
-- the header and a page do not have the same sentence on threads, or README.md has another count of messages.
+- the header and a page do not have the same sentence on threads, or README.md has another count of messages, or none.
 """
 import os
 import re
@@ -100,6 +100,8 @@ ON_THREADS = (
     "A session is used by one call at a time, on the thread that made it; sessions in different threads are independent of each other."
 )
 SPEAK_OF_THREADS = (HEADER, "README.md", "docs/PROMISES.md", "docs/PROFILE.md")
+# How README.md counts the messages.
+COUNTED = re.compile(r"\d+(?=\s+of\s+Scintilla's\s+messages)")
 CHECKED = "embedding/checked.c"
 STRUCTS = {"Handle": "hongpilas", "LimitsInC": "hongpilas_limits", "NoteInC": "hongpilas_note_data"}
 # How C declares a place of each type that exports and structs of the crate have. A slice is two places, and an allocator none.
@@ -280,10 +282,15 @@ def threads_faults():
             yield f"{path} does not have the sentence on threads: {ON_THREADS}"
 
 
+def counted(page):
+    """README.md with the number of messages."""
+    return COUNTED.sub(f"{len(messages())}", page)
+
+
 def count_faults():
-    count = f"{len(messages())} of Scintilla's messages"
-    if count not in " ".join(read("README.md").split()):
-        yield f"README.md does not say that there are {count}"
+    page = read("README.md")
+    if counted(page) != page or not COUNTED.search(page):
+        yield "the count of messages in README.md: run tools/header.py"
 
 
 def refusals():
@@ -342,8 +349,9 @@ def main():
         wrong = list(faults(header)) + ["constants: run tools/header.py"] * (new != header)
         print("\n".join(wrong) or f"{HEADER} is what it should be: {len(messages())} messages")
         sys.exit(bool(wrong))
-    with open(os.path.join(TOP, HEADER), "w", encoding="utf-8") as file:
-        file.write(new)
+    for path, text in ((HEADER, new), ("README.md", counted(read("README.md")))):
+        with open(os.path.join(TOP, path), "w", encoding="utf-8") as file:
+            file.write(text)
 
 
 if __name__ == "__main__":

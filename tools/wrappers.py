@@ -1,5 +1,6 @@
 #!/usr/bin/env python3
-"""Writes the methods of all messages, the constants, the names of notes, Rust's declarations of the calls and the version into the wrappers for C++, Rust and Python.
+"""Writes the methods of all messages, the constants, the names of notes, Rust's declarations of the calls and the version into the wrappers for C++, Rust and Python,
+and the questions into a list for tests of the library for C.
 
 A message's name and number come from the definitions (crates/ed_types), its arguments, its answer and its sentence from its row of docs/MESSAGES.md.
 Run it at the top of the repository after a message, a row or a constant has changed. With --check it writes nothing, and fails where a wrapper is not
@@ -22,6 +23,7 @@ RUST_CONSTANTS = "bindings/rust/hongpilas-sys/src/constants.rs"
 RUST_CALLS = "bindings/rust/hongpilas-sys/src/calls.rs"
 PYTHON = "bindings/python/src/hongpilas/_messages.py"
 PYTHON_CONSTANTS = "bindings/python/src/hongpilas/constants.py"
+QUESTIONS = "embedding/questions.h"
 # The column "w, l, T" of the table: for each of its forms the arguments of a method, as (place, name). A length in front of a text is
 # the text's own, so that no method takes it.
 ARGUMENTS = {
@@ -339,6 +341,23 @@ def python_constant(name, title, number):
 PASSED = {"w": "11", "l": "12", "T": '"ab"'}
 
 
+# What a question is asked of, by the names of its arguments.
+ASKED_OF = {
+    "line": "LINES", "display_line": "LINES", "position": "POSITIONS", "start": "POSITIONS", "end": "POSITIONS", "handle": "HANDLES",
+    "number": "INDICATORS", "mask": "MASKS", "level": "LEVELS",
+}
+
+
+def questions(found):
+    """The messages that change nothing, in two lists: those that answer a number, and those that answer a text."""
+    lists = []
+    for title, is_text in (("NUMBER_QUESTIONS", False), ("TEXT_QUESTIONS", True)):
+        asked = [it for it in found if not it.changes and (it.answers == "text") == is_text]
+        rows = (", ".join([it.spelled, *(ASKED_OF[it.place(place)] if it.place(place) else "NOTHING" for place in "wl")]) for it in asked)
+        lists.append(f"#define {title}(ROW) \\\n" + " \\\n".join(f"  ROW({row})" for row in rows) + "\n")
+    return "\n".join(lists)
+
+
 def call(message, name, on):
     """A method's call in a trial, where a flag is on."""
     passed = [on if called == FLAG else PASSED[place] for place, called in message.arguments]
@@ -365,6 +384,7 @@ def files(found):
     yield RUST_CALLS, {"": rust_calls()}
     yield PYTHON, {"": python(found)}
     yield PYTHON_CONSTANTS, {"": constants(python_constant)}
+    yield QUESTIONS, {"": questions(found)}
     yield "bindings/cpp/calls.cpp", {"": "".join(f"  view.{call(it, it.name, 'true')};\n" for it in found)}
     yield "bindings/rust/hongpilas/examples/calls.rs", {"": "".join(f"    view.{call(it, it.snake, 'true')}?;\n" for it in found)}
     yield "bindings/python/calls.py", {"": "".join(f"    view.{call(it, it.snake, 'True')}\n" for it in found)}

@@ -10,7 +10,7 @@
 #include <stdint.h>
 #include <stdio.h>
 
-enum { VIEWS = 3, DOCUMENTS = 256, TEXT = 1 << 17, NOTES = 1 << 13, MESSAGES = 144 };
+enum { VIEWS = 3, DOCUMENTS = 256, TEXT = 1 << 17, NOTES = 1 << 13 };
 
 /* What w or l stands for. */
 typedef enum place {
@@ -51,7 +51,8 @@ typedef struct message {
   int weight; /* how often it is drawn */
 } message;
 
-extern const message messages[MESSAGES];
+extern const message messages[];
+extern const int message_count;
 const message *message_of(unsigned int number);
 
 /* A call of either side. */

@@ -212,7 +212,7 @@ static bool is_after(const trial *t, const char *names) {
   char copy[512];
   snprintf(copy, sizeof copy, "%s", names);
   for (char *name = strtok(copy, " "); name != NULL; name = strtok(NULL, " "))
-    for (int i = 0; i < MESSAGES; i++)
+    for (int i = 0; i < message_count; i++)
       if (strcmp(messages[i].name, name) == 0 && t->sent[messages[i].number - 2000]) return true;
   return false;
 }

@@ -3,7 +3,7 @@
 
 #define M(name, w, l, weight) {#name, SCI_##name, w, l, weight}
 
-const message messages[MESSAGES] = {
+const message messages[] = {
     M(ADDTEXT, COUNT, BYTES, 30),
     M(INSERTTEXT, POSITION, CLOSED, 40),
     M(CLEARALL, NOTHING, NOTHING, 1),
@@ -149,9 +149,10 @@ const message messages[MESSAGES] = {
     M(STOPRECORD, NOTHING, NOTHING, 2),
     M(COLOURISE, POSITION, POSITION, 4),
 };
+const int message_count = sizeof messages / sizeof *messages;
 
 const message *message_of(unsigned int number) {
-  for (int i = 0; i < MESSAGES; i++)
+  for (int i = 0; i < message_count; i++)
     if (messages[i].number == number) return &messages[i];
   return NULL;
 }

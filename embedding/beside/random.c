@@ -101,7 +101,7 @@ static const message *drawn_message(void) {
   static int total;
   int at = 0;
   if (total == 0)
-    for (int i = 0; i < MESSAGES; i++) total += messages[i].weight;
+    for (int i = 0; i < message_count; i++) total += messages[i].weight;
   int64_t left = below(total);
   while (left >= messages[at].weight) left -= messages[at++].weight;
   return &messages[at];
