@@ -1,6 +1,8 @@
 /* Each message of the profile in Scintilla's manner, as a program sends it that knows Scintilla: prints what comes of it. `door --sent` lists the
  * messages. Then null texts, views and doors, what is refused, what is sent while notes are told, and each growth refused in turn, for which it is
- * linked with --wrap=malloc,--wrap=calloc,--wrap=realloc,--wrap=free. */
+ * linked as counted_heap.h says. */
+#include "counted_heap.h"
+
 #include <hongpilas_scintilla.h>
 #include <limits.h>
 #include <stdio.h>
@@ -10,45 +12,11 @@
 /* ---- Growths ---- */
 
 static long growths_left = -1; /* below 0: no end of them */
-static long blocks;
-
-void *__real_malloc(size_t size);
-void *__real_calloc(size_t count, size_t size);
-void *__real_realloc(void *block, size_t size);
-void __real_free(void *block);
-void *__wrap_malloc(size_t size);
-void *__wrap_calloc(size_t count, size_t size);
-void *__wrap_realloc(void *block, size_t size);
-void __wrap_free(void *block);
 
 static bool is_refused(void) {
   if (growths_left > 0) growths_left--;
   else if (growths_left == 0) return true;
   return false;
-}
-
-void *__wrap_malloc(size_t size) {
-  void *block = is_refused() ? NULL : __real_malloc(size);
-  if (block != NULL) blocks++;
-  return block;
-}
-
-/* A compiler may make one call of a malloc and the memset behind it. */
-void *__wrap_calloc(size_t count, size_t size) {
-  void *block = is_refused() ? NULL : __real_calloc(count, size);
-  if (block != NULL) blocks++;
-  return block;
-}
-
-void *__wrap_realloc(void *block, size_t size) {
-  void *grown = is_refused() ? NULL : __real_realloc(block, size);
-  if (grown != NULL && block == NULL) blocks++;
-  return grown;
-}
-
-void __wrap_free(void *block) {
-  if (block != NULL) blocks--;
-  __real_free(block);
 }
 
 /* ---- What is printed ---- */

@@ -2,7 +2,8 @@
  * answers each question as before, the same command is done in full once there is memory, and undoing, redoing and changes do what they did before.
  * A command may also do without a growth; it is then done in full.
  * growths --asked prints the numbers of the messages that are asked as questions.
- * Linked with --wrap=malloc,--wrap=realloc,--wrap=free. */
+ * Linked as counted_heap.h says. */
+#include "counted_heap.h"
 #include "questions.h"
 
 #include <hongpilas.h>
@@ -77,34 +78,13 @@ static void must(bool holds, const char *what) {
   exit(1);
 }
 
-/* The heap: how many blocks are in use, how many requests there were, and which of them is refused (0: none). */
+/* The heap: how many requests there were, and which of them is refused (0: none). */
 
-static long blocks, requests, refused_request;
-
-void *__real_malloc(size_t size);
-void *__real_realloc(void *block, size_t size);
-void __real_free(void *block);
+static long requests, refused_request;
 
 static bool is_refused(void) {
   requests++;
   return refused_request > 0 && (requests == refused_request || (now.is_for_good && requests > refused_request));
-}
-
-void *__wrap_malloc(size_t size) {
-  void *block = is_refused() ? NULL : __real_malloc(size);
-  if (block != NULL) blocks++;
-  return block;
-}
-
-void *__wrap_realloc(void *block, size_t size) {
-  void *grown = is_refused() ? NULL : __real_realloc(block, size);
-  if (grown != NULL && block == NULL) blocks++;
-  return grown;
-}
-
-void __wrap_free(void *block) {
-  if (block != NULL) blocks--;
-  __real_free(block);
 }
 
 /* Scripts. */

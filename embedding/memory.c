@@ -1,6 +1,8 @@
 /* Refuses each growth in turn: the call that wanted it says so and has changed nothing, what needs no memory goes on, and all is given back.
  * The last reply stays where it is, until another message is done.
- * Linked with --wrap=malloc,--wrap=realloc,--wrap=free. */
+ * Linked as counted_heap.h says. */
+#include "counted_heap.h"
+
 #include <hongpilas.h>
 #include <stdio.h>
 #include <stdlib.h>
@@ -10,36 +12,11 @@ static const char text[] = "one\ntwo\n";
 enum { LENGTH = sizeof text - 1 };
 
 static long growths_left; /* below 0: no end of them */
-static long blocks;
-
-void *__real_malloc(size_t size);
-void *__real_realloc(void *block, size_t size);
-void __real_free(void *block);
-void *__wrap_malloc(size_t size);
-void *__wrap_realloc(void *block, size_t size);
-void __wrap_free(void *block);
 
 static bool is_refused(void) {
   if (growths_left == 0) return true;
   if (growths_left > 0) growths_left--;
   return false;
-}
-
-void *__wrap_malloc(size_t size) {
-  void *block = is_refused() ? NULL : __real_malloc(size);
-  if (block != NULL) blocks++;
-  return block;
-}
-
-void *__wrap_realloc(void *block, size_t size) {
-  void *grown = is_refused() ? NULL : __real_realloc(block, size);
-  if (grown != NULL && block == NULL) blocks++;
-  return grown;
-}
-
-void __wrap_free(void *block) {
-  if (block != NULL) blocks--;
-  __real_free(block);
 }
 
 static void must(bool holds, const char *what) {
