@@ -26,13 +26,13 @@ use Rattle.session_changes.specs.Kept.{IsKept}
 use Rattle.editor_session.specs.Edited.{IsPastedFor, TakesWithin, is_turned, clipboard_need, taken_along, followed_views, followed_clipboard, Becomes}
 use Rattle.editor_session.specs.Edits.{CanEdit, Edits, edit_steps, scene_after}
 use Rattle.editor_session.specs.Plans.{takes_nothing_along}
-use Rattle.editor_session.specs.Tasks.{IsAskedBy, task_of}
-use Rattle.editor_session.specs.Unheard.{IfFree, IsSentWith}
+use Rattle.editor_session.specs.Planned.{IsAskedBy, planned_message}
+use Rattle.editor_session.specs.Performed.{IfFree, IsPlannedForSomeValueWithText}
 use Rattle.editor_session.specs.Widths.{StepsFitWidth}
 use Rattle.editor_session.proofs.Widths.{steps_fit_width}
 use Rattle.editor_session.proofs.Needing.{no_steps, nothing_along}
 use Rattle.editor_session.proofs.PlanLemmas.{DoneFor, asked_by, document_here, kept_at, of_kept, for_kept, session_is, takes_here, within_here, limits_here, watched_here, same_steps, edited}
-use Rattle.editor_session.proofs.TableWay.{free_task}
+use Rattle.editor_session.proofs.TableWay.{free_plan}
 
 -- The session after an edit and what follows it.
 
@@ -104,82 +104,82 @@ pasted_so (edit.Replace start count source.LineEnd) clipboard pasted end h = tt
 pasted_so (edit.ConvertLineEnds to) clipboard pasted end h = tt
 
 module _ (s : SessionState) (kept : IsKept s) (document view : ℕ) (text : List ℕ) (change : Edit) (after : Follow) where
-  module _ (by_text : IsSentWith (session_in s) document view text (λ value. plan.Edit change value after)) where
+  module _ (by_text : IsPlannedForSomeValueWithText (session_in s) document view text (λ value. plan.Edit change value after)) where
     pub edit_there : IsSome (value_at s.documents.entries document)
     edit_there =
         let sent = by_text.sent in
-        let task = task_of document view (plan.Edit change sent.value after) sent.is_recorded in
-        document_here s task sent.message.text kept sent.task.request (asked_by s view sent.message task sent.task)
+        let planned = planned_message document view (plan.Edit change sent.value after) sent.is_recorded in
+        document_here s planned sent.message.text kept sent.planned.request (asked_by s view sent.message planned sent.planned)
 
     pub edit_takes : IsSomeAnd (value_at s.documents.entries document) (λ k. TakesWithin after (length k.document.cells))
     edit_takes =
         let sent = by_text.sent in
-        let t = sent.task in
-        let task = task_of document view (plan.Edit change sent.value after) sent.is_recorded in
-        let by = asked_by s view sent.message task t in
-        for_kept s task sent.message.text kept t.request by (λ k. TakesWithin after (length k.document.cells)) (takes_here s task sent.message.text kept t.request by change sent.value after t.fit)
+        let t = sent.planned in
+        let planned = planned_message document view (plan.Edit change sent.value after) sent.is_recorded in
+        let by = asked_by s view sent.message planned t in
+        for_kept s planned sent.message.text kept t.request by (λ k. TakesWithin after (length k.document.cells)) (takes_here s planned sent.message.text kept t.request by change sent.value after t.fit)
 
     pub can_edit : EditStepsFit → (taken : List ℕ) → IfSome (value_at s.documents.entries document) (λ k. taken ≡ taken_along after (text_of k.document))
         → (pasted : List ℕ) → IfSome (value_at s.documents.entries document) (λ k. IsPastedFor change s.clipboard.items k.document.line_end pasted)
         → IsSomeAnd (value_at s.documents.entries document) (CanEdit change text pasted after taken s)
     can_edit fit taken is pasted turned =
         let sent = by_text.sent in
-        let t = sent.task in
+        let t = sent.planned in
         let r = t.request in
-        let task = task_of document view (plan.Edit change sent.value after) sent.is_recorded in
-        let by = subst (λ x. IsAskedBy (session_in s) task x r) by_text.text_is (asked_by s view sent.message task t) in
-        let at = kept_at s task text kept r by in
-        let turned_at = of_kept s task text kept r by (λ k. IsPastedFor change s.clipboard.items k.document.line_end pasted) turned in
-        for_kept s task text kept r by (CanEdit change text pasted after taken s)
+        let planned = planned_message document view (plan.Edit change sent.value after) sent.is_recorded in
+        let by = subst (λ x. IsAskedBy (session_in s) planned x r) by_text.text_is (asked_by s view sent.message planned t) in
+        let at = kept_at s planned text kept r by in
+        let turned_at = of_kept s planned text kept r by (λ k. IsPastedFor change s.clipboard.items k.document.line_end pasted) turned in
+        for_kept s planned text kept r by (CanEdit change text pasted after taken s)
         (record {
-          within = within_here s task text kept r by at.k at.at t.fit;
-          watched = watched_here s task text kept r by;
-          wide = subst (λ ss. StepsFitWidth at.k.document ss) (sym (same_steps s task text kept r by change sent.value after pasted turned_at))
-              (subst (λ d. StepsFitWidth d (steps_of r change)) (sym at.is) (steps_fit_width r (limits_here s task text kept r by) by.asked.sound (steps_of r change) (fit r change t.fit.0) t.fit.2));
-          take = of_kept s task text kept r by (λ k. taken ≡ taken_along after (text_of k.document)) is;
+          within = within_here s planned text kept r by at.k at.at t.fit;
+          watched = watched_here s planned text kept r by;
+          wide = subst (λ ss. StepsFitWidth at.k.document ss) (sym (same_steps s planned text kept r by change sent.value after pasted turned_at))
+              (subst (λ d. StepsFitWidth d (steps_of r change)) (sym at.is) (steps_fit_width r (limits_here s planned text kept r by) by.asked.sound (steps_of r change) (fit r change t.fit.0) t.fit.2));
+          take = of_kept s planned text kept r by (λ k. taken ≡ taken_along after (text_of k.document)) is;
         })
 
   pub edited_for : (pasted : List ℕ) → IfSome (value_at s.documents.entries document) (λ k. IsPastedFor change s.clipboard.items k.document.line_end pasted)
       → (s' : SessionState) (notes notes' : Gathered) → IfSome (value_at s.documents.entries document) (λ k. Edits view change text pasted after s notes k s' notes')
       → (value : ℤ) → DoneFor s document view text (plan.Edit change value after) s' notes.notes notes'.notes value []
   edited_for pasted turned s' notes notes' done value = λ m is_recorded t text_is.
-      let task = task_of document view (plan.Edit change value after) is_recorded in
+      let planned = planned_message document view (plan.Edit change value after) is_recorded in
       let r = t.request in
-      let by = subst (λ x. IsAskedBy (session_in s) task x r) text_is (asked_by s view m task t) in
-      edited s task text kept r by change value after pasted (of_kept s task text kept r by (λ k. IsPastedFor change s.clipboard.items k.document.line_end pasted) turned) s' notes notes'
-      (of_kept s task text kept r by (λ k. Edits view change text pasted after s notes k s' notes') done)
+      let by = subst (λ x. IsAskedBy (session_in s) planned x r) text_is (asked_by s view m planned t) in
+      edited s planned text kept r by change value after pasted (of_kept s planned text kept r by (λ k. IsPastedFor change s.clipboard.items k.document.line_end pasted) turned) s' notes notes'
+      (of_kept s planned text kept r by (λ k. Edits view change text pasted after s notes k s' notes') done)
 
   -- where the message needs no memory, nothing is converted, nothing is taken along, and there are no steps
 
   pub pasted_free : (P : Type 0) → (is_turned change ≡ false → P) → IfSome (value_at s.documents.entries document) (λ k. converted k.document.line_end s.clipboard.items ≡ [] → P)
       → (value : ℤ) → IfFree (session_in s) document view text (plan.Edit change value after) P
   pasted_free P unturned empty value = λ m is_recorded t text_is free.
-      let task = task_of document view (plan.Edit change value after) is_recorded in
+      let planned = planned_message document view (plan.Edit change value after) is_recorded in
       let r = t.request in
-      let by = asked_by s view m task t in
-      let at = kept_at s task m.text kept r by in
-      let needs = (free_task (session_in s) view m task t free).0 in
+      let by = asked_by s view m planned t in
+      let at = kept_at s planned m.text kept r by in
+      let needs = (free_plan (session_in s) view m planned t free).0 in
       let parts = and_parts (not (has_steps (steps_of r change))) (takes_nothing_along after) needs in
       elim (turns_nothing r change parts.0) [
         | inl e ↦ unturned e
-        | inr e ↦ of_kept s task m.text kept r by (λ k. converted k.document.line_end s.clipboard.items ≡ [] → P) empty
-            (ap (λ (d : Document). converted d.line_end s.clipboard.items) at.is ∙ ap (λ (x : Session). converted r.document.line_end x.clipboard) (sym (session_is s task m.text kept r by)) ∙ e)
+        | inr e ↦ of_kept s planned m.text kept r by (λ k. converted k.document.line_end s.clipboard.items ≡ [] → P) empty
+            (ap (λ (d : Document). converted d.line_end s.clipboard.items) at.is ∙ ap (λ (x : Session). converted r.document.line_end x.clipboard) (sym (session_is s planned m.text kept r by)) ∙ e)
       ]
 
   pub taken_free : (P : Type 0) → (clipboard_need after ≡ 0 → P) → (value : ℤ) → IfFree (session_in s) document view text (plan.Edit change value after) P
   taken_free P h value = λ m is_recorded t text_is free.
-      let task = task_of document view (plan.Edit change value after) is_recorded in
-      let needs = (free_task (session_in s) view m task t free).0 in
+      let planned = planned_message document view (plan.Edit change value after) is_recorded in
+      let needs = (free_plan (session_in s) view m planned t free).0 in
       h (nothing_along after (and_parts (not (has_steps (steps_of t.request change))) (takes_nothing_along after) needs).1)
 
   pub steps_free : (pasted : List ℕ) → IfSome (value_at s.documents.entries document) (λ k. IsPastedFor change s.clipboard.items k.document.line_end pasted)
       → (P : Type 0) → IfSome (value_at s.documents.entries document) (λ k. edit_steps change text s.clipboard.items pasted k.document ≡ [] → P)
       → (value : ℤ) → IfFree (session_in s) document view text (plan.Edit change value after) P
   steps_free pasted turned P here value = λ m is_recorded t text_is free.
-      let task = task_of document view (plan.Edit change value after) is_recorded in
+      let planned = planned_message document view (plan.Edit change value after) is_recorded in
       let r = t.request in
-      let by = subst (λ x. IsAskedBy (session_in s) task x r) text_is (asked_by s view m task t) in
-      let needs = (free_task (session_in s) view m task t free).0 in
+      let by = subst (λ x. IsAskedBy (session_in s) planned x r) text_is (asked_by s view m planned t) in
+      let needs = (free_plan (session_in s) view m planned t free).0 in
       let none = no_steps (steps_of r change) (and_parts (not (has_steps (steps_of r change))) (takes_nothing_along after) needs).0 in
-      let turned_at = of_kept s task text kept r by (λ k. IsPastedFor change s.clipboard.items k.document.line_end pasted) turned in
-      of_kept s task text kept r by (λ k. edit_steps change text s.clipboard.items pasted k.document ≡ [] → P) here (same_steps s task text kept r by change value after pasted turned_at ∙ none)
+      let turned_at = of_kept s planned text kept r by (λ k. IsPastedFor change s.clipboard.items k.document.line_end pasted) turned in
+      of_kept s planned text kept r by (λ k. edit_steps change text s.clipboard.items pasted k.document ≡ [] → P) here (same_steps s planned text kept r by change value after pasted turned_at ∙ none)

@@ -25,15 +25,15 @@ use Rattle.message_requests.specs.declared.state.SessionState.{SessionState}
 use Rattle.scene.specs.Scenes.{AreNamed}
 use Rattle.session_changes.specs.Kept.{IsKept, DocumentsAreNamed}
 use Rattle.editor_session.specs.Doing.{CanBeMade, Changes, IsChangedIn}
-use Rattle.editor_session.specs.Tasks.{IsTask, task_of}
-use Rattle.editor_session.specs.Unheard.{unrecorded, no_notes, IsSent}
+use Rattle.editor_session.specs.Planned.{IsPlannedAs, planned_message}
+use Rattle.editor_session.specs.Performed.{unrecorded, no_notes, IsPlannedForSomeValue}
 use Rattle.editor_session.proofs.Keeping.{kept_with}
 use Rattle.editor_session.proofs.PlanLemmas.{DoneFor, answers, kept_by, asked_by, kept_at, for_kept, change_fits, watched_here}
 use Rattle.editor_session.proofs.PlainChanges.{changed_for, changes_so}
 use Rattle.editor_session.proofs.Questions.{IsPlain, plain, found_plain, unheard}
 use Rattle.editor_session.proofs.Replacing.{change_keeps_id}
 use Rattle.editor_session.proofs.TableWay.{is_found}
-use Rattle.editor_session.proofs.Unheard.{unrecorded_task}
+use Rattle.editor_session.proofs.ViewPlans.{unrecorded_plan}
 
 -- they are not recorded
 changes_plain : AllByRecursion IsPlain frequent_changes
@@ -42,16 +42,16 @@ changes_plain = (plain refl (λ r text. refl), (plain refl (λ r text. refl), (p
 transactions_plain : AllByRecursion IsPlain transactions
 transactions_plain = (plain refl (λ r text. refl), (plain refl (λ r text. refl), tt))
 
--- the task of one of some such messages
+-- that one of some such messages has this plan
 module _ (fit : PlansFit) (law : EachKindIsFound) (those : List Kind) (all : AllByRecursion IsPlain those) (s : Session) (view : ℕ) (m : Message) (kind : Kind) (v : View) (d : Document) where
-  plain_task : (what : Plan) → IsSound s → kind_among those m.number ≡ Some kind → view_at s.views view ≡ Some v → document_at s.documents v.document ≡ Some d
-      → plan_of kind (request s v d m) ≡ Ok what → IsTask s view m (unrecorded d.id view what)
-  plain_task what sound is found there e =
+  plain_plan : (what : Plan) → IsSound s → kind_among those m.number ≡ Some kind → view_at s.views view ≡ Some v → document_at s.documents v.document ≡ Some d
+      → plan_of kind (request s v d m) ≡ Ok what → IsPlannedAs s view m (unrecorded d.id view what)
+  plain_plan what sound is found there e =
       let r = request s v d m in
       let among = found_plain m.number those kind all is in
       let decoded = subst (λ n. kind_of n ≡ Some kind) (eqb-true (number_of kind) m.number among.1) (law kind) in
       let reached = is_found s view m v kind d sound found decoded there in
-      unrecorded_task s d.id view m kind r what reached e refl (unheard v.records (marks_of kind).r among.0.unrecorded) (fit kind r reached.sound)
+      unrecorded_plan s d.id view m kind r what reached e refl (unheard v.records (marks_of kind).r among.0.unrecorded) (fit kind r reached.sound)
 
 planned : (b : Bool) (p : Planned) (what : DocumentChange) (value : ℤ) → cond b (change_planned p) None ≡ Some (what, value) → p ≡ Ok (plan.ChangeDocument what value)
 planned false p what value e = absurd (cc)
@@ -67,27 +67,27 @@ performed_so kinds.Redo (Ok plan.Redo) h = refl
 performed_so _ _ h = absurd (cc)
 
 module _ (fit : PlansFit) (law : EachKindIsFound) (s : Session) (view : ℕ) (m : Message) (kind : Kind) (v : View) (d : Document) where
-  pub frequent_task : (what : DocumentChange) (value : ℤ) → IsSound s → frequent_change_of m.number ≡ Some kind → view_at s.views view ≡ Some v → document_at s.documents v.document ≡ Some d
-      → change_asked kind (request s v d m) ≡ Some (what, value) → IsTask s view m (unrecorded d.id view (plan.ChangeDocument what value))
-  frequent_task what value sound is found there e =
-      plain_task fit law frequent_changes changes_plain s view m kind v d (plan.ChangeDocument what value) sound is found there (planned (is_frequent_change kind) (plan_of kind (request s v d m)) what value e)
+  pub frequent_plan : (what : DocumentChange) (value : ℤ) → IsSound s → frequent_change_of m.number ≡ Some kind → view_at s.views view ≡ Some v → document_at s.documents v.document ≡ Some d
+      → change_asked kind (request s v d m) ≡ Some (what, value) → IsPlannedAs s view m (unrecorded d.id view (plan.ChangeDocument what value))
+  frequent_plan what value sound is found there e =
+      plain_plan fit law frequent_changes changes_plain s view m kind v d (plan.ChangeDocument what value) sound is found there (planned (is_frequent_change kind) (plan_of kind (request s v d m)) what value e)
 
-  pub transaction_task : IsSound s → transaction_of m.number ≡ Some kind → view_at s.views view ≡ Some v → document_at s.documents v.document ≡ Some d
-      → is_performed kind (plan_of kind (request s v d m)) ≡ true → IsTask s view m (unrecorded d.id view (performing kind))
-  transaction_task sound is found there e =
-      plain_task fit law transactions transactions_plain s view m kind v d (performing kind) sound is found there (performed_so kind (plan_of kind (request s v d m)) e)
+  pub transaction_plan : IsSound s → transaction_of m.number ≡ Some kind → view_at s.views view ≡ Some v → document_at s.documents v.document ≡ Some d
+      → is_performed kind (plan_of kind (request s v d m)) ≡ true → IsPlannedAs s view m (unrecorded d.id view (performing kind))
+  transaction_plan sound is found there e =
+      plain_plan fit law transactions transactions_plain s view m kind v d (performing kind) sound is found there (performed_so kind (plan_of kind (request s v d m)) e)
 
 module _ (s : SessionState) (kept : IsKept s) (document view : ℕ) (what : DocumentChange) where
-  pub can_be_made : IsSent (session_in s) document view (plan.ChangeDocument what) → IsSomeAnd (value_at s.documents.entries document) (CanBeMade what s.views)
+  pub can_be_made : IsPlannedForSomeValue (session_in s) document view (plan.ChangeDocument what) → IsSomeAnd (value_at s.documents.entries document) (CanBeMade what s.views)
   can_be_made sent =
-      let t = sent.task in
+      let t = sent.planned in
       let r = t.request in
-      let task = task_of document view (plan.ChangeDocument what sent.value) sent.is_recorded in
+      let planned = planned_message document view (plan.ChangeDocument what sent.value) sent.is_recorded in
       let text = sent.message.text in
-      let by = asked_by s view sent.message task t in
-      let at = kept_at s task text kept r by in
-      for_kept s task text kept r by (CanBeMade what s.views)
-      (subst (λ d. IsFitChange d what) (sym at.is) (change_fits s task text kept r by what sent.value t.fit), watched_here s task text kept r by)
+      let by = asked_by s view sent.message planned t in
+      let at = kept_at s planned text kept r by in
+      for_kept s planned text kept r by (CanBeMade what s.views)
+      (subst (λ d. IsFitChange d what) (sym at.is) (change_fits s planned text kept r by what sent.value t.fit), watched_here s planned text kept r by)
 
   pub made_for : (s' : SessionState) → IfSome (value_at s.documents.entries document) (λ k. (text : List ℕ) (sender : ℕ) → Changes what sender text k s no_notes s' no_notes)
       → (value : ℤ) (bytes : List ℕ) → DoneFor s document view bytes (plan.ChangeDocument what value) s' [] [] value []
@@ -99,7 +99,7 @@ module _ (s : SessionState) (kept : IsKept s) (document view : ℕ) (what : Docu
 
   -- the table's answer to a message that asks for the change
   pub made_unheard : (s' : SessionState) → IfSome (value_at s.documents.entries document) (λ k. (text : List ℕ) (sender : ℕ) → Changes what sender text k s no_notes s' no_notes)
-      → (m : Message) (value : ℤ) → IsTask (session_in s) view m (unrecorded document view (plan.ChangeDocument what value)) → table (session_in s) view m ≡ Ok (session_in s', quiet value)
+      → (m : Message) (value : ℤ) → IsPlannedAs (session_in s) view m (unrecorded document view (plan.ChangeDocument what value)) → table (session_in s) view m ≡ Ok (session_in s', quiet value)
   made_unheard s' done m value t = answers s document view m.text (plan.ChangeDocument what value) s' [] [] value [] (made_for s' done value m.text) m false t refl refl
 
 -- whether it was made or not
@@ -117,10 +117,10 @@ changes_unheard document what s s' done clipboard next_document next_view limits
     go (Some k) h = λ text sender. changes_so what sender text s s' no_notes no_notes k (h text sender) clipboard next_document next_view limits
 
 -- what holds of a session goes on holding
-pub kept_unheard : MessageKeepsSound → (s s' : SessionState) (document view : ℕ) (what : DocumentChange) (made : Bool) → IsKept s → IsSent (session_in s) document view (plan.ChangeDocument what)
+pub kept_unheard : MessageKeepsSound → (s s' : SessionState) (document view : ℕ) (what : DocumentChange) (made : Bool) → IsKept s → IsPlannedForSomeValue (session_in s) document view (plan.ChangeDocument what)
     → (made ≡ true → (value : ℤ) (bytes : List ℕ) → DoneFor s document view bytes (plan.ChangeDocument what value) s' [] [] value [])
     → (made ≡ false → session_in s' ≡ session_in s) → s'.limits ≡ s.limits → DocumentsAreNamed s'.documents.entries → AreNamed s'.views.entries → IsKept s'
 kept_unheard law s s' document view what true kept sent done same limits documents views =
-    kept_by law s document view sent.message.text (plan.ChangeDocument what sent.value) s' [] [] sent.value [] kept (done refl sent.value sent.message.text) sent.message sent.is_recorded sent.task refl limits documents views
+    kept_by law s document view sent.message.text (plan.ChangeDocument what sent.value) s' [] [] sent.value [] kept (done refl sent.value sent.message.text) sent.message sent.is_recorded sent.planned refl limits documents views
 kept_unheard law s s' document view what false kept sent done same limits documents views =
     kept_with s s' kept (subst IsSound (sym (same refl)) kept.sound) limits documents views

@@ -22,12 +22,12 @@ use Rattle.message_requests.specs.declared.state.SessionState.{SessionState}
 use Rattle.session_changes.specs.Kept.{IsKept}
 use Rattle.editor_session.specs.Doing.{CanGoOnceThereIsRoom, Goes}
 use Rattle.editor_session.specs.Plans.{is_free, needs_no_memory}
-use Rattle.editor_session.specs.Tasks.{IsTask, task_of}
-use Rattle.editor_session.specs.Unheard.{going, no_notes, IsSent}
+use Rattle.editor_session.specs.Planned.{IsPlannedAs, planned_message}
+use Rattle.editor_session.specs.Performed.{going, no_notes, IsPlannedForSomeValue}
 use Rattle.editor_session.specs.Widths.{ChangesFitWidth}
 use Rattle.editor_session.proofs.Widths.{changes_fit_width}
 use Rattle.editor_session.proofs.PlanLemmas.{DoneFor, asked_by, kept_at, of_kept, for_kept, limits_here, watched_here, gone}
-use Rattle.editor_session.proofs.TableWay.{free_task}
+use Rattle.editor_session.proofs.TableWay.{free_plan}
 
 pub on_ok : {A E : Type 0} (r : Result A E) (P Q : Type 0) → OnOk r P → (P → Q) → OnOk r Q
 on_ok (Ok a) P Q h f = f h
@@ -54,40 +54,40 @@ room_for Undo r fit = fit.1
 room_for Redo r fit = fit.1
 
 module _ (s : SessionState) (kept : IsKept s) (document view : ℕ) (direction : Direction) where
-  pub can_go_once : UndoStepsFit → RedoStepsFit → IsSent (session_in s) document view (λ value. going direction) → IsSomeAnd (value_at s.documents.entries document) (CanGoOnceThereIsRoom direction s.views)
+  pub can_go_once : UndoStepsFit → RedoStepsFit → IsPlannedForSomeValue (session_in s) document view (λ value. going direction) → IsSomeAnd (value_at s.documents.entries document) (CanGoOnceThereIsRoom direction s.views)
   can_go_once undo redo sent =
-      let t = sent.task in
+      let t = sent.planned in
       let r = t.request in
-      let task = task_of document view (going direction) sent.is_recorded in
-      let by = asked_by s view sent.message task t in
-      let at = kept_at s task sent.message.text kept r by in
-      for_kept s task sent.message.text kept r by (CanGoOnceThereIsRoom direction s.views)
+      let planned = planned_message document view (going direction) sent.is_recorded in
+      let by = asked_by s view sent.message planned t in
+      let at = kept_at s planned sent.message.text kept r by in
+      for_kept s planned sent.message.text kept r by (CanGoOnceThereIsRoom direction s.views)
       (record {
         steps = subst (λ d. AreStepsOf (text_of d) (text_steps (changes_of direction d.history))) (sym at.is) (steps_fit undo redo direction r by.asked.sound);
         wide = subst (λ d. ChangesFitWidth d (changes_of direction d.history)) (sym at.is)
-            (changes_fit_width r (limits_here s task sent.message.text kept r by) by.asked.sound (changes_of direction r.document.history) (steps_fit undo redo direction r by.asked.sound) (room_for direction r t.fit));
-        watched = watched_here s task sent.message.text kept r by;
+            (changes_fit_width r (limits_here s planned sent.message.text kept r by) by.asked.sound (changes_of direction r.document.history) (steps_fit undo redo direction r by.asked.sound) (room_for direction r t.fit));
+        watched = watched_here s planned sent.message.text kept r by;
       })
 
   pub gone_for : (s' : SessionState) (notes notes' : Gathered) → IfSome (value_at s.documents.entries document) (λ k. Goes view direction s notes k s' notes')
       → (bytes : List ℕ) → DoneFor s document view bytes (going direction) s' notes.notes notes'.notes (pos 0) []
   gone_for s' notes notes' done bytes = λ m is_recorded t text_is.
-      let task = task_of document view (going direction) is_recorded in
-      let by = asked_by s view m task t in
-      let here = of_kept s task m.text kept t.request by (λ k. Goes view direction s notes k s' notes') done in
-      gone s task m.text kept t.request by direction (going direction) (going_is direction t.request) s' notes notes' here
+      let planned = planned_message document view (going direction) is_recorded in
+      let by = asked_by s view m planned t in
+      let here = of_kept s planned m.text kept t.request by (λ k. Goes view direction s notes k s' notes') done in
+      gone s planned m.text kept t.request by direction (going direction) (going_is direction t.request) s' notes notes' here
 
 needs_some : (direction : Direction) (r : Request) → needs_no_memory r (going direction) ≡ true → false ≡ true
 needs_some Undo r h = h
 needs_some Redo r h = h
 
 -- it always needs memory
-pub never_free : (s : Session) (document view : ℕ) (m : Message) (direction : Direction) (is_recorded : Bool) → IsTask s view m (task_of document view (going direction) is_recorded) → is_free s view m ≡ true → false ≡ true
-never_free s document view m direction is_recorded t free = needs_some direction t.request (free_task s view m (task_of document view (going direction) is_recorded) t free).0
+pub never_free : (s : Session) (document view : ℕ) (m : Message) (direction : Direction) (is_recorded : Bool) → IsPlannedAs s view m (planned_message document view (going direction) is_recorded) → is_free s view m ≡ true → false ≡ true
+never_free s document view m direction is_recorded t free = needs_some direction t.request (free_plan s view m (planned_message document view (going direction) is_recorded) t free).0
 
 -- so does an attempt
-pub attempt_never_free : (s : Session) (document view : ℕ) (m : Message) (is_recorded : Bool) → IsTask s view m (task_of document view plan.Attempt is_recorded) → is_free s view m ≡ true → false ≡ true
-attempt_never_free s document view m is_recorded t free = (free_task s view m (task_of document view plan.Attempt is_recorded) t free).0
+pub attempt_never_free : (s : Session) (document view : ℕ) (m : Message) (is_recorded : Bool) → IsPlannedAs s view m (planned_message document view plan.Attempt is_recorded) → is_free s view m ≡ true → false ≡ true
+attempt_never_free s document view m is_recorded t free = (free_plan s view m (planned_message document view plan.Attempt is_recorded) t free).0
 
 -- No notes came where there was room for none.
 

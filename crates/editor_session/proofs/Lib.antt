@@ -9,7 +9,7 @@ pub mod PlanLemmas
 pub mod Attaching
 pub mod Held
 pub mod Keeping
-pub mod Unheard
+pub mod ViewPlans
 pub mod OpeningLemmas
 pub mod Needing
 pub mod LendingLemmas

@@ -18,93 +18,93 @@ use Rattle.message_requests.specs.declared.state.SessionState.{SessionState}
 use Rattle.session_changes.specs.Asked.{IsAsked, CanChangeSession}
 use Rattle.session_changes.specs.Kept.{IsKept}
 use Rattle.session_changes.specs.Ready.{takes_memory}
-use Rattle.editor_session.specs.Tasks.{IsAskedBy, task_of}
-use Rattle.editor_session.specs.Unheard.{IsAnswered, IfFree, IsSent, IsSentAs, IsSentWith}
+use Rattle.editor_session.specs.Planned.{IsAskedBy, planned_message}
+use Rattle.editor_session.specs.Performed.{IsAnswered, IfFree, IsPlannedForSomeValue, IsPlannedWithText, IsPlannedForSomeValueWithText}
 use Rattle.editor_session.proofs.PlanLemmas.{DoneFor, answered, asked_by, attempted, can_change_session, document_here, for_document, handed_out, handed_out_styled, session_is_changed}
-use Rattle.editor_session.proofs.TableWay.{free_task, not_true}
+use Rattle.editor_session.proofs.TableWay.{free_plan, not_true}
 
 module _ (s : SessionState) (kept : IsKept s) (document view : ℕ) where
   -- the document of a message is there
-  pub sent_there : (what : ℤ → Plan) → IsSent (session_in s) document view what → IsSome (value_at s.documents.entries document)
+  pub sent_there : (what : ℤ → Plan) → IsPlannedForSomeValue (session_in s) document view what → IsSome (value_at s.documents.entries document)
   sent_there what sent =
-      let task = task_of document view (what sent.value) sent.is_recorded in
-      document_here s task sent.message.text kept sent.task.request (asked_by s view sent.message task sent.task)
+      let planned = planned_message document view (what sent.value) sent.is_recorded in
+      document_here s planned sent.message.text kept sent.planned.request (asked_by s view sent.message planned sent.planned)
 
   -- An answer.
 
   pub answer_for : (value : ℤ) (bytes : List ℕ) (notes : List Notice) → DoneFor s document view bytes (plan.Answer value) s notes notes value []
   answer_for value bytes notes = λ m is_recorded t text_is.
-      let task = task_of document view (plan.Answer value) is_recorded in
-      answered s task m.text kept t.request (asked_by s view m task t) (plan.Answer value) notes value [] refl
+      let planned = planned_message document view (plan.Answer value) is_recorded in
+      answered s planned m.text kept t.request (asked_by s view m planned t) (plan.Answer value) notes value [] refl
 
   -- A change of the session.
 
   module _ (bytes : List ℕ) (what : SessionChange) where
-    pub session_fits : IsSentWith (session_in s) document view bytes (plan.ChangeSession what) → CanChangeSession (session_in s) document view bytes what
+    pub session_fits : IsPlannedForSomeValueWithText (session_in s) document view bytes (plan.ChangeSession what) → CanChangeSession (session_in s) document view bytes what
     session_fits by_text =
         let sent = by_text.sent in
-        let task = task_of document view (plan.ChangeSession what sent.value) sent.is_recorded in
-        let by = subst (λ x. IsAskedBy (session_in s) task x sent.task.request) by_text.text_is (asked_by s view sent.message task sent.task) in
-        can_change_session s task bytes kept sent.task.request by what sent.value sent.task.fit
+        let planned = planned_message document view (plan.ChangeSession what sent.value) sent.is_recorded in
+        let by = subst (λ x. IsAskedBy (session_in s) planned x sent.planned.request) by_text.text_is (asked_by s view sent.message planned sent.planned) in
+        can_change_session s planned bytes kept sent.planned.request by what sent.value sent.planned.fit
 
     pub session_changed_for : (s' : SessionState) → ((r : Request) → IsAsked (session_in s) document view r → r.message.text ≡ bytes → session_in s' ≡ session_changed r what)
         → (value : ℤ) (notes : List Notice) → DoneFor s document view bytes (plan.ChangeSession what value) s' notes notes value []
     session_changed_for s' done value notes = λ m is_recorded t text_is.
-        let task = task_of document view (plan.ChangeSession what value) is_recorded in
-        let by = subst (λ x. IsAskedBy (session_in s) task x t.request) text_is (asked_by s view m task t) in
-        session_is_changed s task bytes kept t.request by what value s' notes (done t.request by.asked by.message)
+        let planned = planned_message document view (plan.ChangeSession what value) is_recorded in
+        let by = subst (λ x. IsAskedBy (session_in s) planned x t.request) text_is (asked_by s view m planned t) in
+        session_is_changed s planned bytes kept t.request by what value s' notes (done t.request by.asked by.message)
 
     pub session_free : (P : Type 0) → (takes_memory what ≡ false → P) → (value : ℤ) → IfFree (session_in s) document view bytes (plan.ChangeSession what value) P
     session_free P h value = λ m is_recorded t text_is free.
-        h (not_true (takes_memory what) (free_task (session_in s) view m (task_of document view (plan.ChangeSession what value) is_recorded) t free).0)
+        h (not_true (takes_memory what) (free_plan (session_in s) view m (planned_message document view (plan.ChangeSession what value) is_recorded) t free).0)
 
   -- An attempt.
 
   pub attempted_for : (before after : List Notice) → IfSome (value_at s.documents.entries document) (λ k. after ≡ before ++ told (watching (views_of s.views.entries) k.document) (blank modify_attempt))
       → (bytes : List ℕ) → DoneFor s document view bytes plan.Attempt s before after (pos 0) []
   attempted_for before after put bytes = λ m is_recorded t text_is.
-      let task = task_of document view plan.Attempt is_recorded in
-      attempted s task m.text kept t.request (asked_by s view m task t) before after put
+      let planned = planned_message document view plan.Attempt is_recorded in
+      attempted s planned m.text kept t.request (asked_by s view m planned t) before after put
 
   -- Bytes that are handed out.
 
   module _ (start count : ℕ) where
-    pub hand_out_range : IsSent (session_in s) document view (λ value. plan.HandOut value start count) → IsSomeAnd (value_at s.documents.entries document) (λ k. start + count ≤ length k.document.cells)
+    pub hand_out_range : IsPlannedForSomeValue (session_in s) document view (λ value. plan.HandOut value start count) → IsSomeAnd (value_at s.documents.entries document) (λ k. start + count ≤ length k.document.cells)
     hand_out_range sent =
-        let task = task_of document view (plan.HandOut sent.value start count) sent.is_recorded in
-        for_document s task sent.message.text kept sent.task.request (asked_by s view sent.message task sent.task) (λ (d : Document). start + count ≤ length d.cells) sent.task.fit
+        let planned = planned_message document view (plan.HandOut sent.value start count) sent.is_recorded in
+        for_document s planned sent.message.text kept sent.planned.request (asked_by s view sent.message planned sent.planned) (λ (d : Document). start + count ≤ length d.cells) sent.planned.fit
 
-    pub styled_range : IsSent (session_in s) document view (λ value. plan.HandOutStyled start count) → IsSomeAnd (value_at s.documents.entries document) (λ k. start + count ≤ length k.document.cells)
+    pub styled_range : IsPlannedForSomeValue (session_in s) document view (λ value. plan.HandOutStyled start count) → IsSomeAnd (value_at s.documents.entries document) (λ k. start + count ≤ length k.document.cells)
     styled_range sent =
-        let task = task_of document view (plan.HandOutStyled start count) sent.is_recorded in
-        for_document s task sent.message.text kept sent.task.request (asked_by s view sent.message task sent.task) (λ (d : Document). start + count ≤ length d.cells) sent.task.fit
+        let planned = planned_message document view (plan.HandOutStyled start count) sent.is_recorded in
+        for_document s planned sent.message.text kept sent.planned.request (asked_by s view sent.message planned sent.planned) (λ (d : Document). start + count ≤ length d.cells) sent.planned.fit
 
     pub handed_out_for : (out : List ℕ) → IfSome (value_at s.documents.entries document) (λ k. out ≡ slice_range (text_of k.document) start (start + count))
         → (value : ℤ) (bytes : List ℕ) (notes : List Notice) → DoneFor s document view bytes (plan.HandOut value start count) s notes notes value out
     handed_out_for out copied value bytes notes = λ m is_recorded t text_is.
-        let task = task_of document view (plan.HandOut value start count) is_recorded in
-        handed_out s task m.text kept t.request (asked_by s view m task t) value start count notes [] out refl copied
+        let planned = planned_message document view (plan.HandOut value start count) is_recorded in
+        handed_out s planned m.text kept t.request (asked_by s view m planned t) value start count notes [] out refl copied
 
     pub styled_for : (out : List ℕ) → IfSome (value_at s.documents.entries document) (λ k. out ≡ styled_text (slice_range k.document.cells start (start + count)))
         → (bytes : List ℕ) (notes : List Notice) → DoneFor s document view bytes (plan.HandOutStyled start count) s notes notes (pos (length out)) out
     styled_for out copied bytes notes = λ m is_recorded t text_is.
-        let task = task_of document view (plan.HandOutStyled start count) is_recorded in
-        handed_out_styled s task m.text kept t.request (asked_by s view m task t) start count notes [] out refl copied
+        let planned = planned_message document view (plan.HandOutStyled start count) is_recorded in
+        handed_out_styled s planned m.text kept t.request (asked_by s view m planned t) start count notes [] out refl copied
 
     -- nothing is handed out where no memory is needed
     pub hand_out_free : (P : Type 0) → (count ≡ 0 → P) → (value : ℤ) (bytes : List ℕ) → IfFree (session_in s) document view bytes (plan.HandOut value start count) P
     hand_out_free P h value bytes = λ m is_recorded t text_is free.
-        h (eqb-true count 0 (free_task (session_in s) view m (task_of document view (plan.HandOut value start count) is_recorded) t free).0)
+        h (eqb-true count 0 (free_plan (session_in s) view m (planned_message document view (plan.HandOut value start count) is_recorded) t free).0)
 
     pub styled_free : (P : Type 0) → (count ≡ 0 → P) → (bytes : List ℕ) → IfFree (session_in s) document view bytes (plan.HandOutStyled start count) P
     styled_free P h bytes = λ m is_recorded t text_is free.
-        h (eqb-true count 0 (free_task (session_in s) view m (task_of document view (plan.HandOutStyled start count) is_recorded) t free).0)
+        h (eqb-true count 0 (free_plan (session_in s) view m (planned_message document view (plan.HandOutStyled start count) is_recorded) t free).0)
 
 -- The same plan, value and bytes, written otherwise.
 
 module _ (s : Session) (document view : ℕ) (text : List ℕ) (what what' : Plan) (is : what ≡ what') where
-  pub sent_as : IsSentAs s document view text what → IsSentAs s document view text what'
-  sent_as sent = subst (IsSentAs s document view text) is sent
+  pub sent_as : IsPlannedWithText s document view text what → IsPlannedWithText s document view text what'
+  sent_as sent = subst (IsPlannedWithText s document view text) is sent
 
   pub answered_as : (before after : List Notice) (s' : Session) (value value' : ℤ) (out out' : List ℕ) → IsAnswered s document view text what' before s' (response value' out' after) → value ≡ value' → out ≡ out'
       → IsAnswered s document view text what before s' (response value out after)
@@ -116,5 +116,5 @@ module _ (s : Session) (document view : ℕ) (text : List ℕ) (what what' : Pla
   pub free_as : (P : Type 0) → IfFree s document view text what' P → IfFree s document view text what P
   free_as P h = subst (λ x. IfFree s document view text x P) (sym is) h
 
-pub sent_with : (s : Session) (document view : ℕ) (text : List ℕ) (what : ℤ → Plan) (value : ℤ) → IsSentAs s document view text (what value) → IsSentWith s document view text what
-sent_with s document view text what value sent = record { sent = record { message = sent.message; value = value; is_recorded = sent.is_recorded; task = sent.task }; text_is = sent.text_is }
+pub sent_with : (s : Session) (document view : ℕ) (text : List ℕ) (what : ℤ → Plan) (value : ℤ) → IsPlannedWithText s document view text (what value) → IsPlannedForSomeValueWithText s document view text what
+sent_with s document view text what value sent = record { sent = record { message = sent.message; value = value; is_recorded = sent.is_recorded; planned = sent.planned }; text_is = sent.text_is }

@@ -15,10 +15,10 @@ use Rattle.message_requests.specs.Requested.{session_in}
 use Rattle.message_requests.specs.declared.state.SessionState.{SessionState}
 use Rattle.session_changes.specs.Kept.{IsKept}
 use Rattle.editor_session.specs.Doing.{CanChangeOnceThereIsRoom, IsChangedIn, Changes}
-use Rattle.editor_session.specs.Unheard.{IfFree, IsSentWith}
-use Rattle.editor_session.specs.Tasks.{IsAskedBy, task_of}
+use Rattle.editor_session.specs.Performed.{IfFree, IsPlannedForSomeValueWithText}
+use Rattle.editor_session.specs.Planned.{IsAskedBy, planned_message}
 use Rattle.editor_session.proofs.PlanLemmas.{DoneFor, asked_by, kept_at, of_kept, for_kept, session_is, changed, change_fits, read_change, watched_here}
-use Rattle.editor_session.proofs.TableWay.{free_task, not_true}
+use Rattle.editor_session.proofs.TableWay.{free_plan, not_true}
 use Rattle.editor_session.proofs.Held.{if_also}
 
 -- the session after a change in its tables
@@ -38,41 +38,41 @@ all_ok (Ok a) P Q R S p q h f = f p q h
 all_ok (Err e) P Q R S p q h f = tt
 
 module _ (s : SessionState) (kept : IsKept s) (document view : ℕ) (text : List ℕ) (what : DocumentChange) where
-  pub can_change_once : IsSentWith (session_in s) document view text (plan.ChangeDocument what) → IsSomeAnd (value_at s.documents.entries document) (CanChangeOnceThereIsRoom what text s.views)
+  pub can_change_once : IsPlannedForSomeValueWithText (session_in s) document view text (plan.ChangeDocument what) → IsSomeAnd (value_at s.documents.entries document) (CanChangeOnceThereIsRoom what text s.views)
   can_change_once by_text =
       let sent = by_text.sent in
-      let t = sent.task in
+      let t = sent.planned in
       let r = t.request in
-      let task = task_of document view (plan.ChangeDocument what sent.value) sent.is_recorded in
-      let by = subst (λ x. IsAskedBy (session_in s) task x r) by_text.text_is (asked_by s view sent.message task t) in
-      let at = kept_at s task text kept r by in
-      for_kept s task text kept r by (CanChangeOnceThereIsRoom what text s.views)
+      let planned = planned_message document view (plan.ChangeDocument what sent.value) sent.is_recorded in
+      let by = subst (λ x. IsAskedBy (session_in s) planned x r) by_text.text_is (asked_by s view sent.message planned t) in
+      let at = kept_at s planned text kept r by in
+      for_kept s planned text kept r by (CanChangeOnceThereIsRoom what text s.views)
       (record {
-        fits = subst (λ d. IsFitChange d what) (sym at.is) (change_fits s task text kept r by what sent.value t.fit);
+        fits = subst (λ d. IsFitChange d what) (sym at.is) (change_fits s planned text kept r by what sent.value t.fit);
         read = subst (λ x. bytes_read what ≤ length x) by.message (read_change r what t.fit);
-        watched = watched_here s task text kept r by;
+        watched = watched_here s planned text kept r by;
       })
 
   pub changed_for : (s' : SessionState) (notes notes' : Gathered) → IfSome (value_at s.documents.entries document) (λ k. Changes what view text k s notes s' notes')
       → (value : ℤ) → DoneFor s document view text (plan.ChangeDocument what value) s' notes.notes notes'.notes value []
   changed_for s' notes notes' done value = λ m is_recorded t text_is.
-      let task = task_of document view (plan.ChangeDocument what value) is_recorded in
-      let by = subst (λ x. IsAskedBy (session_in s) task x t.request) text_is (asked_by s view m task t) in
-      let here = of_kept s task text kept t.request by (λ k. Changes what view text k s notes s' notes') done in
-      changed s task text kept t.request by what value s' notes notes' here
+      let planned = planned_message document view (plan.ChangeDocument what value) is_recorded in
+      let by = subst (λ x. IsAskedBy (session_in s) planned x t.request) text_is (asked_by s view m planned t) in
+      let here = of_kept s planned text kept t.request by (λ k. Changes what view text k s notes s' notes') done in
+      changed s planned text kept t.request by what value s' notes notes' here
 
   -- where the message needs no memory, the change needs no room, and no view hears of it
   pub change_free : (P : Type 0) → IfSome (value_at s.documents.entries document) (λ k. needs_room what ≡ false → notes_of_change what k.document.history (watchers k.document s.views) ≡ 0 → P)
       → (value : ℤ) → IfFree (session_in s) document view text (plan.ChangeDocument what value) P
   change_free P here value = λ m is_recorded t text_is free.
-      let task = task_of document view (plan.ChangeDocument what value) is_recorded in
+      let planned = planned_message document view (plan.ChangeDocument what value) is_recorded in
       let r = t.request in
-      let by = subst (λ x. IsAskedBy (session_in s) task x r) text_is (asked_by s view m task t) in
-      let at = kept_at s task text kept r by in
-      let none = (free_task (session_in s) view m task t free).0 in
+      let by = subst (λ x. IsAskedBy (session_in s) planned x r) text_is (asked_by s view m planned t) in
+      let at = kept_at s planned text kept r by in
+      let none = (free_plan (session_in s) view m planned t free).0 in
       let parts = and_parts (not (needs_room what)) (notes_of_change what r.document.history (watching r.session.views r.document) == 0) none in
       let unheard = eqb-true (notes_of_change what r.document.history (watching r.session.views r.document)) 0 parts.1 in
-      of_kept s task text kept r by (λ k. needs_room what ≡ false → notes_of_change what k.document.history (watchers k.document s.views) ≡ 0 → P) here
+      of_kept s planned text kept r by (λ k. needs_room what ≡ false → notes_of_change what k.document.history (watchers k.document s.views) ≡ 0 → P) here
       (not_true (needs_room what) parts.0)
       (subst (λ (d : Document). notes_of_change what d.history (watchers d s.views) ≡ 0) (sym at.is)
-      (subst (λ (x : Session). notes_of_change what r.document.history (watching x.views r.document) ≡ 0) (session_is s task text kept r by) unheard))
+      (subst (λ (x : Session). notes_of_change what r.document.history (watching x.views r.document) ≡ 0) (session_is s planned text kept r by) unheard))

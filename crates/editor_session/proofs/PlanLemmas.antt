@@ -46,9 +46,9 @@ use Rattle.message_requests.specs.Requested.{session_in}
 use Rattle.message_requests.specs.proved.Standing.{found_all}
 use Rattle.message_requests.specs.declared.state.SessionState.{SessionState}
 use Rattle.session_changes.specs.Kept.{IsKept, DocumentsAreNamed}
-use Rattle.editor_session.specs.Unheard.{IsAnswered}
+use Rattle.editor_session.specs.Performed.{IsAnswered}
 use Rattle.editor_session.proofs.Keeping.{kept_after_message}
-use Rattle.editor_session.specs.Tasks.{Task, IsTask, IsAskedBy, recording, first_note, task_of}
+use Rattle.editor_session.specs.Planned.{PlannedMessage, IsPlannedAs, IsAskedBy, recording, first_note, planned_message}
 use Rattle.editor_session.specs.Edited.{IsStoredIn, IsTurnedFor, IsPastedFor, IsEditWithin, IsWithin, stored_bytes, TakesWithin}
 use Rattle.editor_session.specs.Edits.{edit_steps, scene_after, Edits}
 use Rattle.editor_session.specs.Doing.{IsDone, Goes, Changes}
@@ -244,57 +244,57 @@ pub record AtDocument (s : SessionState) (id : ℕ) (d : Document) : Type 0 wher
 pub at_document : (s : SessionState) (id : ℕ) (d : Document) → IsKept s → document_at (session_in s).documents id ≡ Some d → AtDocument s id d
 at_document s id d kept there = (let known = kept_as document_in id_of_document s.documents.entries id d kept.documents there in record { k = known.value; at = known.there; is = known.is })
 
-module _ (s : SessionState) (task : Task) (bytes : List ℕ) (kept : IsKept s) (r : Request) (by : IsAskedBy (session_in s) task bytes r) where
+module _ (s : SessionState) (planned : PlannedMessage) (bytes : List ℕ) (kept : IsKept s) (r : Request) (by : IsAskedBy (session_in s) planned bytes r) where
   pub session_is : r.session ≡ session_in s
   session_is = by.asked.session
 
-  pub document_there : document_at (session_in s).documents task.document ≡ Some r.document
+  pub document_there : document_at (session_in s).documents planned.document ≡ Some r.document
   document_there =
       let own : r.document.id ≡ r.view.document = own_at id_of_document r.session.documents r.view.document r.document by.asked.sound.document in
-      let there : document_at r.session.documents task.document ≡ Some r.document = ap (document_at r.session.documents) (sym by.asked.document_id ∙ own) ∙ by.asked.sound.document in
-      subst (λ (x : Session). document_at x.documents task.document ≡ Some r.document) session_is there
+      let there : document_at r.session.documents planned.document ≡ Some r.document = ap (document_at r.session.documents) (sym by.asked.document_id ∙ own) ∙ by.asked.sound.document in
+      subst (λ (x : Session). document_at x.documents planned.document ≡ Some r.document) session_is there
 
-  pub kept_at : AtDocument s task.document r.document
-  kept_at = at_document s task.document r.document kept document_there
+  pub kept_at : AtDocument s planned.document r.document
+  kept_at = at_document s planned.document r.document kept document_there
 
   -- a fact of the document that is kept
-  pub for_kept : (P : Kept → Type 0) → P kept_at.k → IsSomeAnd (value_at s.documents.entries task.document) P
+  pub for_kept : (P : Kept → Type 0) → P kept_at.k → IsSomeAnd (value_at s.documents.entries planned.document) P
   for_kept P h = subst (λ o. IsSomeAnd o P) (sym kept_at.at) h
 
-  pub of_kept : (P : Kept → Type 0) → IfSome (value_at s.documents.entries task.document) P → P kept_at.k
+  pub of_kept : (P : Kept → Type 0) → IfSome (value_at s.documents.entries planned.document) P → P kept_at.k
   of_kept P h = subst (λ o. IfSome o P) kept_at.at h
 
   -- the same, said of the request's document
-  pub for_document : (P : Document → Type 0) → P r.document → IsSomeAnd (value_at s.documents.entries task.document) (λ k. P k.document)
+  pub for_document : (P : Document → Type 0) → P r.document → IsSomeAnd (value_at s.documents.entries planned.document) (λ k. P k.document)
   for_document P h = for_kept (λ k. P k.document) (subst P (sym kept_at.is) h)
 
-  pub of_document : (P : Document → Type 0) → IfSome (value_at s.documents.entries task.document) (λ k. P k.document) → P r.document
+  pub of_document : (P : Document → Type 0) → IfSome (value_at s.documents.entries planned.document) (λ k. P k.document) → P r.document
   of_document P h = subst P kept_at.is (of_kept (λ k. P k.document) h)
 
-  pub document_here : IsSome (value_at s.documents.entries task.document)
+  pub document_here : IsSome (value_at s.documents.entries planned.document)
   document_here = subst (λ o. IsSome o) (sym kept_at.at) refl
 
-  view_kept : IsKeptAs view_in id_of_view (value_at s.views.entries task.view) r.view
+  view_kept : IsKeptAs view_in id_of_view (value_at s.views.entries planned.view) r.view
   view_kept =
-      let seen : view_at (session_in s).views task.view ≡ Some r.view = subst (λ (x : Session). view_at x.views task.view ≡ Some r.view) session_is (ap (view_at r.session.views) (sym by.asked.view_id) ∙ by.asked.sound.view) in
-      kept_as view_in id_of_view s.views.entries task.view r.view kept.views seen
+      let seen : view_at (session_in s).views planned.view ≡ Some r.view = subst (λ (x : Session). view_at x.views planned.view ≡ Some r.view) session_is (ap (view_at r.session.views) (sym by.asked.view_id) ∙ by.asked.sound.view) in
+      kept_as view_in id_of_view s.views.entries planned.view r.view kept.views seen
 
-  pub view_here : IsSome (value_at s.views.entries task.view)
+  pub view_here : IsSome (value_at s.views.entries planned.view)
   view_here = subst (λ o. IsSome o) (sym view_kept.there) refl
 
   -- a fact of the view that is kept
-  pub for_view : (P : KeptView → Type 0) → ((v : KeptView) → v.view ≡ r.view → P v) → IsSomeAnd (value_at s.views.entries task.view) P
+  pub for_view : (P : KeptView → Type 0) → ((v : KeptView) → v.view ≡ r.view → P v) → IsSomeAnd (value_at s.views.entries planned.view) P
   for_view P h = subst (λ o. IsSomeAnd o P) (sym view_kept.there) (h view_kept.value view_kept.is)
 
-  pub same_document : (k : Kept) → value_at s.documents.entries task.document ≡ Some k → r.document ≡ k.document
+  pub same_document : (k : Kept) → value_at s.documents.entries planned.document ≡ Some k → r.document ≡ k.document
   same_document k at =
       let both : Some kept_at.k ≡ Some k = sym kept_at.at ∙ at in
       let is : kept_at.k ≡ k = cc in
       sym kept_at.is ∙ ap (λ (x : Kept). x.document) is
 
-  pub within_here : (k : Kept) → value_at s.documents.entries task.document ≡ Some k → IsFitPlan r task.plan → IsWithin task.plan (length k.document.cells) (length bytes)
+  pub within_here : (k : Kept) → value_at s.documents.entries planned.document ≡ Some k → IsFitPlan r planned.plan → IsWithin planned.plan (length k.document.cells) (length bytes)
   within_here k at fit =
-      subst (λ (d : Document). IsWithin task.plan (length d.cells) (length bytes)) (same_document k at) (subst (λ x. IsWithin task.plan (size r) (length x)) by.message (fits_within r task.plan fit))
+      subst (λ (d : Document). IsWithin planned.plan (length d.cells) (length bytes)) (same_document k at) (subst (λ x. IsWithin planned.plan (size r) (length x)) by.message (fits_within r planned.plan fit))
 
   pub limits_here : is_allowed r.session.limits ≡ true
   limits_here = subst (λ (x : Session). is_allowed x.limits ≡ true) (sym session_is) kept.limits
@@ -306,19 +306,19 @@ module _ (s : SessionState) (task : Task) (bytes : List ℕ) (kept : IsKept s) (
   pub answered : (what : Plan) (ns : List Notice) (value : ℤ) (out : List ℕ) → performed r what ≡ (r.session, response value out []) → IsDone r what s ns ns value out
   answered what ns value out e = record { told = []; done = e ∙ ap (λ x. (x, response value out [])) session_is; heard = sym (append-nil ns) }
 
-  pub handed_out : (value : ℤ) (start count : ℕ) (ns : List Notice) (empty out : List ℕ) → empty ≡ [] → IfSome (value_at s.documents.entries task.document) (λ k. out ≡ empty ++ slice_range (text_of k.document) start (start + count))
+  pub handed_out : (value : ℤ) (start count : ℕ) (ns : List Notice) (empty out : List ℕ) → empty ≡ [] → IfSome (value_at s.documents.entries planned.document) (λ k. out ≡ empty ++ slice_range (text_of k.document) start (start + count))
       → IsDone r (plan.HandOut value start count) s ns ns value out
   handed_out value start count ns empty out e copied =
       let put : out ≡ slice_range (text r) start (start + count) = of_document (λ d. out ≡ empty ++ slice_range (text_of d) start (start + count)) copied ∙ ap (λ xs. xs ++ slice_range (text r) start (start + count)) e in
       answered (plan.HandOut value start count) ns value out (ap (λ b. (r.session, response value b [])) (sym put))
 
-  pub handed_out_styled : (start count : ℕ) (ns : List Notice) (empty out : List ℕ) → empty ≡ [] → IfSome (value_at s.documents.entries task.document) (λ k. out ≡ empty ++ styled_text (slice_range k.document.cells start (start + count)))
+  pub handed_out_styled : (start count : ℕ) (ns : List Notice) (empty out : List ℕ) → empty ≡ [] → IfSome (value_at s.documents.entries planned.document) (λ k. out ≡ empty ++ styled_text (slice_range k.document.cells start (start + count)))
       → IsDone r (plan.HandOutStyled start count) s ns ns (pos (length out)) out
   handed_out_styled start count ns empty out e copied =
       let put : out ≡ styled_text (slice_range r.document.cells start (start + count)) = of_document (λ d. out ≡ empty ++ styled_text (slice_range d.cells start (start + count))) copied ∙ ap (λ xs. xs ++ styled_text (slice_range r.document.cells start (start + count))) e in
       answered (plan.HandOutStyled start count) ns (pos (length out)) out (ap (λ b. (r.session, response (pos (length b)) b [])) (sym put))
 
-  pub attempted : (ns ns' : List Notice) → IfSome (value_at s.documents.entries task.document) (λ k. ns' ≡ ns ++ told (watching (views_of s.views.entries) k.document) (blank modify_attempt)) → IsDone r plan.Attempt s ns ns' (pos 0) []
+  pub attempted : (ns ns' : List Notice) → IfSome (value_at s.documents.entries planned.document) (λ k. ns' ≡ ns ++ told (watching (views_of s.views.entries) k.document) (blank modify_attempt)) → IsDone r plan.Attempt s ns ns' (pos 0) []
   attempted ns ns' put = record {
     told = told (watching r.session.views r.document) (blank modify_attempt);
     done = ap (λ x. (x, response (pos 0) [] (told (watching r.session.views r.document) (blank modify_attempt)))) session_is;
@@ -347,7 +347,7 @@ module _ (s : SessionState) (task : Task) (bytes : List ℕ) (kept : IsKept s) (
     same_scene ns =
         ap (λ d. scene_in d s.views.entries ns) kept_at.is ∙ ap (λ (x : Session). record { document = r.document; views = x.views; notes = ns }) (sym session_is)
 
-    pub edited : (s' : SessionState) (notes notes' : Gathered) → Edits task.view change bytes pasted after s notes kept_at.k s' notes' → IsDone r (plan.Edit change value after) s' notes.notes notes'.notes value []
+    pub edited : (s' : SessionState) (notes notes' : Gathered) → Edits planned.view change bytes pasted after s notes kept_at.k s' notes' → IsDone r (plan.Edit change value after) s' notes.notes notes'.notes value []
     edited s' notes notes' done =
         let base = edit_made (steps_of r change) (scene_of r) in
         let scene : scene_after change bytes pasted s notes kept_at.k ≡ telling notes.notes base =
@@ -355,16 +355,16 @@ module _ (s : SessionState) (task : Task) (bytes : List ℕ) (kept : IsKept s) (
         ∙ edit_told_from notes.notes (steps_of r change) r.document r.session.views in
         let session : session_in s' ≡ followed r.view.id (text r) after (session_of r.session base) =
         done.session_after
-        ∙ ap (λ (x : Scene). followed task.view (text_of kept_at.k.document) after (session_of (session_in s) x)) scene
-        ∙ ap (λ (d : Document). followed task.view (text_of d) after (session_of (session_in s) base)) kept_at.is
-        ∙ ap (λ (x : Session). followed task.view (text r) after (session_of x base)) (sym session_is)
+        ∙ ap (λ (x : Scene). followed planned.view (text_of kept_at.k.document) after (session_of (session_in s) x)) scene
+        ∙ ap (λ (d : Document). followed planned.view (text_of d) after (session_of (session_in s) base)) kept_at.is
+        ∙ ap (λ (x : Session). followed planned.view (text r) after (session_of x base)) (sym session_is)
         ∙ ap (λ id. followed id (text r) after (session_of r.session base)) (sym by.asked.view_id) in
         record { told = base.notes; done = ap (λ x. (x, response value [] base.notes)) (sym session); heard = done.notes_after ∙ ap (λ (x : Scene). x.notes) scene }
 
   -- Undo and redo.
   module _ (direction : Direction) where
     pub gone : (what : Plan) → performed r what ≡ history_performed r (bits_of direction) (changes_of direction r.document.history) (history_behind direction r.document.history)
-        → (s' : SessionState) (notes notes' : Gathered) → Goes task.view direction s notes kept_at.k s' notes' → IsDone r what s' notes.notes notes'.notes (pos 0) []
+        → (s' : SessionState) (notes notes' : Gathered) → Goes planned.view direction s notes kept_at.k s' notes' → IsDone r what s' notes.notes notes'.notes (pos 0) []
     gone what is s' notes notes' done =
         let cs = changes_of direction r.document.history in
         let new = history_behind direction r.document.history in
@@ -374,11 +374,11 @@ module _ (s : SessionState) (task : Task) (bytes : List ℕ) (kept : IsKept s) (
         ap (λ d. at d (session_in s) notes.notes) kept_at.is ∙ ap (λ x. at r.document x notes.notes) (sym session_is) ∙ transaction_told_from notes.notes (bits_of direction) cs new r.document r.session.views in
         let after : Session → Scene → ℕ → Document → Session = λ x scene id d. (let t = session_of x scene in record t { views = caret_behind id (latest_text_step (reverse (changes_of direction d.history))) t.views }) in
         let session : session_in s' ≡ after r.session base r.view.id r.document =
-        done.session_after ∙ ap (λ (x : Scene). after (session_in s) x task.view kept_at.k.document) scene ∙ ap (after (session_in s) base task.view) kept_at.is
-        ∙ ap (λ x. after x base task.view r.document) (sym session_is) ∙ ap (λ id. after r.session base id r.document) (sym by.asked.view_id) in
+        done.session_after ∙ ap (λ (x : Scene). after (session_in s) x planned.view kept_at.k.document) scene ∙ ap (after (session_in s) base planned.view) kept_at.is
+        ∙ ap (λ x. after x base planned.view r.document) (sym session_is) ∙ ap (λ id. after r.session base id r.document) (sym by.asked.view_id) in
         record { told = base.notes; done = is ∙ ap (λ x. (x, response (pos 0) [] base.notes)) (sym session); heard = done.notes_after ∙ ap (λ (x : Scene). x.notes) scene }
 
-  pub changed : (change : DocumentChange) (value : ℤ) (s' : SessionState) (notes notes' : Gathered) → Changes change task.view bytes kept_at.k s notes s' notes' → IsDone r (plan.ChangeDocument change value) s' notes.notes notes'.notes value []
+  pub changed : (change : DocumentChange) (value : ℤ) (s' : SessionState) (notes notes' : Gathered) → Changes change planned.view bytes kept_at.k s notes s' notes' → IsDone r (plan.ChangeDocument change value) s' notes.notes notes'.notes value []
   changed change value s' notes notes' done =
       let after : Session → Document → List ℕ → Session = λ t d x. record t { documents = with_document (changed_document x change d) t.documents; views = map (changed_lines change d) t.views } in
       let heard : List View → Document → List ℕ → List Notice = λ views d x. change_told r.view (watching views d) d (changed_document x change d) change in
@@ -391,13 +391,13 @@ module _ (s : SessionState) (task : Task) (bytes : List ℕ) (kept : IsKept s) (
 
   -- A change of the view, and of the session.
 
-  pub can_change_view : (change : ViewChange) (value : ℤ) → IsFitPlan r (plan.ChangeView change value) → CanChangeView (session_in s) task.document task.view change
+  pub can_change_view : (change : ViewChange) (value : ℤ) → IsFitPlan r (plan.ChangeView change value) → CanChangeView (session_in s) planned.document planned.view change
   can_change_view change value fit = record { request = r; asked = by.asked; fit = fit }
 
   pub view_changed : (change : ViewChange) (value : ℤ) (s' : SessionState) (ns : List Notice) → session_in s' ≡ view_change_performed r change → IsDone r (plan.ChangeView change value) s' ns ns value []
   view_changed change value s' ns e = record { told = []; done = ap (λ x. (x, response value [] [])) (sym e); heard = sym (append-nil ns) }
 
-  pub can_change_session : (change : SessionChange) (value : ℤ) → IsFitPlan r (plan.ChangeSession change value) → CanChangeSession (session_in s) task.document task.view bytes change
+  pub can_change_session : (change : SessionChange) (value : ℤ) → IsFitPlan r (plan.ChangeSession change value) → CanChangeSession (session_in s) planned.document planned.view bytes change
   can_change_session change value fit = record { request = r; asked = by.asked; message = by.message; fit = fit }
 
   pub session_is_changed : (change : SessionChange) (value : ℤ) (s' : SessionState) (ns : List Notice) → session_in s' ≡ session_changed r change → IsDone r (plan.ChangeSession change value) s' ns ns value []
@@ -407,15 +407,15 @@ module _ (s : SessionState) (task : Task) (bytes : List ℕ) (kept : IsKept s) (
   change_fits change value fit = fit_change r change limits_here fit
 
 -- The answer to a message.
-module _ (s : SessionState) (view : ℕ) (m : Message) (task : Task) (t : IsTask (session_in s) view m task) where
-  pub asked_by : IsAskedBy (session_in s) task m.text t.request
+module _ (s : SessionState) (view : ℕ) (m : Message) (planned : PlannedMessage) (t : IsPlannedAs (session_in s) view m planned) where
+  pub asked_by : IsAskedBy (session_in s) planned m.text t.request
   asked_by = record {
     asked = record { sound = t.found.sound; session = t.found.session; document_id = sym t.document_id; view_id = t.found.view_id ∙ sym t.view_id };
     message = ap (λ (x : Message). x.text) t.found.message;
   }
 
   -- the reply, with the note by which it is recorded
-  recorded_reply : (reply : Response) → with_recording t.kind t.request reply ≡ record reply { notes = first_note task.is_recorded view m ++ reply.notes }
+  recorded_reply : (reply : Response) → with_recording t.kind t.request reply ≡ record reply { notes = first_note planned.is_recorded view m ++ reply.notes }
   recorded_reply reply =
       go (t.request.view.records && (marks_of t.kind).r)
       ∙ ap (λ b. record reply { notes = first_note b view m ++ reply.notes }) (sym t.recorded)
@@ -424,7 +424,7 @@ module _ (s : SessionState) (view : ℕ) (m : Message) (task : Task) (t : IsTask
       go true = ap (λ n. record reply { notes = recording n t.request.message ∷ reply.notes }) t.found.view_id ∙ ap (λ x. record reply { notes = recording view x ∷ reply.notes }) t.found.message
       go false = refl
 
-  pub answered_so : (s' : SessionState) (before after : List Notice) (value : ℤ) (out : List ℕ) → before ≡ first_note task.is_recorded view m → IsDone t.request task.plan s' before after value out
+  pub answered_so : (s' : SessionState) (before after : List Notice) (value : ℤ) (out : List ℕ) → before ≡ first_note planned.is_recorded view m → IsDone t.request planned.plan s' before after value out
       → table (session_in s) view m ≡ Ok (session_in s', response value out after)
   answered_so s' before after value out first done =
       t.found.answer ∙ ap (answered_by t.kind t.request) t.planned
@@ -436,20 +436,20 @@ module _ (s : SessionState) (view : ℕ) (m : Message) (task : Task) (t : IsTask
 
 abbrev pub DoneFor : SessionState → ℕ → ℕ → List ℕ → Plan → SessionState → List Notice → List Notice → ℤ → List ℕ → Type 0
 DoneFor s document view bytes what s' before after value out =
-    (m : Message) (is_recorded : Bool) (t : IsTask (session_in s) view m (task_of document view what is_recorded)) → m.text ≡ bytes → IsDone t.request what s' before after value out
+    (m : Message) (is_recorded : Bool) (t : IsPlannedAs (session_in s) view m (planned_message document view what is_recorded)) → m.text ≡ bytes → IsDone t.request what s' before after value out
 
 -- each is answered so
 pub answers : (s : SessionState) (document view : ℕ) (bytes : List ℕ) (what : Plan) (s' : SessionState) (before after : List Notice) (value : ℤ) (out : List ℕ)
     → DoneFor s document view bytes what s' before after value out → IsAnswered (session_in s) document view bytes what before (session_in s') (response value out after)
 answers s document view bytes what s' before after value out done = λ m is_recorded t text_is first.
-    answered_so s view m (task_of document view what is_recorded) t s' before after value out first (done m is_recorded t text_is)
+    answered_so s view m (planned_message document view what is_recorded) t s' before after value out first (done m is_recorded t text_is)
 
 -- and the session is sound
 pub kept_by : MessageKeepsSound → (s : SessionState) (document view : ℕ) (bytes : List ℕ) (what : Plan) (s' : SessionState) (before after : List Notice) (value : ℤ) (out : List ℕ) → IsKept s
-    → DoneFor s document view bytes what s' before after value out → (m : Message) (is_recorded : Bool) → IsTask (session_in s) view m (task_of document view what is_recorded) → m.text ≡ bytes
+    → DoneFor s document view bytes what s' before after value out → (m : Message) (is_recorded : Bool) → IsPlannedAs (session_in s) view m (planned_message document view what is_recorded) → m.text ≡ bytes
     → s'.limits ≡ s.limits → DocumentsAreNamed s'.documents.entries → AreNamed s'.views.entries → IsKept s'
 kept_by law s document view bytes what s' before after value out kept done m is_recorded t text_is limits documents views =
     let is = done m is_recorded t text_is in
     let first = first_note is_recorded view m in
     kept_after_message law s s' view m (response value out (first ++ is.told)) kept
-    (answered_so s view m (task_of document view what is_recorded) t s' first (first ++ is.told) value out refl (record { told = is.told; done = is.done; heard = refl })) limits documents views
+    (answered_so s view m (planned_message document view what is_recorded) t s' first (first ++ is.told) value out refl (record { told = is.told; done = is.done; heard = refl })) limits documents views

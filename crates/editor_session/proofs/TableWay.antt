@@ -17,7 +17,7 @@ use Rattle.ed_model.specs.declared.plan.Plan.TheVariants as plan
 use Rattle.ed_model.specs.Table.{table, record_note, table_from_view, table_from_kind, table_from_document, answered, request, plan_of}
 use Rattle.session_changes.specs.proved.Finding.{id_of_view, own_at}
 use Rattle.editor_session.specs.Plans.{needs_no_fold_room, needs_no_memory, planned_without_memory, is_free, is_free_request, is_free_from_document, is_free_from_kind, is_free_from_view, is_marked_free, is_recorded_by, MarkedMessagesAreFree}
-use Rattle.editor_session.specs.Tasks.{Task, IsFound, IsTask}
+use Rattle.editor_session.specs.Planned.{PlannedMessage, IsFound, IsPlannedAs}
 use Rattle.ed_model.specs.FreePlans.{IsFreeDocumentChange, IsFreeViewChange, IsFreeSessionChange, IsFreePlan, IsFreePlanned, MarkedPlansAreFree}
 use Rattle.ed_model.specs.declared.plan.DocumentChange.{DocumentChange}
 use Rattle.ed_model.specs.declared.plan.DocumentChange.TheVariants as document_change
@@ -89,8 +89,8 @@ free_found s view m kind r f free =
     let parts = and_parts (planned_without_memory r (plan_of kind r)) (not (r.view.records && (marks_of kind).r)) (sym is ∙ free) in
     (parts.0, not_true (r.view.records && (marks_of kind).r) parts.1)
 
-pub free_task : (s : Session) (view : ℕ) (m : Message) (task : Task) (t : IsTask s view m task) → is_free s view m ≡ true → (needs_no_memory t.request task.plan ≡ true) × (task.is_recorded ≡ false)
-free_task s view m task t free =
+pub free_plan : (s : Session) (view : ℕ) (m : Message) (planned : PlannedMessage) (t : IsPlannedAs s view m planned) → is_free s view m ≡ true → (needs_no_memory t.request planned.plan ≡ true) × (planned.is_recorded ≡ false)
+free_plan s view m planned t free =
     let parts = free_found s view m t.kind t.request t.found free in
     (subst (λ p. planned_without_memory t.request p ≡ true) t.planned parts.0, t.recorded ∙ parts.1)
 

@@ -4,7 +4,7 @@ pub mod Answering
 pub mod Asked
 pub mod Plans
 pub mod Needs
-pub mod Tasks
+pub mod Planned
 pub mod Lent
 pub mod Lends
 pub mod Doing
@@ -13,6 +13,6 @@ pub mod Edits
 pub mod Widths
 pub mod Opening
 pub mod PartLends
-pub mod Unheard
+pub mod Performed
 pub mod Left
 pub mod Commands

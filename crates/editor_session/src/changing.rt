@@ -20,8 +20,8 @@ ghost use Rattle.message_requests.specs.Requested.{session_in, documents_in};
 ghost use Rattle.session_changes.specs.Folding.{takes_fold_room};
 ghost use Rattle.session_changes.specs.Kept.{IsKept, DocumentsAreNamed};
 ghost use Rattle.editor_session.specs.Doing.{CanChangeOnceThereIsRoom, IsChangedIn, Changes};
-ghost use Rattle.editor_session.specs.Tasks.{IsTask};
-ghost use Rattle.editor_session.specs.Unheard.{unrecorded, IsAnswered, IfFree, IsSent, IsSentWith};
+ghost use Rattle.editor_session.specs.Planned.{IsPlannedAs};
+ghost use Rattle.editor_session.specs.Performed.{unrecorded, IsAnswered, IfFree, IsPlannedForSomeValue, IsPlannedForSomeValueWithText};
 
 use document::Document;
 use document_changes::{change_document, change_note_need, reserve_change};
@@ -156,7 +156,7 @@ pub(crate) fn perform_change(
     notes: &mut NoteList,
 ) -> Result<(), Refusal>
     requires kept { IsKept state.old }
-    requires sent { IsSentWith (session_in state.old) document view text.now (plan.ChangeDocument change) }
+    requires sent { IsPlannedForSomeValueWithText (session_in state.old) document view text.now (plan.ChangeDocument change) }
     ensures answer { OnOk result ((value : ℤ) → IsAnswered (session_in state.old) document view text.now (plan.ChangeDocument change value) notes.old.notes (session_in state.new) (response value [] notes.new.notes)) }
     ensures same { OnErr result (session_in state.new ≡ session_in state.old) }
     ensures refused { IfErr result (λ refusal. refusal ≡ OutOfMemory) }
@@ -195,9 +195,9 @@ pub(crate) fn perform_free_change(
     change: ViewChange,
 )
     requires kept { IsKept state.old }
-    requires sent { IsSent (session_in state.old) document view (plan.ChangeView change) }
+    requires sent { IsPlannedForSomeValue (session_in state.old) document view (plan.ChangeView change) }
     requires light { takes_fold_room change ≡ false }
-    ensures answer { (m : Message) (value : ℤ) → IsTask (session_in state.old) view m (unrecorded document view (plan.ChangeView change value)) → table (session_in state.old) view m ≡ Ok (session_in state.new, quiet value) }
+    ensures answer { (m : Message) (value : ℤ) → IsPlannedAs (session_in state.old) view m (unrecorded document view (plan.ChangeView change value)) → table (session_in state.old) view m ≡ Ok (session_in state.new, quiet value) }
     ensures kept { IsKept state.new }
 {
     // States that the session stays sound.
@@ -218,7 +218,7 @@ pub(crate) fn perform_view_change(
     change: ViewChange,
 ) -> Result<(), Refusal>
     requires kept { IsKept state.old }
-    requires sent { IsSent (session_in state.old) document view (plan.ChangeView change) }
+    requires sent { IsPlannedForSomeValue (session_in state.old) document view (plan.ChangeView change) }
     ensures answer { OnOk result ((value : ℤ) (text : List ℕ) (notes : List Notice) → IsAnswered (session_in state.old) document view text (plan.ChangeView change value) notes (session_in state.new) (response value [] notes)) }
     ensures same { OnErr result (session_in state.new ≡ session_in state.old) }
     ensures refused { IfErr result (λ refusal. refusal ≡ OutOfMemory) }
@@ -249,7 +249,7 @@ pub(crate) fn perform_session_change(
     change: SessionChange,
 ) -> Result<(), Refusal>
     requires kept { IsKept state.old }
-    requires sent { IsSentWith (session_in state.old) document view text.now (plan.ChangeSession change) }
+    requires sent { IsPlannedForSomeValueWithText (session_in state.old) document view text.now (plan.ChangeSession change) }
     ensures answer { OnOk result ((value : ℤ) (notes : List Notice) → IsAnswered (session_in state.old) document view text.now (plan.ChangeSession change value) notes (session_in state.new) (response value [] notes)) }
     ensures same { OnErr result (session_in state.new ≡ session_in state.old) }
     ensures refused { IfErr result (λ refusal. refusal ≡ OutOfMemory) }

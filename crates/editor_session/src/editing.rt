@@ -16,7 +16,7 @@ ghost use Rattle.session_changes.specs.Kept.{IsKept, DocumentsAreNamed, ViewsRis
 ghost use Rattle.editor_session.specs.Edited.{IsEditWithin, IsPastedFor, TakesWithin, is_turned, clipboard_need, taken_along, followed_views, Becomes};
 ghost use Rattle.editor_session.specs.Edits.{CanEdit, Edits, edit_steps};
 ghost use Rattle.editor_session.specs.Widths.{StepsFitWidth};
-ghost use Rattle.editor_session.specs.Unheard.{IsAnswered, IfFree, IsSentWith};
+ghost use Rattle.editor_session.specs.Performed.{IsAnswered, IfFree, IsPlannedForSomeValueWithText};
 
 use crate::edits::{follow_edit, replace_bytes, source_bytes};
 use crate::need::replacement_need;
@@ -330,7 +330,7 @@ pub(crate) fn perform_edit(
     notes: &mut NoteList,
 ) -> Result<(), Refusal>
     requires kept { IsKept state.old }
-    requires sent { IsSentWith (session_in state.old) document view text.now (λ value. plan.Edit edit value follow) }
+    requires sent { IsPlannedForSomeValueWithText (session_in state.old) document view text.now (λ value. plan.Edit edit value follow) }
     ensures answer { OnOk result ((value : ℤ) → IsAnswered (session_in state.old) document view text.now (plan.Edit edit value follow) notes.old.notes (session_in state.new) (response value [] notes.new.notes)) }
     ensures same { OnErr result (session_in state.new ≡ session_in state.old) }
     ensures refused { IfErr result (λ refusal. refusal ≡ OutOfMemory) }

@@ -15,9 +15,9 @@ ghost use Rattle.message_plans.specs.Ways.{frequent_change_in};
 ghost use Rattle.message_requests.specs.Requested.{session_in, documents_in};
 ghost use Rattle.session_changes.specs.Kept.{IsKept, DocumentsAreNamed};
 ghost use Rattle.editor_session.specs.Doing.{CanBeMade, IsChangedIn};
-ghost use Rattle.editor_session.specs.Tasks.{IsTask};
+ghost use Rattle.editor_session.specs.Planned.{IsPlannedAs};
 ghost use Rattle.editor_session.specs.Plans.{is_free};
-ghost use Rattle.editor_session.specs.Unheard.{unrecorded, going, no_notes, IsSent};
+ghost use Rattle.editor_session.specs.Performed.{unrecorded, going, no_notes, IsPlannedForSomeValue};
 ghost use Rattle.editor_session.specs.Answering.{IsAnswer, AnswersValue};
 
 use crate::attached::{look_up, request_to};
@@ -74,7 +74,7 @@ pub(crate) fn find_change(
 ) -> Option<FrequentChange>
     requires kept { IsKept state.now }
     requires frequent { frequent_change_of message.now.number ≡ Some kind }
-    ensures { IfSome result (λ found. IsTask (session_in state.now) view message.now (unrecorded found.document view (plan.ChangeDocument found.change found.value))) }
+    ensures { IfSome result (λ found. IsPlannedAs (session_in state.now) view message.now (unrecorded found.document view (plan.ChangeDocument found.change found.value))) }
 {
     // States that each kind is found by its number, and that a plan's numbers are in range.
     kinds_and_numbers();
@@ -125,8 +125,8 @@ fn perform_change_unheard(
     change: DocumentChange,
 ) -> bool
     requires kept { IsKept state.old }
-    requires sent { IsSent (session_in state.old) document view (plan.ChangeDocument change) }
-    ensures answer { result ≡ true → (m : Message) (value : ℤ) → IsTask (session_in state.old) view m (unrecorded document view (plan.ChangeDocument change value)) → table (session_in state.old) view m ≡ Ok (session_in state.new, quiet value) }
+    requires sent { IsPlannedForSomeValue (session_in state.old) document view (plan.ChangeDocument change) }
+    ensures answer { result ≡ true → (m : Message) (value : ℤ) → IsPlannedAs (session_in state.old) view m (unrecorded document view (plan.ChangeDocument change value)) → table (session_in state.old) view m ≡ Ok (session_in state.new, quiet value) }
     ensures same { result ≡ false → session_in state.new ≡ session_in state.old }
     ensures kept { IsKept state.new }
 {
@@ -180,7 +180,7 @@ pub(crate) fn answer_found_change(
     message: &SentMessage,
 ) -> Result<Reply, Refusal>
     requires kept { IsKept state.old }
-    requires task { IsTask (session_in state.old) view message.now (unrecorded found.document view (plan.ChangeDocument found.change found.value)) }
+    requires planned { IsPlannedAs (session_in state.old) view message.now (unrecorded found.document view (plan.ChangeDocument found.change found.value)) }
     ensures answer { IsAnswer state.old view message.now state.new result }
     ensures refused { IfErr result (λ refusal. refusal ≡ OutOfMemory) }
     ensures kept { IsKept state.new }
@@ -217,7 +217,7 @@ fn find_transaction(
 ) -> Option<u32>
     requires kept { IsKept state.now }
     requires transaction { transaction_of message.now.number ≡ Some kind }
-    ensures { IfSome result (λ document. IsTask (session_in state.now) view message.now (unrecorded document view (performing kind))) }
+    ensures { IfSome result (λ document. IsPlannedAs (session_in state.now) view message.now (unrecorded document view (performing kind))) }
 {
     // States that each kind is found by its number, and that a plan's numbers are in range.
     kinds_and_numbers();

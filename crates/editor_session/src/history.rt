@@ -17,9 +17,9 @@ ghost use Rattle.message_requests.specs.Requested.{session_in, documents_in};
 ghost use Rattle.session_changes.specs.Kept.{IsKept, DocumentsAreNamed, ViewsRise};
 ghost use Rattle.editor_session.specs.Edited.{Becomes};
 ghost use Rattle.editor_session.specs.Doing.{CanGoOnceThereIsRoom, Goes, scene_gone};
-ghost use Rattle.editor_session.specs.Tasks.{IsTask};
+ghost use Rattle.editor_session.specs.Planned.{IsPlannedAs};
 ghost use Rattle.editor_session.specs.Widths.{ChangesFitWidth};
-ghost use Rattle.editor_session.specs.Unheard.{unrecorded, going, no_notes, IsAnswered, IsSent};
+ghost use Rattle.editor_session.specs.Performed.{unrecorded, going, no_notes, IsAnswered, IsPlannedForSomeValue};
 
 use crate::edits::set_caret;
 use document::{Direction, Document};
@@ -155,7 +155,7 @@ pub(crate) fn perform_transaction(
     notes: &mut NoteList,
 ) -> Result<(), Refusal>
     requires kept { IsKept state.old }
-    requires sent { IsSent (session_in state.old) document view (λ value. going direction) }
+    requires sent { IsPlannedForSomeValue (session_in state.old) document view (λ value. going direction) }
     ensures answer { OnOk result ((text : List ℕ) → IsAnswered (session_in state.old) document view text (going direction) notes.old.notes (session_in state.new) (response (pos 0) [] notes.new.notes)) }
     ensures same { OnErr result (session_in state.new ≡ session_in state.old) }
     ensures refused { IfErr result (λ refusal. refusal ≡ OutOfMemory) }
@@ -181,8 +181,8 @@ pub(crate) fn perform_transaction_unheard(
     direction: Direction,
 ) -> bool
     requires kept { IsKept state.old }
-    requires sent { IsSent (session_in state.old) document view (λ value. going direction) }
-    ensures answer { result ≡ true → (m : Message) → IsTask (session_in state.old) view m (unrecorded document view (going direction)) → table (session_in state.old) view m ≡ Ok (session_in state.new, quiet (pos 0)) }
+    requires sent { IsPlannedForSomeValue (session_in state.old) document view (λ value. going direction) }
+    ensures answer { result ≡ true → (m : Message) → IsPlannedAs (session_in state.old) view m (unrecorded document view (going direction)) → table (session_in state.old) view m ≡ Ok (session_in state.new, quiet (pos 0)) }
     ensures same { result ≡ false → session_in state.new ≡ session_in state.old }
     ensures kept { IsKept state.new }
 {

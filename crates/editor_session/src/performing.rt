@@ -7,8 +7,8 @@ ghost use Rattle.message_requests.specs.Requested.{session_in};
 ghost use Rattle.session_changes.specs.Kept.{IsKept};
 ghost use Rattle.editor_session.specs.Left.{told, IsLeft};
 ghost use Rattle.editor_session.specs.Plans.{is_free};
-ghost use Rattle.editor_session.specs.Tasks.{IsTask, task_of};
-ghost use Rattle.editor_session.specs.Unheard.{IsAnswered, IfFree, IsSentAs};
+ghost use Rattle.editor_session.specs.Planned.{IsPlannedAs, planned_message};
+ghost use Rattle.editor_session.specs.Performed.{IsAnswered, IfFree, IsPlannedWithText};
 ghost use Rattle.editor_session.specs.Answering.{IsAnswer};
 
 use crate::changing::{
@@ -45,7 +45,7 @@ fn perform(
     notes: &mut NoteList,
 ) -> Result<i64, Refusal>
     requires kept { IsKept state.old }
-    requires sent { IsSentAs (session_in state.old) document view text.now plan.now }
+    requires sent { IsPlannedWithText (session_in state.old) document view text.now plan.now }
     requires empty { handed_out.old.items ≡ [] }
     ensures answer { IfOk result (λ value. IsAnswered (session_in state.old) document view text.now plan.now notes.old.notes (session_in state.new) (response value handed_out.new.items notes.new.notes)) }
     ensures same { OnErr result (session_in state.new ≡ session_in state.old) }
@@ -119,7 +119,7 @@ fn perform_with_notes(
     reply: &mut Reply,
 ) -> Result<i64, Refusal>
     requires kept { IsKept state.old }
-    requires task { IsTask (session_in state.old) view message.now (task_of document view plan.now is_recorded) }
+    requires planned { IsPlannedAs (session_in state.old) view message.now (planned_message document view plan.now is_recorded) }
     ensures answer { IsAnswer state.old view message.now state.new (told result reply.new) }
     ensures place { IsLeft result reply.old reply.new }
     ensures refused { IfErr result (λ refusal. refusal ≡ OutOfMemory) }
@@ -163,7 +163,7 @@ pub(crate) fn perform_message(
     reply: &mut Reply,
 ) -> Result<i64, Refusal>
     requires kept { IsKept state.old }
-    requires task { IsTask (session_in state.old) view message.now (task_of document view plan.now is_recorded) }
+    requires planned { IsPlannedAs (session_in state.old) view message.now (planned_message document view plan.now is_recorded) }
     ensures answer { IsAnswer state.old view message.now state.new (told result reply.new) }
     ensures place { IsLeft result reply.old reply.new }
     ensures refused { IfErr result (λ refusal. refusal ≡ OutOfMemory) }

@@ -1,7 +1,7 @@
 //! The note of a message that is recorded.
 
 ghost use Rattle.std.specs.Prelude.{◌≡◌, ◌++◌, ◌<◌, ◌≤◌, length, true, false, OnOk, IsOk};
-ghost use Rattle.editor_session.specs.Tasks.{first_note};
+ghost use Rattle.editor_session.specs.Planned.{first_note};
 
 use message_requests::SentMessage;
 use notify::{NoteList, blank};

@@ -26,7 +26,7 @@ returns-in-Ok-clause-kept c =
     let by_text = c.requires.sent in
     let sent = by_text.sent in
     kept_by c.soundness_is_kept.ensures.by_messages s a.document a.view a.text.now (plan.ChangeDocument a.change sent.value) n.state a.notes.now.notes n.notes.notes sent.value [] c.requires.kept
-    (changed_for s c.requires.kept a.document a.view a.text.now a.change n.state a.notes.now n.notes c.in-Ok.ensures.changed sent.value) sent.message sent.is_recorded sent.task by_text.text_is e.limits e.documents e.views
+    (changed_for s c.requires.kept a.document a.view a.text.now a.change n.state a.notes.now n.notes c.in-Ok.ensures.changed sent.value) sent.message sent.is_recorded sent.planned by_text.text_is e.limits e.documents e.views
 
 pub returns-in-Err-clause-free : goal.returns-in-Err-clause-free
 returns-in-Err-clause-free c = λ value.

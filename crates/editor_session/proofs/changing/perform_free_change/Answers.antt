@@ -4,7 +4,7 @@ use Rattle.id_table.specs.Entries.{Entries}
 use Rattle.document.specs.Kept.{Kept}
 use Rattle.session_changes.specs.Kept.{DocumentsAreNamed}
 use Rattle.editor_session.proofs.PlanLemmas.{kept_by}
-use Rattle.editor_session.proofs.Unheard.{view_fits, light_room, light_answer, view_changed_for}
+use Rattle.editor_session.proofs.ViewPlans.{view_fits, light_room, light_answer, view_changed_for}
 use Rattle.editor_session.proofs.changing.perform_free_change.Goals as goal
 
 pub change_view-requires-clause-can : goal.change_view-requires-clause-can
@@ -29,5 +29,5 @@ returns-clause-kept c =
     let e = c.change_view.ensures in
     let sent = c.requires.sent in
     kept_by c.soundness_is_kept.ensures.by_messages a.state.now a.document a.view sent.message.text (plan.ChangeView a.change sent.value) n [] [] sent.value [] c.requires.kept
-    (view_changed_for a.state.now c.requires.kept a.document a.view a.change n e.changed sent.value sent.message.text []) sent.message sent.is_recorded sent.task refl e.limits
+    (view_changed_for a.state.now c.requires.kept a.document a.view a.change n e.changed sent.value sent.message.text []) sent.message sent.is_recorded sent.planned refl e.limits
     (subst (λ (t : Entries Kept). DocumentsAreNamed t.entries) (sym e.documents) c.requires.kept.documents) e.views

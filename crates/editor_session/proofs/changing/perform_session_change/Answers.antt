@@ -37,7 +37,7 @@ returns-clause-kept c =
     let sent = by_text.sent in
     kept_by c.soundness_is_kept.ensures.by_messages s a.document a.view a.text.now (plan.ChangeSession a.change sent.value) n [] [] sent.value [] c.requires.kept
     (session_changed_for s c.requires.kept a.document a.view a.text.now a.change n (λ r asked text. e.changed r (subst (λ x. IsAsked x a.document a.view r) (sym f.same) asked) text) sent.value [])
-    sent.message sent.is_recorded sent.task by_text.text_is (e.limits ∙ f.limits) e.documents e.views
+    sent.message sent.is_recorded sent.planned by_text.text_is (e.limits ∙ f.limits) e.documents e.views
 
 pub returns-in_default-clause-kept : goal.returns-in_default-clause-kept
 returns-in_default-clause-kept c =

@@ -7,7 +7,7 @@ use Rattle.session_changes.specs.Asked.{IsAsked, CanChangeView}
 use Rattle.session_changes.specs.Kept.{DocumentsAreNamed}
 use Rattle.editor_session.proofs.Keeping.{kept_with}
 use Rattle.editor_session.proofs.PlanLemmas.{answers, kept_by}
-use Rattle.editor_session.proofs.Unheard.{view_fits, view_there, view_changed_for, view_free}
+use Rattle.editor_session.proofs.ViewPlans.{view_fits, view_there, view_changed_for, view_free}
 use Rattle.editor_session.proofs.changing.perform_view_change.Goals as goal
 
 pub reserve_view_change-requires-clause-there : goal.reserve_view_change-requires-clause-there
@@ -44,7 +44,7 @@ returns-clause-kept c =
     let sent = c.requires.sent in
     kept_by c.soundness_is_kept.ensures.by_messages s a.document a.view sent.message.text (plan.ChangeView a.change sent.value) n [] [] sent.value [] c.requires.kept
     (view_changed_for s c.requires.kept a.document a.view a.change n (λ r asked. e.changed r (subst (λ x. IsAsked x a.document a.view r) (sym f.same) asked)) sent.value sent.message.text [])
-    sent.message sent.is_recorded sent.task refl (e.limits ∙ f.limits)
+    sent.message sent.is_recorded sent.planned refl (e.limits ∙ f.limits)
     (subst (λ (t : Entries Kept). DocumentsAreNamed t.entries) (sym (e.documents ∙ f.documents)) c.requires.kept.documents) e.views
 
 pub returns-in_default-clause-kept : goal.returns-in_default-clause-kept

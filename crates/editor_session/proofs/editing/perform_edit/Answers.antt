@@ -42,7 +42,7 @@ returns-in-Ok-edit_making_room-clause-kept c =
     let sent = by_text.sent in
     kept_by c.soundness_is_kept.ensures.by_messages s a.document a.view a.text.now (plan.Edit a.edit sent.value a.follow) n.state a.notes.now.notes n.notes.notes sent.value [] c.requires.kept
     (edited_for s c.requires.kept a.document a.view a.text.now a.edit a.follow c.deref.result.now turned n.state a.notes.now n.notes c.in-Ok-edit_making_room.ensures.edited sent.value)
-    sent.message sent.is_recorded sent.task by_text.text_is e.limits e.documents e.views
+    sent.message sent.is_recorded sent.planned by_text.text_is e.limits e.documents e.views
 
 pub returns-clause-free : goal.returns-clause-free
 returns-clause-free c = λ value.

@@ -4,7 +4,7 @@ use Rattle.message_requests.specs.Requested.{session_in}
 use Rattle.editor_session.proofs.frequent.answer_unheard_change.Goals as goal
 
 pub perform_change_unheard-requires-clause-sent : goal.perform_change_unheard-requires-clause-sent
-perform_change_unheard-requires-clause-sent c = record { message = _; value = _; is_recorded = false; task = c.in-Some.ensures }
+perform_change_unheard-requires-clause-sent c = record { message = _; value = _; is_recorded = false; planned = c.in-Some.ensures }
 
 pub returns-then-perform_change_unheard-clause-answer : goal.returns-then-perform_change_unheard-clause-answer
 returns-then-perform_change_unheard-clause-answer c =

@@ -5,7 +5,7 @@ use Rattle.document.specs.Kept.{Kept}
 use Rattle.id_table.specs.Entries.{with_value_at}
 use Rattle.scene.specs.Scenes.{watchers}
 use Rattle.editor_session.specs.Doing.{IsChangedIn}
-use Rattle.editor_session.specs.Unheard.{no_notes}
+use Rattle.editor_session.specs.Performed.{no_notes}
 use Rattle.session_changes.specs.proved.Finding.{document_in, id_of_document, unchanged, named_with}
 use Rattle.editor_session.proofs.FrequentChanges.{same_id}
 use Rattle.editor_session.proofs.Replacing.{document_put, change_keeps_id}

@@ -4,9 +4,9 @@ use Rattle.ed_model.specs.PlansFit.{IsSoundRequest}
 use Rattle.ed_model.specs.Table.{request}
 use Rattle.message_requests.specs.Requested.{session_in}
 use Rattle.message_plans.specs.Frequent.{change_asked}
-use Rattle.editor_session.specs.Tasks.{IsTask}
-use Rattle.editor_session.specs.Unheard.{unrecorded}
-use Rattle.editor_session.proofs.FrequentChanges.{frequent_task}
+use Rattle.editor_session.specs.Planned.{IsPlannedAs}
+use Rattle.editor_session.specs.Performed.{unrecorded}
+use Rattle.editor_session.proofs.FrequentChanges.{frequent_plan}
 use Rattle.editor_session.proofs.Questions.{sound_request}
 use Rattle.editor_session.proofs.frequent.find_change.Goals as goal
 
@@ -26,5 +26,5 @@ returns c =
     let made = c.in-Some-change_of in
     let value = to_z w64 (of_z w64 made.value) in
     let asked : change_asked a.kind (request s v d m) ≡ Some (made.change, value) = subst (λ r. change_asked a.kind r ≡ Some (made.change, value)) c.request_to-request.ensures (search rules) in
-    subst (λ n. IsTask s a.view m (unrecorded n a.view (plan.ChangeDocument made.change value))) (sym c.id.ensures)
-    (frequent_task c.plans_are_fit.ensures.in_range c.kinds_and_numbers.ensures.found s a.view m a.kind v d made.change value c.requires.kept.sound c.requires.frequent c.in-Some.ensures.view c.in-Some.ensures.document asked)
+    subst (λ n. IsPlannedAs s a.view m (unrecorded n a.view (plan.ChangeDocument made.change value))) (sym c.id.ensures)
+    (frequent_plan c.plans_are_fit.ensures.in_range c.kinds_and_numbers.ensures.found s a.view m a.kind v d made.change value c.requires.kept.sound c.requires.frequent c.in-Some.ensures.view c.in-Some.ensures.document asked)

@@ -3,9 +3,9 @@ use Rattle.ed_model.specs.PlansFit.{IsSoundRequest}
 use Rattle.ed_model.specs.Table.{request, plan_of}
 use Rattle.message_requests.specs.Requested.{session_in}
 use Rattle.message_plans.specs.Frequent.{performing, is_performed}
-use Rattle.editor_session.specs.Tasks.{IsTask}
-use Rattle.editor_session.specs.Unheard.{unrecorded}
-use Rattle.editor_session.proofs.FrequentChanges.{transaction_task}
+use Rattle.editor_session.specs.Planned.{IsPlannedAs}
+use Rattle.editor_session.specs.Performed.{unrecorded}
+use Rattle.editor_session.proofs.FrequentChanges.{transaction_plan}
 use Rattle.editor_session.proofs.Questions.{sound_request}
 use Rattle.editor_session.proofs.frequent.find_transaction.Goals as goal
 
@@ -23,5 +23,5 @@ returns-then-is_performed c =
     let v = c.in-Some.found.view.now.view in
     let d = c.in-Some.found.document.now.document in
     let asked : is_performed a.kind (plan_of a.kind (request s v d m)) ≡ true = subst (λ r. is_performed a.kind (plan_of a.kind r) ≡ true) c.request_to-request.ensures (search rules) in
-    subst (λ n. IsTask s a.view m (unrecorded n a.view (performing a.kind))) (sym c.id.ensures)
-    (transaction_task c.plans_are_fit.ensures.in_range c.kinds_and_numbers.ensures.found s a.view m a.kind v d c.requires.kept.sound c.requires.transaction c.in-Some.ensures.view c.in-Some.ensures.document asked)
+    subst (λ n. IsPlannedAs s a.view m (unrecorded n a.view (performing a.kind))) (sym c.id.ensures)
+    (transaction_plan c.plans_are_fit.ensures.in_range c.kinds_and_numbers.ensures.found s a.view m a.kind v d c.requires.kept.sound c.requires.transaction c.in-Some.ensures.view c.in-Some.ensures.document asked)

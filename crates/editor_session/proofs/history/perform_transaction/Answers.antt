@@ -1,5 +1,5 @@
 use Rattle.std.proofs.Common.{[], pos, refl}
-use Rattle.editor_session.specs.Unheard.{going}
+use Rattle.editor_session.specs.Performed.{going}
 use Rattle.editor_session.proofs.Going.{can_go_once, gone_for}
 use Rattle.editor_session.proofs.PlanLemmas.{answers, kept_by}
 use Rattle.editor_session.proofs.history.perform_transaction.Goals as goal
@@ -24,4 +24,4 @@ returns-in-Ok-clause-kept c =
     let e = c.go_making_room.ensures in
     let sent = c.requires.sent in
     kept_by c.soundness_is_kept.ensures.by_messages s a.document a.view sent.message.text (going a.direction) n.state a.notes.now.notes n.notes.notes (pos 0) [] c.requires.kept
-    (gone_for s c.requires.kept a.document a.view a.direction n.state a.notes.now n.notes c.in-Ok.ensures.gone sent.message.text) sent.message sent.is_recorded sent.task refl e.limits e.documents e.views
+    (gone_for s c.requires.kept a.document a.view a.direction n.state a.notes.now n.notes c.in-Ok.ensures.gone sent.message.text) sent.message sent.is_recorded sent.planned refl e.limits e.documents e.views

@@ -2,7 +2,7 @@ use Rattle.std.proofs.Common.{pos, [], Ok, false, refl, ap, ◌∙◌}
 use Rattle.ed_model.specs.Performing.{response}
 use Rattle.message_requests.specs.Requested.{session_in}
 use Rattle.notify.specs.Gathered.{Gathered}
-use Rattle.editor_session.specs.Unheard.{going}
+use Rattle.editor_session.specs.Performed.{going}
 use Rattle.editor_session.proofs.Going.{can_go_once, gone_for}
 use Rattle.editor_session.proofs.PlanLemmas.{answers, kept_by}
 use Rattle.editor_session.proofs.history.perform_transaction_unheard.Goals as goal
@@ -32,4 +32,4 @@ returns-in-Ok-clause-kept c =
     let sent = c.requires.sent in
     let before = c.new-notes.result in
     kept_by c.soundness_is_kept.ensures.by_messages s a.document a.view sent.message.text (going a.direction) n.state before.notes n.notes.notes (pos 0) [] c.requires.kept
-    (gone_for s c.requires.kept a.document a.view a.direction n.state before n.notes c.in-Ok.ensures.gone sent.message.text) sent.message sent.is_recorded sent.task refl e.limits e.documents e.views
+    (gone_for s c.requires.kept a.document a.view a.direction n.state before n.notes c.in-Ok.ensures.gone sent.message.text) sent.message sent.is_recorded sent.planned refl e.limits e.documents e.views

@@ -2,7 +2,7 @@ use Rattle.std.proofs.Common.{rules, ◌≡◌, false, Ok, sym, ap, subst, ◌�
 use Rattle.ed_model.specs.declared.plan.Plan.TheVariants as plan
 use Rattle.ed_model.specs.Performing.{quiet}
 use Rattle.message_requests.specs.Requested.{session_in}
-use Rattle.editor_session.specs.Tasks.{IsTask, task_of}
+use Rattle.editor_session.specs.Planned.{IsPlannedAs, planned_message}
 use Rattle.editor_session.proofs.TableWay.{plain_answer}
 use Rattle.editor_session.proofs.performing.perform_message.Goals as goal
 
@@ -10,7 +10,7 @@ pub returns-in-Answer-clause-answer : goal.returns-in-Answer-clause-answer
 returns-in-Answer-clause-answer c =
     let a = c.args in
     let s = session_in a.state.now in
-    let t = c.requires.task in
+    let t = c.requires.planned in
     let unrecorded_now : a.is_recorded ≡ false = search rules in
     let answered : quiet c.in-Answer.value ≡ c.answer.result = search rules in
     plain_answer s a.view a.message.now t.kind t.request c.in-Answer.value t.found (t.planned ∙ ap (λ x. Ok x) c.in-Answer.is) (sym t.recorded ∙ unrecorded_now)
@@ -20,7 +20,7 @@ pub perform_free_change-requires-clause-sent : goal.perform_free_change-requires
 perform_free_change-requires-clause-sent c =
     let a = c.args in
     let p = c.in-ChangeView in
-    record { message = a.message.now; value = p.value; is_recorded = a.is_recorded; task = subst (λ x. IsTask (session_in a.state.now) a.view a.message.now (task_of a.document a.view x a.is_recorded)) p.is c.requires.task }
+    record { message = a.message.now; value = p.value; is_recorded = a.is_recorded; planned = subst (λ x. IsPlannedAs (session_in a.state.now) a.view a.message.now (planned_message a.document a.view x a.is_recorded)) p.is c.requires.planned }
 
 pub returns-in-ChangeView-clause-answer : goal.returns-in-ChangeView-clause-answer
 returns-in-ChangeView-clause-answer c =
@@ -29,6 +29,6 @@ returns-in-ChangeView-clause-answer c =
     let m = a.message.now in
     let answered : quiet p.value ≡ c.answer-in-ChangeView.result = search rules in
     let unrecorded_now : a.is_recorded ≡ false = search rules in
-    let task = subst (λ b. IsTask (session_in a.state.now) a.view m (task_of a.document a.view (plan.ChangeView p.change p.value) b)) unrecorded_now (subst (λ x. IsTask (session_in a.state.now) a.view m (task_of a.document a.view x a.is_recorded)) p.is c.requires.task) in
-    c.perform_free_change.ensures.answer m p.value task
+    let planned = subst (λ b. IsPlannedAs (session_in a.state.now) a.view m (planned_message a.document a.view (plan.ChangeView p.change p.value) b)) unrecorded_now (subst (λ x. IsPlannedAs (session_in a.state.now) a.view m (planned_message a.document a.view x a.is_recorded)) p.is c.requires.planned) in
+    c.perform_free_change.ensures.answer m p.value planned
     ∙ ap (λ x. Ok (session_in c.perform_free_change.new.state, x)) (answered ∙ sym c.keep-in-ChangeView.ensures.whole ∙ ap (λ v. record c.keep-in-ChangeView.new.reply { value = v }) (search rules))

@@ -2,7 +2,7 @@ use Rattle.std.proofs.Common.{rules, ◌≡◌, ◌++◌, ◌∷◌, [], to_z, o
 use Rattle.ed_types.specs.Notices.{Notice}
 use Rattle.notify.specs.Gathered.{Gathered}
 use Rattle.editor_session.specs.Answers.{message_with}
-use Rattle.editor_session.specs.Tasks.{recording}
+use Rattle.editor_session.specs.Planned.{recording}
 use Rattle.editor_session.proofs.recording.put_record.Goals as goal
 
 pub returns : goal.returns

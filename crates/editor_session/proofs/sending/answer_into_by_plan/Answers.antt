@@ -12,8 +12,8 @@ returns-in-Err-planned-clause-free c free =
     let planned : plan_of kind r ≡ Err c.in-Err-planned.refusal = search rules in
     subst (IsFitPlanned r) planned (c.plans_are_fit.ensures.in_range kind r c.in-Ok.ensures.found.sound)
 
-pub perform_message-requires-clause-task : goal.perform_message-requires-clause-task
-perform_message-requires-clause-task c =
+pub perform_message-requires-clause-planned : goal.perform_message-requires-clause-planned
+perform_message-requires-clause-planned c =
     let kind = c.in-Ok.found.0 in
     let r = c.in-Ok.found.1 in
     record {

@@ -23,15 +23,15 @@ use Rattle.session_changes.specs.Asked.{IsAsked, CanChangeView}
 use Rattle.session_changes.specs.Folding.{takes_fold_room, HasFoldRoomAt}
 use Rattle.session_changes.specs.Kept.{IsKept}
 use Rattle.editor_session.specs.Plans.{needs_no_fold_room}
-use Rattle.editor_session.specs.Unheard.{unrecorded, IfFree, IsSent}
-use Rattle.editor_session.specs.Tasks.{IsFound, IsTask, task_of}
+use Rattle.editor_session.specs.Performed.{unrecorded, IfFree, IsPlannedForSomeValue}
+use Rattle.editor_session.specs.Planned.{IsFound, IsPlannedAs, planned_message}
 use Rattle.editor_session.proofs.PlanLemmas.{DoneFor, answers, asked_by, can_change_view, for_view, view_changed, view_here}
-use Rattle.editor_session.proofs.TableWay.{fit_of, free_task, not_true}
+use Rattle.editor_session.proofs.TableWay.{fit_of, free_plan, not_true}
 
--- The task of a message that is found, and is not recorded.
-pub unrecorded_task : (s : Session) (document view : ℕ) (m : Message) (kind : Kind) (r : Request) (what : Plan) → IsFound s view m kind r → plan_of kind r ≡ Ok what → document ≡ r.document.id
-    → (r.view.records && (marks_of kind).r) ≡ false → IsFitPlanned r (plan_of kind r) → IsTask s view m (unrecorded document view what)
-unrecorded_task s document view m kind r what found planned own unheard fit = record {
+-- That a message which is found and not recorded has this plan.
+pub unrecorded_plan : (s : Session) (document view : ℕ) (m : Message) (kind : Kind) (r : Request) (what : Plan) → IsFound s view m kind r → plan_of kind r ≡ Ok what → document ≡ r.document.id
+    → (r.view.records && (marks_of kind).r) ≡ false → IsFitPlanned r (plan_of kind r) → IsPlannedAs s view m (unrecorded document view what)
+unrecorded_plan s document view m kind r what found planned own unheard fit = record {
   kind = kind;
   request = r;
   found = found;
@@ -71,35 +71,35 @@ of_any None what e h = absurd (cc)
 of_any (Some v) what e h = no_fold_room what v h
 
 module _ (s : SessionState) (kept : IsKept s) (document view : ℕ) (what : ViewChange) where
-  pub view_fits : IsSent (session_in s) document view (plan.ChangeView what) → CanChangeView (session_in s) document view what
+  pub view_fits : IsPlannedForSomeValue (session_in s) document view (plan.ChangeView what) → CanChangeView (session_in s) document view what
   view_fits sent =
-      let task = task_of document view (plan.ChangeView what sent.value) sent.is_recorded in
-      can_change_view s task sent.message.text kept sent.task.request (asked_by s view sent.message task sent.task) what sent.value sent.task.fit
+      let planned = planned_message document view (plan.ChangeView what sent.value) sent.is_recorded in
+      can_change_view s planned sent.message.text kept sent.planned.request (asked_by s view sent.message planned sent.planned) what sent.value sent.planned.fit
 
-  pub view_there : IsSent (session_in s) document view (plan.ChangeView what) → IsSome (value_at s.views.entries view)
+  pub view_there : IsPlannedForSomeValue (session_in s) document view (plan.ChangeView what) → IsSome (value_at s.views.entries view)
   view_there sent =
-      let task = task_of document view (plan.ChangeView what sent.value) sent.is_recorded in
-      view_here s task sent.message.text kept sent.task.request (asked_by s view sent.message task sent.task)
+      let planned = planned_message document view (plan.ChangeView what sent.value) sent.is_recorded in
+      view_here s planned sent.message.text kept sent.planned.request (asked_by s view sent.message planned sent.planned)
 
-  pub light_room : IsSent (session_in s) document view (plan.ChangeView what) → takes_fold_room what ≡ false → HasFoldRoomAt s.views.entries view what
+  pub light_room : IsPlannedForSomeValue (session_in s) document view (plan.ChangeView what) → takes_fold_room what ≡ false → HasFoldRoomAt s.views.entries view what
   light_room sent light = of_any (value_at s.views.entries view) what (view_there sent) light
 
   pub view_changed_for : (s' : SessionState) → ((r : Request) → IsAsked (session_in s) document view r → session_in s' ≡ view_change_performed r what)
       → (value : ℤ) (bytes : List ℕ) (notes : List Notice) → DoneFor s document view bytes (plan.ChangeView what value) s' notes notes value []
   view_changed_for s' done value bytes notes = λ m is_recorded t text_is.
-      let task = task_of document view (plan.ChangeView what value) is_recorded in
-      let by = asked_by s view m task t in
-      view_changed s task m.text kept t.request by what value s' notes (done t.request by.asked)
+      let planned = planned_message document view (plan.ChangeView what value) is_recorded in
+      let by = asked_by s view m planned t in
+      view_changed s planned m.text kept t.request by what value s' notes (done t.request by.asked)
 
   pub light_answer : (s' : SessionState) → ((r : Request) → IsAsked (session_in s) document view r → session_in s' ≡ view_change_performed r what)
-      → (m : Message) (value : ℤ) → IsTask (session_in s) view m (unrecorded document view (plan.ChangeView what value)) → table (session_in s) view m ≡ Ok (session_in s', quiet value)
+      → (m : Message) (value : ℤ) → IsPlannedAs (session_in s) view m (unrecorded document view (plan.ChangeView what value)) → table (session_in s) view m ≡ Ok (session_in s', quiet value)
   light_answer s' done m value t = answers s document view m.text (plan.ChangeView what value) s' [] [] value [] (view_changed_for s' done value m.text []) m false t refl refl
 
   -- a message that needs no memory: the room is there
   pub view_free : (P : Type 0) → (HasFoldRoomAt s.views.entries view what → P) → (value : ℤ) (bytes : List ℕ) → IfFree (session_in s) document view bytes (plan.ChangeView what value) P
   view_free P h value bytes = λ m is_recorded t text_is free.
-      let task = task_of document view (plan.ChangeView what value) is_recorded in
-      let by = asked_by s view m task t in
-      let needs = (free_task (session_in s) view m task t free).0 in
-      h (for_view s task m.text kept t.request by (λ v. HasFoldRoom v.room (fold_need v.view.flags what))
+      let planned = planned_message document view (plan.ChangeView what value) is_recorded in
+      let by = asked_by s view m planned t in
+      let needs = (free_plan (session_in s) view m planned t free).0 in
+      h (for_view s planned m.text kept t.request by (λ v. HasFoldRoom v.room (fold_need v.view.flags what))
       (λ v is. has_fold_room v what (subst (λ (x : View). needs_no_fold_room x.flags what ≡ true) (sym is) needs)))

@@ -1,4 +1,4 @@
--- From a message to what is done for it.
+-- From a message to its plan.
 use Rattle.std.specs.Prelude.{◌≡◌, ℕ, ◌&&◌, Bool, true, false, List, [], ◌∷◌, Some, Ok}
 use Rattle.ed_types.specs.declared.kind.Kind.{Kind}
 use Rattle.ed_types.specs.declared.message.Message.{Message}
@@ -21,27 +21,27 @@ pub record IsFound (s : Session) (view : ℕ) (m : Message) (kind : Kind) (r : R
   pub message : r.message ≡ m
   pub answer : table s view m ≡ answered kind r (plan_of kind r)
 
--- What is to be done for a message: the ids of its view and of its document, its plan, and whether the view records it.
-pub record Task : Type 0 where
+-- A message with its plan: the ids of its view and of its document, the plan, and whether the view records it.
+pub record PlannedMessage : Type 0 where
   pub view : ℕ
   pub document : ℕ
   pub plan : Plan
   pub is_recorded : Bool
 
--- the task of a message: the request that it comes of, and its plan
-pub record IsTask (s : Session) (view : ℕ) (m : Message) (task : Task) : Type 0 where
+-- the message has this plan: the request that the plan is made for, and what it has from there
+pub record IsPlannedAs (s : Session) (view : ℕ) (m : Message) (found_plan : PlannedMessage) : Type 0 where
   pub kind : Kind
   pub request : Request
   pub found : IsFound s view m kind request
-  pub planned : plan_of kind request ≡ Ok task.plan
-  pub view_id : task.view ≡ view
-  pub document_id : task.document ≡ request.document.id
-  pub recorded : task.is_recorded ≡ (request.view.records && (marks_of kind).r)
-  pub fit : IsFitPlan request task.plan
+  pub planned : plan_of kind request ≡ Ok found_plan.plan
+  pub view_id : found_plan.view ≡ view
+  pub document_id : found_plan.document ≡ request.document.id
+  pub recorded : found_plan.is_recorded ≡ (request.view.records && (marks_of kind).r)
+  pub fit : IsFitPlan request found_plan.plan
 
--- the request of a task, with this text
-pub record IsAskedBy (s : Session) (task : Task) (text : List ℕ) (r : Request) : Type 0 where
-  pub asked : IsAsked s task.document task.view r
+-- the request of a planned message, with this text
+pub record IsAskedBy (s : Session) (planned : PlannedMessage) (text : List ℕ) (r : Request) : Type 0 where
+  pub asked : IsAsked s planned.document planned.view r
   pub message : r.message.text ≡ text
 
 -- the note by which a view that records hears of the message
@@ -54,6 +54,6 @@ abbrev pub first_note : Bool → ℕ → Message → List Notice
 first_note true view m = recording view m ∷ []
 first_note false view m = []
 
--- the task with this plan
-abbrev pub task_of : ℕ → ℕ → Plan → Bool → Task
-task_of document view what is_recorded = record { view = view; document = document; plan = what; is_recorded = is_recorded }
+-- the planned message of these
+abbrev pub planned_message : ℕ → ℕ → Plan → Bool → PlannedMessage
+planned_message document view what is_recorded = record { view = view; document = document; plan = what; is_recorded = is_recorded }
