@@ -42,6 +42,6 @@ quiet_markers (change.DeleteMarkers number) old new h = absurd (cc)
 quiet_markers (change.DeleteHandle handle) old new h = absurd (cc)
 quiet_markers _ old new h = tt
 
-pub left_quietly : (what : DocumentChange) (old new : Kept) → is_quiet what ≡ true → new ≡ record old { document = new.document } → LeavesRoom what old new
-left_quietly what old new h e =
+pub left_without_notes : (what : DocumentChange) (old new : Kept) → is_quiet what ≡ true → new ≡ record old { document = new.document } → LeavesRoom what old new
+left_without_notes what old new h e =
     leaves what old new (ap (λ (k : Kept). k.room) e) (ap (λ (k : Kept). k.spare) e ∙ quiet_spare what new.spare.markers old.spare h) (quiet_markers what old new h)

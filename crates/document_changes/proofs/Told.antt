@@ -75,9 +75,9 @@ quiet_lines : (what : DocumentChange) → is_quiet what ≡ true → is_of_types
 quiet_lines (change.SetLineEndTypes to) h = absurd (cc)
 quiet_lines _ h = refl
 
-pub changed_quietly : (text : List ℕ) (what : DocumentChange) (sender : ℕ) (old new : Document) (views : Entries KeptView) (notes : Gathered) → is_quiet what ≡ true
+pub changed_without_notes : (text : List ℕ) (what : DocumentChange) (sender : ℕ) (old new : Document) (views : Entries KeptView) (notes : Gathered) → is_quiet what ≡ true
     → IsWatched old views → new ≡ changed_document text what old → IsChanged text what sender old new views views notes notes
-changed_quietly text what sender old new views notes h w made =
+changed_without_notes text what sender old new views notes h w made =
     is_changed text what sender old new views notes notes (quiet_lines what h) w made
     (λ v _. rw (quiet_told v (watchers old views) old new what h) (told_nothing notes))
 

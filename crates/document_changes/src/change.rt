@@ -10,7 +10,7 @@ ghost use Rattle.document_changes.specs.Fit.{IsFitChange, bytes_read};
 ghost use Rattle.document_changes.specs.Needs.{IsReady, notes_of_change};
 ghost use Rattle.document_changes.specs.RoomLeft.{LeavesRoom};
 
-use crate::history_changes::{append_container, change_quietly, set_save_point};
+use crate::history_changes::{append_container, change_without_notes, set_save_point};
 use crate::marker_changes::{
     add_marker, add_markers, delete_handle, delete_marker, delete_markers,
 };
@@ -51,7 +51,7 @@ fn perform(
         | DocumentChange::EndGroup
         | DocumentChange::ForgetHistory
         | DocumentChange::CollectUndo { .. }
-        | DocumentChange::SetEndStyled { .. } => change_quietly(document, change),
+        | DocumentChange::SetEndStyled { .. } => change_without_notes(document, change),
         DocumentChange::SetLineEndTypes { to } => set_line_end_types(document, views, to, edits),
         DocumentChange::SetSavePoint => set_save_point(document, views, notes),
         DocumentChange::AppendContainer { token, coalesce } => {

@@ -43,7 +43,7 @@ fn set(document: &mut Document, change: DocumentChange)
 }
 
 /// Makes a change of which no view is notified, and which needs no room.
-pub(crate) fn change_quietly(document: &mut Document, change: DocumentChange)
+pub(crate) fn change_without_notes(document: &mut Document, change: DocumentChange)
     requires fits { IsFitChange document.old.document change }
     requires quiet { is_quiet change ≡ true }
     ensures changed { (text : List ℕ) (sender : ℕ) (views : Entries KeptView) (notes : Gathered) → IsWatched document.old.document views → IsChanged text change sender document.old.document document.new.document views views notes notes }

@@ -6,7 +6,7 @@ use crate::memory::{MemorySink, MemorySource};
 use ed_types::{Cause, ScriptFault};
 use job_words::{Job, Task, WordFault, Words, read_task, read_words};
 use script_ends::{RunFault, check_script, list_script, read_file, status_of};
-use script_jobs::{do_job, run_script};
+use script_jobs::{run_job, run_script};
 use std::alloc::Global;
 use std::process::Abort;
 use std::test::Fail;
@@ -85,7 +85,7 @@ fn job_of_hello(alloc: Global, verb: &str) -> Result<Job, WordFault> {
 }
 
 /// Returns the result of a job on HELLO, from memory to memory.
-fn do_hello(
+fn run_hello(
     alloc: Global,
     verb: &str,
     good_reads: usize,
@@ -95,7 +95,7 @@ fn do_hello(
 {
     let job = job_of_hello(alloc, verb)?;
     let mut source = MemorySource::new(HELLO, 7, good_reads);
-    Ok(do_job(alloc, &job, Vec::new(alloc), &mut source, sink))
+    Ok(run_job(alloc, &job, Vec::new(alloc), &mut source, sink))
 }
 
 /// The text that a check of it writes.
@@ -111,7 +111,7 @@ const JOBS: [(&str, &[u8]); 3] = [
 /// Runs a job on HELLO whose reads fail after `good` of them.
 fn stops_at_read(rt: &impl Abort, alloc: Global, verb: &str, good: usize) -> Result<(), Fail> {
     let mut sink = MemorySink::new(alloc, 5, 1000, false);
-    let answer = do_hello(alloc, verb, good, &mut sink)?;
+    let answer = run_hello(alloc, verb, good, &mut sink)?;
     if good < HELLO_READS {
         assert!(rt; answer == Err(RunFault::Read));
         assert!(rt; sink.bytes().is_empty());
@@ -161,7 +161,7 @@ fn stops_at_write(
     stalls: bool,
 ) -> Result<(), Fail> {
     let mut sink = MemorySink::new(alloc, 10, good, stalls);
-    let answer = do_hello(alloc, verb, 1000, &mut sink)?;
+    let answer = run_hello(alloc, verb, 1000, &mut sink)?;
     assert_stopped(rt, &answer, &sink, text, good);
     Ok(())
 }
@@ -289,7 +289,7 @@ fn is_step(alloc: Global, words: &[&str], wanted: &str, names: &[&str]) -> bool 
 
 /// Returns whether words ask for a run of this script with these files, without notes.
 fn is_quiet_run(alloc: Global, words: &[&str], wanted: &str, names: &[&str]) -> bool {
-    matches!(&task(alloc, words), Ok(Task::RunQuietly { script, files }) if script.as_str() == wanted && are_texts(files, names))
+    matches!(&task(alloc, words), Ok(Task::RunWithoutNotes { script, files }) if script.as_str() == wanted && are_texts(files, names))
 }
 
 /// Returns whether words ask for a check of this script that shows the line at fault.

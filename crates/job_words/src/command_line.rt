@@ -107,7 +107,7 @@ fn task_with_files(name: &str, is_quiet: bool, script: Word, files: Words) -> Ta
         return Task::Step { script, files };
     }
     if is_quiet {
-        return Task::RunQuietly { script, files };
+        return Task::RunWithoutNotes { script, files };
     }
     Task::Whole(Job::Run { script, files })
 }
@@ -179,6 +179,8 @@ pub fn parsed_task(alloc: Global, words: &[String]) -> Result<Task, WordFault> {
 pub fn parsed_job(alloc: Global, words: &[String]) -> Result<Job, WordFault> {
     match parsed_task(alloc, words)? {
         Task::Whole(job) => Ok(job),
-        Task::RunQuietly { .. } | Task::Step { .. } | Task::CheckAndShow { .. } => no_job(alloc),
+        Task::RunWithoutNotes { .. } | Task::Step { .. } | Task::CheckAndShow { .. } => no_job(
+            alloc,
+        ),
     }
 }

@@ -88,7 +88,7 @@ pub enum Task {
     /// A job.
     Whole(Job),
     /// Runs a script with files, without printing notes.
-    RunQuietly { script: Word, files: Words },
+    RunWithoutNotes { script: Word, files: Words },
     /// Steps through a script with files.
     Step { script: Word, files: Words },
     /// Checks a script, and shows the line at fault.

@@ -18,7 +18,7 @@ use script_ends::{
     ReaderSource, RunFault, TextSource, WriterSink, check_script, read_file, read_script,
     read_text, status_of,
 };
-use script_jobs::{do_job, run_quietly};
+use script_jobs::{run_job, run_without_notes};
 use script_walk::step_commands;
 use std::fs::File;
 use std::process::ExitCode;
@@ -79,12 +79,22 @@ fn step(rt: &HostRuntime, files: &[Bytes], text: &[u8]) -> Result<u64, RunFault>
 }
 
 /// Performs a task on the script of these bytes, and prints to standard output.
-fn do_task(rt: &HostRuntime, task: &Task, files: Vec<Bytes>, text: &[u8]) -> Result<u64, RunFault> {
+fn run_on_text(
+    rt: &HostRuntime,
+    task: &Task,
+    files: Vec<Bytes>,
+    text: &[u8],
+) -> Result<u64, RunFault> {
     let mut source = TextSource::new(text);
     let mut sink = WriterSink::new(rt.stdout());
     match task {
-        Task::Whole(job) => do_job(rt.alloc(), job, files, &mut source, &mut sink),
-        Task::RunQuietly { .. } => run_quietly(rt.alloc(), &mut source, &files, &mut sink),
+        Task::Whole(job) => run_job(rt.alloc(), job, files, &mut source, &mut sink),
+        Task::RunWithoutNotes { .. } => run_without_notes(
+            rt.alloc(),
+            &mut source,
+            &files,
+            &mut sink,
+        ),
         Task::Step { .. } => step(rt, &files, text),
         Task::CheckAndShow { .. } => check_script(rt.alloc(), &mut source, &mut sink),
     }
@@ -105,13 +115,13 @@ fn show_fault(task: &Task, answer: &Result<u64, RunFault>, text: &[u8], shown: &
 fn run_task(rt: &HostRuntime, task: &Task, shown: &mut String) -> Result<u64, RunFault> {
     let (script, files) = match task {
         Task::Whole(Job::Run { script, files })
-        | Task::RunQuietly { script, files }
+        | Task::RunWithoutNotes { script, files }
         | Task::Step { script, files } => (script, read_files(rt, files)?),
         Task::Whole(Job::List { script } | Job::Check { script }) | Task::CheckAndShow { script } =>
             (script, Vec::new(rt.alloc())),
     };
     let text = read_script_at(rt, script)?;
-    let answer = do_task(rt, task, files, &text);
+    let answer = run_on_text(rt, task, files, &text);
     show_fault(task, &answer, &text, shown);
     answer
 }
@@ -145,7 +155,7 @@ fn tell_no_text(rt: &HostRuntime) -> ExitCode {
 }
 
 /// Performs a task, and returns the exit status.
-fn do_and_finish(rt: &HostRuntime, task: &Task) -> u8 {
+fn run_and_finish(rt: &HostRuntime, task: &Task) -> u8 {
     let mut shown = String::new(rt.alloc());
     let answer = run_task(rt, task, &mut shown);
     finish(rt, &answer, shown.as_str())
@@ -158,7 +168,7 @@ fn main(rt: HostRuntime) -> ExitCode {
         Err(_) => return tell_no_text(&rt),
     };
     let status = match task {
-        Ok(task) => do_and_finish(&rt, &task),
+        Ok(task) => run_and_finish(&rt, &task),
         Err(WordFault::Usage(error)) => tell_usage(&rt, &error),
         Err(WordFault::OutOfMemory) => {
             finish(&rt, &Err(RunFault::Script(ScriptFault::OutOfMemory)), "")

@@ -35,8 +35,8 @@ without_notes (Replied reply) = Replied (record reply { notes = [] })
 without_notes outcome = outcome
 
 -- the text printed for them without notes
-abbrev pub printed_quietly : List (List ℕ) → List Command → List ℕ
-printed_quietly files commands = printed (map without_notes (answers files commands))
+abbrev pub printed_without_notes : List (List ℕ) → List Command → List ℕ
+printed_without_notes files commands = printed (map without_notes (answers files commands))
 
 -- the text that a job writes for a script's commands with these files, and the number that it returns
 abbrev pub text_of_job : Job → List (List ℕ) → List Command → List ℕ

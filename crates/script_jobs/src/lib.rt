@@ -5,4 +5,4 @@
 mod notes;
 mod running;
 
-pub use running::{do_job, run_quietly, run_script};
+pub use running::{run_job, run_script, run_without_notes};

@@ -6,7 +6,7 @@ ghost use Rattle.ed_model.specs.Reading.{reading};
 ghost use Rattle.ed_model.specs.Run.{outcomes, is_unmet as is_unmet_outcome};
 ghost use Rattle.script_ends.specs.Ends.{TakesAtMost};
 ghost use Rattle.script_ends.specs.Answers.{Answers, HasCause, WritesNoneAtRead, Puts, PutCause};
-ghost use Rattle.script_jobs.specs.Runs.{Writes, WriteCause, shown_outcomes, answers, printed_run, printed_quietly, unmet, text_of_job, value_of_job};
+ghost use Rattle.script_jobs.specs.Runs.{Writes, WriteCause, shown_outcomes, answers, printed_run, printed_without_notes, unmet, text_of_job, value_of_job};
 
 use crate::notes::{Notes, put_shown};
 use ed_types::{Bytes, Command, Outcome};
@@ -133,7 +133,7 @@ pub fn run_script<R: Source, W: Sink>(
 /// # Errors
 ///
 /// Those of `run_script`.
-pub fn run_quietly<R: Source, W: Sink>(
+pub fn run_without_notes<R: Source, W: Sink>(
     alloc: Global,
     reader: &mut R,
     files: &[Bytes],
@@ -142,7 +142,7 @@ pub fn run_quietly<R: Source, W: Sink>(
     requires reader { R.has_failed reader.old ≡ false }
     requires writer { W.has_failed writer.old ≡ false }
     ensures ran { IfSome (R.remaining reader.old) (λ bytes.
-        Answers (printed_quietly files.now) (unmet files.now) (reading bytes) result (W.contents writer.old) (W.contents writer.new)) }
+        Answers (printed_without_notes files.now) (unmet files.now) (reading bytes) result (W.contents writer.old) (W.contents writer.new)) }
     ensures taken { TakesAtMost 16777217 (R.remaining reader.old) (R.remaining reader.new) }
     ensures cause { HasCause result (R.has_failed reader.new) (W.has_failed writer.new) }
     ensures unread { WritesNoneAtRead result (W.contents writer.old) (W.contents writer.new) }
@@ -157,7 +157,7 @@ pub fn run_quietly<R: Source, W: Sink>(
 /// # Errors
 ///
 /// Those of `run_script`.
-pub fn do_job<R: Source, W: Sink>(
+pub fn run_job<R: Source, W: Sink>(
     alloc: Global,
     job: &Job,
     files: Vec<Bytes>,

@@ -41,7 +41,7 @@ impl Model for Stepper {
 /// # Errors
 ///
 /// `AllocError` if an allocation fails. The run is then that of the commands that were done.
-fn do_all(run: &mut Run, files: &[Bytes], commands: &[Command]) -> Result<(), AllocError>
+fn perform_all(run: &mut Run, files: &[Bytes], commands: &[Command]) -> Result<(), AllocError>
     ensures { OnOk result (run.new ≡ run_to files.now commands.now run.old) }
 {
     for command in commands {
@@ -154,7 +154,7 @@ impl Stepper {
         ensures kept { OnErr result (self.new ≡ self.old) }
     {
         let mut run = Run::new(Session::new(self.alloc));
-        do_all(&mut run, &self.files, &self.script.commands()[..n])?;
+        perform_all(&mut run, &self.files, &self.script.commands()[..n])?;
         self.run = run;
         self.state = n;
         Ok(())

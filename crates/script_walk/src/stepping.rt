@@ -43,7 +43,7 @@ fn say_moved(out: &mut String, walk: &mut Walk<'_>, to: Option<usize>) -> Result
 }
 
 /// Performs an order, and appends its output. Returns whether to continue.
-fn carry_out(out: &mut String, walk: &mut Walk<'_>, order: Order) -> Result<bool, AllocError> {
+fn perform_order(out: &mut String, walk: &mut Walk<'_>, order: Order) -> Result<bool, AllocError> {
     match order {
         Order::Next => say_next(out, walk)?,
         Order::Back => {
@@ -74,7 +74,7 @@ fn follow<C: Source, W: Sink>(
             break 'orders;
         }
         told.clear();
-        if !carry_out(&mut told, walk, order_of(&line))? {
+        if !perform_order(&mut told, walk, order_of(&line))? {
             break 'orders;
         }
         write_all(sink, told.as_str().as_bytes())?;

@@ -46,7 +46,7 @@ impl<'a> Walk<'a> {
     }
 
     /// Performs a command.
-    fn do_command(&mut self, command: &Command) -> Result<Outcome, AllocError> {
+    fn perform(&mut self, command: &Command) -> Result<Outcome, AllocError> {
         let outcome = self.run.step(self.files, command)?;
         if let Outcome::Opened(view) = &outcome {
             self.last_view = *view;
@@ -64,7 +64,7 @@ impl<'a> Walk<'a> {
         if self.was_asked && matches!(command, Command::Expect { .. }) {
             self.go_to(done)?;
         }
-        let outcome = self.do_command(command)?;
+        let outcome = self.perform(command)?;
         self.was_asked = false;
         self.done = done + 1;
         Ok(Some((command, outcome)))
@@ -77,7 +77,7 @@ impl<'a> Walk<'a> {
         self.was_asked = false;
         let commands = self.commands;
         for command in commands.iter().take(count) {
-            self.do_command(command)?;
+            self.perform(command)?;
         }
         self.done = count.min(commands.len());
         Ok(())

@@ -70,7 +70,7 @@ fn plain(alloc: Global, kind: Kind) -> Command {
 }
 
 /// Performs a command, which must not be refused.
-fn do_command(rt: &impl Abort, run: &mut Run, command: &Command) {
+fn perform(rt: &impl Abort, run: &mut Run, command: &Command) {
     let outcome = run.step(&[], command).expect(rt, "memory");
     assert!(rt; !matches!(&outcome, Outcome::Refused(_)));
 }
@@ -90,9 +90,9 @@ fn assert_text(rt: &impl Abort, alloc: Global, session: &Session, text: &[u8]) {
 
 /// Asserts that the macro leaves `ac`, with the caret behind the a, and two transactions: the letters, and the deletion.
 fn assert_replayed(rt: &impl Abort, alloc: Global, run: &mut Run, commands: &[Command]) {
-    do_command(rt, run, &Command::OpenView);
+    perform(rt, run, &Command::OpenView);
     for command in commands {
-        do_command(rt, run, command);
+        perform(rt, run, command);
     }
     assert_text(rt, alloc, run.session(), b"ac");
     assert_answered(rt, run.session(), Kind::GetCurrentPos, 1);
@@ -100,7 +100,7 @@ fn assert_replayed(rt: &impl Abort, alloc: Global, run: &mut Run, commands: &[Co
     let undo = plain(alloc, Kind::Undo);
     for text in [b"abc".as_slice(), b"".as_slice()] {
         assert_answered(rt, run.session(), Kind::CanUndo, 1);
-        do_command(rt, run, &undo);
+        perform(rt, run, &undo);
         assert_text(rt, alloc, run.session(), text);
     }
     assert_answered(rt, run.session(), Kind::CanUndo, 0);

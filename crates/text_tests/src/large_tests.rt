@@ -13,7 +13,7 @@ use undo_history::{StepKind, UndoHistory};
 // In each long test one function owns the value under test and lends it to others, which do the rest: owning it over
 // many calls makes a proof slow.
 
-fn put_in_at_once(rt: &impl Abort, whole: &mut SplitVector<u8>, text: &[u8]) {
+fn insert_whole(rt: &impl Abort, whole: &mut SplitVector<u8>, text: &[u8]) {
     assert!(rt; whole.is_empty());
     whole.reserve(text.len()).expect(rt, "memory");
     whole.insert_slice_reserved(0, text);
@@ -42,14 +42,14 @@ fn put_in_one_item_often(rt: &impl Abort, filled: &mut SplitVector<u32>) {
 fn items_at_once_and_one_by_one(rt: HostRuntime) {
     let text = large_text(rt.alloc()).expect(&rt, "memory");
     let mut whole: SplitVector<u8> = SplitVector::new(rt.alloc());
-    put_in_at_once(&rt, &mut whole, text.as_slice());
+    insert_whole(&rt, &mut whole, text.as_slice());
     let mut single: SplitVector<u8> = SplitVector::new(rt.alloc());
     put_in_one_by_one(&rt, &mut single, text.as_slice());
     let mut filled: SplitVector<u32> = SplitVector::new(rt.alloc());
     put_in_one_item_often(&rt, &mut filled);
 }
 
-fn put_cells_in_at_once(rt: &impl Abort, cells: &mut Cells, text: &[u8]) {
+fn insert_cells(rt: &impl Abort, cells: &mut Cells, text: &[u8]) {
     cells.reserve(text.len()).expect(rt, "memory");
     cells.insert_reserved(0, text);
     cells.keep_styles().expect(rt, "memory");
@@ -67,7 +67,7 @@ fn copy_cells_out(rt: &impl Abort, cells: &Cells, copy: &mut Vec<u8>) {
 fn cells_of_a_large_text(rt: HostRuntime) {
     let text = large_text(rt.alloc()).expect(&rt, "memory");
     let mut cells = Cells::new(rt.alloc());
-    put_cells_in_at_once(&rt, &mut cells, text.as_slice());
+    insert_cells(&rt, &mut cells, text.as_slice());
     let mut copy = Vec::with_capacity(rt.alloc(), LARGE).expect(&rt, "memory");
     copy_cells_out(&rt, &cells, &mut copy);
     assert!(rt; copy == text);
@@ -98,7 +98,7 @@ fn change_at_both_ends(rt: &impl Abort, cells: &mut Cells) {
 fn a_large_text_that_is_changed(rt: HostRuntime) {
     let text = large_text(rt.alloc()).expect(&rt, "memory");
     let mut cells = Cells::new(rt.alloc());
-    put_cells_in_at_once(&rt, &mut cells, text.as_slice());
+    insert_cells(&rt, &mut cells, text.as_slice());
     style_all(&rt, &mut cells);
     change_at_both_ends(&rt, &mut cells);
 }

@@ -9,7 +9,7 @@ use crate::source::{Ends, source_lines, word};
 use ed_types::{Bytes, Command, Kind, Message};
 use macro_script::{Script, assemble, list};
 use script_ends::{Sink, TextSource, WriteFailed, check_script};
-use script_jobs::{run_quietly, run_script};
+use script_jobs::{run_script, run_without_notes};
 use script_stepper::Stepper;
 use std::alloc::{AllocError, Global};
 
@@ -160,7 +160,7 @@ fn run_each_way(desk: &mut Desk, alloc: Global, listing: &[u8]) {
     desk.note_down(unmet.unwrap_or(u64::MAX));
     desk.note_down(sink.digest.value());
     let mut sink = DigestSink::new();
-    let unmet = run_quietly(alloc, &mut TextSource::new(listing), &[], &mut sink);
+    let unmet = run_without_notes(alloc, &mut TextSource::new(listing), &[], &mut sink);
     desk.note_down(unmet.unwrap_or(u64::MAX));
     desk.note_down(sink.digest.value());
     let mut sink = DigestSink::new();

@@ -7,7 +7,7 @@ use Rattle.document_changes.specs.Changed.{IsChanged}
 use Rattle.document_changes.proofs.change.perform.Goals as goal
 
 pub returns-in-SetReadOnly-clause-changed : goal.returns-in-SetReadOnly-clause-changed
-returns-in-SetReadOnly-clause-changed c = c.change_quietly.ensures.changed c.args.text.now c.args.sender c.args.views.now c.args.notes.now c.requires.watched
+returns-in-SetReadOnly-clause-changed c = c.change_without_notes.ensures.changed c.args.text.now c.args.sender c.args.views.now c.args.notes.now c.requires.watched
 
 pub returns-in-SetLineEndTypes-clause-changed : goal.returns-in-SetLineEndTypes-clause-changed
 returns-in-SetLineEndTypes-clause-changed c = rw c.in-SetLineEndTypes.is (c.set_line_end_types.ensures.changed c.args.text.now c.args.sender c.args.notes.now)
