@@ -1,7 +1,8 @@
 -- What a change needs: room for notes, and room in its document.
-use Rattle.std.specs.Prelude.{◌≡◌, ◌≤◌, ◌<◌, ◌+◌, max, ℕ, Bool, true, false, List, length, bit_or, Some}
+use Rattle.std.specs.Prelude.{◌≡◌, ◌≤◌, ◌<◌, ◌+◌, max, ℕ, Bool, true, false, List, [], length, bit_or, Some}
 use Rattle.ed_model.specs.declared.plan.DocumentChange.{DocumentChange}
 use Rattle.ed_model.specs.declared.plan.DocumentChange.TheVariants as change
+use Rattle.ed_model.specs.declared.plan.LineEndTypes.{LineEndTypes}
 use Rattle.ed_model.specs.History.{History}
 use Rattle.ed_model.specs.LinePlans.{numbers_in}
 use Rattle.ed_model.specs.Notes as notes
@@ -11,9 +12,20 @@ use Rattle.line_index.specs.Edits.{fresh_lines}
 use Rattle.line_index.specs.Settings.{edits_of_setting}
 use Rattle.document.specs.Changes.{CanStyle, container_need}
 use Rattle.document.specs.declared.room.DocumentRoom.{DocumentRoom}
-use Rattle.document.specs.Kept.{Kept, ChangeRoom, HasHistoryRoom, document_room, no_room}
+use Rattle.document.specs.Kept.{Kept, ChangeRoom, HasHistoryRoom, IsAtMost, document_room, no_room}
+use Rattle.id_table.specs.Entries.{Entries}
+use Rattle.ed_view.specs.Kept.{KeptView}
+use Rattle.scene.specs.Scenes.{watchers}
 use Rattle.scene.specs.Hearing.{hearers}
 use Rattle.scene.specs.Needs.{leaving_count}
+
+-- the kind of the note of a user's change of styles
+abbrev pub style_kind : ℕ
+style_kind = bit_or notes.change_style notes.performed_user
+
+-- the kind of the note of a user's change of an indicator
+abbrev pub indicator_kind : ℕ
+indicator_kind = bit_or notes.change_indicator notes.performed_user
 
 -- how many notes the change has at most, if these views watch the document
 abbrev pub notes_of_change : DocumentChange → History → List View → ℕ
@@ -26,20 +38,32 @@ notes_of_change (change.DeleteMarkers number) h views = hearers notes.change_mar
 notes_of_change (change.DeleteHandle handle) h views = hearers notes.change_marker views
 notes_of_change (change.SetLevel line level) h views = hearers notes.change_fold views
 notes_of_change (change.SetState line state) h views = hearers notes.change_line_state views
-notes_of_change (change.StyleRun count style) h views = hearers (bit_or notes.change_style notes.performed_user) views
-notes_of_change (change.StyleBytes count) h views = hearers (bit_or notes.change_style notes.performed_user) views
+notes_of_change (change.StyleRun count style) h views = hearers style_kind views
+notes_of_change (change.StyleBytes count) h views = hearers style_kind views
 notes_of_change (change.NeedStyle start past) h views = 1
-notes_of_change (change.FillIndicator indicator start count value) h views = hearers (bit_or notes.change_indicator notes.performed_user) views
+notes_of_change (change.FillIndicator indicator start count value) h views = hearers indicator_kind views
 notes_of_change other h views = 0
+
+-- how many notes the change has at most in the document as it is kept, with these views of the session
+abbrev pub change_note_need : DocumentChange → Kept → Entries KeptView → ℕ
+change_note_need what k views = notes_of_change what k.document.history (watchers k.document views)
+
+-- the edits of the document's lines when these line ends count
+abbrev pub line_type_edits : LineEndTypes → Document → List LineEdit
+line_type_edits types d = edits_of_setting d.line_end_types types (text_of d)
+
+-- there is room for a marker for each bit of the mask
+abbrev pub HasMaskRoom : Kept → ℕ → Type 0
+HasMaskRoom k mask = length (numbers_in mask) ≤ k.spare.markers
 
 -- The document has room for the change, so that the change allocates nothing. When other line ends are set, `edits` are the changes of
 -- the lines.
 abbrev pub IsReady : Kept → DocumentChange → List LineEdit → Type 0
 IsReady k (change.SetLineEndTypes to) edits =
-    (edits ≡ edits_of_setting k.document.line_end_types to (text_of k.document)) × (fresh_lines edits ≤ k.room.lines)
+    (edits ≡ line_type_edits to k.document) × (fresh_lines edits ≤ k.room.lines)
 IsReady k (change.AppendContainer token coalesce) edits = HasHistoryRoom k container_need
 IsReady k (change.AddMarker line number) edits = 0 < k.spare.markers
-IsReady k (change.AddMarkers line mask) edits = length (numbers_in mask) ≤ k.spare.markers
+IsReady k (change.AddMarkers line mask) edits = HasMaskRoom k mask
 IsReady k (change.SetLevel line level) edits = line < k.spare.levels
 IsReady k (change.SetState line state) edits = line < k.spare.states
 IsReady k (change.StyleRun count style) edits = CanStyle k
@@ -51,7 +75,7 @@ IsReady k other edits = Unit {0}
 -- styles.
 
 abbrev pub room_for : Document → DocumentChange → DocumentRoom
-room_for d (change.SetLineEndTypes to) = document_room 0 (fresh_lines (edits_of_setting d.line_end_types to (text_of d))) 0 0 0
+room_for d (change.SetLineEndTypes to) = document_room 0 (fresh_lines (line_type_edits to d)) 0 0 0
 room_for d (change.AppendContainer token coalesce) = container_need
 room_for d other = no_room
 
@@ -64,6 +88,26 @@ spare_for (change.StyleRun count style) styles s = record s { styles = styles }
 spare_for (change.StyleBytes count) styles s = record s { styles = styles }
 spare_for (change.FillIndicator indicator start count value) styles s = record s { fill = Some indicator }
 spare_for other styles s = s
+
+-- at most the room for steps that the change needs was reserved
+abbrev pub ReservesAtMost : DocumentChange → Kept → Kept → Type 0
+ReservesAtMost what old new = IsAtMost new.room old.room (room_for old.document what)
+
+-- the other room that the change needs was reserved, and no more of it
+abbrev pub ReservesSpare : DocumentChange → Kept → Kept → Type 0
+ReservesSpare what old new = new.spare ≡ spare_for what new.spare.styles old.spare
+
+-- the document with room for at least `count` markers
+abbrev pub with_marker_room : ℕ → Kept → Kept
+with_marker_room count k = record k { spare = record k.spare { markers = max k.spare.markers count } }
+
+-- the document with a flag that says whether it stores styles
+abbrev pub with_styles : Bool → Kept → Kept
+with_styles styles k = record k { spare = record k.spare { styles = styles } }
+
+-- the document with room for one fill of the indicator
+abbrev pub with_fill_room : ℕ → Kept → Kept
+with_fill_room indicator k = record k { spare = record k.spare { fill = Some indicator } }
 
 -- whether the change needs room in its document
 abbrev pub needs_room : DocumentChange → Bool
@@ -100,3 +144,7 @@ is_frequent (change.AddMarker line number) = true
 is_frequent (change.SetLevel line level) = true
 is_frequent (change.StyleRun count style) = true
 is_frequent other = false
+
+-- If the change is a frequent one that no view hears, and there is room for it, it was made, as `made` says.
+abbrev pub IsMadeIfReady : DocumentChange → Kept → Entries KeptView → Bool → Type 0
+IsMadeIfReady what k views made = is_frequent what ≡ true → change_note_need what k views ≡ 0 → IsReady k what [] → made ≡ true

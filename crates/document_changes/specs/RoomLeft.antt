@@ -5,7 +5,7 @@ use Rattle.ed_model.specs.declared.plan.DocumentChange.TheVariants as change
 use Rattle.ed_model.specs.Changes.{marker_count}
 use Rattle.ed_model.specs.LinePlans.{numbers_in}
 use Rattle.document.specs.Kept.{Kept, ChangeRoom, TakesRoom, IsAtMost, no_room}
-use Rattle.document_changes.specs.Needs.{room_for}
+use Rattle.document_changes.specs.Needs.{room_for, spare_for}
 
 -- The other room after a change: a marker uses its room, and a fill the room reserved for it. After deleted markers there is room for
 -- `markers` of them.
@@ -18,6 +18,10 @@ spare_left (change.DeleteMarkers number) markers s = record s { markers = marker
 spare_left (change.DeleteHandle handle) markers s = record s { markers = markers }
 spare_left (change.FillIndicator indicator start count value) markers s = record s { fill = None }
 spare_left other markers s = s
+
+-- the other room is what the change leaves of it once enough was reserved for the change
+abbrev pub LeavesSpare : DocumentChange → Kept → Kept → Type 0
+LeavesSpare what old new = new.spare ≡ spare_left what new.spare.markers (spare_for what new.spare.styles old.spare)
 
 -- each deleted marker became room for a marker
 abbrev pub GivesBack : Kept → Kept → Type 0

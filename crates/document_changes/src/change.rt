@@ -1,13 +1,12 @@
 //! Makes a change, by its kind.
 
-ghost use Rattle.std.specs.Prelude.{◌≡◌, ◌≤◌, ◌+◌, ◌++◌, map, length};
-ghost use Rattle.ed_model.specs.Session.{View as ModelView};
-ghost use Rattle.ed_model.specs.Changes.{changed_document, changed_lines, change_told};
+ghost use Rattle.std.specs.Prelude.{◌≡◌, ◌≤◌, map, length};
+ghost use Rattle.ed_model.specs.Changes.{changed_document};
 ghost use Rattle.id_table.specs.Entries.{id_of};
-ghost use Rattle.scene.specs.Scenes.{views_of, watchers, fold_room_in_all, IsWatched};
-ghost use Rattle.document_changes.specs.Changed.{IsChanged};
+ghost use Rattle.scene.specs.Scenes.{fold_room_in_all, IsWatched};
+ghost use Rattle.document_changes.specs.Changed.{Changes, FlagsFollow, NotesAreAppended, note_room_in_all};
 ghost use Rattle.document_changes.specs.Fit.{IsFitChange, bytes_read};
-ghost use Rattle.document_changes.specs.Needs.{IsReady, notes_of_change};
+ghost use Rattle.document_changes.specs.Needs.{IsReady, change_note_need};
 ghost use Rattle.document_changes.specs.RoomLeft.{LeavesRoom};
 
 use crate::history_changes::{append_container, change_without_notes, set_save_point};
@@ -25,8 +24,8 @@ use id_table::IdTable;
 use line_index::LineEdit;
 use notify::NoteList;
 
-// Makes a change, for which there is room, with these edits. Rare changes, and those that prepare a note, are out of line, so that the
-// stack frame of the others stays small.
+// Makes a change, for which there is room, with these edits. Rare changes, and those that prepare a note, are out of
+// line, so that the stack frame of the others stays small.
 fn perform(
     document: &mut Document,
     views: &mut IdTable<View>,
@@ -40,8 +39,8 @@ fn perform(
     requires text { bytes_read change ≤ length text.now }
     requires ready { IsReady document.old change edits.now }
     requires watched { IsWatched document.old.document views.old }
-    requires room { notes_of_change change document.old.document.history (watchers document.old.document views.old) ≤ notes.old.note_room }
-    ensures changed { IsChanged text.now change sender document.old.document document.new.document views.old views.new notes.old notes.new }
+    requires room { change_note_need change document.old views.old ≤ notes.old.note_room }
+    ensures changed { Changes text.now change sender document.old document.new views.old views.new notes.old notes.new }
     ensures room { LeavesRoom change document.old document.new }
 {
     match change {
@@ -86,12 +85,12 @@ fn perform(
     }
 }
 
-/// Makes a change of the document, and notifies the views that watch and hear it. A request for styles notifies only the
-/// view whose id is `sender`.
+/// Makes a change of the document, and notifies the views that watch and hear it. A request for styles notifies only
+/// the view whose id is `sender`.
 ///
-/// If other line ends count, the flags of the views follow the lines. There must be room for the change and for its notes.
-/// The change uses that room, and adds none but that of deleted markers. The total room of each view for hidden and
-/// contracted lines does not change.
+/// If other line ends count, the flags of the views follow the lines. There must be room for the change and for its
+/// notes. The change uses that room, and adds none but that of deleted markers. The total room of each view for hidden
+/// and contracted lines does not change.
 pub fn change_document(
     document: &mut Document,
     views: &mut IdTable<View>,
@@ -105,11 +104,11 @@ pub fn change_document(
     requires text { bytes_read change ≤ length text.now }
     requires ready { IsReady document.old change ready }
     requires watched { IsWatched document.old.document views.old }
-    requires room { notes_of_change change document.old.document.history (watchers document.old.document views.old) ≤ notes.old.note_room }
+    requires room { change_note_need change document.old views.old ≤ notes.old.note_room }
     ensures document { document.new.document ≡ changed_document text.now change document.old.document }
-    ensures views { views_of views.new.entries ≡ map (changed_lines change document.old.document) (views_of views.old.entries) }
-    ensures notes { (v : ModelView) → v.id ≡ sender → notes.new.notes ≡ notes.old.notes ++ change_told v (watchers document.old.document views.old) document.old.document document.new.document change }
-    ensures note_room_left { notes.new.note_room + length notes.new.notes ≡ notes.old.note_room + length notes.old.notes }
+    ensures views { FlagsFollow change document.old.document views.old views.new }
+    ensures notes { NotesAreAppended sender change document.old document.new views.old notes.old notes.new }
+    ensures note_room_left { note_room_in_all notes.new ≡ note_room_in_all notes.old }
     ensures text_room { notes.new.text_room ≡ notes.old.text_room }
     ensures watched { IsWatched document.new.document views.new }
     ensures ids { map id_of views.new.entries ≡ map id_of views.old.entries }

@@ -1,18 +1,14 @@
 //! Changes of the document's settings and of its history.
 
 ghost use Rattle.std.specs.Prelude.{◌≡◌, ◌≤◌, true, List, ℕ, length};
-ghost use Rattle.ed_model.specs.declared.plan.DocumentChange.TheVariants as change;
+ghost use Rattle.ed_model.specs.declared.plan.DocumentChange.TheVariants.{SetSavePoint, AppendContainer};
 ghost use Rattle.ed_model.specs.Changes.{changed_document};
 ghost use Rattle.document.specs.Kept.{HasHistoryRoom};
 ghost use Rattle.document.specs.Changes.{container_need};
-ghost use Rattle.id_table.specs.Entries.{Entries};
-ghost use Rattle.notify.specs.Gathered.{Gathered};
-ghost use Rattle.ed_view.specs.Kept.{KeptView};
 ghost use Rattle.scene.specs.Scenes.{watchers, IsWatched};
-ghost use Rattle.scene.specs.Needs.{leaving_count};
-ghost use Rattle.document_changes.specs.Changed.{IsChanged};
+ghost use Rattle.document_changes.specs.Changed.{IsMade, IsMadeForAnyViews};
 ghost use Rattle.document_changes.specs.Fit.{IsFitChange};
-ghost use Rattle.document_changes.specs.Needs.{is_quiet};
+ghost use Rattle.document_changes.specs.Needs.{change_note_need, is_quiet};
 ghost use Rattle.document_changes.specs.RoomLeft.{LeavesRoom};
 
 use crate::telling::tell_all;
@@ -46,7 +42,7 @@ fn set(document: &mut Document, change: DocumentChange)
 pub(crate) fn change_without_notes(document: &mut Document, change: DocumentChange)
     requires fits { IsFitChange document.old.document change }
     requires quiet { is_quiet change ≡ true }
-    ensures changed { (text : List ℕ) (sender : ℕ) (views : Entries KeptView) (notes : Gathered) → IsWatched document.old.document views → IsChanged text change sender document.old.document document.new.document views views notes notes }
+    ensures changed { IsMadeForAnyViews change document.old document.new }
     ensures room { LeavesRoom change document.old document.new }
 {
     set(document, change);
@@ -57,8 +53,8 @@ pub(crate) fn change_without_notes(document: &mut Document, change: DocumentChan
 pub(crate) fn set_save_point(document: &mut Document, views: &IdTable<View>, notes: &mut NoteList)
     requires watched { IsWatched document.old.document views.now }
     requires room { length (watchers document.old.document views.now) ≤ notes.old.note_room }
-    ensures changed { (text : List ℕ) (sender : ℕ) → IsChanged text change.SetSavePoint sender document.old.document document.new.document views.now views.now notes.old notes.new }
-    ensures room { LeavesRoom change.SetSavePoint document.old document.new }
+    ensures changed { IsMade SetSavePoint document.old document.new views.now notes.old notes.new }
+    ensures room { LeavesRoom SetSavePoint document.old document.new }
 {
     document.set_save_point();
     tell_all(document, views, notes, SAVE_POINT_REACHED);
@@ -76,9 +72,9 @@ pub(crate) fn append_container(
 )
     requires ready { HasHistoryRoom document.old container_need }
     requires watched { IsWatched document.old.document views.now }
-    requires room { leaving_count (watchers document.old.document views.now) document.old.document.history ≤ notes.old.note_room }
-    ensures changed { (text : List ℕ) (sender : ℕ) → IsChanged text (change.AppendContainer token coalesce) sender document.old.document document.new.document views.now views.now notes.old notes.new }
-    ensures room { LeavesRoom (change.AppendContainer token coalesce) document.old document.new }
+    requires room { change_note_need (AppendContainer token coalesce) document.old views.now ≤ notes.old.note_room }
+    ensures changed { IsMade (AppendContainer token coalesce) document.old document.new views.now notes.old notes.new }
+    ensures room { LeavesRoom (AppendContainer token coalesce) document.old document.new }
 {
     let is_left = leaves_save_point(document);
     document.append_container_reserved(token, coalesce);

@@ -1,16 +1,15 @@
 //! Adding and deleting markers.
 
-ghost use Rattle.std.specs.Prelude.{◌≡◌, ◌≤◌, ◌<◌, ◌+◌, ◌-◌, ◌^◌, [], List, ℕ, length};
+ghost use Rattle.std.specs.Prelude.{◌≤◌, ◌<◌, ◌+◌, ◌^◌, length};
 ghost use Rattle.ed_model.specs.declared.plan.DocumentChange.TheVariants as change;
-ghost use Rattle.ed_model.specs.Changes.{marker_note};
 ghost use Rattle.ed_model.specs.LinePlans.{numbers_in};
-ghost use Rattle.ed_model.specs.Lines.{start_of_line};
-ghost use Rattle.ed_model.specs.Notes.{heard, change_marker};
-ghost use Rattle.ed_model.specs.Session.{lines_in, text_of};
+ghost use Rattle.ed_model.specs.Notes.{change_marker};
+ghost use Rattle.ed_model.specs.Session.{lines_in};
 ghost use Rattle.scene.specs.Scenes.{watchers, AreNamed, IsWatched};
 ghost use Rattle.scene.specs.Hearing.{hearers};
-ghost use Rattle.document_changes.specs.Changed.{AreTold, IsChanged};
+ghost use Rattle.document_changes.specs.Changed.{HearersAreTold, IsMade};
 ghost use Rattle.document_changes.specs.Lines.{marker_notice};
+ghost use Rattle.document_changes.specs.Needs.{HasMaskRoom};
 ghost use Rattle.document_changes.specs.RoomLeft.{LeavesRoom};
 
 use crate::telling::{CHANGE_MARKER, change_note, line_note, tell_heard};
@@ -19,14 +18,14 @@ use ed_view::View;
 use id_table::IdTable;
 use notify::NoteList;
 
-// Notifies views that the markers of a line changed. Out of line, so that the hot path neither prepares a note nor looks up the
-// start of the line.
+// Notifies views that the markers of a line changed. Out of line, so that the hot path neither prepares a note nor
+// looks up the start of the line.
 #[inline(never)]
 fn tell_start(document: &Document, views: &IdTable<View>, notes: &mut NoteList, line: usize)
     requires line { line < lines_in document.now.document }
     requires named { AreNamed views.now.entries }
     requires room { hearers change_marker (watchers document.now.document views.now) ≤ notes.old.note_room }
-    ensures { AreTold (heard (watchers document.now.document views.now) (marker_notice document.now.document line)) notes.old notes.new }
+    ensures { HearersAreTold document.now views.now (marker_notice document.now.document line) notes.old notes.new }
 {
     let _ = document.line_count(); // states that the number of lines is small
     let mut note = line_note(CHANGE_MARKER, line);
@@ -40,7 +39,7 @@ fn tell_markers(document: &Document, views: &IdTable<View>, notes: &mut NoteList
     requires line { line < lines_in document.now.document }
     requires named { AreNamed views.now.entries }
     requires room { hearers change_marker (watchers document.now.document views.now) ≤ notes.old.note_room }
-    ensures { AreTold (heard (watchers document.now.document views.now) (marker_notice document.now.document line)) notes.old notes.new }
+    ensures { HearersAreTold document.now views.now (marker_notice document.now.document line) notes.old notes.new }
 {
     if notes.is_full() {
         return;
@@ -63,7 +62,7 @@ pub(crate) fn add_marker(
     requires ready { 0 < document.old.spare.markers }
     requires watched { IsWatched document.old.document views.now }
     requires room { hearers change_marker (watchers document.old.document views.now) ≤ notes.old.note_room }
-    ensures changed { (text : List ℕ) (sender : ℕ) → IsChanged text (change.AddMarker line number) sender document.old.document document.new.document views.now views.now notes.old notes.new }
+    ensures changed { IsMade (change.AddMarker line number) document.old document.new views.now notes.old notes.new }
     ensures room { LeavesRoom (change.AddMarker line number) document.old document.new }
 {
     let _ = document.rows(); // states that each line has a row
@@ -71,8 +70,8 @@ pub(crate) fn add_marker(
     tell_markers(document, views, notes, line);
 }
 
-/// Adds a marker for each bit of a mask behind those of a line, and notifies each view of all of them by one note. An empty
-/// mask has no note.
+/// Adds a marker for each bit of a mask behind those of a line, and notifies each view of all of them by one note. An
+/// empty mask has no note.
 #[inline(never)]
 pub(crate) fn add_markers(
     document: &mut Document,
@@ -83,10 +82,10 @@ pub(crate) fn add_markers(
 )
     requires line { line < lines_in document.old.document }
     requires handles { document.old.document.next_handle + length (numbers_in mask) < 2 ^ 32 }
-    requires ready { length (numbers_in mask) ≤ document.old.spare.markers }
+    requires ready { HasMaskRoom document.old mask }
     requires watched { IsWatched document.old.document views.now }
     requires room { hearers change_marker (watchers document.old.document views.now) ≤ notes.old.note_room }
-    ensures changed { (text : List ℕ) (sender : ℕ) → IsChanged text (change.AddMarkers line mask) sender document.old.document document.new.document views.now views.now notes.old notes.new }
+    ensures changed { IsMade (change.AddMarkers line mask) document.old document.new views.now notes.old notes.new }
     ensures room { LeavesRoom (change.AddMarkers line mask) document.old document.new }
 {
     let _ = document.rows(); // states that each line has a row
@@ -109,7 +108,7 @@ pub(crate) fn delete_marker(
     requires line { line < lines_in document.old.document }
     requires watched { IsWatched document.old.document views.now }
     requires room { hearers change_marker (watchers document.old.document views.now) ≤ notes.old.note_room }
-    ensures changed { (text : List ℕ) (sender : ℕ) → IsChanged text (change.DeleteMarker line number) sender document.old.document document.new.document views.now views.now notes.old notes.new }
+    ensures changed { IsMade (change.DeleteMarker line number) document.old document.new views.now notes.old notes.new }
     ensures room { LeavesRoom (change.DeleteMarker line number) document.old document.new }
 {
     if document.delete_marker(line, number) {
@@ -117,8 +116,8 @@ pub(crate) fn delete_marker(
     }
 }
 
-/// Deletes all markers with this number, or all markers if `number` is `None`, and notifies views if there was one, by a
-/// note that names no line.
+/// Deletes all markers with this number, or all markers if `number` is `None`, and notifies views if there was one, by
+/// a note that names no line.
 #[inline(never)]
 pub(crate) fn delete_markers(
     document: &mut Document,
@@ -128,7 +127,7 @@ pub(crate) fn delete_markers(
 )
     requires watched { IsWatched document.old.document views.now }
     requires room { hearers change_marker (watchers document.old.document views.now) ≤ notes.old.note_room }
-    ensures changed { (text : List ℕ) (sender : ℕ) → IsChanged text (change.DeleteMarkers number) sender document.old.document document.new.document views.now views.now notes.old notes.new }
+    ensures changed { IsMade (change.DeleteMarkers number) document.old document.new views.now notes.old notes.new }
     ensures room { LeavesRoom (change.DeleteMarkers number) document.old document.new }
 {
     if document.delete_markers(number) {
@@ -149,7 +148,7 @@ pub(crate) fn delete_handle(
     requires handle { handle < document.old.document.next_handle }
     requires watched { IsWatched document.old.document views.now }
     requires room { hearers change_marker (watchers document.old.document views.now) ≤ notes.old.note_room }
-    ensures changed { (text : List ℕ) (sender : ℕ) → IsChanged text (change.DeleteHandle handle) sender document.old.document document.new.document views.now views.now notes.old notes.new }
+    ensures changed { IsMade (change.DeleteHandle handle) document.old document.new views.now notes.old notes.new }
     ensures room { LeavesRoom (change.DeleteHandle handle) document.old document.new }
 {
     let _ = document.rows().next_handle(); // states that the handle is small

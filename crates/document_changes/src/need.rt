@@ -1,8 +1,8 @@
 //! The number of notes that a change needs.
 
 ghost use Rattle.std.specs.Prelude.{◌≡◌};
-ghost use Rattle.scene.specs.Scenes.{watchers, AreNamed};
-ghost use Rattle.document_changes.specs.Needs.{notes_of_change};
+ghost use Rattle.scene.specs.Scenes.{AreNamed};
+ghost use Rattle.document_changes.specs.Needs.{change_note_need};
 
 use crate::telling::{
     CHANGE_FOLD, CHANGE_INDICATOR, CHANGE_LINE_STATE, CHANGE_MARKER, CHANGE_STYLE,
@@ -16,7 +16,7 @@ use scene::{count_hearers, count_watchers, leaving_need};
 /// Returns how many notes a change of the document has at most. They have no text.
 pub fn change_note_need(document: &Document, views: &IdTable<View>, change: DocumentChange) -> usize
     requires named { AreNamed views.now.entries }
-    ensures { result ≡ notes_of_change change document.now.document.history (watchers document.now.document views.now) }
+    ensures { result ≡ change_note_need change document.now views.now }
 {
     match change {
         DocumentChange::SetSavePoint => count_watchers(document, views),

@@ -1,12 +1,12 @@
 //! Reserving room for a change in its document.
 
-ghost use Rattle.std.specs.Prelude.{◌≡◌, ◌≤◌, ◌<◌, [], false, length, max, Some, IfOk, IsOk, OnOk, OnErr};
+ghost use Rattle.std.specs.Prelude.{◌≡◌, ◌<◌, [], false, length, Some, IfOk, IsOk, OnOk, OnErr};
 ghost use Rattle.ed_model.specs.declared.plan.DocumentChange.TheVariants as change;
 ghost use Rattle.ed_model.specs.LinePlans.{numbers_in};
 ghost use Rattle.document.specs.Changes.{CanStyle};
-ghost use Rattle.document.specs.Kept.{IsAtMost, TakesRoom, no_room};
+ghost use Rattle.document.specs.Kept.{TakesRoom, no_room};
 ghost use Rattle.document_changes.specs.Fit.{IsFitChange};
-ghost use Rattle.document_changes.specs.Needs.{IsReady, is_of_types, needs_room, room_for, spare_for};
+ghost use Rattle.document_changes.specs.Needs.{HasMaskRoom, IsReady, ReservesAtMost, ReservesSpare, is_of_types, needs_room, with_fill_room, with_marker_room, with_styles};
 
 use document::{Document, DocumentRoom, count_numbers};
 use ed_model::{DocumentChange, LineEndTypes};
@@ -29,8 +29,8 @@ impl Model for ChangeReady {
     ghost view = { λ r. r.edits.items };
 }
 
-// Makes room for the lines that are added when these line ends count, and returns the edits of all lines. Out of line, since it is
-// rare.
+// Makes room for the lines that are added when these line ends count, and returns the edits of all lines. Out of line,
+// since it is rare.
 #[inline(never)]
 fn reserve_types(
     alloc: Global,
@@ -41,8 +41,8 @@ fn reserve_types(
     ensures ready { IfOk result (λ ready. IsReady document.new (change.SetLineEndTypes types) ready) }
     ensures room_is_there { IsReady document.old (change.SetLineEndTypes types) [] → IsOk result }
     ensures room_stays { TakesRoom document.old.room document.new.room no_room }
-    ensures at_most { IsAtMost document.new.room document.old.room (room_for document.old.document (change.SetLineEndTypes types)) }
-    ensures spare { OnOk result (document.new.spare ≡ spare_for (change.SetLineEndTypes types) document.new.spare.styles document.old.spare) }
+    ensures at_most { ReservesAtMost (change.SetLineEndTypes types) document.old document.new }
+    ensures spare { OnOk result (ReservesSpare (change.SetLineEndTypes types) document.old document.new) }
     ensures err { OnErr result (document.new.spare ≡ document.old.spare) }
 {
     let _ = document.len(); // states that the number of lines is small
@@ -51,12 +51,12 @@ fn reserve_types(
     Ok(ChangeReady { edits })
 }
 
-// Makes room for a marker for each bit of a mask. Out of line, as the functions below, so that reserving one marker, a level or a
-// state needs no stack frame.
+// Makes room for a marker for each bit of a mask. Out of line, as the functions below, so that reserving one marker, a
+// level or a state needs no stack frame.
 #[inline(never)]
 fn reserve_numbers(document: &mut Document, mask: u32) -> Result<(), AllocError>
-    ensures ok { OnOk result (document.new ≡ record document.old { spare = record document.old.spare { markers = max document.old.spare.markers (length (numbers_in mask)) } }) }
-    ensures room_is_there { length (numbers_in mask) ≤ document.old.spare.markers → IsOk result × (document.new ≡ document.old) }
+    ensures ok { OnOk result (document.new ≡ with_marker_room (length (numbers_in mask)) document.old) }
+    ensures room_is_there { HasMaskRoom document.old mask → IsOk result × (document.new ≡ document.old) }
     ensures err { OnErr result (document.new ≡ document.old) }
 {
     document.reserve_markers(count_numbers(mask))
@@ -66,7 +66,7 @@ fn reserve_numbers(document: &mut Document, mask: u32) -> Result<(), AllocError>
 #[inline(never)]
 fn reserve_styling(document: &mut Document) -> Result<(), AllocError>
     ensures ok { OnOk result (CanStyle document.new) }
-    ensures same { document.new ≡ record document.old { spare = record document.old.spare { styles = document.new.spare.styles } } }
+    ensures same { document.new ≡ with_styles document.new.spare.styles document.old }
     ensures room_is_there { CanStyle document.old → IsOk result × (document.new ≡ document.old) }
     ensures err { OnErr result (document.new ≡ document.old) }
 {
@@ -77,7 +77,7 @@ fn reserve_styling(document: &mut Document) -> Result<(), AllocError>
 #[inline(never)]
 fn reserve_filling(document: &mut Document, indicator: usize) -> Result<(), AllocError>
     requires { indicator < 32 }
-    ensures ok { OnOk result (document.new ≡ record document.old { spare = record document.old.spare { fill = Some indicator } }) }
+    ensures ok { OnOk result (document.new ≡ with_fill_room indicator document.old) }
     ensures room_is_there { document.old.spare.fill ≡ Some indicator → IsOk result × (document.new ≡ document.old) }
     ensures err { OnErr result (document.new ≡ document.old) }
 {
@@ -94,8 +94,8 @@ fn reserve_other(document: &mut Document, change: DocumentChange) -> Result<(), 
     ensures free { needs_room change ≡ false → IsOk result × (document.new ≡ document.old) }
     ensures room_is_there { IsReady document.old change [] → IsOk result }
     ensures room_stays { TakesRoom document.old.room document.new.room no_room }
-    ensures at_most { IsAtMost document.new.room document.old.room (room_for document.old.document change) }
-    ensures spare { OnOk result (document.new.spare ≡ spare_for change document.new.spare.styles document.old.spare) }
+    ensures at_most { ReservesAtMost change document.old document.new }
+    ensures spare { OnOk result (ReservesSpare change document.old document.new) }
     ensures err { OnErr result (document.new.spare ≡ document.old.spare) }
 {
     let _ = document.len(); // states that the text stays within its bound
@@ -135,8 +135,8 @@ pub fn reserve_change(
     ensures free { needs_room change ≡ false → IsOk result × (document.new ≡ document.old) }
     ensures room_is_there { IsReady document.old change [] → IsOk result }
     ensures room_stays { TakesRoom document.old.room document.new.room no_room }
-    ensures at_most { IsAtMost document.new.room document.old.room (room_for document.old.document change) }
-    ensures spare { OnOk result (document.new.spare ≡ spare_for change document.new.spare.styles document.old.spare) }
+    ensures at_most { ReservesAtMost change document.old document.new }
+    ensures spare { OnOk result (ReservesSpare change document.old document.new) }
     ensures err { OnErr result (document.new.spare ≡ document.old.spare) }
 {
     if let DocumentChange::SetLineEndTypes { to } = change {

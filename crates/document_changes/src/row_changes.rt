@@ -1,13 +1,13 @@
 //! Setting the fold levels and the states of lines.
 
-ghost use Rattle.std.specs.Prelude.{◌≡◌, ◌≤◌, ◌<◌, ◌-◌, ◌^◌, true, pos, negsuc, int_le, List, ℕ};
+ghost use Rattle.std.specs.Prelude.{◌≡◌, ◌≤◌, ◌<◌, ◌-◌, ◌^◌, true, pos, negsuc, int_le};
 ghost use Rattle.ed_model.specs.declared.plan.DocumentChange.TheVariants as change;
 ghost use Rattle.ed_model.specs.Changes.{line_note as note_of_line};
-ghost use Rattle.ed_model.specs.Notes.{heard, change_fold, change_line_state};
+ghost use Rattle.ed_model.specs.Notes.{change_fold, change_line_state};
 ghost use Rattle.ed_model.specs.Session.{lines_in};
 ghost use Rattle.scene.specs.Scenes.{watchers, AreNamed, IsWatched};
 ghost use Rattle.scene.specs.Hearing.{hearers};
-ghost use Rattle.document_changes.specs.Changed.{AreTold, IsChanged};
+ghost use Rattle.document_changes.specs.Changed.{HearersAreTold, IsMade};
 ghost use Rattle.document_changes.specs.Lines.{level_notice};
 ghost use Rattle.document_changes.specs.RoomLeft.{LeavesRoom};
 
@@ -17,7 +17,8 @@ use ed_view::View;
 use id_table::IdTable;
 use notify::NoteList;
 
-// Notifies views of the fold level of a line, and of the one before. Out of line, so that the hot path does not prepare a note.
+// Notifies views of the fold level of a line, and of the one before. Out of line, so that the hot path does not prepare
+// a note.
 #[inline(never)]
 fn tell_level(
     document: &Document,
@@ -30,7 +31,7 @@ fn tell_level(
     requires line { line < 2 ^ 63 }
     requires named { AreNamed views.now.entries }
     requires room { hearers change_fold (watchers document.now.document views.now) ≤ notes.old.note_room }
-    ensures { AreTold (heard (watchers document.now.document views.now) (level_notice line level before)) notes.old notes.new }
+    ensures { HearersAreTold document.now views.now (level_notice line level before) notes.old notes.new }
 {
     let mut note = line_note(CHANGE_FOLD, line);
     note.now = level as i64;
@@ -51,7 +52,7 @@ pub(crate) fn set_level(
     requires ready { line < document.old.spare.levels }
     requires watched { IsWatched document.old.document views.now }
     requires room { hearers change_fold (watchers document.old.document views.now) ≤ notes.old.note_room }
-    ensures changed { (text : List ℕ) (sender : ℕ) → IsChanged text (change.SetLevel line level) sender document.old.document document.new.document views.now views.now notes.old notes.new }
+    ensures changed { IsMade (change.SetLevel line level) document.old document.new views.now notes.old notes.new }
     ensures room { LeavesRoom (change.SetLevel line level) document.old document.new }
 {
     let _ = document.line_count(); // states that the number of lines is small
@@ -79,7 +80,7 @@ fn tell_state(document: &Document, views: &IdTable<View>, notes: &mut NoteList, 
     requires line { line < 2 ^ 63 }
     requires named { AreNamed views.now.entries }
     requires room { hearers change_line_state (watchers document.now.document views.now) ≤ notes.old.note_room }
-    ensures { AreTold (heard (watchers document.now.document views.now) (note_of_line change_line_state line)) notes.old notes.new }
+    ensures { HearersAreTold document.now views.now (note_of_line change_line_state line) notes.old notes.new }
 {
     let note = line_note(CHANGE_LINE_STATE, line);
     tell_heard(document, views, notes, &note);
@@ -99,7 +100,7 @@ pub(crate) fn set_state(
     requires ready { line < document.old.spare.states }
     requires watched { IsWatched document.old.document views.now }
     requires room { hearers change_line_state (watchers document.old.document views.now) ≤ notes.old.note_room }
-    ensures changed { (text : List ℕ) (sender : ℕ) → IsChanged text (change.SetState line state) sender document.old.document document.new.document views.now views.now notes.old notes.new }
+    ensures changed { IsMade (change.SetState line state) document.old document.new views.now notes.old notes.new }
     ensures room { LeavesRoom (change.SetState line state) document.old document.new }
 {
     let _ = document.line_count(); // states that the number of lines is small

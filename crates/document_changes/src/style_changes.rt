@@ -1,13 +1,12 @@
 //! Setting styles and indicators, and requests for styles.
 
-ghost use Rattle.std.specs.Prelude.{◌≡◌, ◌≤◌, ◌<◌, ◌+◌, ◌^◌, List, ℕ, length, bit_or, IfSome, Option, Some, option_copied};
-ghost use Rattle.ed_model.specs.declared.plan.DocumentChange.TheVariants as change;
-ghost use Rattle.ed_model.specs.Changes.{range_notes};
-ghost use Rattle.ed_model.specs.Notes.{change_style, change_indicator, performed_user};
+ghost use Rattle.std.specs.Prelude.{◌≡◌, ◌≤◌, ◌<◌, ◌+◌, ◌^◌, length, IfSome, Some};
+ghost use Rattle.ed_model.specs.declared.plan.DocumentChange.TheVariants.{StyleRun, StyleBytes, NeedStyle, FillIndicator};
 ghost use Rattle.document.specs.Changes.{CanStyle};
 ghost use Rattle.scene.specs.Scenes.{watchers, AreNamed, IsWatched};
 ghost use Rattle.scene.specs.Hearing.{hearers};
-ghost use Rattle.document_changes.specs.Changed.{AreTold, IsChanged};
+ghost use Rattle.document_changes.specs.Changed.{IsFilled, IsMade, IsMadeBy, IsMadeWith, RangeIsTold};
+ghost use Rattle.document_changes.specs.Needs.{indicator_kind, style_kind};
 ghost use Rattle.document_changes.specs.RoomLeft.{LeavesRoom};
 
 use crate::telling::{CHANGE_INDICATOR, CHANGE_STYLE, range_note, tell_heard, tell_style_needed};
@@ -16,7 +15,8 @@ use ed_view::View;
 use id_table::IdTable;
 use notify::NoteList;
 
-// Notifies views that a range of bytes changed, if there is one. Out of line, so that the hot path does not prepare a note.
+// Notifies views that a range of bytes changed, if there is one. Out of line, so that the hot path does not prepare a
+// note.
 #[inline(never)]
 fn tell_changed(
     document: &Document,
@@ -28,7 +28,7 @@ fn tell_changed(
     requires small { IfSome changed (λ range. (range.0 < 2 ^ 63) × (range.1 < 2 ^ 63)) }
     requires named { AreNamed views.now.entries }
     requires room { hearers kind (watchers document.now.document views.now) ≤ notes.old.note_room }
-    ensures { (bits : ℕ) → kind ≡ bit_or bits performed_user → AreTold (range_notes bits changed (watchers document.now.document views.now)) notes.old notes.new }
+    ensures { RangeIsTold kind changed document.now views.now notes.old notes.new }
 {
     if let Some((start, count)) = changed {
         let note = range_note(kind, start, count);
@@ -48,7 +48,7 @@ fn tell_range(
     requires small { IfSome changed (λ range. (range.0 < 2 ^ 63) × (range.1 < 2 ^ 63)) }
     requires named { AreNamed views.now.entries }
     requires room { hearers kind (watchers document.now.document views.now) ≤ notes.old.note_room }
-    ensures { (bits : ℕ) → kind ≡ bit_or bits performed_user → AreTold (range_notes bits changed (watchers document.now.document views.now)) notes.old notes.new }
+    ensures { RangeIsTold kind changed document.now views.now notes.old notes.new }
 {
     if notes.is_full() {
         return;
@@ -56,8 +56,8 @@ fn tell_range(
     tell_changed(document, views, notes, kind, changed);
 }
 
-/// Sets one style on the `count` bytes from the end of the styled text on, moves that end behind them, and notifies views of
-/// the smallest range that has all changed styles.
+/// Sets one style on the `count` bytes from the end of the styled text on, moves that end behind them, and notifies
+/// views of the smallest range that has all changed styles.
 #[inline]
 pub(crate) fn style_run(
     document: &mut Document,
@@ -70,9 +70,9 @@ pub(crate) fn style_run(
     requires style { style ≤ 255 }
     requires ready { CanStyle document.old }
     requires watched { IsWatched document.old.document views.now }
-    requires room { hearers (bit_or change_style performed_user) (watchers document.old.document views.now) ≤ notes.old.note_room }
-    ensures changed { (text : List ℕ) (sender : ℕ) → IsChanged text (change.StyleRun count style) sender document.old.document document.new.document views.now views.now notes.old notes.new }
-    ensures room { LeavesRoom (change.StyleRun count style) document.old document.new }
+    requires room { hearers style_kind (watchers document.old.document views.now) ≤ notes.old.note_room }
+    ensures changed { IsMade (StyleRun count style) document.old document.new views.now notes.old notes.new }
+    ensures room { LeavesRoom (StyleRun count style) document.old document.new }
 {
     let _ = document.len(); // states that ranges are small
     let changed = document.style_run(count, style as u8);
@@ -91,9 +91,9 @@ pub(crate) fn style_bytes(
     requires text { count ≤ length text.now }
     requires ready { CanStyle document.old }
     requires watched { IsWatched document.old.document views.now }
-    requires room { hearers (bit_or change_style performed_user) (watchers document.old.document views.now) ≤ notes.old.note_room }
-    ensures changed { (sender : ℕ) → IsChanged text.now (change.StyleBytes count) sender document.old.document document.new.document views.now views.now notes.old notes.new }
-    ensures room { LeavesRoom (change.StyleBytes count) document.old document.new }
+    requires room { hearers style_kind (watchers document.old.document views.now) ≤ notes.old.note_room }
+    ensures changed { IsMadeWith text.now (StyleBytes count) document.old document.new views.now notes.old notes.new }
+    ensures room { LeavesRoom (StyleBytes count) document.old document.new }
 {
     let _ = document.len(); // states that ranges are small
     let changed = document.style_bytes(&text[..count]);
@@ -113,8 +113,8 @@ pub(crate) fn need_style(
     requires end { end ≤ length document.old.document.cells }
     requires watched { IsWatched document.old.document views.now }
     requires room { 1 ≤ notes.old.note_room }
-    ensures changed { (text : List ℕ) → IsChanged text (change.NeedStyle start end) sender document.old.document document.new.document views.now views.now notes.old notes.new }
-    ensures room { LeavesRoom (change.NeedStyle start end) document.old document.new }
+    ensures changed { IsMadeBy sender (NeedStyle start end) document.old document.new views.now notes.old notes.new }
+    ensures room { LeavesRoom (NeedStyle start end) document.old document.new }
 {
     let _ = document.len(); // states that places are small
     let styled = document.end_styled();
@@ -136,9 +136,9 @@ pub(crate) fn fill_indicator(
     requires within { start + count ≤ length document.old.document.cells }
     requires ready { document.old.spare.fill ≡ Some indicator }
     requires watched { IsWatched document.old.document views.now }
-    requires room { hearers (bit_or change_indicator performed_user) (watchers document.old.document views.now) ≤ notes.old.note_room }
-    ensures changed { (text : List ℕ) (sender : ℕ) → IsChanged text (change.FillIndicator indicator start count value) sender document.old.document document.new.document views.now views.now notes.old notes.new }
-    ensures room { LeavesRoom (change.FillIndicator indicator start count value) document.old document.new }
+    requires room { hearers indicator_kind (watchers document.old.document views.now) ≤ notes.old.note_room }
+    ensures changed { IsFilled indicator start count value document.old document.new views.now notes.old notes.new }
+    ensures room { LeavesRoom (FillIndicator indicator start count value) document.old document.new }
 {
     let _ = document.len(); // states that ranges are small
     let _ = document.indicators().length(); // states that each byte has a value

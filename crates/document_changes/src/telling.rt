@@ -1,13 +1,14 @@
 //! The notes of changes.
 
-ghost use Rattle.std.specs.Prelude.{◌≡◌, ◌≤◌, ◌<◌, ◌+◌, ◌-◌, ◌^◌, ◌++◌, ◌∷◌, [], List, ℕ, length, pos};
+ghost use Rattle.std.specs.Prelude.{◌≡◌, ◌≤◌, ◌<◌, ◌^◌, ◌∷◌, [], length};
 ghost use Rattle.ed_types.specs.Heard.{with_text};
 ghost use Rattle.ed_model.specs.Session.{View as ModelView};
-ghost use Rattle.ed_model.specs.Notes.{told, heard, blank as blank_note, change_note as note_of_change, range_note as note_of_range, style_needed};
+ghost use Rattle.ed_model.specs.Notes.{told, blank as blank_note, change_note as note_of_change, range_note as note_of_range};
 ghost use Rattle.ed_model.specs.Changes.{line_note as note_of_line};
 ghost use Rattle.scene.specs.Scenes.{watchers, AreNamed};
 ghost use Rattle.scene.specs.Hearing.{hearers};
-ghost use Rattle.document_changes.specs.Changed.{AreTold};
+ghost use Rattle.document_changes.specs.Changed.{AreTold, HearersAreTold, IsNoteOf};
+ghost use Rattle.document_changes.specs.Lines.{style_notice};
 
 use document::Document;
 use ed_types::Note;
@@ -35,7 +36,7 @@ pub(crate) const CHANGE_INDICATOR: u32 = 0x4000 | 0x10;
 /// Returns a note of a change of this kind.
 pub(crate) fn change_note(kind: u32) -> Note
     ensures kind { result.kind ≡ kind }
-    ensures note { (text : List ℕ) → let n = note_of_change kind in with_text result text ≡ record n { text = text } }
+    ensures note { IsNoteOf result (note_of_change kind) }
 {
     let mut note = blank(MODIFIED);
     note.kind = kind;
@@ -46,7 +47,7 @@ pub(crate) fn change_note(kind: u32) -> Note
 pub(crate) fn line_note(kind: u32, line: usize) -> Note
     requires { line < 2 ^ 63 }
     ensures kind { result.kind ≡ kind }
-    ensures note { (text : List ℕ) → let n = note_of_line kind line in with_text result text ≡ record n { text = text } }
+    ensures note { IsNoteOf result (note_of_line kind line) }
 {
     let mut note = change_note(kind);
     note.line = line as i64;
@@ -57,7 +58,7 @@ pub(crate) fn line_note(kind: u32, line: usize) -> Note
 pub(crate) fn range_note(kind: u32, start: usize, count: usize) -> Note
     requires { (start < 2 ^ 63) × (count < 2 ^ 63) }
     ensures kind { result.kind ≡ kind }
-    ensures note { (text : List ℕ) → let n = note_of_range kind start count in with_text result text ≡ record n { text = text } }
+    ensures note { IsNoteOf result (note_of_range kind start count) }
 {
     let mut note = change_note(kind);
     note.position = start as i64;
@@ -74,7 +75,7 @@ pub(crate) fn tell_heard(
 )
     requires named { AreNamed views.now.entries }
     requires room { hearers note.now.kind (watchers document.now.document views.now) ≤ notes.old.note_room }
-    ensures { AreTold (heard (watchers document.now.document views.now) (with_text note.entry.now [])) notes.old notes.new }
+    ensures { HearersAreTold document.now views.now (with_text note.entry.now []) notes.old notes.new }
 {
     tell(
         document,
@@ -103,12 +104,12 @@ pub(crate) fn tell_all(document: &Document, views: &IdTable<View>, notes: &mut N
     );
 }
 
-/// Asks the sending view alone to style the text up to `end`, in bytes from 0 (`SCN_STYLENEEDED`). There must be room for
-/// the note.
+/// Asks the sending view alone to style the text up to `end`, in bytes from 0 (`SCN_STYLENEEDED`). There must be room
+/// for the note.
 pub(crate) fn tell_style_needed(notes: &mut NoteList, sender: u32, end: usize)
     requires end { end < 2 ^ 63 }
     requires room { 0 < notes.old.note_room }
-    ensures { (v : ModelView) → v.id ≡ sender → let n = blank_note style_needed in AreTold (told (v ∷ []) (record n { position = pos end })) notes.old notes.new }
+    ensures { (v : ModelView) → v.id ≡ sender → AreTold (told (v ∷ []) (style_notice end)) notes.old notes.new }
 {
     let mut note = blank(STYLE_NEEDED);
     note.view = sender;
