@@ -5,6 +5,9 @@ use Rattle.ed_model.specs.declared.plan.SessionChange.{SessionChange}
 use Rattle.ed_model.specs.Session.{Session}
 use Rattle.ed_model.specs.Requests.{Request}
 use Rattle.ed_model.specs.PlansFit.{IsSoundRequest, IsFitViewChange, IsFitSessionChange}
+use Rattle.ed_model.specs.Changes.{view_change_performed, session_changed}
+use Rattle.message_requests.specs.Requested.{session_in}
+use Rattle.message_requests.specs.declared.state.SessionState.{SessionState}
 
 -- a sound request, sent to the view with this id, which is attached to the document with this id
 pub record IsAsked (s : Session) (document view : ℕ) (r : Request) : Type 0 where
@@ -31,3 +34,18 @@ pub record CanChangeDocuments (s : Session) (document view : ℕ) (change : Sess
   pub request : Request
   pub asked : IsAsked s document view request
   pub fit : IsFitSessionChange request change
+
+-- for each such request, the session becomes what the model's change of the view makes of it
+abbrev pub ChangesView : SessionState → SessionState → ℕ → ℕ → ViewChange → Type 0
+ChangesView old new document view change =
+    (r : Request) → IsAsked (session_in old) document view r → session_in new ≡ view_change_performed r change
+
+-- for each such request whose message has this text, the session becomes what the model's change makes of it
+abbrev pub ChangesSession : SessionState → SessionState → ℕ → ℕ → List ℕ → SessionChange → Type 0
+ChangesSession old new document view text change =
+    (r : Request) → IsAsked (session_in old) document view r → r.message.text ≡ text → session_in new ≡ session_changed r change
+
+-- the same for each such request, whatever the text of its message
+abbrev pub ChangesDocuments : SessionState → SessionState → ℕ → ℕ → SessionChange → Type 0
+ChangesDocuments old new document view change =
+    (r : Request) → IsAsked (session_in old) document view r → session_in new ≡ session_changed r change

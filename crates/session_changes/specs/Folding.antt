@@ -9,7 +9,8 @@ use Rattle.contraction.specs.ViewLines.{FoldRoom, contracted_lines}
 use Rattle.ed_view.specs.declared.folding.FoldNeed.{FoldNeed}
 use Rattle.ed_view.specs.Folding.{fold_need, IsWithin, HasFoldRoom}
 use Rattle.ed_view.specs.Kept.{KeptView}
-use Rattle.id_table.specs.Entries.{Entry, value_at}
+use Rattle.id_table.specs.Entries.{Entry, Entries, value_at}
+use Rattle.scene.specs.Scenes.{views_of}
 
 -- whether the change may need an allocation, for lines that it hides or contracts
 abbrev pub takes_fold_room : ViewChange → Bool
@@ -41,6 +42,10 @@ levels_of d = map (λ (row : Row). row.level) d.rows
 -- the view with this id is changed
 abbrev pub changed_at : ℕ → (View → View) → List View → List View
 changed_at id change views = map (λ (v : View). if v.id == id then change v else v) views
+
+-- of the views in the table, the one with this id is changed
+abbrev pub ViewIsChanged : ℕ → (View → View) → Entries KeptView → Entries KeptView → Type 0
+ViewIsChanged id change old new = views_of new.entries ≡ changed_at id change (views_of old.entries)
 
 -- there is a level for each line of the view, the lines that the change names exist, and there is room for it
 abbrev pub CanChange : List ℕ → ViewChange → KeptView → Type 0

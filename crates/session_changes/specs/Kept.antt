@@ -1,9 +1,9 @@
 -- What holds of a session between calls.
-use Rattle.std.specs.Prelude.{◌≡◌, true, List, map}
+use Rattle.std.specs.Prelude.{◌≡◌, ◌≢◌, ℕ, true, List, map}
 use Rattle.std.specs.List.{AllByRecursion}
 use Rattle.ed_model.specs.Session.{View, is_allowed}
 use Rattle.ed_model.specs.SoundLaws.{Rise, IsSound}
-use Rattle.id_table.specs.Entries.{Entry, Entries}
+use Rattle.id_table.specs.Entries.{Entry, Entries, value_at}
 use Rattle.document.specs.Kept.{Kept}
 use Rattle.ed_view.specs.Kept.{KeptView}
 use Rattle.scene.specs.Scenes.{views_of, AreNamed}
@@ -24,3 +24,7 @@ pub record IsKept (s : SessionState) : Type 0 where
 -- the ids of views rise
 abbrev pub ViewsRise : Entries KeptView → Type 0
 ViewsRise views = Rise 0 views.next (map (λ (v : View). v.id) (views_of views.entries))
+
+-- the values of all other ids stay as they were
+abbrev pub OthersStay : {V : Type 0} → ℕ → List (Entry V) → List (Entry V) → Type 0
+OthersStay id old new = (other : ℕ) → other ≢ id → value_at new other ≡ value_at old other

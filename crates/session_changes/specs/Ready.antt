@@ -1,10 +1,11 @@
 -- What is allocated before a session changes, so that the change cannot fail.
-use Rattle.std.specs.Prelude.{◌≡◌, ◌≢◌, ℕ, ◌<◌, ◌≤◌, nat_lt, max, Bool, true, false, List, [], length, IfSome, vec_capacity}
+use Rattle.std.specs.Prelude.{◌≡◌, ℕ, ◌<◌, ◌≤◌, nat_lt, max, Bool, true, false, List, [], length, IfSome, vec_capacity}
 use Rattle.ed_model.specs.declared.plan.SessionChange.{SessionChange}
 use Rattle.ed_model.specs.declared.plan.SessionChange.TheVariants as change
 use Rattle.ed_model.specs.Session.{new_document}
 use Rattle.id_table.specs.Entries.{Entries, Entry, value_at}
 use Rattle.document.specs.Kept.{Kept, no_room}
+use Rattle.session_changes.specs.Kept.{OthersStay}
 use Rattle.session_changes.specs.declared.ready.SessionReady.{SessionReady}
 use Rattle.session_changes.specs.declared.ready.SessionReady.TheVariants as ready
 
@@ -68,7 +69,7 @@ HasPlacesAtMost was now =
 abbrev pub ArePlacesAtMost : List (Entry Kept) → List (Entry Kept) → ℕ → Type 0
 ArePlacesAtMost old new id =
     IfSome (value_at old id) (λ was. IfSome (value_at new id) (λ now. HasPlacesAtMost was now))
-    × ((other : ℕ) → other ≢ id → value_at new other ≡ value_at old other)
+    × OthersStay id old new
 
 -- for an attach, only the room of its document changes; for other changes only that of the table, to at most its old room or 1
 abbrev pub IsRoomAtMost : SessionChange → Entries Kept → Entries Kept → Type 0

@@ -1,14 +1,13 @@
 //! A view is moved from its document to another (SETDOCPOINTER).
 
-ghost use Rattle.std.specs.Prelude.{◌≡◌, ◌≢◌, ◌<◌, ◌^◌, map, length, IfSome, IsSomeAnd};
-ghost use Rattle.ed_model.specs.Session.{living, attached_to};
-ghost use Rattle.ed_model.specs.Changes.{attached_last};
+ghost use Rattle.std.specs.Prelude.{◌≡◌, ◌≢◌, ◌<◌, ◌^◌, map, length, IsSomeAnd};
+ghost use Rattle.ed_model.specs.Session.{attached_to};
 ghost use Rattle.id_table.specs.Entries.{value_at};
-ghost use Rattle.scene.specs.Scenes.{views_of, fold_room_in_all, AreNamed};
+ghost use Rattle.scene.specs.Scenes.{fold_room_in_all, AreNamed};
 ghost use Rattle.message_requests.specs.Requested.{documents_in};
 ghost use Rattle.session_changes.specs.Kept.{DocumentsAreNamed, ViewsRise};
-ghost use Rattle.session_changes.specs.Folding.{changed_at};
-ghost use Rattle.session_changes.specs.Moving.{CanMove, DocumentsRise, with_last};
+ghost use Rattle.session_changes.specs.Folding.{ViewIsChanged};
+ghost use Rattle.session_changes.specs.Moving.{CanMove, DocumentsRise, IsAttachedLast, ViewIsAttached, with_last};
 
 use document::Document;
 use document_table::{DocumentTable, the_living_are_left};
@@ -34,7 +33,7 @@ fn put_last(documents: &mut DocumentTable, document: u32, view: u32)
 /// Moves a view to the end of the list of its document, which has this id.
 fn move_last(documents: &mut DocumentTable, document: u32, view: u32)
     requires can { CanMove documents.old document view document }
-    ensures documents { documents_in documents.new ≡ living (map (attached_last view document) (documents_in documents.old)) }
+    ensures documents { IsAttachedLast view document documents.old documents.new }
     ensures named { DocumentsAreNamed documents.new.entries }
     ensures next { documents.new.next ≡ documents.old.next }
 {
@@ -45,11 +44,12 @@ fn move_last(documents: &mut DocumentTable, document: u32, view: u32)
     document.attach_reserved(view);
 }
 
-/// Moves a view from document `from` to the end of the list of another document, `to`. Drops `from` if the view was its last reference.
+/// Moves a view from document `from` to the end of the list of another document, `to`. Drops `from` if the view was its
+/// last reference.
 fn pass_on(documents: &mut DocumentTable, from: u32, view: u32, to: u32)
     requires other { from ≢ to }
     requires can { CanMove documents.old from view to }
-    ensures documents { documents_in documents.new ≡ living (map (attached_last view to) (documents_in documents.old)) }
+    ensures documents { IsAttachedLast view to documents.old documents.new }
     ensures named { DocumentsAreNamed documents.new.entries }
     ensures next { documents.new.next ≡ documents.old.next }
 {
@@ -59,11 +59,11 @@ fn pass_on(documents: &mut DocumentTable, from: u32, view: u32, to: u32)
     documents.leave(from, view);
 }
 
-/// Moves a view from document `from` to the end of the list of document `to`, which may be the same. Drops `from` if it has no reference
-/// then.
+/// Moves a view from document `from` to the end of the list of document `to`, which may be the same. Drops `from` if it
+/// has no reference then.
 pub(crate) fn move_view(documents: &mut DocumentTable, from: u32, view: u32, to: u32)
     requires can { CanMove documents.old from view to }
-    ensures documents { documents_in documents.new ≡ living (map (attached_last view to) (documents_in documents.old)) }
+    ensures documents { IsAttachedLast view to documents.old documents.new }
     ensures named { DocumentsAreNamed documents.new.entries }
     ensures next { documents.new.next ≡ documents.old.next }
 {
@@ -74,13 +74,13 @@ pub(crate) fn move_view(documents: &mut DocumentTable, from: u32, view: u32, to:
     }
 }
 
-/// Makes `document` the document of the view with this id. Moves the view's anchor, caret and target to the start, and makes all lines
-/// visible and expanded. The list of the document's views stays as it is.
+/// Makes `document` the document of the view with this id. Moves the view's anchor, caret and target to the start, and
+/// makes all lines visible and expanded. The list of the document's views stays as it is.
 fn stand_on(views: &mut IdTable<View>, view: u32, document: &Document)
     requires few { IsSomeAnd (value_at views.old.entries view) (λ v. length v.view.flags < 2 ^ 63) }
     requires named { AreNamed views.old.entries }
     requires rise { ViewsRise views.old }
-    ensures views { views_of views.new.entries ≡ changed_at view (attached_to document.now.document) (views_of views.old.entries) }
+    ensures views { ViewIsChanged view (attached_to document.now.document) views.old views.new }
     ensures named { AreNamed views.new.entries }
     ensures next { views.new.next ≡ views.old.next }
     ensures fold_rooms { map fold_room_in_all views.new.entries ≡ map fold_room_in_all views.old.entries }
@@ -92,14 +92,15 @@ fn stand_on(views: &mut IdTable<View>, view: u32, document: &Document)
     view.attach_to(document.id(), document.line_count());
 }
 
-/// Attaches a view of document `from` to document `to`, which may be the same. Drops `from` if it has no reference then.
+/// Attaches a view of document `from` to document `to`, which may be the same. Drops `from` if it has no reference
+/// then.
 pub(crate) fn attach(state: &mut SessionState, from: u32, view: u32, to: u32)
     requires can { CanMove state.old.documents from view to }
     requires few { IsSomeAnd (value_at state.old.views.entries view) (λ v. length v.view.flags < 2 ^ 63) }
     requires named { AreNamed state.old.views.entries }
     requires rise { ViewsRise state.old.views }
-    ensures documents { documents_in state.new.documents ≡ living (map (attached_last view to) (documents_in state.old.documents)) }
-    ensures views { IfSome (value_at state.old.documents.entries to) (λ k. views_of state.new.views.entries ≡ changed_at view (attached_to k.document) (views_of state.old.views.entries)) }
+    ensures documents { IsAttachedLast view to state.old.documents state.new.documents }
+    ensures views { ViewIsAttached view to state.old state.new }
     ensures next_document { state.new.documents.next ≡ state.old.documents.next }
     ensures next_view { state.new.views.next ≡ state.old.views.next }
     ensures clipboard { state.new.clipboard ≡ state.old.clipboard }

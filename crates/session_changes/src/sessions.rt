@@ -1,16 +1,14 @@
 //! Changes of a session: of its clipboard, and of its documents and their references.
 
-ghost use Rattle.std.specs.Prelude.{◌≡◌, ◌+◌, ◌<◌, ◌^◌, [], map, length, vec_capacity, IfSome, IsSomeAnd};
-ghost use Rattle.ed_model.specs.Session.{living, text_of};
-ghost use Rattle.ed_model.specs.Requests.{Request};
-ghost use Rattle.ed_model.specs.Changes.{session_changed, held_more, held_less};
+ghost use Rattle.std.specs.Prelude.{◌≡◌, ◌+◌, ◌<◌, ◌^◌, [], map, vec_capacity, IsSomeAnd};
+ghost use Rattle.ed_model.specs.Changes.{held_more};
 ghost use Rattle.id_table.specs.Entries.{value_at};
 ghost use Rattle.scene.specs.Scenes.{fold_room_in_all, AreNamed};
 ghost use Rattle.message_requests.specs.Requested.{session_in, documents_in};
 ghost use Rattle.session_changes.specs.Kept.{IsKept, DocumentsAreNamed};
-ghost use Rattle.session_changes.specs.Asked.{IsAsked, CanChangeSession, CanChangeDocuments};
-ghost use Rattle.session_changes.specs.Clipboard.{copied, CanCopy};
-ghost use Rattle.session_changes.specs.Moving.{DocumentsRise};
+ghost use Rattle.session_changes.specs.Asked.{CanChangeSession, CanChangeDocuments, ChangesSession, ChangesDocuments};
+ghost use Rattle.session_changes.specs.Clipboard.{AreCopied, CanCopyFrom};
+ghost use Rattle.session_changes.specs.Moving.{DocumentsRise, IsReleased};
 ghost use Rattle.session_changes.specs.Ready.{IsReady};
 ghost use Rattle.session_changes.specs.declared.ready.SessionReady.TheVariants as made;
 
@@ -21,8 +19,8 @@ use document_table::{DocumentTable, the_living_are_left};
 use ed_model::SessionChange;
 use message_requests::SessionState;
 
-/// Copies the bytes that go to the clipboard into `bytes`, which is empty and has room for them. They come from the document with this id,
-/// or from the message's text.
+/// Copies the bytes that go to the clipboard into `bytes`, which is empty and has room for them. They come from the
+/// document with this id, or from the message's text.
 fn copy(
     documents: &DocumentTable,
     document: u32,
@@ -31,8 +29,8 @@ fn copy(
     bytes: &mut Vec<u8>,
 )
     requires empty { bytes.old.items ≡ [] }
-    requires can { IsSomeAnd (value_at documents.now.entries document) (λ k. CanCopy change (length k.document.cells) (length text.now) (vec_capacity bytes.old)) }
-    ensures { IfSome (value_at documents.now.entries document) (λ k. bytes.new.items ≡ copied change (text_of k.document) text.now) }
+    requires can { CanCopyFrom documents.now document change text.now (vec_capacity bytes.old) }
+    ensures { AreCopied documents.now document change text.now bytes.new.items }
 {
     let Some(document) = documents.get(document) else {
         unreachable!()
@@ -45,7 +43,8 @@ fn copy(
     let Ok(()) = copied else { unreachable!() };
 }
 
-/// Replaces the clipboard (COPY, COPYRANGE, COPYTEXT). `bytes` is empty and has room for the bytes of the new clipboard.
+/// Replaces the clipboard (COPY, COPYRANGE, COPYTEXT). `bytes` is empty and has room for the bytes of the new
+/// clipboard.
 fn change_clipboard(
     state: &mut SessionState,
     document: u32,
@@ -57,7 +56,7 @@ fn change_clipboard(
     requires kept { IsKept state.old }
     requires can { CanChangeSession (session_in state.old) document view text.now change }
     requires ready { IsReady state.old.documents change (made.Clipboard bytes) }
-    ensures changed { (r : Request) → IsAsked (session_in state.old) document view r → r.message.text ≡ text.now → session_in state.new ≡ session_changed r change }
+    ensures changed { ChangesSession state.old state.new document view text.now change }
     ensures limits { state.new.limits ≡ state.old.limits }
     ensures documents { DocumentsAreNamed state.new.documents.entries }
     ensures views { AreNamed state.new.views.entries }
@@ -83,10 +82,11 @@ fn hold(documents: &mut DocumentTable, document: u32)
     document.hold();
 }
 
-/// Releases a reference held by a caller to the document with this id (RELEASEDOCUMENT). Drops the document if that was its last reference.
+/// Releases a reference held by a caller to the document with this id (RELEASEDOCUMENT). Drops the document if that was
+/// its last reference.
 fn release(state: &mut SessionState, document: u32)
     requires kept { IsKept state.old }
-    ensures changed { session_in state.new ≡ (let s = session_in state.old in record s { documents = living (map (held_less document) s.documents) }) }
+    ensures changed { IsReleased document state.old state.new }
     ensures limits { state.new.limits ≡ state.old.limits }
     ensures documents { DocumentsAreNamed state.new.documents.entries }
     ensures views { state.new.views ≡ state.old.views }
@@ -101,7 +101,7 @@ fn change_references(state: &mut SessionState, document: u32, view: u32, change:
     requires kept { IsKept state.old }
     requires can { CanChangeDocuments (session_in state.old) document view change }
     requires ready { IsReady state.old.documents change made.Nothing }
-    ensures changed { (r : Request) → IsAsked (session_in state.old) document view r → session_in state.new ≡ session_changed r change }
+    ensures changed { ChangesDocuments state.old state.new document view change }
     ensures limits { state.new.limits ≡ state.old.limits }
     ensures documents { DocumentsAreNamed state.new.documents.entries }
     ensures views { AreNamed state.new.views.entries }
@@ -116,7 +116,8 @@ fn change_references(state: &mut SessionState, document: u32, view: u32, change:
     }
 }
 
-/// Adds a new document to the table (CREATEDOCUMENT), and attaches the view to it if that is the change (SETDOCPOINTER with 0).
+/// Adds a new document to the table (CREATEDOCUMENT), and attaches the view to it if that is the change (SETDOCPOINTER
+/// with 0).
 fn add_document(
     state: &mut SessionState,
     document: u32,
@@ -127,7 +128,7 @@ fn add_document(
     requires kept { IsKept state.old }
     requires can { CanChangeDocuments (session_in state.old) document view change }
     requires ready { IsReady state.old.documents change (made.NewDocument new) }
-    ensures changed { (r : Request) → IsAsked (session_in state.old) document view r → session_in state.new ≡ session_changed r change }
+    ensures changed { ChangesDocuments state.old state.new document view change }
     ensures limits { state.new.limits ≡ state.old.limits }
     ensures documents { DocumentsAreNamed state.new.documents.entries }
     ensures views { AreNamed state.new.views.entries }
@@ -140,9 +141,9 @@ fn add_document(
     }
 }
 
-/// Makes a change of the session for a message with this text to `view`, which is attached to `document`. Cannot fail: `ready` is what
-/// `prepare_session_change` allocated for the change. Each view keeps its capacity for hidden and for contracted lines, and the session
-/// keeps its room for more views.
+/// Makes a change of the session for a message with this text to `view`, which is attached to `document`. Cannot fail:
+/// `ready` is what `prepare_session_change` allocated for the change. Each view keeps its capacity for hidden and for
+/// contracted lines, and the session keeps its room for more views.
 pub fn change_session(
     state: &mut SessionState,
     document: u32,
@@ -154,7 +155,7 @@ pub fn change_session(
     requires kept { IsKept state.old }
     requires can { CanChangeSession (session_in state.old) document view text.now change }
     requires ready { IsReady state.old.documents change ready }
-    ensures changed { (r : Request) → IsAsked (session_in state.old) document view r → r.message.text ≡ text.now → session_in state.new ≡ session_changed r change }
+    ensures changed { ChangesSession state.old state.new document view text.now change }
     ensures limits { state.new.limits ≡ state.old.limits }
     ensures documents { DocumentsAreNamed state.new.documents.entries }
     ensures views { AreNamed state.new.views.entries }

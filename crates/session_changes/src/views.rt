@@ -1,16 +1,15 @@
 //! Changes of a view: its settings, its selection, and which lines it shows.
 
-ghost use Rattle.std.specs.Prelude.{◌≡◌, ◌≢◌, ℕ, List, true, false, map, length, IsOk, OnOk, IsSome, IsSomeAnd};
+ghost use Rattle.std.specs.Prelude.{◌≡◌, ℕ, List, true, false, map, length, IsOk, OnOk, IsSome, IsSomeAnd};
 ghost use Rattle.ed_model.specs.Session.{lines_in};
-ghost use Rattle.ed_model.specs.Requests.{Request};
-ghost use Rattle.ed_model.specs.Changes.{changed_view, view_change_performed};
+ghost use Rattle.ed_model.specs.Changes.{changed_view};
 ghost use Rattle.id_table.specs.Entries.{value_at};
 ghost use Rattle.scene.specs.Scenes.{views_of, fold_room_in_all, AreNamed};
 ghost use Rattle.message_requests.specs.Requested.{session_in};
-ghost use Rattle.session_changes.specs.Kept.{IsKept, ViewsRise};
+ghost use Rattle.session_changes.specs.Kept.{IsKept, OthersStay, ViewsRise};
 ghost use Rattle.ed_view.specs.Folding.{is_setting};
-ghost use Rattle.session_changes.specs.Asked.{IsAsked, CanChangeView};
-ghost use Rattle.session_changes.specs.Folding.{takes_fold_room, HasFoldRoomAt, IsRoomAtMostAt, levels_of, changed_at, CanChange};
+ghost use Rattle.session_changes.specs.Asked.{CanChangeView, ChangesView};
+ghost use Rattle.session_changes.specs.Folding.{takes_fold_room, HasFoldRoomAt, IsRoomAtMostAt, levels_of, CanChange, ViewIsChanged};
 
 use contraction::Levels;
 use document::Document;
@@ -36,7 +35,7 @@ fn reserve_in(views: &mut IdTable<View>, view: u32, change: ViewChange) -> Resul
     ensures room_is_there { HasFoldRoomAt views.old.entries view change → IsOk result × (views.new ≡ views.old) }
     ensures view_room { views.new.room ≡ views.old.room }
     ensures at_most { IsRoomAtMostAt views.old.entries views.new.entries view change }
-    ensures others { (other : ℕ) → other ≢ view → value_at views.new.entries other ≡ value_at views.old.entries other }
+    ensures others { OthersStay view views.old.entries views.new.entries }
     ensures free { takes_fold_room change ≡ false → IsOk result }
 {
     let Some(view) = views.get_mut(view) else {
@@ -46,8 +45,8 @@ fn reserve_in(views: &mut IdTable<View>, view: u32, change: ViewChange) -> Resul
     view.reserve_folding(need)
 }
 
-/// Makes room in the view with this id for a change of it. Only a change that may hide or contract lines needs room. If the view has the
-/// room already, this allocates nothing and cannot fail.
+/// Makes room in the view with this id for a change of it. Only a change that may hide or contract lines needs room. If
+/// the view has the room already, this allocates nothing and cannot fail.
 ///
 /// # Errors
 ///
@@ -68,7 +67,7 @@ pub fn reserve_view_change(
     ensures view_room { state.new.views.room ≡ state.old.views.room }
     ensures clipboard { state.new.clipboard ≡ state.old.clipboard }
     ensures at_most { IsRoomAtMostAt state.old.views.entries state.new.views.entries view change }
-    ensures others { (other : ℕ) → other ≢ view → value_at state.new.views.entries other ≡ value_at state.old.views.entries other }
+    ensures others { OthersStay view state.old.views.entries state.new.views.entries }
     ensures free { takes_fold_room change ≡ false → IsOk result }
 {
     reserve_in(&mut state.views, view, change)
@@ -87,7 +86,7 @@ fn change_in(views: &mut IdTable<View>, view: u32, levels: &Levels, change: View
     requires can { IsSomeAnd (value_at views.old.entries view) (CanChange levels.now change) }
     requires named { AreNamed views.old.entries }
     requires rise { ViewsRise views.old }
-    ensures views { views_of views.new.entries ≡ changed_at view (changed_view levels.now change) (views_of views.old.entries) }
+    ensures views { ViewIsChanged view (changed_view levels.now change) views.old views.new }
     ensures named { AreNamed views.new.entries }
     ensures next { views.new.next ≡ views.old.next }
     ensures fold_rooms { map fold_room_in_all views.new.entries ≡ map fold_room_in_all views.old.entries }
@@ -106,7 +105,7 @@ fn set_in(views: &mut IdTable<View>, view: u32, change: ViewChange)
     requires there { IsSome (value_at views.old.entries view) }
     requires named { AreNamed views.old.entries }
     requires rise { ViewsRise views.old }
-    ensures views { (levels : List ℕ) → views_of views.new.entries ≡ changed_at view (changed_view levels change) (views_of views.old.entries) }
+    ensures views { (levels : List ℕ) → ViewIsChanged view (changed_view levels change) views.old views.new }
     ensures named { AreNamed views.new.entries }
     ensures next { views.new.next ≡ views.old.next }
     ensures fold_rooms { map fold_room_in_all views.new.entries ≡ map fold_room_in_all views.old.entries }
@@ -118,14 +117,14 @@ fn set_in(views: &mut IdTable<View>, view: u32, change: ViewChange)
     view.set(change);
 }
 
-/// Makes a change of `view`, which is attached to `document`, by the fold levels of that document. There is room for the change. Out of
-/// line, so that a change of a setting does not pay for its stack frame.
+/// Makes a change of `view`, which is attached to `document`, by the fold levels of that document. There is room for
+/// the change. Out of line, so that a change of a setting does not pay for its stack frame.
 #[inline(never)]
 fn change_by_levels(state: &mut SessionState, document: u32, view: u32, change: ViewChange)
     requires kept { IsKept state.old }
     requires can { CanChangeView (session_in state.old) document view change }
     requires room { HasFoldRoomAt state.old.views.entries view change }
-    ensures changed { (r : Request) → IsAsked (session_in state.old) document view r → session_in state.new ≡ view_change_performed r change }
+    ensures changed { ChangesView state.old state.new document view change }
     ensures limits { state.new.limits ≡ state.old.limits }
     ensures documents { state.new.documents ≡ state.old.documents }
     ensures views { AreNamed state.new.views.entries }
@@ -146,14 +145,14 @@ fn change_by_levels(state: &mut SessionState, document: u32, view: u32, change: 
     change_in(views, view, &levels_of(document), change);
 }
 
-/// Makes a change of `view`, which is attached to `document`. Cannot fail: `reserve_view_change` has made room for the change. All else in
-/// the session stays as it is. Each view keeps its capacity for hidden and for contracted lines.
+/// Makes a change of `view`, which is attached to `document`. Cannot fail: `reserve_view_change` has made room for the
+/// change. All else in the session stays as it is. Each view keeps its capacity for hidden and for contracted lines.
 #[inline]
 pub fn change_view(state: &mut SessionState, document: u32, view: u32, change: ViewChange)
     requires kept { IsKept state.old }
     requires can { CanChangeView (session_in state.old) document view change }
     requires room { HasFoldRoomAt state.old.views.entries view change }
-    ensures changed { (r : Request) → IsAsked (session_in state.old) document view r → session_in state.new ≡ view_change_performed r change }
+    ensures changed { ChangesView state.old state.new document view change }
     ensures limits { state.new.limits ≡ state.old.limits }
     ensures documents { state.new.documents ≡ state.old.documents }
     ensures views { AreNamed state.new.views.entries }
