@@ -4,8 +4,7 @@ ghost use Rattle.std.specs.Prelude.{◌≡◌, ◌+◌, ◌-◌, ◌*◌, ◌≤
 ghost use Rattle.ed_model.specs.Rows.{fresh_flags};
 ghost use Rattle.ed_model.specs.Folding.{is_visible, is_expanded};
 ghost use Rattle.ed_model.specs.DisplayLines.{display_line, line_shown, all_visible};
-ghost use Rattle.split_vector.specs.Split.{most_room};
-ghost use Rattle.contraction.specs.ViewLines.{contracted_lines};
+ghost use Rattle.contraction.specs.ViewLines.{GainsHiddenRoom, GainsContractedRoom, most_contracted_room};
 
 use crate::line_set::{contains, lines_before, nth_line_outside};
 use partitioning::{Partitioning, Place};
@@ -118,7 +117,7 @@ impl<P: Place> Contraction<P> {
     ///
     /// `AllocError` if the allocation fails. Nothing has changed then.
     pub fn reserve_hidden(&mut self, lines: usize) -> Result<(), AllocError>
-        ensures ok { OnOk result ((lines ≤ self.new.room.hidden) × (self.new ≡ record self.old { room = record self.old.room { hidden = self.new.room.hidden } })) }
+        ensures ok { OnOk result (GainsHiddenRoom self.old self.new lines) }
         ensures room_is_there { lines ≤ self.old.room.hidden → IsOk result × (self.new ≡ self.old) }
         ensures room_stays { self.old.room.hidden ≤ self.new.room.hidden }
         ensures at_most { OnOk result (self.new.room.hidden ≤ max lines (2 * self.old.room.hidden + 1)) }
@@ -134,10 +133,10 @@ impl<P: Place> Contraction<P> {
     ///
     /// `AllocError` if the allocation fails. Nothing has changed then.
     pub fn reserve_contracted(&mut self, count: usize) -> Result<(), AllocError>
-        ensures ok { OnOk result ((count ≤ self.new.room.contracted) × (self.new ≡ record self.old { room = record self.old.room { contracted = self.new.room.contracted } })) }
+        ensures ok { OnOk result (GainsContractedRoom self.old self.new count) }
         ensures room_is_there { count ≤ self.old.room.contracted → IsOk result × (self.new ≡ self.old) }
         ensures room_stays { self.old.room.contracted ≤ self.new.room.contracted }
-        ensures at_most { OnOk result (self.new.room.contracted ≤ most_room (contracted_lines self.old.flags + 1) self.old.room.contracted count) }
+        ensures at_most { OnOk result (self.new.room.contracted ≤ most_contracted_room self.old count) }
         ensures err { OnErr result (self.new ≡ self.old) }
     {
         let _ = &self.hidden;

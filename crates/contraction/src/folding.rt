@@ -1,8 +1,8 @@
 //! Contracting and expanding of folds.
 
-ghost use Rattle.std.specs.Prelude.{◌≡◌, ◌+◌, ◌≤◌, ◌<◌, length, fold, reverse};
-ghost use Rattle.ed_model.specs.Folding.{contracted as contracted_at, expanded as expanded_at, header_opened, revealed, fold_parents};
-ghost use Rattle.contraction.specs.Folding.{is_closed as is_closed_at, closed_at, behind_closed};
+ghost use Rattle.std.specs.Prelude.{◌≡◌, ◌+◌, ◌≤◌, ◌<◌, length};
+ghost use Rattle.ed_model.specs.Folding.{contracted as contracted_at, expanded as expanded_at, header_opened, revealed};
+ghost use Rattle.contraction.specs.Folding.{is_closed as is_closed_at, closed_at, behind_closed, parents_opened};
 ghost use Rattle.contraction.specs.ViewLines.{contracted_in_all};
 
 use crate::contraction::Contraction;
@@ -104,7 +104,7 @@ impl<P: Place> Contraction<P> {
         requires lines { length levels.now ≡ length self.old.flags }
         requires line { line < length self.old.flags }
         requires room { length self.old.flags ≤ self.old.room.hidden }
-        ensures flags { self.new.flags ≡ fold (header_opened levels.now) self.old.flags (reverse (fold_parents levels.now line)) }
+        ensures flags { self.new.flags ≡ parents_opened levels.now line self.old.flags }
         ensures lines { length self.new.flags ≡ length self.old.flags }
         ensures hidden { self.new.room.hidden ≡ self.old.room.hidden }
         ensures contracted { self.old.room.contracted ≤ self.new.room.contracted }

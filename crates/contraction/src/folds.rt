@@ -63,7 +63,8 @@ fn heads(level: u32, number: u32) -> bool
     level & HEADER != 0 && level & NUMBER < number
 }
 
-// Returns whether one of the levels belongs to such a header. It tests all of them, so that the compiler can vectorize it.
+// Returns whether one of the levels belongs to such a header. It tests all of them, so that the compiler can vectorize
+// it.
 #[inline(always)]
 fn any_heads(levels: &[u32], number: u32) -> bool
     ensures { result ≡ false → (k : ℕ) → k < length levels.now → heads_by number (slice_index levels.now k) ≡ false }
@@ -118,7 +119,8 @@ fn last_heading(levels: &[u32], number: u32) -> Option<usize>
     last_among(levels, 0, far, number)
 }
 
-/// Returns the nearest header before a line that has a smaller number (`SCI_GETFOLDPARENT`). The line need not be its child.
+/// Returns the nearest header before a line that has a smaller number (`SCI_GETFOLDPARENT`). The line need not be its
+/// child.
 pub fn fold_parent(levels: &Levels, line: usize) -> Option<usize>
     requires { line < length levels.now }
     ensures parent { result ≡ nearest_parent levels.now line }

@@ -1,16 +1,16 @@
 //! The fold levels of all lines, as they are lent.
 
 ghost use Rattle.std.specs.Prelude.{◌≡◌, ◌+◌, ◌≤◌, ◌<◌, ℕ, length, slice_index};
-ghost use Rattle.ed_model.specs.Rows.{base_level};
 ghost use Rattle.contraction.specs.Headings.{HeadFrom};
-ghost use Rattle.contraction.specs.Levels.{all_levels};
+ghost use Rattle.contraction.specs.Levels.{all_levels, HavePartAt, AreBaseLevels};
 
 use std::marker::Model;
 
 // `SC_FOLDLEVELBASE` of Scintilla
 const BASE: u32 = 0x400;
 
-/// The fold levels of all lines of a document: two slices for the first lines, and the base level for all lines behind them.
+/// The fold levels of all lines of a document: two slices for the first lines, and the base level for all lines behind
+/// them.
 #[derive(Drop)]
 pub struct Levels<'a> {
     before: &'a [u32],
@@ -37,7 +37,8 @@ impl<'a> Model for Levels<'a> {
 }
 
 impl<'a> Levels<'a> {
-    /// Returns the levels of `count` lines. The first lines have those of the two slices, and the others the base level.
+    /// Returns the levels of `count` lines. The first lines have those of the two slices, and the others the base
+    /// level.
     pub fn new(before: &'a [u32], after: &'a [u32], count: usize) -> Self
         requires { length before.now + length after.now ≤ count }
         ensures levels { result ≡ all_levels before.now after.now count }
@@ -97,8 +98,8 @@ impl<'a> Levels<'a> {
         requires { line < length self.now }
         ensures within { length result.0.now + length result.1.now ≤ line }
         ensures first { (k : ℕ) → k < length result.0.now → slice_index self.now k ≡ slice_index result.0.now k }
-        ensures others { (k : ℕ) → k < length result.1.now → slice_index self.now (length result.0.now + k) ≡ slice_index result.1.now k }
-        ensures base { (k : ℕ) → length result.0.now + length result.1.now ≤ k → k < line → slice_index self.now k ≡ base_level }
+        ensures others { HavePartAt self.now (length result.0.now) result.1.now }
+        ensures base { AreBaseLevels self.now (length result.0.now + length result.1.now) line }
     {
         let first = line.min(self.before.len());
         let others = (line - first).min(self.after.len());
