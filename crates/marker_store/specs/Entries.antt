@@ -1,7 +1,8 @@
 -- The storage of markers: one list, in the order of their lines, and those of one line in the order of its list. Up to
 -- the step each is stored with its line, and from there on with the distance of its line to the number of lines.
-use Rattle.std.specs.Prelude.{◌≡◌, ◌⊎◌, ℕ, zero, suc, ◌+◌, ◌-◌, ◌^◌, ◌<◌, ◌≤◌, ◌==◌, if◌then◌else◌, Bool, true, List, [], ◌∷◌, ◌++◌, length, map, take, drop, slice_index_or, refl}
+use Rattle.std.specs.Prelude.{◌≡◌, ◌⊎◌, ℕ, zero, suc, ◌+◌, ◌-◌, ◌^◌, ◌<◌, ◌≤◌, ◌==◌, max, if◌then◌else◌, Bool, true, List, [], ◌∷◌, ◌++◌, length, map, take, drop, slice_index_or, refl}
 use Rattle.std.specs.Coded.{Coded, code_by, coded×, coded_list, coded_ℕ}
+use Rattle.split_vector.specs.Split.{Split}
 use Rattle.ed_model.specs.Rows.{Marker}
 use Rattle.marker_store.specs.Lines.{marker, marker_code}
 use Rattle.marker_store.specs.Flags.{may_have}
@@ -39,6 +40,28 @@ turned count es = map (λ (e : Entry). entry (count - e.line) e.marker) es
 -- the entries, of which those from the step on are stored by their distances
 abbrev pub entries_of : ℕ → ℕ → List Entry → List Entry
 entries_of count step stored = take step stored ++ turned count (drop step stored)
+
+-- what a contract sees of the stored entries, the number of lines, the step and the room
+abbrev pub placed_in : Split Entry → (count step room : ℕ) → Placed
+placed_in stored count step room = placed count (entries_of count step stored.items) room (length stored.items + stored.spare)
+
+-- the entries with another one before that at the index
+abbrev pub entries_with : (count step : ℕ) → List Entry → ℕ → Entry → List Entry
+entries_with count step stored index new =
+    take index (entries_of count step stored) ++ (new ∷ drop index (entries_of count step stored))
+
+-- the entries without that at the index
+abbrev pub entries_without : (count step : ℕ) → List Entry → ℕ → List Entry
+entries_without count step stored index =
+    take index (entries_of count step stored) ++ drop (index + 1) (entries_of count step stored)
+
+-- the markers with room for so many more, or with the old room if that is more
+abbrev pub with_room : Placed → ℕ → Placed
+with_room p more = record p { room = max p.room more }
+
+-- there is memory for the markers and so many more
+abbrev pub HasMemory : Placed → ℕ → Type 0
+HasMemory p more = length p.entries + more ≤ p.block
 
 -- each entry's line is before the line, or is not before it
 abbrev pub AllBefore : ℕ → List Entry → Type 0

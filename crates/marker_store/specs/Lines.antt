@@ -1,10 +1,11 @@
 -- What a contract sees of a `MarkerStore`, and the effect of its calls on the lists of the lines.
-use Rattle.std.specs.Prelude.{ℕ, ◌+◌, ◌-◌, ◌==◌, not, Bool, List, [], ◌∷◌, ◌++◌, length, map, filter, take, drop, replicate, slice_range, slice_index_or, sum_by, Option, find, reverse, min, refl}
+use Rattle.std.specs.Prelude.{ℕ, ◌+◌, ◌-◌, ◌≤◌, ◌==◌, not, Bool, List, [], ◌∷◌, ◌++◌, length, map, filter, take, drop, replicate, slice_range, slice_index_or, slice_set, sum_by, Option, find, reverse, min, max, refl}
 use Rattle.std.specs.List.{range_with_len, flat_map, list_any}
 use Rattle.std.specs.Coded.{Coded, code_by, coded×, coded_list, coded_ℕ}
 use Rattle.ed_model.specs.Rows.{Marker}
 use Rattle.ed_model.specs.Numbers.{meets}
 use Rattle.ed_model.specs.LinePlans.{mask_of}
+use Rattle.ed_model.specs.Changes.{new_markers, without_marker}
 
 -- the markers of each line in their order, the handle that the next marker gets, how many more markers were reserved,
 -- and for how many in all there is memory
@@ -35,6 +36,22 @@ markers_of line lines = slice_index_or lines line []
 -- how many markers there are
 abbrev pub marker_total : List (List Marker) → ℕ
 marker_total lines = sum_by length lines
+
+-- the store with room for `count` more markers, or with the old room if that is more
+abbrev pub with_room : MarkedLines → ℕ → MarkedLines
+with_room s count = record s { room = max s.room count }
+
+-- there is memory for the markers and `count` more
+abbrev pub HasMemory : MarkedLines → ℕ → Type 0
+HasMemory s count = marker_total s.lines + count ≤ s.block
+
+-- the lists with a new marker behind those of the line
+abbrev pub with_marker_on : ℕ → ℕ → MarkedLines → List (List Marker)
+with_marker_on line number s = slice_set s.lines line (markers_of line s.lines ++ new_markers s.next_handle (number ∷ []))
+
+-- the lists without the line's first marker with the number, or without all of its markers
+abbrev pub without_marker_on : ℕ → Option ℕ → List (List Marker) → List (List Marker)
+without_marker_on line number lines = slice_set lines line (without_marker number (markers_of line lines))
 
 -- `count` lines without markers inserted before the line
 abbrev pub with_fresh : ℕ → ℕ → List (List Marker) → List (List Marker)

@@ -6,8 +6,9 @@ use split_vector::SplitVector;
 use std::alloc::{Allocator, Global};
 use std::marker::Model;
 
-/// A flag for each line from the first on, or none at all: false if the line has no marker, and true if it may have one.
-/// A line without a flag may have one, too. So flags for which there is no memory are dropped, and nothing else is lost.
+/// A flag for each line from the first on, or none at all: false if the line has no marker, and true if it may have
+/// one. A line without a flag may have one, too. So flags for which there is no memory are dropped, and nothing else is
+/// lost.
 #[derive(Drop)]
 pub struct LineMarks<A: Allocator = Global> {
     flags: SplitVector<bool, A>,
@@ -43,7 +44,8 @@ impl<A: Allocator> LineMarks<A> {
         false
     }
 
-    /// Clears the flag of each of the lines, if there are no markers and no flags yet, and if there is memory for the flags.
+    /// Clears the flag of each of the lines, if there are no markers and no flags yet, and if there is memory for the
+    /// flags.
     pub(crate) fn start(&mut self, markers: usize, lines: usize)
         ensures { (self.new ≡ self.old) ⊎ ((markers ≡ 0) × (self.new ≡ replicate lines false)) }
     {

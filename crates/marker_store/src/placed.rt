@@ -1,11 +1,11 @@
 //! The markers of all lines in one list, each with its line.
-ghost use Rattle.std.specs.Prelude.{◌≡◌, ◌≢◌, ◌≤◌, ◌<◌, ◌+◌, ◌-◌, ◌∷◌, ◌++◌, ◌^◌, [], length, max, take, drop, filter, not, slice_index_or, MatchOption, IsTrue, IsFalse, IsNone, ◌↔◌, IfOk, OnOk, OnErr, IsOk};
+ghost use Rattle.std.specs.Prelude.{◌≡◌, ◌≢◌, ◌≤◌, ◌<◌, ◌+◌, ◌-◌, ◌∷◌, ◌++◌, ◌^◌, [], length, take, drop, filter, not, slice_index_or, MatchOption, IsTrue, IsFalse, IsNone, ◌↔◌, IfOk, OnOk, OnErr, IsOk};
 ghost use Rattle.split_vector.specs.Split.{most_room};
 ghost use Rattle.ed_model.specs.LinePlans.{mask_of};
 ghost use Rattle.marker_store.specs.declared.drops.Drops.TheVariants.{Handle};
 ghost use Rattle.marker_store.specs.Dropping.{kept};
 ghost use Rattle.marker_store.specs.Lines.{has_handle, is_met, first_from, last_up_to};
-ghost use Rattle.marker_store.specs.Entries.{entry, no_entry, placed, rows_of, row, AllBefore, AllFrom, IsCut, IsRaised, IsLowered, IsPut, IsCleared, NoneIs, IsFirst, IsFirstGone};
+ghost use Rattle.marker_store.specs.Entries.{entry, no_entry, placed, with_room, HasMemory, rows_of, row, AllBefore, AllFrom, IsCut, IsRaised, IsLowered, IsPut, IsCleared, NoneIs, IsFirst, IsFirstGone};
 
 use crate::drops::Drops;
 use crate::entries::Entry;
@@ -28,14 +28,13 @@ pub struct PlacedMarkers<A: Allocator = Global> {
 }
 
 impl<A: Allocator> Model for PlacedMarkers<A> {
-    ghost use Rattle.std.specs.Prelude.{◌+◌, length};
-    ghost use Rattle.marker_store.specs.Entries.{Placed, placed, placed_code, entries_of, IsPlaced};
+    ghost use Rattle.marker_store.specs.Entries.{Placed, placed_code, placed_in, IsPlaced};
 
     ghost Value = { Placed };
 
     ghost coded = { placed_code };
 
-    ghost view = { λ p. placed p.lines (entries_of p.lines p.step p.stored.items) p.room (length p.stored.items + p.stored.spare) };
+    ghost view = { λ p. placed_in p.stored p.lines p.step p.room };
 
     ghost invariant = { λ p. IsPlaced p.lines p.step p.stored.items p.stored.spare p.room };
 }
@@ -71,10 +70,10 @@ impl<A: Allocator> PlacedMarkers<A> {
 
     /// Makes room for `count` more markers. Allocates nothing if the memory is there.
     pub(crate) fn reserve(&mut self, count: usize) -> Result<(), AllocError>
-        ensures ok { OnOk result (self.new ≡ record self.old { room = max self.old.room count; block = self.new.block }) }
+        ensures ok { OnOk result (self.new ≡ record (with_room self.old count) { block = self.new.block }) }
         ensures room_is_there { count ≤ self.old.room → IsOk result × (self.new ≡ self.old) }
         ensures block_at_most { self.new.block ≤ most_room 0 self.old.block (length self.old.entries + count) }
-        ensures memory_is_there { length self.old.entries + count ≤ self.old.block → IsOk result × (self.new ≡ record self.old { room = max self.old.room count }) }
+        ensures memory_is_there { HasMemory self.old count → IsOk result × (self.new ≡ with_room self.old count) }
         ensures err { OnErr result (self.new ≡ self.old) }
     {
         if count <= self.room {

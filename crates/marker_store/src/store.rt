@@ -1,10 +1,10 @@
 //! `MarkerStore` and its calls. A contract sees it as the list of markers of each line, the next handle, its room and
 //! its block.
-ghost use Rattle.std.specs.Prelude.{◌≡◌, ◌≢◌, ◌≤◌, ◌<◌, ◌+◌, ◌-◌, ◌^◌, ◌==◌, ◌↔◌, [], ◌∷◌, ◌++◌, length, max, slice_set, IsTrue, OnOk, OnErr, IsOk};
+ghost use Rattle.std.specs.Prelude.{◌≡◌, ◌≢◌, ◌≤◌, ◌<◌, ◌+◌, ◌-◌, ◌^◌, ◌==◌, ◌↔◌, [], ◌∷◌, length, max, IsTrue, OnOk, OnErr, IsOk};
 ghost use Rattle.split_vector.specs.Split.{most_room};
-ghost use Rattle.ed_model.specs.Changes.{new_markers, without_marker, is_of_number};
+ghost use Rattle.ed_model.specs.Changes.{is_of_number};
 ghost use Rattle.ed_model.specs.LinePlans.{mask_of};
-ghost use Rattle.marker_store.specs.Lines.{marked_lines, markers_of, marker_total, with_fresh, with_joined, without, is_met, has_handle, first_from, last_up_to};
+ghost use Rattle.marker_store.specs.Lines.{marked_lines, markers_of, marker_total, with_room, HasMemory, with_marker_on, without_marker_on, with_fresh, with_joined, without, is_met, has_handle, first_from, last_up_to};
 
 use crate::drops::Drops;
 use crate::marked::LineMarks;
@@ -85,12 +85,12 @@ impl<A: Allocator> MarkerStore<A> {
     ///
     /// `AllocError` if the allocation fails. Nothing has changed then.
     pub fn reserve(&mut self, count: usize) -> Result<(), AllocError>
-        ensures ok { OnOk result (self.new ≡ record self.old { room = max self.old.room count; block = self.new.block }) }
+        ensures ok { OnOk result (self.new ≡ record (with_room self.old count) { block = self.new.block }) }
         ensures room_is_there { count ≤ self.old.room → IsOk result × (self.new ≡ self.old) }
         ensures room_stays { self.old.room ≤ self.new.room }
         ensures at_most { self.new.room ≤ max self.old.room count }
         ensures block_at_most { self.new.block ≤ most_room 0 self.old.block (marker_total self.old.lines + count) }
-        ensures memory_is_there { marker_total self.old.lines + count ≤ self.old.block → IsOk result × (self.new ≡ record self.old { room = max self.old.room count }) }
+        ensures memory_is_there { HasMemory self.old count → IsOk result × (self.new ≡ with_room self.old count) }
         ensures err { OnErr result (self.new ≡ self.old) }
     {
         self.placed.reserve(count)
@@ -104,7 +104,7 @@ impl<A: Allocator> MarkerStore<A> {
         requires room { 0 < self.old.room }
         requires handles { self.old.next_handle < 2 ^ 32 - 1 }
         ensures handle { result ≡ self.old.next_handle }
-        ensures lines { self.new.lines ≡ slice_set self.old.lines line (markers_of line self.old.lines ++ new_markers self.old.next_handle (number ∷ [])) }
+        ensures lines { self.new.lines ≡ with_marker_on line number self.old }
         ensures next_handle { self.new.next_handle ≡ self.old.next_handle + 1 }
         ensures room { self.new.room + 1 ≡ self.old.room }
         ensures block { self.new.block ≡ self.old.block }
@@ -122,7 +122,7 @@ impl<A: Allocator> MarkerStore<A> {
     pub fn delete(&mut self, line: usize, number: Option<u32>) -> bool
         requires { line < length self.old.lines }
         ensures went { IsTrue result ↔ (marker_total self.new.lines ≢ marker_total self.old.lines) }
-        ensures lines { self.new.lines ≡ slice_set self.old.lines line (without_marker number (markers_of line self.old.lines)) }
+        ensures lines { self.new.lines ≡ without_marker_on line number self.old.lines }
         ensures next_handle { self.new.next_handle ≡ self.old.next_handle }
         ensures room { self.new.room + marker_total self.new.lines ≡ self.old.room + marker_total self.old.lines }
         ensures block { self.new.block ≡ self.old.block }

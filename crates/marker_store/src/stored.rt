@@ -1,7 +1,7 @@
-//! The entries as they are stored: up to the step with their lines, and from there on with the distances of their lines to
-//! the number of lines.
-ghost use Rattle.std.specs.Prelude.{◌≡◌, ◌≤◌, ◌<◌, ◌+◌, ◌∷◌, ◌++◌, length, take, drop, slice_index_or};
-ghost use Rattle.marker_store.specs.Entries.{no_entry, entries_of, AllBefore};
+//! The entries as they are stored: up to the step with their lines, and from there on with the distances of their lines
+//! to the number of lines.
+ghost use Rattle.std.specs.Prelude.{◌≡◌, ◌≤◌, ◌<◌, ◌+◌, length, slice_index_or};
+ghost use Rattle.marker_store.specs.Entries.{no_entry, entries_of, entries_with, entries_without, AllBefore};
 
 use crate::entries::Entry;
 use split_vector::SplitVector;
@@ -101,7 +101,7 @@ pub(crate) fn put_in<A: Allocator>(
     requires line { entry.line ≤ lines }
     requires small { AllBefore (lines + 1) stored.old.items }
     requires room { 0 < stored.old.spare }
-    ensures entries { entries_of lines result stored.new.items ≡ take index (entries_of lines step stored.old.items) ++ (entry ∷ drop index (entries_of lines step stored.old.items)) }
+    ensures entries { entries_of lines result stored.new.items ≡ entries_with lines step stored.old.items index entry }
     ensures small { AllBefore (lines + 1) stored.new.items }
     ensures step { result ≤ length stored.new.items }
     ensures spare { stored.new.spare + 1 ≡ stored.old.spare }
@@ -127,7 +127,7 @@ pub(crate) fn take_out<A: Allocator>(
     requires step { step ≤ length stored.old.items }
     requires index { index < length stored.old.items }
     requires small { AllBefore (lines + 1) stored.old.items }
-    ensures entries { entries_of lines result stored.new.items ≡ take index (entries_of lines step stored.old.items) ++ drop (index + 1) (entries_of lines step stored.old.items) }
+    ensures entries { entries_of lines result stored.new.items ≡ entries_without lines step stored.old.items index }
     ensures small { AllBefore (lines + 1) stored.new.items }
     ensures step { result ≤ length stored.new.items }
     ensures spare { stored.new.spare ≡ stored.old.spare + 1 }
