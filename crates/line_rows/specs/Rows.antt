@@ -1,9 +1,11 @@
 -- Rows of lines, whose markers, levels and states are stored separately.
-use Rattle.std.specs.Prelude.{◌≡◌, ℕ, ℤ, pos, List, [], ◌∷◌, length, flat_map}
+use Rattle.std.specs.Prelude.{◌≡◌, ℕ, ℤ, pos, ◌+◌, List, [], ◌∷◌, length, flat_map}
 use Rattle.ed_model.specs.Rows.{Marker, Row, base_level, rows_together}
 use Rattle.line_index.specs.declared.edit.LineEdit.{LineEdit}
 use Rattle.line_index.specs.Edits.{after_edits}
-use Rattle.line_rows.specs.Values.{first_or}
+use Rattle.contraction.specs.Headings.{HeadFrom}
+use Rattle.marker_store.specs.Lines.{MarkedLines, marker_total}
+use Rattle.line_rows.specs.Values.{Valued, first_or}
 
 -- the row of each line, from its markers, its level and its state
 abbrev pub rows_of : List (List Marker) → List ℕ → List ℤ → List Row
@@ -15,6 +17,14 @@ rows_of (m ∷ ms) (l ∷ ls) (s ∷ ss) = record { markers = m; level = l; stat
 -- the markers of lines that are joined
 abbrev pub markers_together : List (List Marker) → List Marker
 markers_together markers = flat_map (λ ms. ms) markers
+
+-- how many markers in all there may be without an allocation: those that there are, and more
+abbrev pub total_with_room : MarkedLines → ℕ
+total_with_room markers = markers.room + marker_total markers.lines
+
+-- a line without a level has the base level, and no header has a smaller number than this one
+abbrev pub AreLevels : Valued ℕ → ℕ → Type 0
+AreLevels levels number = record { base : levels.default ≡ base_level; least : HeadFrom number levels.values }
 
 -- rows are carried as their markers, levels and states are, each by itself
 abbrev pub PartsCarryRows : Type 0

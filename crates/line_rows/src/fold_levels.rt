@@ -1,8 +1,8 @@
 //! `FoldLevels`: the fold level of each line, and a bound for the numbers of all headers.
-ghost use Rattle.std.specs.Prelude.{◌≡◌, ◌≤◌, ◌<◌, ◌+◌, ◌^◌, ◌∷◌, [], length, max, slice_set, slice_index_or, OnOk, OnErr, IsOk};
+ghost use Rattle.std.specs.Prelude.{◌≡◌, ◌≤◌, ◌<◌, ◌+◌, ◌^◌, ◌∷◌, [], length, slice_index_or, OnOk, OnErr, IsOk};
 ghost use Rattle.ed_model.specs.Rows.{base_level};
 ghost use Rattle.line_index.specs.Edits.{after_edits, FitLines, fresh_lines};
-ghost use Rattle.line_rows.specs.Values.{valued, first_or, wanted_block, most_block, stored_after};
+ghost use Rattle.line_rows.specs.Values.{valued, first_or, HasRoom, GainsRoom, HasMemory, most_memory, with_value, stored_after};
 
 use crate::rows::BASE_LEVEL;
 use crate::values::LineValues;
@@ -27,16 +27,15 @@ pub(crate) struct FoldLevels {
 }
 
 impl Model for FoldLevels {
-    ghost use Rattle.std.specs.Prelude.{◌≡◌, ℕ};
-    ghost use Rattle.ed_model.specs.Rows.{base_level};
-    ghost use Rattle.contraction.specs.Headings.{HeadFrom};
+    ghost use Rattle.std.specs.Prelude.{ℕ};
     ghost use Rattle.line_rows.specs.Values.{Valued};
+    ghost use Rattle.line_rows.specs.Rows.{AreLevels};
 
     ghost Value = { Valued ℕ };
 
     ghost view = { λ l. l.values };
 
-    ghost invariant = { λ l. record { base : l.values.default ≡ base_level; least : HeadFrom l.least l.values.values } };
+    ghost invariant = { λ l. AreLevels l.values l.least };
 }
 
 impl FoldLevels {
@@ -88,10 +87,10 @@ impl FoldLevels {
     /// `AllocError` if the allocation fails. Nothing has changed then.
     #[inline(always)]
     pub(crate) fn reserve(&mut self, lines: usize, reach: usize) -> Result<(), AllocError>
-        ensures ok { OnOk result (self.new ≡ record self.old { room = max self.old.room lines; reach = max self.old.reach reach; block = self.new.block }) }
+        ensures ok { OnOk result (GainsRoom self.old self.new lines reach) }
         ensures room_is_there { lines ≤ self.old.room → reach ≤ self.old.reach → IsOk result × (self.new ≡ self.old) }
-        ensures memory_is_there { wanted_block self.old.stored (max self.old.room lines) (max self.old.reach reach) ≤ self.old.block → IsOk result × (self.new ≡ record self.old { room = max self.old.room lines; reach = max self.old.reach reach }) }
-        ensures at_most { self.new.block ≤ most_block self.old.stored self.old.block (max self.old.room lines) (max self.old.reach reach) }
+        ensures memory_is_there { HasMemory self.old lines reach → IsOk result × HasRoom self.old self.new lines reach }
+        ensures at_most { self.new.block ≤ most_memory self.old lines reach }
         ensures err { OnErr result (self.new ≡ self.old) }
     {
         self.values.reserve(lines, reach)
@@ -101,7 +100,7 @@ impl FoldLevels {
     pub(crate) fn set(&mut self, line: usize, level: u32)
         requires line { line < length self.old.values }
         requires room { line < self.old.reach }
-        ensures { self.new ≡ record self.old { values = slice_set self.old.values line level; stored = max self.old.stored (line + 1) } }
+        ensures { self.new ≡ with_value self.old line level }
     {
         if level & HEADER != 0 {
             self.least = self.least.min(level & NUMBER);

@@ -1,14 +1,11 @@
 //! `LineRows` and its calls.
-ghost use Rattle.std.specs.Prelude.{◌≡◌, ◌≢◌, ◌↔◌, IsTrue, ◌≤◌, ◌<◌, ◌+◌, ◌-◌, ◌^◌, ◌==◌, ◌∷◌, ◌++◌, [], length, max, slice_set, pos, OnOk, OnErr, IsOk};
-ghost use Rattle.ed_model.specs.Changes.{with_markers, new_markers, without_marker, without_markers, is_of_number, marker_count};
+ghost use Rattle.std.specs.Prelude.{◌≡◌, ◌≢◌, ◌↔◌, IsTrue, ◌≤◌, ◌<◌, ◌+◌, ◌-◌, ◌^◌, ◌==◌, ◌∷◌, [], length, OnOk, OnErr, IsOk};
+ghost use Rattle.ed_model.specs.Changes.{without_markers, is_of_number, marker_count};
 ghost use Rattle.ed_model.specs.LinePlans.{mask_of};
-ghost use Rattle.ed_model.specs.Rows.{Marker, base_level, fresh_row, rows_together};
+ghost use Rattle.ed_model.specs.Rows.{base_level, fresh_row, rows_together};
 ghost use Rattle.line_index.specs.Edits.{after_edit, after_edits, FitsLines, FitLines, fresh_by, fresh_lines};
-ghost use Rattle.marker_store.specs.Lines.{marker_total};
-ghost use Rattle.split_vector.specs.Split.{most_room};
-ghost use Rattle.line_rows.specs.Values.{wanted_block, most_block, stored_after};
-ghost use Rattle.line_rows.specs.Kept.{kept_rows, row_room, row_blocks, HasLineMemory, row_at, levels_of, is_marked, has_handle, first_from, last_up_to};
-ghost use Rattle.line_rows.specs.Rows.{markers_together};
+ghost use Rattle.line_rows.specs.Kept.{kept_rows, row_room, row_blocks, LinesFit, LevelsFit, StatesFit, with_line_room, with_level_room, with_state_room, GainsLineRoom, GainsLevelRoom, GainsStateRoom, GainsMarkerRoom, most_level_block, most_state_block, most_marker_block, StateLinesGrow, ChangesOnlyStateMemory, blocks_after, markers_in_all, row_at, with_level, with_state, with_marker, without_marker_on, levels_of, is_marked, has_handle, first_from, last_up_to};
+ghost use Rattle.line_rows.specs.Rows.{markers_together, total_with_room};
 
 use crate::fold_levels::FoldLevels;
 use crate::values::LineValues;
@@ -30,14 +27,13 @@ pub struct LineRows {
 }
 
 impl Model for LineRows {
-    ghost use Rattle.line_rows.specs.Kept.{KeptRows, kept_rows, row_room, row_blocks, AreParts};
-    ghost use Rattle.line_rows.specs.Rows.{rows_of};
+    ghost use Rattle.line_rows.specs.Kept.{KeptRows, kept_in, AreParts};
 
     ghost Value = { KeptRows };
 
-    ghost view = { λ r. kept_rows (rows_of r.markers.lines r.levels.values r.states.values) r.markers.next_handle (row_room r.levels.room r.levels.reach r.states.reach r.markers.room) (row_blocks r.levels.stored r.levels.block r.states.stored r.states.block r.states.room r.markers.block) };
+    ghost view = { λ r. kept_in r.markers r.levels r.states };
 
-    ghost invariant = { λ r. AreParts r.markers.lines r.levels.values r.states.values r.levels.default r.states.default r.levels.room r.states.room };
+    ghost invariant = { λ r. AreParts r.markers r.levels r.states };
 }
 
 // Carries the markers of lines through one edit.
@@ -47,7 +43,7 @@ fn carry_one(markers: &mut MarkerStore, edit: LineEdit)
     ensures lines { markers.new.lines ≡ after_edit markers_together markers.old.lines edit }
     ensures next_handle { markers.new.next_handle ≡ markers.old.next_handle }
     ensures room { markers.old.room ≤ markers.new.room }
-    ensures markers_in_all { markers.new.room + marker_total markers.new.lines ≡ markers.old.room + marker_total markers.old.lines }
+    ensures markers_in_all { total_with_room markers.new ≡ total_with_room markers.old }
     ensures block { markers.new.block ≡ markers.old.block }
 {
     match edit {
@@ -64,7 +60,7 @@ fn carry_markers(markers: &mut MarkerStore, edits: &[LineEdit])
     ensures lines { markers.new.lines ≡ after_edits markers_together edits.now markers.old.lines }
     ensures next_handle { markers.new.next_handle ≡ markers.old.next_handle }
     ensures room { markers.old.room ≤ markers.new.room }
-    ensures markers_in_all { markers.new.room + marker_total markers.new.lines ≡ markers.old.room + marker_total markers.old.lines }
+    ensures markers_in_all { total_with_room markers.new ≡ total_with_room markers.old }
     ensures block { markers.new.block ≡ markers.old.block }
 {
     for edit in edits {
@@ -100,13 +96,13 @@ impl LineRows {
     /// `AllocError` if an allocation fails. Nothing has changed then, except that the states may have more memory.
     #[inline(always)]
     pub fn reserve(&mut self, lines: usize) -> Result<(), AllocError>
-        ensures ok { OnOk result (self.new ≡ record self.old { room = record self.old.room { lines = max self.old.room.lines lines }; blocks = record self.old.blocks { level_block = self.new.blocks.level_block; state_block = self.new.blocks.state_block; state_lines = max self.old.blocks.state_lines lines } }) }
+        ensures ok { OnOk result (GainsLineRoom self.old self.new lines) }
         ensures room_is_there { lines ≤ self.old.room.lines → IsOk result × (self.new ≡ self.old) }
-        ensures memory_is_there { HasLineMemory self.old lines → IsOk result × (self.new ≡ record self.old { room = record self.old.room { lines = max self.old.room.lines lines }; blocks = record self.old.blocks { state_lines = max self.old.blocks.state_lines lines } }) }
-        ensures levels_at_most { self.new.blocks.level_block ≤ most_block self.old.blocks.stored_levels self.old.blocks.level_block (max self.old.room.lines lines) self.old.room.levels }
-        ensures states_at_most { self.new.blocks.state_block ≤ most_block self.old.blocks.stored_states self.old.blocks.state_block (max self.old.blocks.state_lines lines) self.old.room.states }
-        ensures state_lines { (self.old.blocks.state_lines ≤ self.new.blocks.state_lines) × (self.new.blocks.state_lines ≤ max self.old.blocks.state_lines lines) }
-        ensures err { OnErr result (self.new ≡ record self.old { blocks = record self.old.blocks { state_block = self.new.blocks.state_block; state_lines = self.new.blocks.state_lines } }) }
+        ensures memory_is_there { LinesFit self.old lines → IsOk result × (self.new ≡ with_line_room self.old lines) }
+        ensures levels_at_most { self.new.blocks.level_block ≤ most_level_block (with_line_room self.old lines) }
+        ensures states_at_most { self.new.blocks.state_block ≤ most_state_block (with_line_room self.old lines) }
+        ensures state_lines { StateLinesGrow self.old self.new lines }
+        ensures err { OnErr result (ChangesOnlyStateMemory self.old self.new) }
     {
         // The states have at least as much room for lines as the levels.
         if lines <= self.levels.room() {
@@ -118,12 +114,12 @@ impl LineRows {
     // The slow path of `reserve`: there is too little room for `lines` fresh lines.
     #[inline(never)]
     fn make_room(&mut self, lines: usize) -> Result<(), AllocError>
-        ensures memory_is_there { HasLineMemory self.old lines → IsOk result × (self.new ≡ record self.old { room = record self.old.room { lines = max self.old.room.lines lines }; blocks = record self.old.blocks { state_lines = max self.old.blocks.state_lines lines } }) }
-        ensures ok { OnOk result (self.new ≡ record self.old { room = record self.old.room { lines = max self.old.room.lines lines }; blocks = record self.old.blocks { level_block = self.new.blocks.level_block; state_block = self.new.blocks.state_block; state_lines = max self.old.blocks.state_lines lines } }) }
-        ensures levels_at_most { self.new.blocks.level_block ≤ most_block self.old.blocks.stored_levels self.old.blocks.level_block (max self.old.room.lines lines) self.old.room.levels }
-        ensures states_at_most { self.new.blocks.state_block ≤ most_block self.old.blocks.stored_states self.old.blocks.state_block (max self.old.blocks.state_lines lines) self.old.room.states }
-        ensures state_lines { (self.old.blocks.state_lines ≤ self.new.blocks.state_lines) × (self.new.blocks.state_lines ≤ max self.old.blocks.state_lines lines) }
-        ensures err { OnErr result (self.new ≡ record self.old { blocks = record self.old.blocks { state_block = self.new.blocks.state_block; state_lines = self.new.blocks.state_lines } }) }
+        ensures memory_is_there { LinesFit self.old lines → IsOk result × (self.new ≡ with_line_room self.old lines) }
+        ensures ok { OnOk result (GainsLineRoom self.old self.new lines) }
+        ensures levels_at_most { self.new.blocks.level_block ≤ most_level_block (with_line_room self.old lines) }
+        ensures states_at_most { self.new.blocks.state_block ≤ most_state_block (with_line_room self.old lines) }
+        ensures state_lines { StateLinesGrow self.old self.new lines }
+        ensures err { OnErr result (ChangesOnlyStateMemory self.old self.new) }
     {
         let Ok(()) = self.states.reserve(lines, 0) else {
             return Err(AllocError);
@@ -140,10 +136,10 @@ impl LineRows {
     ///
     /// `AllocError` if the allocation fails. Nothing has changed then.
     pub fn reserve_levels(&mut self, count: usize) -> Result<(), AllocError>
-        ensures ok { OnOk result (self.new ≡ record self.old { room = record self.old.room { levels = max self.old.room.levels count }; blocks = record self.old.blocks { level_block = self.new.blocks.level_block } }) }
+        ensures ok { OnOk result (GainsLevelRoom self.old self.new count) }
         ensures room_is_there { count ≤ self.old.room.levels → IsOk result × (self.new ≡ self.old) }
-        ensures memory_is_there { wanted_block self.old.blocks.stored_levels self.old.room.lines (max self.old.room.levels count) ≤ self.old.blocks.level_block → IsOk result × (self.new ≡ record self.old { room = record self.old.room { levels = max self.old.room.levels count } }) }
-        ensures at_most { self.new.blocks.level_block ≤ most_block self.old.blocks.stored_levels self.old.blocks.level_block self.old.room.lines (max self.old.room.levels count) }
+        ensures memory_is_there { LevelsFit self.old count → IsOk result × (self.new ≡ with_level_room self.old count) }
+        ensures at_most { self.new.blocks.level_block ≤ most_level_block (with_level_room self.old count) }
         ensures err { OnErr result (self.new ≡ self.old) }
     {
         let Ok(()) = self.levels.reserve(0, count) else {
@@ -158,10 +154,10 @@ impl LineRows {
     ///
     /// `AllocError` if the allocation fails. Nothing has changed then.
     pub fn reserve_states(&mut self, count: usize) -> Result<(), AllocError>
-        ensures ok { OnOk result (self.new ≡ record self.old { room = record self.old.room { states = max self.old.room.states count }; blocks = record self.old.blocks { state_block = self.new.blocks.state_block } }) }
+        ensures ok { OnOk result (GainsStateRoom self.old self.new count) }
         ensures room_is_there { count ≤ self.old.room.states → IsOk result × (self.new ≡ self.old) }
-        ensures memory_is_there { wanted_block self.old.blocks.stored_states self.old.blocks.state_lines (max self.old.room.states count) ≤ self.old.blocks.state_block → IsOk result × (self.new ≡ record self.old { room = record self.old.room { states = max self.old.room.states count } }) }
-        ensures at_most { self.new.blocks.state_block ≤ most_block self.old.blocks.stored_states self.old.blocks.state_block self.old.blocks.state_lines (max self.old.room.states count) }
+        ensures memory_is_there { StatesFit self.old count → IsOk result × (self.new ≡ with_state_room self.old count) }
+        ensures at_most { self.new.blocks.state_block ≤ most_state_block (with_state_room self.old count) }
         ensures err { OnErr result (self.new ≡ self.old) }
     {
         let Ok(()) = self.states.reserve(0, count) else {
@@ -176,9 +172,9 @@ impl LineRows {
     ///
     /// `AllocError` if the allocation fails. Nothing has changed then.
     pub fn reserve_markers(&mut self, count: usize) -> Result<(), AllocError>
-        ensures ok { OnOk result (self.new ≡ record self.old { room = record self.old.room { markers = max self.old.room.markers count }; blocks = record self.old.blocks { marker_block = self.new.blocks.marker_block } }) }
+        ensures ok { OnOk result (GainsMarkerRoom self.old self.new count) }
         ensures room_is_there { count ≤ self.old.room.markers → IsOk result × (self.new ≡ self.old) }
-        ensures at_most { self.new.blocks.marker_block ≤ most_room 0 self.old.blocks.marker_block (marker_count self.old.rows + count) }
+        ensures at_most { self.new.blocks.marker_block ≤ most_marker_block self.old count }
         ensures err { OnErr result (self.new ≡ self.old) }
     {
         let Ok(()) = self.markers.reserve(count) else {
@@ -200,8 +196,8 @@ impl LineRows {
         ensures level_room { self.new.room.levels ≡ self.old.room.levels }
         ensures state_room { self.new.room.states ≡ self.old.room.states }
         ensures marker_room { self.old.room.markers ≤ self.new.room.markers }
-        ensures markers_in_all { self.new.room.markers + marker_count self.new.rows ≡ self.old.room.markers + marker_count self.old.rows }
-        ensures blocks { self.new.blocks ≡ record self.old.blocks { stored_levels = stored_after edits.now self.old.blocks.stored_levels; stored_states = stored_after edits.now self.old.blocks.stored_states; state_lines = self.old.blocks.state_lines - fresh_lines edits.now } }
+        ensures markers_in_all { markers_in_all self.new ≡ markers_in_all self.old }
+        ensures blocks { self.new.blocks ≡ blocks_after edits.now self.old.blocks }
     {
         if !edits.is_empty() {
             self.carry_some(edits);
@@ -220,8 +216,8 @@ impl LineRows {
         ensures level_room { self.new.room.levels ≡ self.old.room.levels }
         ensures state_room { self.new.room.states ≡ self.old.room.states }
         ensures marker_room { self.old.room.markers ≤ self.new.room.markers }
-        ensures markers_in_all { self.new.room.markers + marker_count self.new.rows ≡ self.old.room.markers + marker_count self.old.rows }
-        ensures blocks { self.new.blocks ≡ record self.old.blocks { stored_levels = stored_after edits.now self.old.blocks.stored_levels; stored_states = stored_after edits.now self.old.blocks.stored_states; state_lines = self.old.blocks.state_lines - fresh_lines edits.now } }
+        ensures markers_in_all { markers_in_all self.new ≡ markers_in_all self.old }
+        ensures blocks { self.new.blocks ≡ blocks_after edits.now self.old.blocks }
     {
         carry_markers(&mut self.markers, edits);
         self.levels.carry(edits);
@@ -266,7 +262,7 @@ impl LineRows {
         requires line { line < length self.old.rows }
         requires room { line < self.old.room.levels }
         ensures before { result ≡ (row_at self.old.rows line).level }
-        ensures rows { self.new ≡ record self.old { rows = slice_set self.old.rows line (record (row_at self.old.rows line) { level = level }); blocks = record self.old.blocks { stored_levels = max self.old.blocks.stored_levels (line + 1) } } }
+        ensures rows { self.new ≡ with_level self.old line level }
     {
         let before = self.levels.get(line);
         self.levels.set(line, level);
@@ -278,7 +274,7 @@ impl LineRows {
         requires line { line < length self.old.rows }
         requires room { line < self.old.room.states }
         ensures before { result ≡ (row_at self.old.rows line).state }
-        ensures rows { self.new ≡ record self.old { rows = slice_set self.old.rows line (record (row_at self.old.rows line) { state = state }); blocks = record self.old.blocks { stored_states = max self.old.blocks.stored_states (line + 1) } } }
+        ensures rows { self.new ≡ with_state self.old line state }
     {
         let before = self.states.get(line);
         self.states.set(line, state);
@@ -300,7 +296,7 @@ impl LineRows {
         requires room { 0 < self.old.room.markers }
         requires handles { self.old.next_handle < 2 ^ 32 - 1 }
         ensures handle { result ≡ self.old.next_handle }
-        ensures rows { self.new ≡ record self.old { rows = with_markers line ((row_at self.old.rows line).markers ++ new_markers self.old.next_handle (number ∷ [])) self.old.rows; next_handle = self.old.next_handle + 1; room = record self.old.room { markers = self.old.room.markers - 1 } } }
+        ensures rows { self.new ≡ with_marker self.old line number }
     {
         self.markers.add_reserved(line, number)
     }
@@ -310,10 +306,10 @@ impl LineRows {
     pub fn delete(&mut self, line: usize, number: Option<u32>) -> bool
         requires { line < length self.old.rows }
         ensures went { IsTrue result ↔ (marker_count self.new.rows ≢ marker_count self.old.rows) }
-        ensures rows { self.new.rows ≡ with_markers line (without_marker number (row_at self.old.rows line).markers) self.old.rows }
+        ensures rows { self.new.rows ≡ without_marker_on line number self.old.rows }
         ensures next_handle { self.new.next_handle ≡ self.old.next_handle }
         ensures room { self.new.room ≡ record self.old.room { markers = self.new.room.markers } }
-        ensures marker_room { self.new.room.markers + marker_count self.new.rows ≡ self.old.room.markers + marker_count self.old.rows }
+        ensures marker_room { markers_in_all self.new ≡ markers_in_all self.old }
         ensures blocks { self.new.blocks ≡ self.old.blocks }
     {
         self.markers.delete(line, number)
@@ -326,7 +322,7 @@ impl LineRows {
         ensures rows { self.new.rows ≡ without_markers (is_of_number number) self.old.rows }
         ensures next_handle { self.new.next_handle ≡ self.old.next_handle }
         ensures room { self.new.room ≡ record self.old.room { markers = self.new.room.markers } }
-        ensures marker_room { self.new.room.markers + marker_count self.new.rows ≡ self.old.room.markers + marker_count self.old.rows }
+        ensures marker_room { markers_in_all self.new ≡ markers_in_all self.old }
         ensures blocks { self.new.blocks ≡ self.old.blocks }
     {
         self.markers.delete_all(number)
@@ -339,7 +335,7 @@ impl LineRows {
         ensures rows { self.new.rows ≡ without_markers (λ m. m.handle == handle) self.old.rows }
         ensures next_handle { self.new.next_handle ≡ self.old.next_handle }
         ensures room { self.new.room ≡ record self.old.room { markers = self.new.room.markers } }
-        ensures marker_room { self.new.room.markers + marker_count self.new.rows ≡ self.old.room.markers + marker_count self.old.rows }
+        ensures marker_room { markers_in_all self.new ≡ markers_in_all self.old }
         ensures blocks { self.new.blocks ≡ self.old.blocks }
     {
         self.markers.delete_handle(handle)

@@ -1,8 +1,8 @@
 //! `LineValues`: a value for each line, such as a fold level or a line state.
-ghost use Rattle.std.specs.Prelude.{◌≡◌, ◌≤◌, ◌<◌, ◌+◌, ◌-◌, ◌^◌, ℕ, ◌∷◌, [], length, max, slice_set, slice_index_or, OnOk, OnErr, IsOk};
-ghost use Rattle.line_index.specs.Edits.{with_fresh, with_joined, after_edit, after_edits, FitsLines, FitLines, fresh_by, fresh_lines};
+ghost use Rattle.std.specs.Prelude.{◌≡◌, ◌≤◌, ◌<◌, ◌+◌, ◌^◌, ◌∷◌, [], length, slice_set, slice_index_or, OnOk, OnErr, IsOk};
+ghost use Rattle.line_index.specs.Edits.{after_edit, after_edits, FitsLines, FitLines, fresh_by, fresh_lines};
 ghost use Rattle.line_index.specs.declared.edit.LineEdit.TheVariants.{Come, Join};
-ghost use Rattle.line_rows.specs.Values.{valued, first_or, padded, padded_halves, wanted_block, most_block, stored_after_edit, stored_after};
+ghost use Rattle.line_rows.specs.Values.{valued, first_or, padded, AreInHalves, block_of, HasBlock, GainsLines, LosesLines, FitsLinesLeft, HasRoom, GainsRoom, HasMemory, most_memory, with_value, wanted_block, most_block, stored_after_edit, stored_after};
 
 use line_index::LineEdit;
 use split_vector::SplitVector;
@@ -24,24 +24,23 @@ pub struct LineValues<T: Copy> {
 }
 
 impl<T: Copy> Model for LineValues<T> {
-    ghost use Rattle.std.specs.Prelude.{◌≡◌, ◌≤◌, ◌<◌, ◌+◌, length};
-    ghost use Rattle.line_rows.specs.Values.{Valued, valued, valued_code, padded};
+    ghost use Rattle.line_rows.specs.Values.{Valued, valued_code, values_in, AreStored};
 
     ghost Value = { Valued T };
 
     ghost coded = { valued_code T.code };
 
-    ghost view = { λ v. valued v.default (padded v.default v.lines v.stored.items) v.room v.reach (length v.stored.items) (length v.stored.items + v.stored.spare) };
+    ghost view = { λ v. values_in v.stored v.default v.lines v.room v.reach };
 
-    ghost invariant = { λ v. record { fewer : length v.stored.items ≤ v.lines; unused : v.reach ≡ 0 → length v.stored.items ≡ 0; for_lines : 0 < v.reach → v.room ≤ v.stored.spare; for_values : 0 < v.reach → v.reach + v.room ≤ length v.stored.items + v.stored.spare } };
+    ghost invariant = { λ v. AreStored v.stored v.lines v.room v.reach };
 }
 
 // Appends defaults up to `len` values, if there are fewer. Out of line, since values are usually set line after line.
 #[inline(never)]
 fn pad<T: Copy>(stored: &mut SplitVector<T>, default: T, len: usize)
-    requires { len ≤ length stored.old.items + stored.old.spare }
+    requires { len ≤ block_of stored.old }
     ensures items { stored.new.items ≡ padded default len stored.old.items }
-    ensures all { length stored.new.items + stored.new.spare ≡ length stored.old.items + stored.old.spare }
+    ensures all { block_of stored.new ≡ block_of stored.old }
 {
     let before = stored.len();
     stored.insert_fill_reserved(before, len.saturating_sub(before), default);
@@ -50,9 +49,9 @@ fn pad<T: Copy>(stored: &mut SplitVector<T>, default: T, len: usize)
 // Appends the value of a line to the stored ones, with defaults between.
 fn put_behind<T: Copy>(stored: &mut SplitVector<T>, default: T, line: usize, value: T)
     requires behind { length stored.old.items ≤ line }
-    requires room { line < length stored.old.items + stored.old.spare }
+    requires room { line < block_of stored.old }
     ensures items { stored.new.items ≡ slice_set (padded default (line + 1) stored.old.items) line value }
-    ensures all { length stored.new.items + stored.new.spare ≡ length stored.old.items + stored.old.spare }
+    ensures all { block_of stored.new ≡ block_of stored.old }
 {
     if line > stored.len() {
         pad(stored, default, line);
@@ -63,11 +62,11 @@ fn put_behind<T: Copy>(stored: &mut SplitVector<T>, default: T, line: usize, val
 // Inserts `count` fresh lines before a line.
 fn put_in<T: Copy>(stored: &mut SplitVector<T>, default: T, line: usize, count: usize)
     requires { line < length stored.old.items → count ≤ stored.old.spare }
-    ensures values { (lines : ℕ) → length stored.old.items ≤ lines → line ≤ lines → padded default (lines + count) stored.new.items ≡ with_fresh (first_or default) line count (padded default lines stored.old.items) }
+    ensures values { GainsLines stored.old stored.new default line count }
     ensures few { length stored.new.items ≤ length stored.old.items + count }
     ensures stored { length stored.new.items ≡ stored_after_edit (length stored.old.items) (Come line count) }
     ensures spare { stored.old.spare ≤ stored.new.spare + count }
-    ensures all { length stored.new.items + stored.new.spare ≡ length stored.old.items + stored.old.spare }
+    ensures all { block_of stored.new ≡ block_of stored.old }
 {
     if stored.len() <= line {
         return;
@@ -83,9 +82,9 @@ fn reserve_values<T: Copy>(
     reach: usize,
 ) -> Result<(), AllocError>
     ensures items { stored.new.items ≡ stored.old.items }
-    ensures ok { OnOk result (wanted_block (length stored.old.items) room reach ≤ length stored.new.items + stored.new.spare) }
-    ensures memory_is_there { wanted_block (length stored.old.items) room reach ≤ length stored.old.items + stored.old.spare → IsOk result × (stored.new ≡ stored.old) }
-    ensures at_most { length stored.new.items + stored.new.spare ≤ most_block (length stored.old.items) (length stored.old.items + stored.old.spare) room reach }
+    ensures ok { OnOk result (wanted_block (length stored.old.items) room reach ≤ block_of stored.new) }
+    ensures memory_is_there { HasBlock stored.old room reach → IsOk result × (stored.new ≡ stored.old) }
+    ensures at_most { block_of stored.new ≤ most_block (length stored.old.items) (block_of stored.old) room reach }
     ensures err { OnErr result (stored.new ≡ stored.old) }
 {
     if reach == 0 {
@@ -99,11 +98,11 @@ fn reserve_values<T: Copy>(
 
 // Deletes the `count` lines behind a line.
 fn take_behind<T: Copy>(stored: &mut SplitVector<T>, line: usize, count: usize)
-    ensures values { (default : T) (lines : ℕ) → length stored.old.items ≤ lines → line + count < lines → padded default (lines - count) stored.new.items ≡ with_joined (first_or default) line count (padded default lines stored.old.items) }
-    ensures few { (lines : ℕ) → length stored.old.items ≤ lines → line + count < lines → length stored.new.items ≤ lines - count }
+    ensures values { LosesLines stored.old stored.new line count }
+    ensures few { FitsLinesLeft stored.old stored.new line count }
     ensures stored { length stored.new.items ≡ stored_after_edit (length stored.old.items) (Join line count) }
     ensures spare { stored.old.spare ≤ stored.new.spare }
-    ensures all { length stored.new.items + stored.new.spare ≡ length stored.old.items + stored.old.spare }
+    ensures all { block_of stored.new ≡ block_of stored.old }
 {
     let before = stored.len();
     if before <= line || before - line <= 1 {
@@ -157,7 +156,7 @@ impl<T: Copy> LineValues<T> {
     pub fn stored(&self) -> (&[T], &[T])
         ensures few { length result.0.now + length result.1.now ≤ length self.now.values }
         ensures stored { length result.0.now + length result.1.now ≡ self.now.stored }
-        ensures values { self.now.values ≡ padded_halves self.now.default (length self.now.values) result.0.now result.1.now }
+        ensures values { AreInHalves self.now result.0.now result.1.now }
     {
         self.stored.halves()
     }
@@ -171,10 +170,10 @@ impl<T: Copy> LineValues<T> {
     /// `AllocError` if the allocation fails. Nothing has changed then.
     #[inline(always)]
     pub fn reserve(&mut self, lines: usize, reach: usize) -> Result<(), AllocError>
-        ensures ok { OnOk result (self.new ≡ record self.old { room = max self.old.room lines; reach = max self.old.reach reach; block = self.new.block }) }
+        ensures ok { OnOk result (GainsRoom self.old self.new lines reach) }
         ensures room_is_there { lines ≤ self.old.room → reach ≤ self.old.reach → IsOk result × (self.new ≡ self.old) }
-        ensures memory_is_there { wanted_block self.old.stored (max self.old.room lines) (max self.old.reach reach) ≤ self.old.block → IsOk result × (self.new ≡ record self.old { room = max self.old.room lines; reach = max self.old.reach reach }) }
-        ensures at_most { self.new.block ≤ most_block self.old.stored self.old.block (max self.old.room lines) (max self.old.reach reach) }
+        ensures memory_is_there { HasMemory self.old lines reach → IsOk result × HasRoom self.old self.new lines reach }
+        ensures at_most { self.new.block ≤ most_memory self.old lines reach }
         ensures err { OnErr result (self.new ≡ self.old) }
     {
         if lines <= self.room && reach <= self.reach {
@@ -186,9 +185,9 @@ impl<T: Copy> LineValues<T> {
     // Makes the room if less was requested so far. The memory is usually there.
     #[inline]
     fn make_room(&mut self, lines: usize, reach: usize) -> Result<(), AllocError>
-        ensures ok { OnOk result (self.new ≡ record self.old { room = max self.old.room lines; reach = max self.old.reach reach; block = self.new.block }) }
-        ensures memory_is_there { wanted_block self.old.stored (max self.old.room lines) (max self.old.reach reach) ≤ self.old.block → IsOk result × (self.new ≡ record self.old { room = max self.old.room lines; reach = max self.old.reach reach }) }
-        ensures at_most { self.new.block ≤ most_block self.old.stored self.old.block (max self.old.room lines) (max self.old.reach reach) }
+        ensures ok { OnOk result (GainsRoom self.old self.new lines reach) }
+        ensures memory_is_there { HasMemory self.old lines reach → IsOk result × HasRoom self.old self.new lines reach }
+        ensures at_most { self.new.block ≤ most_memory self.old lines reach }
         ensures err { OnErr result (self.new ≡ self.old) }
     {
         let room = self.room.max(lines);
@@ -205,7 +204,7 @@ impl<T: Copy> LineValues<T> {
     pub fn set(&mut self, line: usize, value: T)
         requires line { line < length self.old.values }
         requires room { line < self.old.reach }
-        ensures { self.new ≡ record self.old { values = slice_set self.old.values line value; stored = max self.old.stored (line + 1) } }
+        ensures { self.new ≡ with_value self.old line value }
     {
         if line < self.stored.len() {
             self.stored.set(line, value);
