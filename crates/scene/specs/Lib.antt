@@ -1,8 +1,12 @@
 pub mod Scenes
 pub mod Hearing
 pub mod Following
-pub mod Needs
+pub mod Regrouping
+pub mod RoomLeft
+pub mod Telling
 pub mod StepNotes
+pub mod Steps
+pub mod Needs
 pub mod Undoing
 pub mod Turns
 pub mod Performed

@@ -5,9 +5,15 @@ use Rattle.ed_model.specs.History.{History, at_save_point}
 use Rattle.ed_model.specs.Session.{View, watching}
 use Rattle.ed_model.specs.Notes.{performed_user}
 use Rattle.ed_model.specs.Performing.{Scene, step_made, sealed_scene}
+use Rattle.id_table.specs.Entries.{Entries}
+use Rattle.ed_view.specs.Kept.{KeptView}
+use Rattle.document.specs.declared.text_step.TextStep.{TextStep}
+use Rattle.document.specs.Kept.{Kept}
 use Rattle.scene.specs.declared.need.NoteRoom.{NoteRoom}
 use Rattle.scene.specs.declared.need.SceneNeed.{SceneNeed}
+use Rattle.scene.specs.Scenes.{watchers}
 use Rattle.scene.specs.Hearing.{step_kinds, user_bits, made_kinds, hearers, bytes_shared}
+use Rattle.scene.specs.StepNotes.{step_on}
 
 abbrev pub note_room : ℕ → ℕ → NoteRoom
 note_room notes bytes = record { notes = notes; bytes = bytes }
@@ -30,12 +36,24 @@ user_kinds step = step_kinds performed_user (user_bits true) step
 abbrev pub leaving_count : List View → History → ℕ
 leaving_count views h = if h.collecting && at_save_point h then length views else 0
 
+-- how many notes say that the save point is left, for the views that watch the document
+abbrev pub leaving_notes : Kept → Entries KeptView → ℕ
+leaving_notes k views = leaving_count (watchers k.document views) k.document.history
+
 -- the notes of one step: one before and one after it for each view that hears it
 abbrev pub notes_of_step : List View → Step → ℕ
 notes_of_step views step = 2 * hearers (user_kinds step) views
 
 abbrev pub bytes_of_step : List View → Step → ℕ
 bytes_of_step views step = bytes_shared (user_kinds step) views (length (step_bytes step))
+
+-- how many notes a step of the document needs at most
+abbrev pub notes_for_step : TextStep → Kept → Entries KeptView → ℕ
+notes_for_step step k views = notes_of_step (watchers k.document views) (step_on k step)
+
+-- how many bytes are shared for these notes
+abbrev pub bytes_for_step : TextStep → Kept → Entries KeptView → ℕ
+bytes_for_step step k views = bytes_of_step (watchers k.document views) (step_on k step)
 
 abbrev pub notes_of_steps : List View → List Step → ℕ
 notes_of_steps views [] = 0

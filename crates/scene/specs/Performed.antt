@@ -1,18 +1,18 @@
 -- All changes of undo or redo, one after the other.
-use Rattle.std.specs.Prelude.{◌≡◌, ◌+◌, ◌≤◌, nat_lt, false, length, map}
+use Rattle.std.specs.Prelude.{◌≡◌, ◌+◌, ◌≤◌, ◌++◌, nat_lt, Bool, false, length, map}
 use Rattle.ed_model.specs.Session.{text_of}
 use Rattle.ed_model.specs.SoundLaws.{AreStepsOf}
 use Rattle.ed_model.specs.UndoPlans.{text_steps}
 use Rattle.ed_model.specs.Notes.{bit_if, multi_step}
 use Rattle.ed_model.specs.Changes.{marker_count}
-use Rattle.ed_model.specs.Performing.{changes_performed}
+use Rattle.ed_model.specs.Performing.{changes_performed, save_point_change, transaction_performed}
 use Rattle.id_table.specs.Entries.{Entries, id_of}
 use Rattle.notify.specs.Gathered.{Gathered}
 use Rattle.ed_view.specs.Kept.{KeptView}
 use Rattle.document.specs.declared.undoing.Direction.{Direction}
 use Rattle.document.specs.Kept.{Kept, HasTextRoom, TakesRoom, IsAtMost, no_room, with_freed}
-use Rattle.document.specs.Undoing.{changes_of, save_point_told}
-use Rattle.scene.specs.Scenes.{scene_in, watchers, fold_room_in_all, IsWatched}
+use Rattle.document.specs.Undoing.{changes_of, history_behind, save_point_told}
+use Rattle.scene.specs.Scenes.{scene_in, kept_scene, watchers, fold_room_in_all, IsWatched}
 use Rattle.scene.specs.Undoing.{bits_of, freed_by_all, fill_behind_all, bytes_of_changes, notes_of_history, room_of_changes, save_point_notes}
 
 -- the changes are steps of the text that fit one after another, and there is room for them and for the notes about the save point
@@ -43,3 +43,19 @@ pub record AreAllPerformed (direction : Direction) (k : Kept) (views : Entries K
   pub spare : k'.spare ≡ record k.spare { markers = k'.spare.markers; fill = fill_behind_all k.spare.fill (changes_of direction k.document.history) }
   pub markers_in_all : k'.spare.markers + marker_count k'.document.rows ≡ k.spare.markers + marker_count k.document.rows
   pub fold_rooms : map fold_room_in_all views'.entries ≡ map fold_room_in_all views.entries
+
+-- the changes are steps of the text that fit one after another
+abbrev pub HistoryFits : Direction → Kept → Type 0
+HistoryFits direction k = AreStepsOf (text_of k.document) (text_steps (changes_of direction k.document.history))
+
+-- the new scene is the old one after undo or redo
+abbrev pub HistoryIsPerformed : Direction → Kept → Entries KeptView → Gathered → Kept → Entries KeptView → Gathered → Type 0
+HistoryIsPerformed direction k views gathered k' views' gathered' =
+    kept_scene k' views' gathered'
+    ≡ transaction_performed (bits_of direction) (changes_of direction k.document.history)
+    (history_behind direction k.document.history) (kept_scene k views gathered)
+
+-- behind the earlier notes, each view that watches is told if the save point is reached or left
+abbrev pub IsSavePointTold : Bool → Bool → Kept → Entries KeptView → Gathered → Gathered → Type 0
+IsSavePointTold was_there is_there k views old new =
+    new.notes ≡ old.notes ++ save_point_change (watchers k.document views) was_there is_there

@@ -5,14 +5,24 @@ use Rattle.ed_types.specs.Notices.{Notice}
 use Rattle.ed_model.specs.Session.{Document, View, watching}
 use Rattle.ed_model.specs.Performing.{Scene}
 use Rattle.ed_model.specs.SoundLaws.{Rise, StandsOn, ListsItsViews}
-use Rattle.id_table.specs.Entries.{Entry, Entries}
+use Rattle.id_table.specs.Entries.{Entry, Entries, id_of}
 use Rattle.ed_view.specs.Kept.{KeptView, contracted_in_all}
+use Rattle.notify.specs.Gathered.{Gathered}
+use Rattle.document.specs.Kept.{Kept}
 
 abbrev pub views_of : List (Entry KeptView) → List View
 views_of entries = map (λ (e : Entry KeptView). e.value.view) entries
 
 abbrev pub scene_in : Document → List (Entry KeptView) → List Notice → Scene
 scene_in d entries notes = record { document = d; views = views_of entries; notes = notes }
+
+-- the views of the session, in the order of their ids
+abbrev pub views_in : Entries KeptView → List View
+views_in table = views_of table.entries
+
+-- the scene of a document, the views of the session and the notes so far
+abbrev pub kept_scene : Kept → Entries KeptView → Gathered → Scene
+kept_scene k views gathered = scene_in k.document views.entries gathered.notes
 
 -- the views that watch the document, in the order of attaching
 abbrev pub watchers : Document → Entries KeptView → List View
@@ -21,6 +31,14 @@ watchers d table = watching (views_of table.entries) d
 -- how many hidden lines the view has room for, and how many contracted ones, in all
 abbrev pub fold_room_in_all : Entry KeptView → ℕ × ℕ
 fold_room_in_all e = (e.value.room.hidden, contracted_in_all e.value)
+
+-- each view keeps its room for hidden lines and, in all, for contracted lines
+abbrev pub KeepFoldRooms : Entries KeptView → Entries KeptView → Type 0
+KeepFoldRooms old new = map fold_room_in_all new.entries ≡ map fold_room_in_all old.entries
+
+-- the ids of the views rise, and are below the next one
+abbrev pub IdsRise : Entries KeptView → Type 0
+IdsRise table = Rise 0 table.next (map id_of table.entries)
 
 -- each view is stored under its own id
 abbrev pub AreNamed : List (Entry KeptView) → Type 0

@@ -1,8 +1,8 @@
 -- Undo and redo: the bits of their notes, and what they need.
-use Rattle.std.specs.Prelude.{◌≡◌, ℕ, ◌+◌, ◌-◌, ◌*◌, ◌^◌, if◌then◌else◌, min, Bool, true, List, [], ◌∷◌, length, bit_or, Option, Some, None}
+use Rattle.std.specs.Prelude.{◌≡◌, ℕ, ◌+◌, ◌-◌, ◌*◌, ◌^◌, ◌==◌, if◌then◌else◌, min, Bool, true, List, [], ◌∷◌, length, reverse, bit_or, bit_and, Option, Some, None}
 use Rattle.ed_model.specs.declared.plan.LineEndTypes.{LineEndTypes}
 use Rattle.ed_model.specs.Steps.{Step, Insert, Delete, step_bytes}
-use Rattle.ed_model.specs.History.{History, Change, TextStep, ContainerStep}
+use Rattle.ed_model.specs.History.{History, Change, TextStep, ContainerStep, latest_text_step}
 use Rattle.ed_model.specs.Session.{View}
 use Rattle.ed_model.specs.Notes as notes
 use Rattle.ed_model.specs.Performing.{last_bits, place_behind}
@@ -13,11 +13,14 @@ use Rattle.document.specs.declared.undoing.ChangeOutline.TheVariants as outline
 use Rattle.document.specs.declared.room.DocumentRoom.{DocumentRoom}
 use Rattle.selection.specs.declared.movements.Movement.{Movement}
 use Rattle.selection.specs.declared.movements.Movement.TheVariants.{Inserted, Deleted}
-use Rattle.document.specs.Kept.{ChangeRoom, document_room, no_room, amount_sum}
+use Rattle.id_table.specs.Entries.{Entries}
+use Rattle.ed_view.specs.Kept.{KeptView}
+use Rattle.document.specs.Kept.{Kept, ChangeRoom, document_room, no_room, amount_sum}
 use Rattle.document.specs.TextSteps.{bytes_out}
-use Rattle.document.specs.Undoing.{changes_of, room_of_change, save_point_told}
+use Rattle.document.specs.Undoing.{changes_of, is_other, outline_of, room_of_change, save_point_told}
 use Rattle.scene.specs.declared.need.NoteRoom.{NoteRoom}
-use Rattle.scene.specs.Hearing.{step_kinds, hearers, bytes_shared}
+use Rattle.scene.specs.Scenes.{watchers}
+use Rattle.scene.specs.Hearing.{step_kinds, hearers, masks_of, bytes_shared}
 use Rattle.scene.specs.Needs.{note_room}
 
 -- the bit for undo or redo
@@ -146,3 +149,51 @@ abbrev pub place_by : ChangeOutline → Option ℕ → Option ℕ
 place_by (outline.Insert place count) before = Some (place + count)
 place_by (outline.Delete place count) before = Some place
 place_by (outline.Container token) before = before
+
+-- whether no view that watches hears any kind of note that undo or redo may have
+abbrev pub none_hears : Direction → Kept → Entries KeptView → Bool
+none_hears direction k views = bit_and (masks_of (watchers k.document views)) (every_kind (bits_of direction)) == 0
+
+-- the room is what the notes of each change with this outline need
+abbrev pub IsNoteNeed : Direction → ChangeOutline → Kept → Entries KeptView → NoteRoom → Type 0
+IsNoteNeed direction shape k views room =
+    (change : Change) → shape ≡ outline_of change
+    → room
+    ≡ note_room (notes_of_change (watchers k.document views) (bits_of direction) change)
+    (bytes_of_change (watchers k.document views) (bits_of direction) change)
+
+-- how many notes tell the views that watch that the save point is reached or left: none if it is neither
+abbrev pub save_point_count : Bool → Bool → Kept → Entries KeptView → ℕ
+save_point_count was_there is_there k views =
+    save_point_notes (is_other was_there is_there) (length (watchers k.document views))
+
+-- Undo or redo of a document, with all its changes.
+
+-- the room that undo or redo needs in the document
+abbrev pub history_room : Direction → Kept → DocumentRoom
+history_room direction k = room_of_changes k.document.line_end_types (changes_of direction k.document.history)
+
+-- how many notes undo or redo needs
+abbrev pub history_notes : Direction → Kept → Entries KeptView → ℕ
+history_notes direction k views = notes_of_history (watchers k.document views) direction k.document.history
+
+-- how many bytes are shared for these notes
+abbrev pub history_bytes : Direction → Kept → Entries KeptView → ℕ
+history_bytes direction k views =
+    bytes_of_changes (watchers k.document views) (bits_of direction) (changes_of direction k.document.history)
+
+-- both, with the greatest `usize` in place of a greater number
+abbrev pub history_note_need : Direction → Kept → Entries KeptView → NoteRoom
+history_note_need direction k views = capped_notes (history_notes direction k views) (history_bytes direction k views)
+
+-- how many bytes undo or redo deletes
+abbrev pub history_freed : Direction → Kept → ℕ
+history_freed direction k = freed_by_all (changes_of direction k.document.history)
+
+-- the indicator for whose fill there is room after undo or redo
+abbrev pub history_fill : Direction → Kept → Option ℕ
+history_fill direction k = fill_behind_all k.spare.fill (changes_of direction k.document.history)
+
+-- where the caret goes by undo or redo, if one of the changes is a step of the text
+abbrev pub history_caret : Direction → Kept → Option ℕ
+history_caret direction k = place_behind_any (latest_text_step (reverse (changes_of direction k.document.history)))

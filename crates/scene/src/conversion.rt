@@ -1,16 +1,15 @@
 //! Converts the line ends of a document's text to one kind, by a step for each byte inserted or deleted.
 
-ghost use Rattle.std.specs.Prelude.{◌≡◌, ◌≤◌, ◌<◌, ◌+◌, ◌*◌, ◌^◌, [], false, map, if◌then◌else◌, nat_lt, length, MatchOption};
-ghost use Rattle.ed_model.specs.LineEnds.{conversion_steps, missing_from, unwanted_from};
+ghost use Rattle.std.specs.Prelude.{◌≡◌, ◌≤◌, if◌then◌else◌, nat_lt, length, MatchOption};
 ghost use Rattle.ed_model.specs.Session.{text_of};
-ghost use Rattle.ed_model.specs.Changes.{marker_count};
-ghost use Rattle.ed_model.specs.Performing.{edit_made, steps_made};
-ghost use Rattle.document.specs.Kept.{IsAtMost, no_room, with_freed};
-ghost use Rattle.document.specs.TextSteps.{step_in, need_of, IsStepOn};
-ghost use Rattle.line_ends.specs.Conversion.{IsNextMissing, IsNextUnwanted, completed, missing_in, unwanted_in};
-ghost use Rattle.scene.specs.Scenes.{scene_in, watchers, fold_room_in_all, AreNamed, IsWatched};
-ghost use Rattle.scene.specs.Needs.{leaving_count, notes_of_step, bytes_of_step, notes_of_steps, bytes_of_steps};
-ghost use Rattle.scene.specs.Conversion.{AreLeft, CanMakeSteps, RoomsStay, changes_for, freed_by_all, fill_behind_all, bytes_for, capped_notes, capped_room, deletions_of, notes_for, room_of_many, room_of_steps, rooms_added};
+ghost use Rattle.document.specs.TextSteps.{IsStepOn};
+ghost use Rattle.line_ends.specs.Conversion.{completed};
+ghost use Rattle.scene.specs.Scenes.{AreNamed, IsWatched, KeepFoldRooms};
+ghost use Rattle.scene.specs.RoomLeft.{AddsNoRoomBut, KeepsSpare, marker_room_in_all};
+ghost use Rattle.scene.specs.Telling.{note_room_in_all};
+ghost use Rattle.scene.specs.StepNotes.{need_on};
+ghost use Rattle.scene.specs.Needs.{leaving_notes};
+ghost use Rattle.scene.specs.Conversion.{CanMakeSteps, capped_room, room_of_many, ConversionIsMade, DeletionsAreLeft, DeletionsAreMade, DeletionsKeepRooms, IsConverted, IsFirstMissing, IsFirstUnwanted, NoneMissing, NoneUnwanted, conversion_fill, conversion_freed, conversion_of, deletions_in, has_steps, insertions_in, notes_for_all, notes_for_conversion, notes_for_many, room_for_all, room_for_conversion, unwanted_steps};
 
 use crate::laws::needs_are_enough;
 use crate::need::{NoteRoom, SceneNeed, leaving_need, note_need};
@@ -27,7 +26,7 @@ use notify::NoteList;
 // Returns the place and the value of the first missing byte at `from` or behind it.
 fn missing_behind(document: &Document, from: usize, to: LineEnd) -> Option<(usize, u8)>
     requires { from ≤ length document.now.document.cells }
-    ensures { MatchOption result (missing_in to (text_of document.now.document) from ≡ []) (λ found. IsNextMissing to (text_of document.now.document) from found.0 found.1) }
+    ensures { MatchOption result (NoneMissing to document.now from) (IsFirstMissing to document.now from) }
 {
     let (first, second) = document.halves();
     next_missing(first, second, from, to)
@@ -36,7 +35,7 @@ fn missing_behind(document: &Document, from: usize, to: LineEnd) -> Option<(usiz
 // Returns the place of the first unwanted byte at `from` or behind it.
 fn unwanted_behind(document: &Document, from: usize, to: LineEnd) -> Option<usize>
     requires { from ≤ length document.now.document.cells }
-    ensures { MatchOption result (unwanted_in to (text_of document.now.document) from ≡ []) (λ place. IsNextUnwanted to (text_of document.now.document) from place) }
+    ensures { MatchOption result (NoneUnwanted to document.now from) (IsFirstUnwanted to document.now from) }
 {
     let (first, second) = document.halves();
     next_unwanted(first, second, from, to)
@@ -49,8 +48,8 @@ fn put_missing(
     notes: &mut NoteList,
     to: LineEnd,
 ) -> bool
-    requires { CanMakeSteps (conversion_steps to (text_of document.old.document)) document.old views.old notes.old }
-    ensures left { AreLeft (deletions_of to (text_of document.old.document)) result (conversion_steps to (text_of document.old.document)) false document.old document.new views.old views.new notes.old notes.new }
+    requires { CanMakeSteps (conversion_of to document.old) document.old views.old notes.old }
+    ensures left { DeletionsAreLeft to result document.old document.new views.old views.new notes.old notes.new }
     ensures text { text_of document.new.document ≡ completed to (text_of document.old.document) }
 {
     // States that the room reserved for all steps is enough for each in its turn.
@@ -78,11 +77,11 @@ fn take_unwanted(
     to: LineEnd,
     mut later: bool,
 )
-    requires { CanMakeSteps (unwanted_from 0 false to (text_of document.old.document)) document.old views.old notes.old }
-    ensures scene { scene_in document.new.document views.new.entries notes.new.notes ≡ steps_made later (unwanted_from 0 false to (text_of document.old.document)) (scene_in document.old.document views.old.entries notes.old.notes) }
+    requires { CanMakeSteps (unwanted_steps to document.old) document.old views.old notes.old }
+    ensures scene { DeletionsAreMade to later document.old document.new views.old views.new notes.old notes.new }
     ensures watched { IsWatched document.new.document views.new }
     ensures next { views.new.next ≡ views.old.next }
-    ensures rooms { RoomsStay [] (unwanted_from 0 false to (text_of document.old.document)) document.old document.new views.old views.new notes.old notes.new }
+    ensures rooms { DeletionsKeepRooms to document.old document.new views.old views.new notes.old notes.new }
 {
     // States that the room reserved for all steps is enough for each in its turn.
     needs_are_enough();
@@ -100,16 +99,16 @@ fn take_unwanted(
 
 // Makes all steps, one after the other.
 fn make_all(document: &mut Document, views: &mut IdTable<View>, notes: &mut NoteList, to: LineEnd)
-    requires { CanMakeSteps (conversion_steps to (text_of document.old.document)) document.old views.old notes.old }
-    ensures scene { scene_in document.new.document views.new.entries notes.new.notes ≡ steps_made false (conversion_steps to (text_of document.old.document)) (scene_in document.old.document views.old.entries notes.old.notes) }
+    requires { CanMakeSteps (conversion_of to document.old) document.old views.old notes.old }
+    ensures scene { ConversionIsMade to document.old document.new views.old views.new notes.old notes.new }
     ensures watched { IsWatched document.new.document views.new }
     ensures next { views.new.next ≡ views.old.next }
-    ensures none_made { IsAtMost document.new.room (with_freed (freed_by_all (changes_for (conversion_steps to (text_of document.old.document)))) document.old.room) no_room }
-    ensures spare { document.new.spare ≡ record document.old.spare { markers = document.new.spare.markers; fill = fill_behind_all document.old.spare.fill (changes_for (conversion_steps to (text_of document.old.document))) } }
-    ensures markers_in_all { document.new.spare.markers + marker_count document.new.document.rows ≡ document.old.spare.markers + marker_count document.old.document.rows }
-    ensures fold_rooms { map fold_room_in_all views.new.entries ≡ map fold_room_in_all views.old.entries }
+    ensures none_made { AddsNoRoomBut (conversion_freed to document.old) document.old document.new }
+    ensures spare { KeepsSpare (conversion_fill to document.old) document.old document.new }
+    ensures markers_in_all { marker_room_in_all document.new ≡ marker_room_in_all document.old }
+    ensures fold_rooms { KeepFoldRooms views.old views.new }
     ensures view_room { views.new.room ≡ views.old.room }
-    ensures note_room_left { notes.new.note_room + length notes.new.notes ≡ notes.old.note_room + length notes.old.notes }
+    ensures note_room_left { note_room_in_all notes.new ≡ note_room_in_all notes.old }
     ensures text_room { notes.new.text_room ≤ notes.old.text_room }
 {
     let later = put_missing(document, views, notes, to);
@@ -119,7 +118,7 @@ fn make_all(document: &mut Document, views: &mut IdTable<View>, notes: &mut Note
 // Returns how many notes say that the save point is left by the first of the steps: none if there is no step.
 fn notes_of_leaving(document: &Document, views: &IdTable<View>, to: LineEnd) -> usize
     requires named { AreNamed views.now.entries }
-    ensures { result ≡ (if nat_lt 0 (length (conversion_steps to (text_of document.now.document))) then leaving_count (watchers document.now.document views.now) document.now.document.history else 0) }
+    ensures { result ≡ (if has_steps to document.now then leaving_notes document.now views.now else 0) }
 {
     let (first, second) = document.halves();
     if has_conversion(first, second, to) {
@@ -131,34 +130,34 @@ fn notes_of_leaving(document: &Document, views: &IdTable<View>, to: LineEnd) -> 
 
 // Returns whether there is more than one step.
 fn is_several(document: &Document, to: LineEnd) -> bool
-    ensures { result ≡ nat_lt 1 (length (conversion_steps to (text_of document.now.document))) }
+    ensures { result ≡ nat_lt 1 (length (conversion_of to document.now)) }
 {
     let (first, second) = document.halves();
     has_several(first, second, to)
 }
 
-/// Converts each line end of the document's text to the kind `to`, as `SCI_CONVERTEOLS` does. It inserts what is missing,
-/// and then deletes what is unwanted, each from left to right, one byte a step.
+/// Converts each line end of the document's text to the kind `to`, as `SCI_CONVERTEOLS` does. It inserts what is
+/// missing, and then deletes what is unwanted, each from left to right, one byte a step.
 ///
-/// The views that watch the document and hear a step are notified of it, and all that watch follow it. More than one step
-/// makes a transaction of their own. There must be room for all steps. They use that room, and add only what deleted
-/// bytes and markers leave.
+/// The views that watch the document and hear a step are notified of it, and all that watch follow it. More than one
+/// step makes a transaction of their own. There must be room for all steps. They use that room, and add only what
+/// deleted bytes and markers leave.
 pub fn convert(
     document: &mut Document,
     views: &mut IdTable<View>,
     notes: &mut NoteList,
     to: LineEnd,
 )
-    requires can { CanMakeSteps (conversion_steps to (text_of document.old.document)) document.old views.old notes.old }
-    ensures scene { scene_in document.new.document views.new.entries notes.new.notes ≡ edit_made (conversion_steps to (text_of document.old.document)) (scene_in document.old.document views.old.entries notes.old.notes) }
+    requires can { CanMakeSteps (conversion_of to document.old) document.old views.old notes.old }
+    ensures scene { IsConverted to document.old document.new views.old views.new notes.old notes.new }
     ensures watched { IsWatched document.new.document views.new }
     ensures next { views.new.next ≡ views.old.next }
-    ensures none_made { IsAtMost document.new.room (with_freed (freed_by_all (changes_for (conversion_steps to (text_of document.old.document)))) document.old.room) no_room }
-    ensures spare { document.new.spare ≡ record document.old.spare { markers = document.new.spare.markers; fill = fill_behind_all document.old.spare.fill (changes_for (conversion_steps to (text_of document.old.document))) } }
-    ensures markers_in_all { document.new.spare.markers + marker_count document.new.document.rows ≡ document.old.spare.markers + marker_count document.old.document.rows }
-    ensures fold_rooms { map fold_room_in_all views.new.entries ≡ map fold_room_in_all views.old.entries }
+    ensures none_made { AddsNoRoomBut (conversion_freed to document.old) document.old document.new }
+    ensures spare { KeepsSpare (conversion_fill to document.old) document.old document.new }
+    ensures markers_in_all { marker_room_in_all document.new ≡ marker_room_in_all document.old }
+    ensures fold_rooms { KeepFoldRooms views.old views.new }
     ensures view_room { views.new.room ≡ views.old.room }
-    ensures note_room_left { notes.new.note_room + length notes.new.notes ≡ notes.old.note_room + length notes.old.notes }
+    ensures note_room_left { note_room_in_all notes.new ≡ note_room_in_all notes.old }
     ensures text_room { notes.new.text_room ≤ notes.old.text_room }
 {
     if !is_several(document, to) {
@@ -180,8 +179,8 @@ fn need_of_many(
 ) -> SceneNeed
     requires fits { IsStepOn step (length document.now.document.cells) }
     requires named { AreNamed views.now.entries }
-    ensures notes { result.notes ≡ capped_notes (notes_of_step (watchers document.now.document views.now) (step_in step.entry (text_of document.now.document)) * count) (bytes_of_step (watchers document.now.document views.now) (step_in step.entry (text_of document.now.document)) * count) }
-    ensures document { result.document ≡ capped_room (room_of_many count (need_of document.now.document.line_end_types step.entry)) }
+    ensures notes { result.notes ≡ notes_for_many count step.entry document.now views.now }
+    ensures document { result.document ≡ capped_room (room_of_many count (need_on document.now step.entry)) }
 {
     let notes = note_need(document, views, step);
     let room = document.step_need(step);
@@ -203,8 +202,8 @@ fn need_of_many(
 // Returns what the insertions need.
 fn need_of_insertions(document: &Document, views: &IdTable<View>, to: LineEnd) -> SceneNeed
     requires named { AreNamed views.now.entries }
-    ensures notes { result.notes ≡ capped_notes (notes_of_steps (watchers document.now.document views.now) (missing_from 0 false to (text_of document.now.document))) (bytes_of_steps (watchers document.now.document views.now) (missing_from 0 false to (text_of document.now.document))) }
-    ensures document { result.document ≡ capped_room (rooms_added document.now.document.line_end_types (missing_from 0 false to (text_of document.now.document))) }
+    ensures notes { result.notes ≡ notes_for_all (insertions_in to document.now) document.now views.now }
+    ensures document { result.document ≡ room_for_all (insertions_in to document.now) document.now }
 {
     let (first, second) = document.halves();
     let insertion = TextStep::Insert {
@@ -217,8 +216,8 @@ fn need_of_insertions(document: &Document, views: &IdTable<View>, to: LineEnd) -
 // Returns what the deletions need.
 fn need_of_deletions(document: &Document, views: &IdTable<View>, to: LineEnd) -> SceneNeed
     requires named { AreNamed views.now.entries }
-    ensures notes { result.notes ≡ capped_notes (notes_of_steps (watchers document.now.document views.now) (deletions_of to (text_of document.now.document))) (bytes_of_steps (watchers document.now.document views.now) (deletions_of to (text_of document.now.document))) }
-    ensures document { result.document ≡ capped_room (rooms_added document.now.document.line_end_types (deletions_of to (text_of document.now.document))) }
+    ensures notes { result.notes ≡ notes_for_all (deletions_in to document.now) document.now views.now }
+    ensures document { result.document ≡ room_for_all (deletions_in to document.now) document.now }
 {
     let (first, second) = document.halves();
     let count = count_unwanted(first, second, to);
@@ -235,8 +234,8 @@ fn need_of_deletions(document: &Document, views: &IdTable<View>, to: LineEnd) ->
 /// Returns what a conversion to this kind of line end needs: nothing if it has no step.
 pub fn conversion_need(document: &Document, views: &IdTable<View>, to: LineEnd) -> SceneNeed
     requires named { AreNamed views.now.entries }
-    ensures notes { result.notes ≡ capped_notes (notes_for (conversion_steps to (text_of document.now.document)) (scene_in document.now.document views.now.entries [])) (bytes_for (conversion_steps to (text_of document.now.document)) (scene_in document.now.document views.now.entries [])) }
-    ensures document { result.document ≡ capped_room (room_of_steps document.now.document.line_end_types (conversion_steps to (text_of document.now.document))) }
+    ensures notes { result.notes ≡ notes_for_conversion to document.now views.now }
+    ensures document { result.document ≡ room_for_conversion to document.now }
 {
     let insertions = need_of_insertions(document, views, to);
     let deletions = need_of_deletions(document, views, to);

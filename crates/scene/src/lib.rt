@@ -1,8 +1,8 @@
 //! A scene: a document, the views that watch it, and their notes, under the steps that messages make.
 //!
-//! Each view whose mask asks for it is notified before and after a step, in the order in which the views were attached, and
-//! each view follows the step. The notes of a step share its text, and nothing is stored if no view hears the step. All
-//! room is reserved before, so that a step cannot fail.
+//! Each view whose mask asks for it is notified before and after a step, in the order in which the views were attached,
+//! and each view follows the step. The notes of a step share its text, and nothing is stored if no view hears the step.
+//! All room is reserved before, so that a step cannot fail.
 #![tactic(auto)]
 
 mod conversion;

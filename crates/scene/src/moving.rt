@@ -1,10 +1,9 @@
 //! The views that watch a document follow a step.
 
 ghost use Rattle.std.specs.Prelude.{◌≡◌, map};
-ghost use Rattle.ed_model.specs.SoundLaws.{Rise};
 ghost use Rattle.id_table.specs.Entries.{id_of};
 ghost use Rattle.line_index.specs.StepEdits.{SmallLines, edits_of};
-ghost use Rattle.scene.specs.Scenes.{views_of, fold_room_in_all, AreNamed};
+ghost use Rattle.scene.specs.Scenes.{AreNamed, IdsRise, KeepFoldRooms, views_in};
 ghost use Rattle.scene.specs.Following.{followed_at, CanFollowInTurn};
 
 use ed_view::View;
@@ -15,13 +14,13 @@ use selection::Movement;
 /// Moves the views with these ids, one after the other, as a step does. `edits` are its changes of the lines.
 pub(crate) fn follow(ids: &[u32], views: &mut IdTable<View>, movement: Movement, edits: &[LineEdit])
     requires named { AreNamed views.old.entries }
-    requires can { CanFollowInTurn movement edits.now ids.now (views_of views.old.entries) }
-    ensures views { views_of views.new.entries ≡ followed_at movement edits.now ids.now (views_of views.old.entries) }
+    requires can { CanFollowInTurn movement edits.now ids.now (views_in views.old) }
+    ensures views { views_in views.new ≡ followed_at movement edits.now ids.now (views_in views.old) }
     ensures named { AreNamed views.new.entries }
     ensures next { views.new.next ≡ views.old.next }
     ensures room { views.new.room ≡ views.old.room }
     ensures ids { map id_of views.new.entries ≡ map id_of views.old.entries }
-    ensures fold_rooms { Rise 0 views.old.next (map id_of views.old.entries) → map fold_room_in_all views.new.entries ≡ map fold_room_in_all views.old.entries }
+    ensures fold_rooms { IdsRise views.old → KeepFoldRooms views.old views.new }
 {
     for id in ids {
         if let Some(view) = views.get_mut(*id) {
@@ -30,19 +29,19 @@ pub(crate) fn follow(ids: &[u32], views: &mut IdTable<View>, movement: Movement,
     }
 }
 
-// Moves the views with these ids as a step does that adds or removes lines. Out of line, so that the hot path does not compute
-// edits.
+// Moves the views with these ids as a step does that adds or removes lines. Out of line, so that the hot path does not
+// compute edits.
 #[inline(never)]
 fn follow_edits(ids: &[u32], views: &mut IdTable<View>, movement: Movement, change: LineChange)
     requires small { SmallLines change.old_lines × SmallLines change.new_lines }
     requires named { AreNamed views.old.entries }
-    requires can { CanFollowInTurn movement (edits_of change) ids.now (views_of views.old.entries) }
-    ensures views { views_of views.new.entries ≡ followed_at movement (edits_of change) ids.now (views_of views.old.entries) }
+    requires can { CanFollowInTurn movement (edits_of change) ids.now (views_in views.old) }
+    ensures views { views_in views.new ≡ followed_at movement (edits_of change) ids.now (views_in views.old) }
     ensures named { AreNamed views.new.entries }
     ensures next { views.new.next ≡ views.old.next }
     ensures room { views.new.room ≡ views.old.room }
     ensures ids { map id_of views.new.entries ≡ map id_of views.old.entries }
-    ensures fold_rooms { Rise 0 views.old.next (map id_of views.old.entries) → map fold_room_in_all views.new.entries ≡ map fold_room_in_all views.old.entries }
+    ensures fold_rooms { IdsRise views.old → KeepFoldRooms views.old views.new }
 {
     let edits = change.edits();
     follow(ids, views, movement, edits.as_slice());
@@ -59,13 +58,13 @@ pub(crate) fn follow_change(
 )
     requires small { SmallLines change.old_lines × SmallLines change.new_lines }
     requires named { AreNamed views.old.entries }
-    requires can { CanFollowInTurn movement (edits_of change) ids.now (views_of views.old.entries) }
-    ensures views { views_of views.new.entries ≡ followed_at movement (edits_of change) ids.now (views_of views.old.entries) }
+    requires can { CanFollowInTurn movement (edits_of change) ids.now (views_in views.old) }
+    ensures views { views_in views.new ≡ followed_at movement (edits_of change) ids.now (views_in views.old) }
     ensures named { AreNamed views.new.entries }
     ensures next { views.new.next ≡ views.old.next }
     ensures room { views.new.room ≡ views.old.room }
     ensures ids { map id_of views.new.entries ≡ map id_of views.old.entries }
-    ensures fold_rooms { Rise 0 views.old.next (map id_of views.old.entries) → map fold_room_in_all views.new.entries ≡ map fold_room_in_all views.old.entries }
+    ensures fold_rooms { IdsRise views.old → KeepFoldRooms views.old views.new }
 {
     if change.is_quiet() {
         follow(ids, views, movement, &[]);

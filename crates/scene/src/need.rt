@@ -1,12 +1,11 @@
 //! What steps need of a list of notes and of their document.
 
 ghost use Rattle.std.specs.Prelude.{◌≡◌, ◌*◌, true, length};
-ghost use Rattle.ed_model.specs.Session.{text_of};
 ghost use Rattle.document.specs.Kept.{amount_sum};
-ghost use Rattle.document.specs.TextSteps.{step_in, IsStepOn};
+ghost use Rattle.document.specs.TextSteps.{IsStepOn};
 ghost use Rattle.scene.specs.Scenes.{watchers, AreNamed};
 ghost use Rattle.scene.specs.Hearing.{hearers, bytes_shared};
-ghost use Rattle.scene.specs.Needs.{IsCounted, note_room, leaving_count, notes_of_step, bytes_of_step};
+ghost use Rattle.scene.specs.Needs.{IsCounted, note_room, bytes_for_step, leaving_notes, notes_for_step};
 
 use crate::step_notes::{PERFORMED_USER, START_ACTION, count_of, kind_after, kind_before};
 use crate::steps::leaves_save_point;
@@ -43,8 +42,8 @@ impl NoteRoom {
     }
 }
 
-/// The memory that many steps need: those of undo or redo, or of a conversion of line ends. An amount beyond the greatest
-/// `usize` becomes that number, for which there is never room.
+/// The memory that many steps need: those of undo or redo, or of a conversion of line ends. An amount beyond the
+/// greatest `usize` becomes that number, for which there is never room.
 #[derive(Clone, Copy, Debug, PartialEq, Eq)]
 pub struct SceneNeed {
     /// Notes, and the bytes of the texts that they share.
@@ -73,7 +72,7 @@ impl SceneNeed {
 /// Returns how many notes say that the next step of a message leaves the save point: none if the document is not at it.
 pub fn leaving_need(document: &Document, views: &IdTable<View>) -> usize
     requires named { AreNamed views.now.entries }
-    ensures { result ≡ leaving_count (watchers document.now.document views.now) document.now.document.history }
+    ensures { result ≡ leaving_notes document.now views.now }
 {
     if leaves_save_point(document) {
         return count_watchers(document, views);
@@ -81,8 +80,8 @@ pub fn leaving_need(document: &Document, views: &IdTable<View>) -> usize
     0
 }
 
-/// Returns the need of a step of the text whose notes before and after it have these kinds, and which inserts or deletes
-/// this many bytes.
+/// Returns the need of a step of the text whose notes before and after it have these kinds, and which inserts or
+/// deletes this many bytes.
 pub(crate) fn told_need(
     document: &Document,
     views: &IdTable<View>,
@@ -100,13 +99,13 @@ pub(crate) fn told_need(
     }
 }
 
-/// Returns what a step of a message needs at most, without the notes that the save point is left. It needs nothing if no
-/// view that watches hears it.
+/// Returns what a step of a message needs at most, without the notes that the save point is left. It needs nothing if
+/// no view that watches hears it.
 pub fn note_need(document: &Document, views: &IdTable<View>, step: TextStep) -> NoteRoom
     requires fits { IsStepOn step (length document.now.document.cells) }
     requires named { AreNamed views.now.entries }
-    ensures notes { result.notes ≡ notes_of_step (watchers document.now.document views.now) (step_in step.entry (text_of document.now.document)) }
-    ensures bytes { result.bytes ≡ bytes_of_step (watchers document.now.document views.now) (step_in step.entry (text_of document.now.document)) }
+    ensures notes { result.notes ≡ notes_for_step step.entry document.now views.now }
+    ensures bytes { result.bytes ≡ bytes_for_step step.entry document.now views.now }
 {
     let kinds = kind_before(PERFORMED_USER, step) | kind_after(PERFORMED_USER | START_ACTION, step);
     told_need(document, views, kinds, count_of(step))

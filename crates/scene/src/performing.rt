@@ -1,19 +1,15 @@
 //! Performs the changes of undo or redo one by one, with their notes and the views that follow.
 
-ghost use Rattle.std.specs.Prelude.{◌≡◌, ◌≤◌, ◌<◌, ◌+◌, ◌-◌, ◌^◌, ◌++◌, ◌==◌, not, true, if◌then◌else◌, [], List, ℕ, length, Some, IsSomeAnd};
+ghost use Rattle.std.specs.Prelude.{◌≡◌, ◌≤◌, ◌<◌, ◌^◌, ◌++◌, ◌==◌, not, true, if◌then◌else◌, [], Some};
 ghost use Rattle.ed_types.specs.Heard.{with_text};
 ghost use Rattle.ed_model.specs.Steps.{Step};
-ghost use Rattle.ed_model.specs.InverseLaws.{Fits};
 ghost use Rattle.ed_model.specs.History.{Change, TextStep as Text};
-ghost use Rattle.ed_model.specs.Notes.{heard, after_note as note_after};
 ghost use Rattle.ed_model.specs.Numbers.{growth};
 ghost use Rattle.ed_model.specs.Performing.{container_note};
-ghost use Rattle.document.specs.TextSteps.{step_in, IsStepOn};
-ghost use Rattle.document.specs.Undoing.{outline_of};
-ghost use Rattle.scene.specs.Scenes.{watchers, AreNamed};
-ghost use Rattle.scene.specs.Hearing.{hearers};
-ghost use Rattle.scene.specs.Undoing.{bits_of, all_bits as every_bit, container_kinds, performed_kinds, every_kind, notes_of_change, outline_kinds, outline_movement};
-ghost use Rattle.scene.specs.Turns.{change_at, bits_behind, CanPerform, CanTellAfter, IsToldBefore, IsPerformed};
+ghost use Rattle.scene.specs.Scenes.{AreNamed};
+ghost use Rattle.scene.specs.Telling.{note_room_in_all};
+ghost use Rattle.scene.specs.Undoing.{bits_of, all_bits as every_bit, every_kind, outline_kinds, outline_movement};
+ghost use Rattle.scene.specs.Turns.{change_at, bits_behind, CanPerform, CanTellHeardStep, CanTellTurn, IsOutlineAt, IsStepAt, IsTurnTold, IsTurnToldBefore, IsUnheard, PerformsStep, PerformsTurn, container_hearers, token_notes};
 
 use crate::moving::follow_change;
 use crate::step_notes::{
@@ -111,11 +107,12 @@ fn movement_of_change(outline: ChangeOutline) -> Movement
     }
 }
 
-// Returns the change, which is a step of the text. It is looked up again, so that its bytes are read only if a view hears it.
+// Returns the change, which is a step of the text. It is looked up again, so that its bytes are read only if a view
+// hears it.
 #[inline(never)]
 fn step_at(document: &Document, turn: Turn) -> TextStep<'_>
     requires { (step : Step) × (change_at turn document.now.document.history ≡ Some (Text step)) }
-    ensures { (step : Step) (text : List ℕ) → change_at turn document.now.document.history ≡ Some (Text step) → Fits step text → (step_in result text ≡ step) × IsStepOn result (length text) }
+    ensures { IsStepAt turn document.now result }
 {
     match document.change_outline(turn.direction, turn.index) {
         ChangeOutline::Insert { place, .. } => TextStep::Insert {
@@ -127,12 +124,12 @@ fn step_at(document: &Document, turn: Turn) -> TextStep<'_>
     }
 }
 
-// Notifies the views that watch and hear the change, a step of the text, before it is made. At least one view hears it. Its bytes are
-// shared for the note after it.
+// Notifies the views that watch and hear the change, a step of the text, before it is made. At least one view hears it.
+// Its bytes are shared for the note after it.
 #[inline(never)]
 fn tell_heard_change(document: &Document, views: &IdTable<View>, notes: &mut NoteList, turn: Turn)
-    requires { (step : Step) × CanPerform turn document.now views.now notes.old (Text step) × (0 < hearers (performed_kinds (bits_of turn.direction) step) (watchers document.now.document views.now)) }
-    ensures { (step : Step) → change_at turn document.now.document.history ≡ Some (Text step) → IsToldBefore (bits_of turn.direction) (watchers document.now.document views.now) true notes.old notes.new step }
+    requires { CanTellHeardStep turn document.now views.now notes.old }
+    ensures { IsTurnToldBefore turn document.now views.now true notes.old notes.new }
 {
     let who = bit_of(turn.direction);
     let step = step_at(document, turn);
@@ -141,7 +138,8 @@ fn tell_heard_change(document: &Document, views: &IdTable<View>, notes: &mut Not
     tell_coming(document, views, notes, true, who, step);
 }
 
-// Like `tell_heard_change`, if a view that watches hears the change, and returns whether one does. Asks no view if `quiet`.
+// Like `tell_heard_change`, if a view that watches hears the change, and returns whether one does. Asks no view if
+// `quiet`.
 fn tell_before_change(
     document: &Document,
     views: &IdTable<View>,
@@ -151,9 +149,9 @@ fn tell_before_change(
     quiet: bool,
 ) -> bool
     requires can { (step : Step) × CanPerform turn document.now views.now notes.old (Text step) }
-    requires outline { IsSomeAnd (change_at turn document.now.document.history) (λ change. outline ≡ outline_of change) }
-    requires quiet { quiet ≡ true → (change : Change) → change_at turn document.now.document.history ≡ Some change → notes_of_change (watchers document.now.document views.now) (bits_of turn.direction) change ≡ 0 }
-    ensures { (step : Step) → change_at turn document.now.document.history ≡ Some (Text step) → IsToldBefore (bits_of turn.direction) (watchers document.now.document views.now) result notes.old notes.new step }
+    requires outline { IsOutlineAt turn document.now outline }
+    requires quiet { quiet ≡ true → IsUnheard turn document.now views.now }
+    ensures { IsTurnToldBefore turn document.now views.now result notes.old notes.new }
 {
     if quiet {
         return false;
@@ -166,8 +164,8 @@ fn tell_before_change(
     true
 }
 
-// Notifies the views that watch and hear the change, a step of the text, after it was made, if `hears` says that there is one.
-// `old_lines` and `lines` are the numbers of lines before and after it. Its bytes are shared.
+// Notifies the views that watch and hear the change, a step of the text, after it was made, if `hears` says that there
+// is one. `old_lines` and `lines` are the numbers of lines before and after it. Its bytes are shared.
 fn tell_after_change(
     document: &Document,
     views: &IdTable<View>,
@@ -180,8 +178,8 @@ fn tell_after_change(
 )
     requires lines { (old_lines < 2 ^ 63) × (lines < 2 ^ 63) }
     requires named { AreNamed views.now.entries }
-    requires can { (step : Step) × (text : List ℕ) × (change_at turn document.now.document.history ≡ Some (Text step)) × CanTellAfter hears (bits_behind turn changed) (growth old_lines lines) step text (watchers document.now.document views.now) notes.old }
-    ensures { (step : Step) → change_at turn document.now.document.history ≡ Some (Text step) → notes.new ≡ record notes.old { notes = notes.old.notes ++ heard (watchers document.now.document views.now) (note_after (bits_behind turn changed) (growth old_lines lines) step); note_room = notes.old.note_room - length (heard (watchers document.now.document views.now) (note_after (bits_behind turn changed) (growth old_lines lines) step)) } }
+    requires can { CanTellTurn turn hears changed (growth old_lines lines) document.now views.now notes.old }
+    ensures { IsTurnTold turn changed (growth old_lines lines) document.now views.now notes.old notes.new }
 {
     if !hears {
         return;
@@ -198,8 +196,8 @@ fn is_changed(before: bool, old_lines: usize, lines: usize) -> bool
     before || old_lines != lines
 }
 
-// Performs the change, a step of the text: the views that watch and hear it are notified before and after it, and all that watch
-// follow it. Returns whether the number of lines has changed by now.
+// Performs the change, a step of the text: the views that watch and hear it are notified before and after it, and all
+// that watch follow it. Returns whether the number of lines has changed by now.
 fn perform_step(
     document: &mut Document,
     views: &mut IdTable<View>,
@@ -210,9 +208,9 @@ fn perform_step(
     lines_changed: bool,
 ) -> bool
     requires can { (step : Step) × CanPerform turn document.old views.old notes.old (Text step) }
-    requires outline { IsSomeAnd (change_at turn document.old.document.history) (λ change. outline ≡ outline_of change) }
-    requires quiet { quiet ≡ true → (change : Change) → change_at turn document.old.document.history ≡ Some change → notes_of_change (watchers document.old.document views.old) (bits_of turn.direction) change ≡ 0 }
-    ensures { (step : Step) → change_at turn document.old.document.history ≡ Some (Text step) → IsPerformed turn lines_changed result document.old views.old notes.old document.new views.new notes.new (Text step) }
+    requires outline { IsOutlineAt turn document.old outline }
+    requires quiet { quiet ≡ true → IsUnheard turn document.old views.old }
+    ensures { PerformsStep turn lines_changed result document.old views.old notes.old document.new views.new notes.new }
 {
     edits_of_steps();
     moves_are_those_of_steps();
@@ -241,8 +239,8 @@ fn note_of_container(bits: u32, token: i64) -> Note
     note
 }
 
-// Performs a container's own step: notifies the views that watch and hear it. Out of line, so that the hot path does not pay for the
-// note.
+// Performs a container's own step: notifies the views that watch and hear it. Out of line, so that the hot path does
+// not pay for the note.
 #[inline(never)]
 fn perform_container(
     document: &Document,
@@ -253,9 +251,9 @@ fn perform_container(
     lines_changed: bool,
 )
     requires named { AreNamed views.now.entries }
-    requires room { hearers (container_kinds (bits_of turn.direction)) (watchers document.now.document views.now) ≤ notes.old.note_room }
-    ensures notes { notes.new.notes ≡ notes.old.notes ++ heard (watchers document.now.document views.now) (container_note (bits_behind turn lines_changed) token) }
-    ensures note_room { notes.new.note_room + length notes.new.notes ≡ notes.old.note_room + length notes.old.notes }
+    requires room { container_hearers turn document.now views.now ≤ notes.old.note_room }
+    ensures notes { notes.new.notes ≡ notes.old.notes ++ token_notes turn lines_changed token document.now views.now }
+    ensures note_room { note_room_in_all notes.new ≡ note_room_in_all notes.old }
     ensures text_room { notes.new.text_room ≡ notes.old.text_room }
 {
     let note = note_of_container(bits_after(turn, lines_changed), token);
@@ -269,8 +267,8 @@ fn perform_container(
     );
 }
 
-/// Performs a change of this outline. `quiet` says that no view that watches is known to hear it. Returns whether the number
-/// of lines has changed by now.
+/// Performs a change of this outline. `quiet` says that no view that watches is known to hear it. Returns whether the
+/// number of lines has changed by now.
 pub(crate) fn perform_change(
     document: &mut Document,
     views: &mut IdTable<View>,
@@ -281,9 +279,9 @@ pub(crate) fn perform_change(
     lines_changed: bool,
 ) -> bool
     requires can { (change : Change) × CanPerform turn document.old views.old notes.old change }
-    requires outline { IsSomeAnd (change_at turn document.old.document.history) (λ change. outline ≡ outline_of change) }
-    requires quiet { quiet ≡ true → (change : Change) → change_at turn document.old.document.history ≡ Some change → notes_of_change (watchers document.old.document views.old) (bits_of turn.direction) change ≡ 0 }
-    ensures { (change : Change) → change_at turn document.old.document.history ≡ Some change → IsPerformed turn lines_changed result document.old views.old notes.old document.new views.new notes.new change }
+    requires outline { IsOutlineAt turn document.old outline }
+    requires quiet { quiet ≡ true → IsUnheard turn document.old views.old }
+    ensures { PerformsTurn turn lines_changed result document.old views.old notes.old document.new views.new notes.new }
 {
     if let ChangeOutline::Container { token } = outline {
         perform_container(document, views, notes, turn, token, lines_changed);

@@ -1,13 +1,9 @@
 //! The views that watch a document follow when other line ends count.
 
-ghost use Rattle.std.specs.Prelude.{◌≡◌, List, map};
-ghost use Rattle.ed_model.specs.declared.plan.DocumentChange.TheVariants as change;
-ghost use Rattle.ed_model.specs.Rows.{Row};
-ghost use Rattle.ed_model.specs.Session.{text_of};
-ghost use Rattle.ed_model.specs.Changes.{changed_lines};
-ghost use Rattle.line_index.specs.Settings.{edits_of_setting};
+ghost use Rattle.std.specs.Prelude.{◌≡◌, map};
 ghost use Rattle.id_table.specs.Entries.{id_of};
-ghost use Rattle.scene.specs.Scenes.{views_of, fold_room_in_all, IsWatched};
+ghost use Rattle.scene.specs.Scenes.{IsWatched, KeepFoldRooms, views_in};
+ghost use Rattle.scene.specs.Regrouping.{IsWatchedWith, regrouped_views, regrouping_edits};
 
 use crate::moving::follow;
 use document::Document;
@@ -17,8 +13,8 @@ use id_table::IdTable;
 use line_index::{LineEdit, edits_of_settings};
 use selection::Movement;
 
-/// Adapts the flags of the views that watch the document to the lines that it has once these line ends count. `edits` are
-/// the changes of its lines. The caller changes the document afterwards.
+/// Adapts the flags of the views that watch the document to the lines that it has once these line ends count. `edits`
+/// are the changes of its lines. The caller changes the document afterwards.
 pub fn regroup(
     document: &Document,
     views: &mut IdTable<View>,
@@ -26,11 +22,11 @@ pub fn regroup(
     edits: &[LineEdit],
 )
     requires watched { IsWatched document.now.document views.old }
-    requires edits { edits.now ≡ edits_of_setting document.now.document.line_end_types types (text_of document.now.document) }
-    ensures views { views_of views.new.entries ≡ map (changed_lines (change.SetLineEndTypes types) document.now.document) (views_of views.old.entries) }
-    ensures watched { (rows : List Row) → IsWatched (record document.now.document { line_end_types = types; rows = rows }) views.new }
+    requires edits { edits.now ≡ regrouping_edits types document.now }
+    ensures views { views_in views.new ≡ regrouped_views types document.now (views_in views.old) }
+    ensures watched { IsWatchedWith types document.now views.new }
     ensures ids { map id_of views.new.entries ≡ map id_of views.old.entries }
-    ensures fold_rooms { map fold_room_in_all views.new.entries ≡ map fold_room_in_all views.old.entries }
+    ensures fold_rooms { KeepFoldRooms views.old views.new }
     ensures next { views.new.next ≡ views.old.next }
     ensures room { views.new.room ≡ views.old.room }
 {

@@ -1,16 +1,14 @@
 //! The notes of a step.
 
-ghost use Rattle.std.specs.Prelude.{◌≡◌, ◌≤◌, ◌<◌, ◌-◌, ◌^◌, ◌++◌, true, false, [], List, ℕ, length};
-ghost use Rattle.ed_types.specs.Heard.{with_text};
+ghost use Rattle.std.specs.Prelude.{◌≡◌, ◌≤◌, ◌<◌, ◌^◌, true, false, [], List, ℕ, length};
 ghost use Rattle.ed_model.specs.Steps.{step_bytes};
-ghost use Rattle.ed_model.specs.Notes.{heard, range_note as note_of_range, before_note as note_before, after_note as note_after};
 ghost use Rattle.ed_model.specs.Numbers.{growth};
-ghost use Rattle.ed_model.specs.Session.{text_of};
 ghost use Rattle.selection.specs.Positions.{movement_of as movement};
 ghost use Rattle.document.specs.TextSteps.{step_in, IsStepOn};
-ghost use Rattle.scene.specs.Scenes.{watchers, AreNamed};
+ghost use Rattle.scene.specs.Scenes.{AreNamed};
 ghost use Rattle.scene.specs.Hearing.{before_kind, after_kind};
-ghost use Rattle.scene.specs.StepNotes.{place_in, count_in, IsSmallStep, CanTellMade, text_before, note_text_before};
+ghost use Rattle.scene.specs.Telling.{with_notes, with_shared};
+ghost use Rattle.scene.specs.StepNotes.{place_in, count_in, IsSmallStep, note_text_before, CanTellStep, IsNoteAfter, IsNoteBefore, IsRangeNote, IsStepTold, notes_before, step_on};
 
 use crate::telling::{Audience, NoteText, tell};
 use document::{Document, TextStep};
@@ -92,7 +90,7 @@ pub(crate) fn kind_after(bits: u32, step: TextStep) -> u32
 // Returns a note of a change of `count` bytes.
 fn range_note(kind: u32, place: usize, count: usize) -> Note
     requires { (place < 2 ^ 63) × (count < 2 ^ 63) }
-    ensures { (text : List ℕ) → let n = note_of_range kind place count in with_text result text ≡ record n { text = text } }
+    ensures { IsRangeNote kind place count result }
 {
     let mut note = blank(MODIFIED);
     note.kind = kind;
@@ -104,7 +102,7 @@ fn range_note(kind: u32, place: usize, count: usize) -> Note
 // Returns the note before the step.
 fn before_note(bits: u32, step: TextStep) -> Note
     requires { IsSmallStep step }
-    ensures { (text : List ℕ) → IsStepOn step.entry (length text) → with_text result (text_before (step_in step.entry text)) ≡ note_before bits (step_in step.entry text) }
+    ensures { IsNoteBefore bits step.entry result }
 {
     range_note(kind_before(bits, step), place_of(step), count_of(step))
 }
@@ -123,7 +121,7 @@ fn text_of_before(step: TextStep) -> NoteText
 fn after_note(bits: u32, old_lines: usize, lines: usize, step: TextStep) -> Note
     requires small { IsSmallStep step }
     requires lines { (old_lines < 2 ^ 63) × (lines < 2 ^ 63) }
-    ensures { (text : List ℕ) → IsStepOn step.entry (length text) → with_text result (step_bytes (step_in step.entry text)) ≡ note_after bits (growth old_lines lines) (step_in step.entry text) }
+    ensures { IsNoteAfter bits (growth old_lines lines) step.entry result }
 {
     let mut note = range_note(kind_after(bits, step), place_of(step), count_of(step));
     note.lines = lines as i64 - old_lines as i64;
@@ -133,9 +131,9 @@ fn after_note(bits: u32, old_lines: usize, lines: usize, step: TextStep) -> Note
 /// Shares the bytes that the step inserts or deletes among the next notes. There must be room for them.
 pub(crate) fn share_bytes(document: &mut Document, notes: &mut NoteList, step: TextStep)
     requires fits { IsStepOn step (length document.old.document.cells) }
-    requires room { length (step_bytes (step_in step (text_of document.old.document))) ≤ notes.old.text_room }
+    requires room { length (step_bytes (step_on document.old step)) ≤ notes.old.text_room }
     ensures document { document.new ≡ document.old }
-    ensures notes { notes.new ≡ record notes.old { shared = step_bytes (step_in step.entry (text_of document.old.document)); text_room = notes.old.text_room - length (step_bytes (step_in step.entry (text_of document.old.document))) } }
+    ensures notes { notes.new ≡ with_shared (step_bytes (step_on document.old step.entry)) notes.old }
 {
     match step {
         TextStep::Insert { bytes, .. } => notes.share(bytes, &[]),
@@ -143,7 +141,8 @@ pub(crate) fn share_bytes(document: &mut Document, notes: &mut NoteList, step: T
     }
 }
 
-// Notifies the views before a step is made. Its bytes are shared. Out of line, so that the hot path does not prepare a note.
+// Notifies the views before a step is made. Its bytes are shared. Out of line, so that the hot path does not prepare a
+// note.
 #[inline(never)]
 fn put_coming(
     document: &Document,
@@ -155,9 +154,9 @@ fn put_coming(
     requires fits { IsStepOn step (length document.now.document.cells) }
     requires small { IsSmallStep step }
     requires named { AreNamed views.now.entries }
-    requires shared { notes.old.shared ≡ step_bytes (step_in step (text_of document.now.document)) }
-    requires room { length (heard (watchers document.now.document views.now) (note_before bits (step_in step (text_of document.now.document)))) ≤ notes.old.note_room }
-    ensures { notes.new ≡ record notes.old { notes = notes.old.notes ++ heard (watchers document.now.document views.now) (note_before bits (step_in step.entry (text_of document.now.document))); note_room = notes.old.note_room - length (heard (watchers document.now.document views.now) (note_before bits (step_in step.entry (text_of document.now.document)))) } }
+    requires shared { notes.old.shared ≡ step_bytes (step_on document.now step) }
+    requires room { length (notes_before bits step document.now views.now) ≤ notes.old.note_room }
+    ensures { notes.new ≡ with_notes (notes_before bits step.entry document.now views.now) notes.old }
 {
     let note = before_note(bits, step);
     let text = text_of_before(step);
@@ -176,18 +175,18 @@ pub(crate) fn tell_coming(
     requires fits { IsStepOn step (length document.now.document.cells) }
     requires small { IsSmallStep step }
     requires named { AreNamed views.now.entries }
-    requires unheard { hears ≡ false → heard (watchers document.now.document views.now) (note_before bits (step_in step (text_of document.now.document))) ≡ [] }
-    requires shared { hears ≡ true → notes.old.shared ≡ step_bytes (step_in step (text_of document.now.document)) }
-    requires room { length (heard (watchers document.now.document views.now) (note_before bits (step_in step (text_of document.now.document)))) ≤ notes.old.note_room }
-    ensures { notes.new ≡ record notes.old { notes = notes.old.notes ++ heard (watchers document.now.document views.now) (note_before bits (step_in step.entry (text_of document.now.document))); note_room = notes.old.note_room - length (heard (watchers document.now.document views.now) (note_before bits (step_in step.entry (text_of document.now.document)))) } }
+    requires unheard { hears ≡ false → notes_before bits step document.now views.now ≡ [] }
+    requires shared { hears ≡ true → notes.old.shared ≡ step_bytes (step_on document.now step) }
+    requires room { length (notes_before bits step document.now views.now) ≤ notes.old.note_room }
+    ensures { notes.new ≡ with_notes (notes_before bits step.entry document.now views.now) notes.old }
 {
     if hears {
         put_coming(document, views, notes, bits, step);
     }
 }
 
-// Notifies the views after a step was made. `old_lines` and `lines` are the numbers of lines before and after it. Its bytes are
-// shared. Out of line, so that the hot path does not prepare a note.
+// Notifies the views after a step was made. `old_lines` and `lines` are the numbers of lines before and after it. Its
+// bytes are shared. Out of line, so that the hot path does not prepare a note.
 #[inline(never)]
 fn put_made(
     document: &Document,
@@ -201,8 +200,8 @@ fn put_made(
     requires small { IsSmallStep step }
     requires lines { (old_lines < 2 ^ 63) × (lines < 2 ^ 63) }
     requires named { AreNamed views.now.entries }
-    requires can { (text : List ℕ) × CanTellMade true bits (growth old_lines lines) step text (watchers document.now.document views.now) notes.old }
-    ensures { (text : List ℕ) → CanTellMade true bits (growth old_lines lines) step.entry text (watchers document.now.document views.now) notes.old → notes.new ≡ record notes.old { notes = notes.old.notes ++ heard (watchers document.now.document views.now) (note_after bits (growth old_lines lines) (step_in step.entry text)); note_room = notes.old.note_room - length (heard (watchers document.now.document views.now) (note_after bits (growth old_lines lines) (step_in step.entry text))) } }
+    requires can { CanTellStep true bits (growth old_lines lines) step document.now views.now notes.old }
+    ensures { IsStepTold true bits (growth old_lines lines) step.entry document.now views.now notes.old notes.new }
 {
     let note = after_note(bits, old_lines, lines, step);
     tell(
@@ -215,8 +214,8 @@ fn put_made(
     );
 }
 
-/// Notifies the views that watch after a step was made, if `hears` says that one hears it. `old_lines` and `lines` are the
-/// numbers of lines before and after it. Its bytes are shared.
+/// Notifies the views that watch after a step was made, if `hears` says that one hears it. `old_lines` and `lines` are
+/// the numbers of lines before and after it. Its bytes are shared.
 pub(crate) fn tell_made(
     document: &Document,
     views: &IdTable<View>,
@@ -230,8 +229,8 @@ pub(crate) fn tell_made(
     requires small { IsSmallStep step }
     requires lines { (old_lines < 2 ^ 63) × (lines < 2 ^ 63) }
     requires named { AreNamed views.now.entries }
-    requires can { (text : List ℕ) × CanTellMade hears bits (growth old_lines lines) step text (watchers document.now.document views.now) notes.old }
-    ensures { (text : List ℕ) → CanTellMade hears bits (growth old_lines lines) step.entry text (watchers document.now.document views.now) notes.old → notes.new ≡ record notes.old { notes = notes.old.notes ++ heard (watchers document.now.document views.now) (note_after bits (growth old_lines lines) (step_in step.entry text)); note_room = notes.old.note_room - length (heard (watchers document.now.document views.now) (note_after bits (growth old_lines lines) (step_in step.entry text))) } }
+    requires can { CanTellStep hears bits (growth old_lines lines) step document.now views.now notes.old }
+    ensures { IsStepTold hears bits (growth old_lines lines) step.entry document.now views.now notes.old notes.new }
 {
     if hears {
         put_made(document, views, notes, bits, old_lines, lines, step);

@@ -1,18 +1,18 @@
 //! Makes a step of a document's text, with its notes and the views that follow.
 
-ghost use Rattle.std.specs.Prelude.{◌≡◌, ◌≤◌, ◌<◌, ◌+◌, ◌++◌, ◌-◌, ◌^◌, ◌&&◌, true, false, map, length, None};
+ghost use Rattle.std.specs.Prelude.{◌≡◌, ◌≤◌, ◌&&◌, true, false, map, length, None};
 ghost use Rattle.ed_model.specs.Steps.{step_bytes};
-ghost use Rattle.ed_model.specs.Changes.{marker_count};
 ghost use Rattle.ed_model.specs.History.{at_save_point};
-ghost use Rattle.ed_model.specs.Notes.{heard, before_note as note_before, performed_user};
-ghost use Rattle.ed_model.specs.Session.{text_of};
-ghost use Rattle.ed_model.specs.Performing.{step_heard as heard_step, step_made};
+ghost use Rattle.ed_model.specs.Notes.{performed_user};
 ghost use Rattle.id_table.specs.Entries.{id_of};
-ghost use Rattle.document.specs.Kept.{HasRoom, HasTextRoom, TakesRoom, IsAtMost, no_room, with_freed, text_part};
-ghost use Rattle.document.specs.TextSteps.{bytes_out, step_in, IsStepOn, need_of};
-ghost use Rattle.scene.specs.Scenes.{scene_in, watchers, fold_room_in_all, AreNamed, IsWatched};
-ghost use Rattle.scene.specs.Hearing.{hearers, step_kinds, made_kinds, bytes_shared, left_note, user_bits as bits_of_user};
-ghost use Rattle.scene.specs.StepNotes.{IsSmallStep};
+ghost use Rattle.document.specs.Kept.{HasRoom, HasTextRoom, TakesRoom, text_part};
+ghost use Rattle.document.specs.TextSteps.{bytes_out, IsStepOn};
+ghost use Rattle.scene.specs.Scenes.{watchers, AreNamed, IsWatched, KeepFoldRooms};
+ghost use Rattle.scene.specs.Hearing.{left_note, user_bits as bits_of_user};
+ghost use Rattle.scene.specs.RoomLeft.{AddsNoRoomBut, KeepsSpare, marker_room_in_all};
+ghost use Rattle.scene.specs.Telling.{HasNoteRoomFor, TakesNoteRoom, TakesTextRoom, note_room_in_all, with_notes};
+ghost use Rattle.scene.specs.StepNotes.{IsSmallStep, need_on, step_on};
+ghost use Rattle.scene.specs.Steps.{FreesDeletedBytes, IsHeard, IsMade, count_ahead, heard_bytes, made_bytes, notes_ahead, scene_heard, scene_made, step_hearers};
 
 use crate::moving::follow_change;
 use crate::step_notes::{
@@ -39,8 +39,8 @@ pub struct StepBits {
     pub after: u32,
 }
 
-// Shares the step's bytes if a view that watches hears it, and returns whether one does. If there is no room for a note, no view
-// listens, and none is asked.
+// Shares the step's bytes if a view that watches hears it, and returns whether one does. If there is no room for a
+// note, no view listens, and none is asked.
 fn share_if_heard(
     document: &mut Document,
     views: &IdTable<View>,
@@ -50,14 +50,14 @@ fn share_if_heard(
 ) -> bool
     requires fits { IsStepOn step (length document.old.document.cells) }
     requires named { AreNamed views.now.entries }
-    requires full { notes.old.note_room ≡ 0 → hearers (step_kinds bits.before bits.after (step_in step (text_of document.old.document))) (watchers document.old.document views.now) ≡ 0 }
-    requires texts { bytes_shared (step_kinds bits.before bits.after (step_in step (text_of document.old.document))) (watchers document.old.document views.now) (length (step_bytes (step_in step (text_of document.old.document)))) ≤ notes.old.text_room }
+    requires full { notes.old.note_room ≡ 0 → step_hearers bits step document.old views.now ≡ 0 }
+    requires texts { heard_bytes bits step document.old views.now ≤ notes.old.text_room }
     ensures document { document.new ≡ document.old }
     ensures notes { notes.new.notes ≡ notes.old.notes }
     ensures note_room { notes.new.note_room ≡ notes.old.note_room }
-    ensures text_room { notes.new.text_room + bytes_shared (step_kinds bits.before bits.after (step_in step.entry (text_of document.old.document))) (watchers document.old.document views.now) (length (step_bytes (step_in step.entry (text_of document.old.document)))) ≡ notes.old.text_room }
-    ensures unheard { result ≡ false → hearers (step_kinds bits.before bits.after (step_in step.entry (text_of document.old.document))) (watchers document.old.document views.now) ≡ 0 }
-    ensures shared { result ≡ true → notes.new.shared ≡ step_bytes (step_in step.entry (text_of document.old.document)) }
+    ensures text_room { TakesTextRoom (heard_bytes bits step.entry document.old views.now) notes.old notes.new }
+    ensures unheard { result ≡ false → step_hearers bits step.entry document.old views.now ≡ 0 }
+    ensures shared { result ≡ true → notes.new.shared ≡ step_bytes (step_on document.old step.entry) }
 {
     if notes.is_full() {
         return false;
@@ -70,12 +70,13 @@ fn share_if_heard(
     hears
 }
 
-// Tells each view that watches that the save point is left. Out of line, so that the hot path does not prepare the note.
+// Tells each view that watches that the save point is left. Out of line, so that the hot path does not prepare the
+// note.
 #[inline(never)]
 fn put_left(document: &Document, views: &IdTable<View>, notes: &mut NoteList)
     requires named { AreNamed views.now.entries }
     requires room { length (left_note true (watchers document.now.document views.now)) ≤ notes.old.note_room }
-    ensures { notes.new ≡ record notes.old { notes = notes.old.notes ++ left_note true (watchers document.now.document views.now); note_room = notes.old.note_room - length (left_note true (watchers document.now.document views.now)) } }
+    ensures { notes.new ≡ with_notes (left_note true (watchers document.now.document views.now)) notes.old }
 {
     let note = blank(SAVE_POINT_LEFT);
     tell(
@@ -92,15 +93,15 @@ fn put_left(document: &Document, views: &IdTable<View>, notes: &mut NoteList)
 fn tell_left(document: &Document, views: &IdTable<View>, notes: &mut NoteList, is_left: bool)
     requires named { AreNamed views.now.entries }
     requires room { length (left_note is_left (watchers document.now.document views.now)) ≤ notes.old.note_room }
-    ensures { notes.new ≡ record notes.old { notes = notes.old.notes ++ left_note is_left (watchers document.now.document views.now); note_room = notes.old.note_room - length (left_note is_left (watchers document.now.document views.now)) } }
+    ensures { notes.new ≡ with_notes (left_note is_left (watchers document.now.document views.now)) notes.old }
 {
     if is_left {
         put_left(document, views, notes);
     }
 }
 
-// Notifies the views before a step is made, and if the save point is left. Returns whether a view that watches hears the step, whose
-// bytes are then shared for the note after it.
+// Notifies the views before a step is made, and if the save point is left. Returns whether a view that watches hears
+// the step, whose bytes are then shared for the note after it.
 fn tell_before(
     document: &mut Document,
     views: &IdTable<View>,
@@ -112,15 +113,15 @@ fn tell_before(
     requires fits { IsStepOn step (length document.old.document.cells) }
     requires small { IsSmallStep step }
     requires named { AreNamed views.now.entries }
-    requires notes { length (heard (watchers document.old.document views.now) (note_before bits.before (step_in step (text_of document.old.document)))) + length (left_note is_left (watchers document.old.document views.now)) ≤ notes.old.note_room }
-    requires full { notes.old.note_room ≡ 0 → hearers (step_kinds bits.before bits.after (step_in step (text_of document.old.document))) (watchers document.old.document views.now) ≡ 0 }
-    requires texts { bytes_shared (step_kinds bits.before bits.after (step_in step (text_of document.old.document))) (watchers document.old.document views.now) (length (step_bytes (step_in step (text_of document.old.document)))) ≤ notes.old.text_room }
+    requires notes { count_ahead bits is_left step document.old views.now ≤ notes.old.note_room }
+    requires full { notes.old.note_room ≡ 0 → step_hearers bits step document.old views.now ≡ 0 }
+    requires texts { heard_bytes bits step document.old views.now ≤ notes.old.text_room }
     ensures document { document.new ≡ document.old }
-    ensures notes { notes.new.notes ≡ notes.old.notes ++ heard (watchers document.old.document views.now) (note_before bits.before (step_in step.entry (text_of document.old.document))) ++ left_note is_left (watchers document.old.document views.now) }
-    ensures note_room { notes.new.note_room + (length (heard (watchers document.old.document views.now) (note_before bits.before (step_in step.entry (text_of document.old.document)))) + length (left_note is_left (watchers document.old.document views.now))) ≡ notes.old.note_room }
-    ensures text_room { notes.new.text_room + bytes_shared (step_kinds bits.before bits.after (step_in step.entry (text_of document.old.document))) (watchers document.old.document views.now) (length (step_bytes (step_in step.entry (text_of document.old.document)))) ≡ notes.old.text_room }
-    ensures unheard { result ≡ false → hearers (step_kinds bits.before bits.after (step_in step.entry (text_of document.old.document))) (watchers document.old.document views.now) ≡ 0 }
-    ensures shared { result ≡ true → notes.new.shared ≡ step_bytes (step_in step.entry (text_of document.old.document)) }
+    ensures notes { notes.new.notes ≡ notes_ahead bits is_left step.entry document.old views.now notes.old.notes }
+    ensures note_room { TakesNoteRoom (count_ahead bits is_left step.entry document.old views.now) notes.old notes.new }
+    ensures text_room { TakesTextRoom (heard_bytes bits step.entry document.old views.now) notes.old notes.new }
+    ensures unheard { result ≡ false → step_hearers bits step.entry document.old views.now ≡ 0 }
+    ensures shared { result ≡ true → notes.new.shared ≡ step_bytes (step_on document.old step.entry) }
 {
     let hears = share_if_heard(document, views, notes, bits, step);
     tell_coming(document, views, notes, hears, bits.before, step);
@@ -130,8 +131,8 @@ fn tell_before(
 
 /// Makes a step of the document's text, and does not change the history.
 ///
-/// The views that watch and hear the step are notified before and after it, with these bits. In between, if the save point
-/// `is_left`, each view is told so. All views that watch follow the step.
+/// The views that watch and hear the step are notified before and after it, with these bits. In between, if the save
+/// point `is_left`, each view is told so. All views that watch follow the step.
 pub fn step_heard(
     document: &mut Document,
     views: &mut IdTable<View>,
@@ -141,21 +142,21 @@ pub fn step_heard(
     step: TextStep,
 )
     requires fits { IsStepOn step (length document.old.document.cells) }
-    requires room { HasTextRoom document.old (need_of document.old.document.line_end_types step) }
+    requires room { HasTextRoom document.old (need_on document.old step) }
     requires watched { IsWatched document.old.document views.old }
-    requires notes { length (heard_step bits.before bits.after (left_note is_left (watchers document.old.document views.old)) (step_in step (text_of document.old.document)) (scene_in document.old.document views.old.entries notes.old.notes)).notes ≤ length notes.old.notes + notes.old.note_room }
-    requires texts { bytes_shared (step_kinds bits.before bits.after (step_in step (text_of document.old.document))) (watchers document.old.document views.old) (length (step_bytes (step_in step (text_of document.old.document)))) ≤ notes.old.text_room }
-    ensures scene { scene_in document.new.document views.new.entries notes.new.notes ≡ heard_step bits.before bits.after (left_note is_left (watchers document.old.document views.old)) (step_in step.entry (text_of document.old.document)) (scene_in document.old.document views.old.entries notes.old.notes) }
+    requires notes { HasNoteRoomFor notes.old (scene_heard bits is_left step document.old views.old notes.old) }
+    requires texts { heard_bytes bits step document.old views.old ≤ notes.old.text_room }
+    ensures scene { IsHeard bits is_left step.entry document.old views.old notes.old document.new views.new notes.new }
     ensures watched { IsWatched document.new.document views.new }
-    ensures room_left { TakesRoom document.old.room document.new.room (text_part (need_of document.old.document.line_end_types step.entry)) }
-    ensures text_freed { document.old.room.text + bytes_out (step_in step.entry (text_of document.old.document)) ≤ document.new.room.text + (need_of document.old.document.line_end_types step.entry).text }
-    ensures none_made { IsAtMost document.new.room (with_freed (bytes_out (step_in step.entry (text_of document.old.document))) document.old.room) no_room }
-    ensures spare { document.new.spare ≡ record document.old.spare { markers = document.new.spare.markers; fill = None } }
-    ensures markers_in_all { document.new.spare.markers + marker_count document.new.document.rows ≡ document.old.spare.markers + marker_count document.old.document.rows }
-    ensures note_room_left { notes.new.note_room + length notes.new.notes ≡ notes.old.note_room + length notes.old.notes }
-    ensures text_room_left { notes.new.text_room + bytes_shared (step_kinds bits.before bits.after (step_in step.entry (text_of document.old.document))) (watchers document.old.document views.old) (length (step_bytes (step_in step.entry (text_of document.old.document)))) ≡ notes.old.text_room }
+    ensures room_left { TakesRoom document.old.room document.new.room (text_part (need_on document.old step.entry)) }
+    ensures text_freed { FreesDeletedBytes step.entry document.old document.new }
+    ensures none_made { AddsNoRoomBut (bytes_out (step_on document.old step.entry)) document.old document.new }
+    ensures spare { KeepsSpare None document.old document.new }
+    ensures markers_in_all { marker_room_in_all document.new ≡ marker_room_in_all document.old }
+    ensures note_room_left { note_room_in_all notes.new ≡ note_room_in_all notes.old }
+    ensures text_room_left { TakesTextRoom (heard_bytes bits step.entry document.old views.old) notes.old notes.new }
     ensures ids { map id_of views.new.entries ≡ map id_of views.old.entries }
-    ensures fold_rooms { map fold_room_in_all views.new.entries ≡ map fold_room_in_all views.old.entries }
+    ensures fold_rooms { KeepFoldRooms views.old views.new }
     ensures next { views.new.next ≡ views.old.next }
     ensures view_room { views.new.room ≡ views.old.room }
 {
@@ -188,8 +189,8 @@ fn user_bits(begins: bool) -> StepBits
     }
 }
 
-/// Returns whether appending the next step to the history leaves the save point: the history collects steps, and the document
-/// is at its save point.
+/// Returns whether appending the next step to the history leaves the save point: the history collects steps, and the
+/// document is at its save point.
 pub fn leaves_save_point(document: &Document) -> bool
     ensures { result ≡ (document.now.document.history.collecting && at_save_point document.now.document.history) }
 {
@@ -199,8 +200,8 @@ pub fn leaves_save_point(document: &Document) -> bool
 
 /// Makes a step of a message, and appends it to the history. `later` says that it is a later step of its message.
 ///
-/// The views that watch and hear the step are notified before and after it. In between each view is told if the save point
-/// is left. All views that watch follow the step.
+/// The views that watch and hear the step are notified before and after it. In between each view is told if the save
+/// point is left. All views that watch follow the step.
 pub fn make_step(
     document: &mut Document,
     views: &mut IdTable<View>,
@@ -209,21 +210,21 @@ pub fn make_step(
     step: TextStep,
 )
     requires fits { IsStepOn step (length document.old.document.cells) }
-    requires room { HasRoom document.old (need_of document.old.document.line_end_types step) }
+    requires room { HasRoom document.old (need_on document.old step) }
     requires watched { IsWatched document.old.document views.old }
-    requires notes { length (step_made later (step_in step (text_of document.old.document)) (scene_in document.old.document views.old.entries notes.old.notes)).notes ≤ length notes.old.notes + notes.old.note_room }
-    requires texts { bytes_shared (made_kinds later (step_in step (text_of document.old.document)) document.old.document.history) (watchers document.old.document views.old) (length (step_bytes (step_in step (text_of document.old.document)))) ≤ notes.old.text_room }
-    ensures scene { scene_in document.new.document views.new.entries notes.new.notes ≡ step_made later (step_in step.entry (text_of document.old.document)) (scene_in document.old.document views.old.entries notes.old.notes) }
+    requires notes { HasNoteRoomFor notes.old (scene_made later step document.old views.old notes.old) }
+    requires texts { made_bytes later step document.old views.old ≤ notes.old.text_room }
+    ensures scene { IsMade later step.entry document.old views.old notes.old document.new views.new notes.new }
     ensures watched { IsWatched document.new.document views.new }
-    ensures room_left { TakesRoom document.old.room document.new.room (need_of document.old.document.line_end_types step.entry) }
-    ensures text_freed { document.old.room.text + bytes_out (step_in step.entry (text_of document.old.document)) ≤ document.new.room.text + (need_of document.old.document.line_end_types step.entry).text }
-    ensures none_made { IsAtMost document.new.room (with_freed (bytes_out (step_in step.entry (text_of document.old.document))) document.old.room) no_room }
-    ensures spare { document.new.spare ≡ record document.old.spare { markers = document.new.spare.markers; fill = None } }
-    ensures markers_in_all { document.new.spare.markers + marker_count document.new.document.rows ≡ document.old.spare.markers + marker_count document.old.document.rows }
-    ensures note_room_left { notes.new.note_room + length notes.new.notes ≡ notes.old.note_room + length notes.old.notes }
-    ensures text_room_left { notes.new.text_room + bytes_shared (made_kinds later (step_in step.entry (text_of document.old.document)) document.old.document.history) (watchers document.old.document views.old) (length (step_bytes (step_in step.entry (text_of document.old.document)))) ≡ notes.old.text_room }
+    ensures room_left { TakesRoom document.old.room document.new.room (need_on document.old step.entry) }
+    ensures text_freed { FreesDeletedBytes step.entry document.old document.new }
+    ensures none_made { AddsNoRoomBut (bytes_out (step_on document.old step.entry)) document.old document.new }
+    ensures spare { KeepsSpare None document.old document.new }
+    ensures markers_in_all { marker_room_in_all document.new ≡ marker_room_in_all document.old }
+    ensures note_room_left { note_room_in_all notes.new ≡ note_room_in_all notes.old }
+    ensures text_room_left { TakesTextRoom (made_bytes later step.entry document.old views.old) notes.old notes.new }
     ensures ids { map id_of views.new.entries ≡ map id_of views.old.entries }
-    ensures fold_rooms { map fold_room_in_all views.new.entries ≡ map fold_room_in_all views.old.entries }
+    ensures fold_rooms { KeepFoldRooms views.old views.new }
     ensures next { views.new.next ≡ views.old.next }
     ensures view_room { views.new.room ≡ views.old.room }
 {

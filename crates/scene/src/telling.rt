@@ -1,10 +1,11 @@
 //! Notifies views: appends a note for each view in the audience.
 
-ghost use Rattle.std.specs.Prelude.{◌≡◌, ◌≤◌, ◌<◌, ◌-◌, ◌^◌, ◌++◌, [], ◌∷◌, List, ℕ, length};
+ghost use Rattle.std.specs.Prelude.{◌≡◌, ◌≤◌, ◌<◌, ◌^◌, List, ℕ, length};
 ghost use Rattle.ed_types.specs.Heard.{with_text};
-ghost use Rattle.ed_model.specs.Notes.{told, modify_attempt, blank as blank_note};
+ghost use Rattle.ed_model.specs.Notes.{modify_attempt, blank as blank_note};
 ghost use Rattle.scene.specs.Scenes.{watchers, AreNamed};
-ghost use Rattle.scene.specs.Hearing.{audience_of, belongs, with_note_text, hearers, masks_of};
+ghost use Rattle.scene.specs.Hearing.{belongs, with_note_text, hearers, masks_of};
+ghost use Rattle.scene.specs.Telling.{watching_audience, with_audience_told, with_note, with_told};
 
 use document::Document;
 use ed_types::Note;
@@ -57,7 +58,7 @@ fn is_told(view: &View, audience: Audience, kind: u32) -> bool
 // Appends a note with its text.
 fn put(notes: &mut NoteList, note: Note, text: NoteText)
     requires { 0 < notes.old.note_room }
-    ensures { notes.new ≡ record notes.old { notes = notes.old.notes ++ with_note_text text note notes.old.shared ∷ []; note_room = notes.old.note_room - 1 } }
+    ensures { notes.new ≡ with_note (with_note_text text note notes.old.shared) notes.old }
 {
     match text {
         NoteText::Empty => notes.put_bare(note),
@@ -66,7 +67,8 @@ fn put(notes: &mut NoteList, note: Note, text: NoteText)
 }
 
 /// Appends a note for each view that watches the document and is in the audience, in the order in which the views were
-/// attached. There must be room for as many notes. If there is no room at all, no view is in the audience, and none is asked.
+/// attached. There must be room for as many notes. If there is no room at all, no view is in the audience, and none is
+/// asked.
 pub fn tell(
     document: &Document,
     views: &IdTable<View>,
@@ -76,8 +78,8 @@ pub fn tell(
     text: NoteText,
 )
     requires named { AreNamed views.now.entries }
-    requires room { length (audience_of audience note.now.kind (watchers document.now.document views.now)) ≤ notes.old.note_room }
-    ensures { notes.new ≡ record notes.old { notes = notes.old.notes ++ told (audience_of audience note.entry.now.kind (watchers document.now.document views.now)) (with_note_text text note.entry.now notes.old.shared); note_room = notes.old.note_room - length (audience_of audience note.entry.now.kind (watchers document.now.document views.now)) } }
+    requires room { length (watching_audience audience note.now.kind document.now views.now) ≤ notes.old.note_room }
+    ensures { notes.new ≡ with_audience_told audience text note.entry.now document.now views.now notes.old }
 {
     if notes.is_full() {
         return;
@@ -96,7 +98,7 @@ pub fn tell(
 pub fn attempt(document: &Document, views: &IdTable<View>, notes: &mut NoteList)
     requires named { AreNamed views.now.entries }
     requires room { length (watchers document.now.document views.now) ≤ notes.old.note_room }
-    ensures { notes.new ≡ record notes.old { notes = notes.old.notes ++ told (watchers document.now.document views.now) (blank_note modify_attempt); note_room = notes.old.note_room - length (watchers document.now.document views.now) } }
+    ensures { notes.new ≡ with_told (watchers document.now.document views.now) (blank_note modify_attempt) notes.old }
 {
     let note = blank(MODIFY_ATTEMPT);
     tell(
@@ -138,7 +140,7 @@ pub(crate) fn survey(document: &Document, views: &IdTable<View>) -> Watched
 // Returns how many of the views that watch the document are in the audience of notes of this kind.
 fn count(document: &Document, views: &IdTable<View>, audience: Audience, kind: u32) -> usize
     requires named { AreNamed views.now.entries }
-    ensures count { result ≡ length (audience_of audience kind (watchers document.now.document views.now)) }
+    ensures count { result ≡ length (watching_audience audience kind document.now views.now) }
     ensures few { result < 2 ^ 63 }
 {
     let mut count = 0;

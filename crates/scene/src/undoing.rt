@@ -1,21 +1,17 @@
 //! Undo and redo: performs a transaction, and computes what that needs.
 
-ghost use Rattle.std.specs.Prelude.{◌≡◌, ◌≤◌, ◌<◌, ◌+◌, ◌-◌, ◌++◌, ◌==◌, ◌&&◌, ◌||◌, true, bit_and, nat_lt, length, map, not, reverse};
-ghost use Rattle.ed_model.specs.History.{Change, latest_text_step};
-ghost use Rattle.ed_model.specs.Session.{text_of};
-ghost use Rattle.ed_model.specs.SoundLaws.{AreStepsOf};
-ghost use Rattle.ed_model.specs.UndoPlans.{text_steps};
-ghost use Rattle.ed_model.specs.Changes.{marker_count};
-ghost use Rattle.ed_model.specs.Performing.{save_point_change, transaction_performed};
+ghost use Rattle.std.specs.Prelude.{◌≡◌, ◌≤◌, ◌<◌, ◌-◌, ◌==◌, ◌&&◌, ◌||◌, nat_lt, length, map, not};
+ghost use Rattle.ed_model.specs.History.{Change};
 ghost use Rattle.id_table.specs.Entries.{id_of};
-ghost use Rattle.document.specs.Kept.{HasTextRoom, TakesRoom, IsAtMost, no_room, with_freed};
-ghost use Rattle.document.specs.Undoing.{changes_of, history_behind, is_other, outline_of, room_of_change, save_point_told};
-ghost use Rattle.scene.specs.Scenes.{scene_in, watchers, fold_room_in_all, AreNamed, IsWatched};
+ghost use Rattle.document.specs.Kept.{HasTextRoom, TakesRoom};
+ghost use Rattle.document.specs.Undoing.{changes_of, outline_of, save_point_told};
+ghost use Rattle.scene.specs.Scenes.{watchers, AreNamed, IsWatched, KeepFoldRooms};
 ghost use Rattle.scene.specs.Hearing.{masks_of};
-ghost use Rattle.scene.specs.Needs.{note_room};
-ghost use Rattle.scene.specs.Turns.{turn_of, ChangeFits};
-ghost use Rattle.scene.specs.Performed.{CanPerformAll, AreAllPerformed};
-ghost use Rattle.scene.specs.Undoing.{bits_of, every_kind, free_behind, freed_by_all, fill_behind_all, notes_of_change, bytes_of_change, bytes_of_changes, notes_of_history, room_of_changes, save_point_notes, capped_room, capped_notes, place_behind_any, place_by};
+ghost use Rattle.scene.specs.RoomLeft.{AddsNoRoomBut, KeepsSpare, marker_room_in_all};
+ghost use Rattle.scene.specs.Telling.{TakesTextRoom, note_room_in_all};
+ghost use Rattle.scene.specs.Undoing.{free_behind, save_point_notes, capped_room, place_by, IsNoteNeed, history_bytes, history_caret, history_fill, history_freed, history_note_need, history_notes, history_room, none_hears, save_point_count};
+ghost use Rattle.scene.specs.Turns.{turn_of, CanMakeOutlined};
+ghost use Rattle.scene.specs.Performed.{CanPerformAll, AreAllPerformed, HistoryFits, HistoryIsPerformed, IsSavePointTold};
 
 use crate::need::{NoteRoom, SceneNeed, told_need};
 use crate::performing::{Turn, kinds_of, kinds_of_all, perform_change};
@@ -43,9 +39,9 @@ fn turn_at(direction: Direction, index: usize, count: usize) -> Turn
     }
 }
 
-// Returns whether no view that watches is known to hear any of the changes, so that none has to be asked at each change. It is so if
-// there is no room for a note, or if there are several changes and no mask has a bit of their kinds. For one change the masks
-// are not read.
+// Returns whether no view that watches is known to hear any of the changes, so that none has to be asked at each
+// change. It is so if there is no room for a note, or if there are several changes and no mask has a bit of their
+// kinds. For one change the masks are not read.
 fn is_quiet(
     document: &Document,
     views: &IdTable<View>,
@@ -54,15 +50,15 @@ fn is_quiet(
     count: usize,
 ) -> bool
     requires named { AreNamed views.now.entries }
-    ensures { result ≡ (notes.now.note_room == 0 || (nat_lt 1 count && (bit_and (masks_of (watchers document.now.document views.now)) (every_kind (bits_of direction)) == 0))) }
+    ensures { result ≡ (notes.now.note_room == 0 || (nat_lt 1 count && none_hears direction document.now views.now)) }
 {
     notes.is_full() || (count > 1 && survey(document, views).masks & kinds_of_all(direction) == 0)
 }
 
-// Returns where the caret goes by a change of this outline, for which there is room: behind an insertion, or where a deletion
-// was made. A container's step leaves it where the earlier changes put it.
+// Returns where the caret goes by a change of this outline, for which there is room: behind an insertion, or where a
+// deletion was made. A container's step leaves it where the earlier changes put it.
 fn caret_by(document: &Document, outline: ChangeOutline, before: Option<usize>) -> Option<usize>
-    requires can { (change : Change) × (outline ≡ outline_of change) × ChangeFits change (text_of document.now.document) × HasTextRoom document.now (room_of_change document.now.document.line_end_types change) }
+    requires can { CanMakeOutlined outline document.now }
     ensures { result ≡ place_by outline before }
 {
     let _ = document.len(); // states that no place exceeds the range of places
@@ -73,8 +69,8 @@ fn caret_by(document: &Document, outline: ChangeOutline, before: Option<usize>) 
     }
 }
 
-// Performs the changes one after the other, and returns where the caret goes, if one of them is a step of the text. Does not change
-// the history.
+// Performs the changes one after the other, and returns where the caret goes, if one of them is a step of the text.
+// Does not change the history.
 fn perform_changes(
     document: &mut Document,
     views: &mut IdTable<View>,
@@ -83,7 +79,7 @@ fn perform_changes(
 ) -> Option<usize>
     requires can { CanPerformAll direction document.old views.old notes.old }
     ensures all { AreAllPerformed direction document.old views.old notes.old document.new views.new notes.new }
-    ensures caret { result ≡ place_behind_any (latest_text_step (reverse (changes_of direction document.old.document.history))) }
+    ensures caret { result ≡ history_caret direction document.old }
 {
     positions_after_a_step();
     let count = document.change_count(direction);
@@ -99,14 +95,14 @@ fn perform_changes(
     caret
 }
 
-// Tells each view that watches that the save point is reached, if the document `is_there`, or that it is left. Out of line, so that
-// the hot path does not prepare a note.
+// Tells each view that watches that the save point is reached, if the document `is_there`, or that it is left. Out of
+// line, so that the hot path does not prepare a note.
 #[inline(never)]
 fn put_save_point(document: &Document, views: &IdTable<View>, notes: &mut NoteList, is_there: bool)
     requires named { AreNamed views.now.entries }
     requires room { length (watchers document.now.document views.now) ≤ notes.old.note_room }
-    ensures notes { notes.new.notes ≡ notes.old.notes ++ save_point_change (watchers document.now.document views.now) (not is_there) is_there }
-    ensures note_room { notes.new.note_room + length notes.new.notes ≡ notes.old.note_room + length notes.old.notes }
+    ensures notes { IsSavePointTold (not is_there) is_there document.now views.now notes.old notes.new }
+    ensures note_room { note_room_in_all notes.new ≡ note_room_in_all notes.old }
     ensures text_room { notes.new.text_room ≡ notes.old.text_room }
 {
     let code = if is_there {
@@ -134,9 +130,9 @@ fn tell_save_point(
     is_there: bool,
 )
     requires named { AreNamed views.now.entries }
-    requires room { save_point_notes (is_other was_there is_there) (length (watchers document.now.document views.now)) ≤ notes.old.note_room }
-    ensures notes { notes.new.notes ≡ notes.old.notes ++ save_point_change (watchers document.now.document views.now) was_there is_there }
-    ensures note_room { notes.new.note_room + length notes.new.notes ≡ notes.old.note_room + length notes.old.notes }
+    requires room { save_point_count was_there is_there document.now views.now ≤ notes.old.note_room }
+    ensures notes { IsSavePointTold was_there is_there document.now views.now notes.old notes.new }
+    ensures note_room { note_room_in_all notes.new ≡ note_room_in_all notes.old }
     ensures text_room { notes.new.text_room ≡ notes.old.text_room }
 {
     if was_there == is_there {
@@ -147,36 +143,36 @@ fn tell_save_point(
 
 /// Performs undo or redo (`SCI_UNDO`, `SCI_REDO`).
 ///
-/// The changes of the transaction are performed one after the other. The views that watch and hear a change are notified of
-/// it, and all that watch follow it. Then all that watch are told if the save point is reached or left. There must be room
-/// for all of it.
+/// The changes of the transaction are performed one after the other. The views that watch and hear a change are
+/// notified of it, and all that watch follow it. Then all that watch are told if the save point is reached or left.
+/// There must be room for all of it.
 ///
-/// Returns where the caret of the sending view goes, and does not move it: behind what the latest step of the text inserts,
-/// or where that step deletes; `None` if no change is a step of the text.
+/// Returns where the caret of the sending view goes, and does not move it: behind what the latest step of the text
+/// inserts, or where that step deletes; `None` if no change is a step of the text.
 pub fn perform_history(
     document: &mut Document,
     views: &mut IdTable<View>,
     notes: &mut NoteList,
     direction: Direction,
 ) -> Option<usize>
-    requires steps { AreStepsOf (text_of document.old.document) (text_steps (changes_of direction document.old.document.history)) }
-    requires room { HasTextRoom document.old (room_of_changes document.old.document.line_end_types (changes_of direction document.old.document.history)) }
+    requires steps { HistoryFits direction document.old }
+    requires room { HasTextRoom document.old (history_room direction document.old) }
     requires watched { IsWatched document.old.document views.old }
-    requires notes { notes_of_history (watchers document.old.document views.old) direction document.old.document.history ≤ notes.old.note_room }
-    requires texts { bytes_of_changes (watchers document.old.document views.old) (bits_of direction) (changes_of direction document.old.document.history) ≤ notes.old.text_room }
-    ensures scene { scene_in document.new.document views.new.entries notes.new.notes ≡ transaction_performed (bits_of direction) (changes_of direction document.old.document.history) (history_behind direction document.old.document.history) (scene_in document.old.document views.old.entries notes.old.notes) }
-    ensures caret { result ≡ place_behind_any (latest_text_step (reverse (changes_of direction document.old.document.history))) }
+    requires notes { history_notes direction document.old views.old ≤ notes.old.note_room }
+    requires texts { history_bytes direction document.old views.old ≤ notes.old.text_room }
+    ensures scene { HistoryIsPerformed direction document.old views.old notes.old document.new views.new notes.new }
+    ensures caret { result ≡ history_caret direction document.old }
     ensures watched { IsWatched document.new.document views.new }
-    ensures room_left { TakesRoom document.old.room document.new.room (room_of_changes document.old.document.line_end_types (changes_of direction document.old.document.history)) }
-    ensures none_made { IsAtMost document.new.room (with_freed (freed_by_all (changes_of direction document.old.document.history)) document.old.room) no_room }
-    ensures spare { document.new.spare ≡ record document.old.spare { markers = document.new.spare.markers; fill = fill_behind_all document.old.spare.fill (changes_of direction document.old.document.history) } }
-    ensures markers_in_all { document.new.spare.markers + marker_count document.new.document.rows ≡ document.old.spare.markers + marker_count document.old.document.rows }
-    ensures note_room_left { notes.new.note_room + length notes.new.notes ≡ notes.old.note_room + length notes.old.notes }
-    ensures text_room_left { notes.new.text_room + bytes_of_changes (watchers document.old.document views.old) (bits_of direction) (changes_of direction document.old.document.history) ≡ notes.old.text_room }
+    ensures room_left { TakesRoom document.old.room document.new.room (history_room direction document.old) }
+    ensures none_made { AddsNoRoomBut (history_freed direction document.old) document.old document.new }
+    ensures spare { KeepsSpare (history_fill direction document.old) document.old document.new }
+    ensures markers_in_all { marker_room_in_all document.new ≡ marker_room_in_all document.old }
+    ensures note_room_left { note_room_in_all notes.new ≡ note_room_in_all notes.old }
+    ensures text_room_left { TakesTextRoom (history_bytes direction document.old views.old) notes.old notes.new }
     ensures ids { map id_of views.new.entries ≡ map id_of views.old.entries }
     ensures next { views.new.next ≡ views.old.next }
     ensures view_room { views.new.room ≡ views.old.room }
-    ensures fold_rooms { map fold_room_in_all views.new.entries ≡ map fold_room_in_all views.old.entries }
+    ensures fold_rooms { KeepFoldRooms views.old views.new }
 {
     let was_there = document.history().is_at_save_point();
     let caret = perform_changes(document, views, notes, direction);
@@ -195,7 +191,7 @@ fn heard_change_need(
     outline: ChangeOutline,
 ) -> NoteRoom
     requires named { AreNamed views.now.entries }
-    ensures { (change : Change) → outline ≡ outline_of change → result ≡ note_room (notes_of_change (watchers document.now.document views.now) (bits_of direction) change) (bytes_of_change (watchers document.now.document views.now) (bits_of direction) change) }
+    ensures { IsNoteNeed direction outline document.now views.now result }
 {
     let kinds = kinds_of(direction, outline);
     match outline {
@@ -208,8 +204,8 @@ fn heard_change_need(
     }
 }
 
-// Returns the notes that a change of this outline needs. `masks` has the joined masks of the views that watch, so that usually none
-// of them is asked.
+// Returns the notes that a change of this outline needs. `masks` has the joined masks of the views that watch, so that
+// usually none of them is asked.
 fn change_note_need(
     document: &Document,
     views: &IdTable<View>,
@@ -219,7 +215,7 @@ fn change_note_need(
 ) -> NoteRoom
     requires named { AreNamed views.now.entries }
     requires masks { masks ≡ masks_of (watchers document.now.document views.now) }
-    ensures { (change : Change) → outline ≡ outline_of change → result ≡ note_room (notes_of_change (watchers document.now.document views.now) (bits_of direction) change) (bytes_of_change (watchers document.now.document views.now) (bits_of direction) change) }
+    ensures { IsNoteNeed direction outline document.now views.now result }
 {
     if masks & kinds_of(direction, outline) == 0 {
         return NoteRoom::none();
@@ -227,7 +223,8 @@ fn change_note_need(
     heard_change_need(document, views, direction, outline)
 }
 
-// Returns how many bytes of room are free after a change, with `free` before it: insertions use them, and deletions add theirs.
+// Returns how many bytes of room are free after a change, with `free` before it: insertions use them, and deletions add
+// theirs.
 fn free_behind(free: usize, change: ChangeOutline) -> usize
     ensures { (c : Change) → change ≡ outline_of c → result ≡ free_behind free c }
 {
@@ -263,8 +260,8 @@ fn save_point_need(document: &Document, direction: Direction, count: usize) -> u
 fn need_of_one(document: &Document, views: &IdTable<View>, direction: Direction) -> SceneNeed
     requires named { AreNamed views.now.entries }
     requires one { length (changes_of direction document.now.document.history) ≡ 1 }
-    ensures notes { result.notes ≡ capped_notes (notes_of_history (watchers document.now.document views.now) direction document.now.document.history) (bytes_of_changes (watchers document.now.document views.now) (bits_of direction) (changes_of direction document.now.document.history)) }
-    ensures document { result.document ≡ capped_room (room_of_changes document.now.document.line_end_types (changes_of direction document.now.document.history)) }
+    ensures notes { result.notes ≡ history_note_need direction document.now views.now }
+    ensures document { result.document ≡ capped_room (history_room direction document.now) }
 {
     let watched = survey(document, views);
     let (outline, room) = document.change_with_need(direction, 0);
@@ -283,8 +280,8 @@ fn need_of_one(document: &Document, views: &IdTable<View>, direction: Direction)
 #[inline(always)]
 pub fn history_need(document: &Document, views: &IdTable<View>, direction: Direction) -> SceneNeed
     requires named { AreNamed views.now.entries }
-    ensures notes { result.notes ≡ capped_notes (notes_of_history (watchers document.now.document views.now) direction document.now.document.history) (bytes_of_changes (watchers document.now.document views.now) (bits_of direction) (changes_of direction document.now.document.history)) }
-    ensures document { result.document ≡ capped_room (room_of_changes document.now.document.line_end_types (changes_of direction document.now.document.history)) }
+    ensures notes { result.notes ≡ history_note_need direction document.now views.now }
+    ensures document { result.document ≡ capped_room (history_room direction document.now) }
 {
     let count = document.change_count(direction);
     if count == 1 {
