@@ -1,6 +1,6 @@
 -- Changes of one of the documents of a session.
 use Rattle.std.specs.Prelude.{reverse}
-use Rattle.std.proofs.Common.{◌≡◌, ℕ, List, refl, ap, ◌∙◌, Option, Some, None, IfSome, IsSomeAnd}
+use Rattle.std.proofs.Common.{◌≡◌, ℕ, List, refl, ap, ◌∙◌, Option, Some, None, IfSome}
 use Rattle.ed_model.specs.Steps.{Step}
 use Rattle.ed_model.specs.Session.{View, with_document}
 use Rattle.ed_model.specs.History.{latest_text_step}

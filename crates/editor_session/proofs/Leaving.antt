@@ -1,6 +1,6 @@
 -- Replies that are left in a place.
-use Rattle.std.proofs.Common.{◌≡◌, ◌⊎◌, ◌&&◌, ◌∙◌, ℤ, Bool, true, false, cond, inl, inr, refl, ap, sym, subst, Ok, Err, IfErr}
-use Rattle.std.specs.Prelude.{Result, IsOk}
+use Rattle.std.proofs.Common.{◌≡◌, ◌⊎◌, ◌&&◌, ◌∙◌, ℤ, Bool, true, false, cond, inl, inr, ap, sym, subst, Ok, Err, IfErr}
+use Rattle.std.specs.Prelude.{Result}
 use Rattle.ed_types.specs.declared.refusal.Refusal.{Refusal}
 use Rattle.ed_types.specs.Notices.{Response}
 use Rattle.ed_model.specs.Performing.{quiet}

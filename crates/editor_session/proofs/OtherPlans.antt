@@ -1,5 +1,5 @@
 -- Changes of the session, attempts to edit, and bytes that are handed out.
-use Rattle.std.proofs.Common.{◌≡◌, ℕ, ◌+◌, ◌≤◌, ℤ, pos, false, List, [], ◌++◌, length, refl, sym, subst, Option, Some, None, IfSome, IsSome, IsSomeAnd, slice_range}
+use Rattle.std.proofs.Common.{◌≡◌, ℕ, ◌+◌, ◌≤◌, ℤ, pos, false, List, [], ◌++◌, length, refl, sym, subst, IfSome, IsSome, IsSomeAnd, slice_range}
 use Rattle.std.proofs.lemmas.Bool.{eqb-true}
 use Rattle.ed_types.specs.Notices.{Notice}
 use Rattle.ed_model.specs.declared.plan.SessionChange.{SessionChange}
@@ -11,7 +11,6 @@ use Rattle.ed_model.specs.Performing.{response, styled_text}
 use Rattle.ed_model.specs.Requests.{Request}
 use Rattle.ed_model.specs.Session.{Document, Session, text_of, watching}
 use Rattle.id_table.specs.Entries.{value_at}
-use Rattle.document.specs.Kept.{Kept}
 use Rattle.scene.specs.Scenes.{views_of}
 use Rattle.message_requests.specs.Requested.{session_in}
 use Rattle.message_requests.specs.declared.state.SessionState.{SessionState}

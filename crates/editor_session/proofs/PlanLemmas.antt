@@ -39,7 +39,7 @@ use Rattle.document.specs.declared.undoing.Direction.{Direction}
 use Rattle.document.specs.Undoing.{changes_of, history_behind}
 use Rattle.document_changes.specs.Fit.{IsFitChange, bytes_read}
 use Rattle.ed_view.specs.Kept.{KeptView}
-use Rattle.scene.specs.Scenes.{views_of, scene_in, watchers, AreNamed, StandsIfOn, IsWatched}
+use Rattle.scene.specs.Scenes.{views_of, scene_in, AreNamed, StandsIfOn, IsWatched}
 use Rattle.scene.specs.Conversion.{notes_for, bytes_for}
 use Rattle.scene.specs.Undoing.{bits_of}
 use Rattle.message_requests.specs.Requested.{session_in}

@@ -18,7 +18,7 @@ use Rattle.scene.specs.Scenes.{scene_in}
 use Rattle.message_requests.specs.Requested.{documents_in}
 use Rattle.session_changes.specs.Kept.{DocumentsAreNamed}
 use Rattle.editor_session.specs.Edited.{Becomes}
-use Rattle.session_changes.specs.proved.Finding.{document_in, id_of_document, own_at, found_some, replaced, still_named}
+use Rattle.session_changes.specs.proved.Finding.{document_in, id_of_document, own_at, found_some, replaced}
 
 steps_keep_id : (later : Bool) (steps : List Step) (scene : Scene) → (steps_made later steps scene).document.id ≡ scene.document.id
 steps_keep_id later [] scene = refl

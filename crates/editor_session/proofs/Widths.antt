@@ -1,5 +1,5 @@
 -- A text that keeps to its limit is within the width of its document's places.
-use Rattle.std.proofs.Common.{arith, ◌≡◌, ◌==◌, ℕ, ◌+◌, ◌-◌, ◌≤◌, ◌<◌, ◌^◌, min, nat_le, Bool, true, false, cond, List, [], ◌∷◌, length, refl, ap, sym, subst, ◌∙◌, slice_range}
+use Rattle.std.proofs.Common.{arith, ◌≡◌, ◌==◌, ℕ, ◌+◌, ◌-◌, ◌≤◌, ◌<◌, ◌^◌, min, nat_le, Bool, true, false, cond, List, [], ◌∷◌, length, refl, ap, sym, subst, slice_range}
 use Rattle.std.proofs.lemmas.Bool.{and_parts, leb-true}
 use Rattle.std.proofs.lemmas.Bool.Decides.{nat_tests}
 use Rattle.std.proofs.lemmas.List.{length-take, length-drop, length-map}
@@ -18,8 +18,8 @@ use Rattle.ed_model.specs.UndoPlans.{text_steps}
 use Rattle.ed_model.specs.proved.Steps.{length-inserted, length-deleted_within}
 use Rattle.document.specs.Kept.{Kept, FitsWidth, HasRoom, bound_of, no_room}
 use Rattle.document.specs.declared.room.DocumentRoom.{DocumentRoom}
-use Rattle.scene.specs.Conversion.{changes_for, room_of_steps, room_of_steps_beside}
-use Rattle.scene.specs.Undoing.{capped, capped_room, free_behind, rooms_beside, room_of_changes}
+use Rattle.scene.specs.Conversion.{changes_for, room_of_steps_beside}
+use Rattle.scene.specs.Undoing.{capped, capped_room, free_behind, rooms_beside}
 use Rattle.message_requests.specs.proved.Standing.{found_all}
 use Rattle.editor_session.specs.Widths.{StepsFitWidth, ChangesFitWidth}
 

@@ -1,14 +1,15 @@
 -- What a message to a view is answered, said of a session's state before and after.
-use Rattle.std.specs.Prelude.{◌≡◌, ◌≢◌, ℕ, ℤ, true, List, IfErr, IfSome, Result, Option, Ok, Err}
+use Rattle.std.specs.Prelude.{◌≡◌, ◌≢◌, ◌≤◌, ℕ, ℤ, true, List, [], length, IfErr, IfSome, IsSome, Result, Option, Ok, Err, Some}
 use Rattle.ed_types.specs.declared.refusal.Refusal.{Refusal}
 use Rattle.ed_types.specs.declared.refusal.Refusal.TheVariants.{OutOfMemory}
 use Rattle.ed_types.specs.declared.message.Message.{Message}
 use Rattle.ed_types.specs.Notices.{Response}
-use Rattle.ed_model.specs.Performing.{quiet}
+use Rattle.ed_model.specs.Performing.{quiet, response}
 use Rattle.ed_model.specs.Table.{table}
 use Rattle.message_requests.specs.Requested.{session_in}
 use Rattle.message_requests.specs.declared.state.SessionState.{SessionState}
 use Rattle.editor_session.specs.Answers.{AnswersBy, with_text}
+use Rattle.editor_session.specs.Asked.{reply_to}
 use Rattle.editor_session.specs.Plans.{is_free}
 
 -- the result of a message to a view is the table's answer
@@ -30,3 +31,16 @@ AnswersValue old view m new o = IfSome o (λ value. table (session_in old) view 
 -- if there is a value, the table answers it alone to the message with any text
 abbrev pub AnswersWithAnyText : SessionState → ℕ → Message → Option ℤ → Type 0
 AnswersWithAnyText s view m o = IfSome o (λ value. (text : List ℕ) → table (session_in s) view (with_text m text) ≡ Ok (session_in s, quiet value))
+
+-- if there is a value, the reply to the text question is this value and these bytes
+abbrev pub RepliesBytes : SessionState → ℕ → Message → List ℕ → Option ℤ → Type 0
+RepliesBytes s view m bytes o = IfSome o (λ value. reply_to (session_in s) view m ≡ Some (response value bytes []))
+
+-- if there is a value, the table answers it and these bytes to the message with any text
+abbrev pub AnswersBytesWithAnyText : SessionState → ℕ → Message → List ℕ → Option ℤ → Type 0
+AnswersBytesWithAnyText s view m bytes o =
+    IfSome o (λ value. (text : List ℕ) → table (session_in s) view (with_text m text) ≡ Ok (session_in s, response value bytes []))
+
+-- if the reply to the text question has a text that fits into `capacity` bytes, there is a value
+abbrev pub RepliesIfItFits : SessionState → ℕ → Message → ℕ → Option ℤ → Type 0
+RepliesIfItFits s view m capacity o = IfSome (reply_to (session_in s) view m) (λ reply. length reply.text ≤ capacity → IsSome o)

@@ -1,8 +1,11 @@
--- Commands of a run that take no memory.
-use Rattle.std.specs.Prelude.{Bool, true, false}
+-- Commands of a run: those that take no memory, and what loading a file answers.
+use Rattle.std.specs.Prelude.{ℕ, Bool, true, false, List, Result}
+use Rattle.ed_types.specs.declared.refusal.Refusal.{Refusal}
 use Rattle.ed_types.specs.declared.script.Command.{Command}
 use Rattle.ed_types.specs.declared.script.Command.TheVariants.{CloseView, SendMessage, Expect}
-use Rattle.ed_model.specs.Session.{Session}
+use Rattle.ed_types.specs.Notices.{Response}
+use Rattle.ed_model.specs.Session.{Session, view_at}
+use Rattle.ed_model.specs.Run.{Running, loaded, file_at}
 use Rattle.editor_session.specs.Plans.{is_free}
 
 -- a view is closed, a value is compared, or a message is sent that needs none
@@ -11,3 +14,7 @@ takes_no_memory s (CloseView view) = true
 takes_no_memory s (SendMessage view message) = is_free s view message
 takes_no_memory s (Expect value) = true
 takes_no_memory s other = false
+
+-- the session and the reply after the file with this number is loaded into the view, or the refusal
+abbrev pub file_loaded : Running → List (List ℕ) → ℕ → ℕ → Result (Session × Response) Refusal
+file_loaded r files view file = loaded r.session view (view_at r.session.views view) (file_at files file)

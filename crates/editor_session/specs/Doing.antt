@@ -1,12 +1,14 @@
 -- What is done for a request by its plan.
-use Rattle.std.specs.Prelude.{◌≡◌, ◌++◌, ◌≤◌, ℕ, ℤ, List, map, reverse, length}
+use Rattle.std.specs.Prelude.{◌≡◌, ◌++◌, ◌≤◌, ℕ, ℤ, false, List, map, reverse, length, Option}
 use Rattle.ed_types.specs.Notices.{Notice}
 use Rattle.ed_model.specs.declared.plan.Plan.{Plan}
 use Rattle.ed_model.specs.History.{latest_text_step}
+use Rattle.ed_model.specs.Notes.{told as notes_told, modify_attempt, blank as blank_note}
 use Rattle.ed_model.specs.declared.plan.DocumentChange.{DocumentChange}
 use Rattle.ed_model.specs.Session.{View, text_of, with_document}
 use Rattle.ed_model.specs.Changes.{changed_document, changed_lines, change_told}
 use Rattle.document_changes.specs.Fit.{IsFitChange, bytes_read}
+use Rattle.document_changes.specs.Needs.{needs_room, notes_of_change}
 use Rattle.ed_model.specs.SoundLaws.{AreStepsOf}
 use Rattle.ed_model.specs.UndoPlans.{text_steps}
 use Rattle.ed_model.specs.Requests.{Request}
@@ -18,10 +20,12 @@ use Rattle.document.specs.declared.undoing.Direction.{Direction}
 use Rattle.document.specs.Kept.{Kept}
 use Rattle.document.specs.Undoing.{changes_of, history_behind}
 use Rattle.ed_view.specs.Kept.{KeptView}
-use Rattle.scene.specs.Scenes.{views_of, scene_in, watchers, IsWatched}
-use Rattle.scene.specs.Undoing.{bits_of}
+use Rattle.scene.specs.Scenes.{views_of, watchers, IsWatched}
+use Rattle.scene.specs.Undoing.{bits_of, place_behind_any}
 use Rattle.message_requests.specs.Requested.{documents_in, session_in}
 use Rattle.message_requests.specs.declared.state.SessionState.{SessionState}
+use Rattle.editor_session.specs.Documents.{OfDocument, kept_scene}
+use Rattle.editor_session.specs.Performed.{no_notes}
 use Rattle.editor_session.specs.Widths.{ChangesFitWidth}
 
 -- the plan is done: the session is that after it, the value and the bytes are the reply's, and its notes were put behind those before
@@ -32,18 +36,31 @@ pub record IsDone (r : Request) (what : Plan) (s : SessionState) (before after :
 
 -- Undo and redo.
 
+-- the steps of undo or redo fit the document's text, each after those before it
+abbrev pub ChangesFitText : Direction → Kept → Type 0
+ChangesFitText direction k = AreStepsOf (text_of k.document) (text_steps (changes_of direction k.document.history))
+
+-- where undo or redo leaves the caret, if it makes a step of the text
+abbrev pub place_after : Direction → Kept → Option ℕ
+place_after direction k = place_behind_any (latest_text_step (reverse (changes_of direction k.document.history)))
+
 -- the steps fit the text, no text on their way is too long for the document's places, and the views stand well on it
 pub record CanGoOnceThereIsRoom (direction : Direction) (views : Entries KeptView) (k : Kept) : Type 0 where
-  pub steps : AreStepsOf (text_of k.document) (text_steps (changes_of direction k.document.history))
+  pub steps : ChangesFitText direction k
   pub wide : ChangesFitWidth k.document (changes_of direction k.document.history)
   pub watched : IsWatched k.document views
 
+-- the scene of a document after undo or redo
 abbrev pub scene_gone : Direction → Entries KeptView → Gathered → Kept → Scene
-scene_gone direction views notes k = transaction_performed (bits_of direction) (changes_of direction k.document.history) (history_behind direction k.document.history) (scene_in k.document views.entries notes.notes)
+scene_gone direction views notes k = transaction_performed (bits_of direction) (changes_of direction k.document.history) (history_behind direction k.document.history) (kept_scene k views notes)
 
 pub record Goes (view : ℕ) (direction : Direction) (s : SessionState) (notes : Gathered) (k : Kept) (s' : SessionState) (notes' : Gathered) : Type 0 where
   pub session_after : session_in s' ≡ (let t = session_of (session_in s) (scene_gone direction s.views notes k) in record t { views = caret_behind view (latest_text_step (reverse (changes_of direction k.document.history))) t.views })
   pub notes_after : notes'.notes ≡ (scene_gone direction s.views notes k).notes
+
+-- undo or redo is made in the document with the id: the session and the notes are those after it
+abbrev pub GoesAt : ℕ → ℕ → Direction → SessionState → Gathered → SessionState → Gathered → Type 0
+GoesAt document view direction s notes s' notes' = OfDocument s.documents document (λ k. Goes view direction s notes k s' notes')
 
 -- Changes of a document.
 
@@ -57,13 +74,45 @@ pub record CanChangeOnceThereIsRoom (change : DocumentChange) (text : List ℕ) 
 abbrev pub CanBeMade : DocumentChange → Entries KeptView → Kept → Type 0
 CanBeMade change views k = IsFitChange k.document change × IsWatched k.document views
 
+-- the views after the change of the document, which changed their lines
+abbrev pub views_changed : DocumentChange → Kept → Entries KeptView → List View
+views_changed change k views = map (changed_lines change k.document) (views_of views.entries)
+
+-- the notes of the change, which a message to the view with the id `sender` asks for, are put behind those before
+abbrev pub TellsOfChange : DocumentChange → ℕ → List ℕ → Kept → Entries KeptView → Gathered → Gathered → Type 0
+TellsOfChange change sender text k views notes notes' =
+    (v : View) → v.id ≡ sender → notes'.notes ≡ notes.notes ++ change_told v (watchers k.document views) k.document (changed_document text change k.document) change
+
+-- if the change needs no room in the document and has no notes, this holds
+abbrev pub IfChangeIsFree : DocumentChange → Entries KeptView → Type 0 → Kept → Type 0
+IfChangeIsFree change views P k = needs_room change ≡ false → notes_of_change change k.document.history (watchers k.document views) ≡ 0 → P
+
 -- it is made on a document of the table
 pub record IsChangedIn (change : DocumentChange) (sender : ℕ) (text : List ℕ) (k : Kept) (documents : Entries Kept) (views : Entries KeptView) (notes : Gathered)
     (documents' : Entries Kept) (views' : Entries KeptView) (notes' : Gathered) : Type 0 where
   pub documents_after : documents_in documents' ≡ with_document (changed_document text change k.document) (documents_in documents)
-  pub views_after : views_of views'.entries ≡ map (changed_lines change k.document) (views_of views.entries)
-  pub notes_after : (v : View) → v.id ≡ sender → notes'.notes ≡ notes.notes ++ change_told v (watchers k.document views) k.document (changed_document text change k.document) change
+  pub views_after : views_of views'.entries ≡ views_changed change k views
+  pub notes_after : TellsOfChange change sender text k views notes notes'
+
+-- it is made on the document with the id
+abbrev pub IsChangedAt : ℕ → DocumentChange → ℕ → List ℕ → Entries Kept → Entries KeptView → Gathered → Entries Kept → Entries KeptView → Gathered → Type 0
+IsChangedAt document change sender text documents views notes documents' views' notes' =
+    OfDocument documents document (λ k. IsChangedIn change sender text k documents views notes documents' views' notes')
+
+-- it is made on the document with the id, for any sender and text, and no view is told of it
+abbrev pub IsChangedUnheard : ℕ → DocumentChange → Entries KeptView → Entries Kept → Entries Kept → Type 0
+IsChangedUnheard document change views documents documents' =
+    OfDocument documents document (λ k. (text : List ℕ) (sender : ℕ) → IsChangedIn change sender text k documents views no_notes documents' views no_notes)
 
 pub record Changes (change : DocumentChange) (sender : ℕ) (text : List ℕ) (k : Kept) (s : SessionState) (notes : Gathered) (s' : SessionState) (notes' : Gathered) : Type 0 where
   pub session_after : session_in s' ≡ (let t = session_in s in record t { documents = with_document (changed_document text change k.document) t.documents; views = map (changed_lines change k.document) t.views })
-  pub notes_after : (v : View) → v.id ≡ sender → notes'.notes ≡ notes.notes ++ change_told v (watchers k.document s.views) k.document (changed_document text change k.document) change
+  pub notes_after : TellsOfChange change sender text k s.views notes notes'
+
+-- the change is made on the session's document with the id: the session and the notes are those after it
+abbrev pub ChangesAt : ℕ → DocumentChange → ℕ → List ℕ → SessionState → Gathered → SessionState → Gathered → Type 0
+ChangesAt document change sender text s notes s' notes' = OfDocument s.documents document (λ k. Changes change sender text k s notes s' notes')
+
+-- the views of the document with the id are told of an attempt to edit it
+abbrev pub TellsOfAttempt : SessionState → ℕ → Gathered → Gathered → Type 0
+TellsOfAttempt s document notes notes' =
+    OfDocument s.documents document (λ k. notes'.notes ≡ notes.notes ++ notes_told (watchers k.document s.views) (blank_note modify_attempt))

@@ -18,6 +18,7 @@ use Rattle.document.specs.Kept.{Kept}
 use Rattle.ed_view.specs.Kept.{KeptView}
 use Rattle.scene.specs.Scenes.{views_of}
 use Rattle.message_requests.specs.Requested.{documents_in}
+use Rattle.editor_session.specs.Documents.{OfDocument}
 
 -- the bytes of a source lie in a text of the length
 abbrev pub IsStoredIn : Source → ℕ → Type 0
@@ -61,6 +62,10 @@ pub record Becomes (scene : Scene) (documents documents' : Entries Kept) (views'
   pub views_after : views_of views'.entries ≡ scene.views
   pub notes_after : notes'.notes ≡ scene.notes
 
+-- the document with the id becomes that of its scene, and the views and the notes are the scene's
+abbrev pub BecomesAt : ℕ → (Kept → Scene) → Entries Kept → Entries Kept → Entries KeptView → Gathered → Type 0
+BecomesAt document scene documents documents' views' notes' = OfDocument documents document (λ k. Becomes (scene k) documents documents' views' notes')
+
 -- What follows.
 
 -- what goes to the clipboard is in a text of this length
@@ -81,6 +86,10 @@ abbrev pub followed_views : ℕ → Follow → List View → List View
 followed_views view (follow.Caret place) views = with_caret view place views
 followed_views view (follow.Target start past) views = with_target view start past views
 followed_views view other views = views
+
+-- the views are those before it, once the view with the id has followed the edit
+abbrev pub FollowsEdit : ℕ → Follow → Entries KeptView → Entries KeptView → Type 0
+FollowsEdit view after views views' = views_of views'.entries ≡ followed_views view after (views_of views.entries)
 
 abbrev pub followed_clipboard : Follow → List ℕ → List ℕ → List ℕ
 followed_clipboard (follow.Clipboard start count) taken clipboard = taken

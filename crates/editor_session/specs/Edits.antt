@@ -1,18 +1,21 @@
 -- Edits of a session.
-use Rattle.std.specs.Prelude.{◌≡◌, ℕ, List, length}
+use Rattle.std.specs.Prelude.{◌≡◌, ℕ, List, [], length}
 use Rattle.ed_model.specs.declared.plan.Edit.{Edit}
 use Rattle.ed_model.specs.declared.plan.Edit.TheVariants as edit
 use Rattle.ed_model.specs.declared.plan.Follow.{Follow}
-use Rattle.ed_model.specs.LineEnds.{conversion_steps}
+use Rattle.ed_model.specs.LineEnds.{conversion_steps, converted}
 use Rattle.ed_model.specs.Steps.{Step, replacement}
 use Rattle.ed_model.specs.Session.{Document, text_of}
 use Rattle.ed_model.specs.Performing.{Scene, edit_made, followed, session_of}
+use Rattle.id_table.specs.Entries.{Entries}
 use Rattle.notify.specs.Gathered.{Gathered}
 use Rattle.document.specs.Kept.{Kept}
-use Rattle.scene.specs.Scenes.{scene_in, IsWatched}
+use Rattle.ed_view.specs.Kept.{KeptView}
+use Rattle.scene.specs.Scenes.{IsWatched}
 use Rattle.message_requests.specs.Requested.{session_in}
 use Rattle.message_requests.specs.declared.state.SessionState.{SessionState}
-use Rattle.editor_session.specs.Edited.{IsEditWithin, stored_bytes, taken_along}
+use Rattle.editor_session.specs.Documents.{OfDocument, HasDocument, kept_scene}
+use Rattle.editor_session.specs.Edited.{IsEditWithin, IsPastedFor, stored_bytes, taken_along}
 use Rattle.editor_session.specs.Widths.{StepsFitWidth}
 
 -- the steps of an edit of the document
@@ -20,18 +23,70 @@ abbrev pub edit_steps : Edit → List ℕ → List ℕ → List ℕ → Document
 edit_steps (edit.Replace start count from) text clipboard pasted d = replacement start count (stored_bytes from text clipboard pasted d.line_end) (text_of d)
 edit_steps (edit.ConvertLineEnds to) text clipboard pasted d = conversion_steps to (text_of d)
 
--- and the scene after them
+-- the steps that replace the `count` bytes from `start` on of the document by these bytes
+abbrev pub replacement_in : ℕ → ℕ → List ℕ → Kept → List Step
+replacement_in start count bytes k = replacement start count bytes (text_of k.document)
+
+-- the scene is that before, with these steps of an edit made
+abbrev pub MakesEdit : List Step → Kept → Entries KeptView → Gathered → Kept → Entries KeptView → Gathered → Type 0
+MakesEdit steps k views notes k' views' notes' = kept_scene k' views' notes' ≡ edit_made steps (kept_scene k views notes)
+
+-- no text on the way of the edit is too long for the document's places
+abbrev pub EditFitsWidth : Edit → List ℕ → List ℕ → List ℕ → Kept → Type 0
+EditFitsWidth change text clipboard pasted k = StepsFitWidth k.document (edit_steps change text clipboard pasted k.document)
+
+-- the edit lies within the document and the text, it fits the document's places, and the views stand well on the document
+abbrev pub CanBeEdited : Edit → List ℕ → List ℕ → List ℕ → Entries KeptView → Kept → Type 0
+CanBeEdited change text clipboard pasted views k =
+    IsEditWithin change (length k.document.cells) (length text) × EditFitsWidth change text clipboard pasted k × IsWatched k.document views
+
+-- the scene of a document after the edit
+abbrev pub edited_scene : Edit → List ℕ → List ℕ → List ℕ → Entries KeptView → Gathered → Kept → Scene
+edited_scene change text clipboard pasted views notes k = edit_made (edit_steps change text clipboard pasted k.document) (kept_scene k views notes)
+
+-- if the edit of the document has no steps, this holds
+abbrev pub IfNoSteps : Edit → List ℕ → List ℕ → List ℕ → Type 0 → Kept → Type 0
+IfNoSteps change text clipboard pasted P k = edit_steps change text clipboard pasted k.document ≡ [] → P
+
+-- if the edit has no steps in the session's document with the id, this holds
+abbrev pub IfNoStepsAt : ℕ → Edit → List ℕ → List ℕ → SessionState → Type 0 → Type 0
+IfNoStepsAt document change text pasted s P = OfDocument s.documents document (IfNoSteps change text s.clipboard.items pasted P)
+
+-- the scene of a document of the session after the edit
 abbrev pub scene_after : Edit → List ℕ → List ℕ → SessionState → Gathered → Kept → Scene
-scene_after change text pasted s notes k = edit_made (edit_steps change text s.clipboard.items pasted k.document) (scene_in k.document s.views.entries notes.notes)
+scene_after change text pasted s notes k = edited_scene change text s.clipboard.items pasted s.views notes k
 
 -- the edit lies within the document and the text, no text on its way is too long for the document's places, and `taken` is what it takes to
 -- the clipboard
 pub record CanEdit (change : Edit) (text pasted : List ℕ) (follow : Follow) (taken : List ℕ) (s : SessionState) (k : Kept) : Type 0 where
   pub within : IsEditWithin change (length k.document.cells) (length text)
   pub watched : IsWatched k.document s.views
-  pub wide : StepsFitWidth k.document (edit_steps change text s.clipboard.items pasted k.document)
+  pub wide : EditFitsWidth change text s.clipboard.items pasted k
   pub take : taken ≡ taken_along follow (text_of k.document)
+
+-- the session has a document with the id, in which the edit can be made
+abbrev pub CanEditAt : ℕ → Edit → List ℕ → List ℕ → Follow → List ℕ → SessionState → Type 0
+CanEditAt document change text pasted follow taken s = HasDocument s.documents document (CanEdit change text pasted follow taken s)
 
 pub record Edits (view : ℕ) (change : Edit) (text pasted : List ℕ) (follow : Follow) (s : SessionState) (notes : Gathered) (k : Kept) (s' : SessionState) (notes' : Gathered) : Type 0 where
   pub session_after : session_in s' ≡ followed view (text_of k.document) follow (session_of (session_in s) (scene_after change text pasted s notes k))
   pub notes_after : notes'.notes ≡ (scene_after change text pasted s notes k).notes
+
+-- the edit is made in the document with the id, with what follows it: the session and the notes are those after it
+abbrev pub EditsAt : ℕ → ℕ → Edit → List ℕ → List ℕ → Follow → SessionState → Gathered → SessionState → Gathered → Type 0
+EditsAt document view change text pasted follow s notes s' notes' =
+    OfDocument s.documents document (λ k. Edits view change text pasted follow s notes k s' notes')
+
+-- The clipboard before and after an edit.
+
+-- these are the bytes of the clipboard that the edit puts into the document with the id, if it puts in some
+abbrev pub IsPasted : SessionState → ℕ → Edit → List ℕ → Type 0
+IsPasted s document change pasted = OfDocument s.documents document (λ k. IsPastedFor change s.clipboard.items k.document.line_end pasted)
+
+-- if the clipboard has no bytes with the line ends of the document with the id, this holds
+abbrev pub IfPastesNothing : SessionState → ℕ → Type 0 → Type 0
+IfPastesNothing s document P = OfDocument s.documents document (λ k. converted k.document.line_end s.clipboard.items ≡ [] → P)
+
+-- these are the bytes of the document with the id that go to the clipboard
+abbrev pub IsTaken : SessionState → ℕ → Follow → List ℕ → Type 0
+IsTaken s document follow taken = OfDocument s.documents document (λ k. taken ≡ taken_along follow (text_of k.document))

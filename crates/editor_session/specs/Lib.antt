@@ -1,12 +1,15 @@
 -- Definitions that the contracts cite.
 pub mod Answers
 pub mod Answering
+pub mod Documents
+pub mod Attached
 pub mod Asked
 pub mod Plans
 pub mod Needs
 pub mod Planned
 pub mod Lent
 pub mod Lends
+pub mod Ranges
 pub mod Doing
 pub mod Edited
 pub mod Edits
@@ -14,5 +17,6 @@ pub mod Widths
 pub mod Opening
 pub mod PartLends
 pub mod Performed
+pub mod Performing
 pub mod Left
 pub mod Commands

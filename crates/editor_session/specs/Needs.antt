@@ -2,11 +2,19 @@
 use Rattle.std.specs.Prelude.{◌≡◌, ℕ, ◌≤◌, List, []}
 use Rattle.ed_model.specs.Steps.{Step}
 use Rattle.ed_model.specs.Performing.{Scene}
+use Rattle.ed_model.specs.Session.{text_of}
+use Rattle.id_table.specs.Entries.{Entries}
+use Rattle.notify.specs.Gathered.{Gathered}
+use Rattle.document.specs.declared.text_step.TextStep.{TextStep}
 use Rattle.document.specs.declared.room.DocumentRoom.{DocumentRoom}
-use Rattle.document.specs.Kept.{no_room, amount_sum, room_sum}
+use Rattle.document.specs.Kept.{Kept, HasRoom, no_room, amount_sum, room_sum}
+use Rattle.document.specs.TextSteps.{step_in, need_of}
+use Rattle.ed_view.specs.Kept.{KeptView}
 use Rattle.scene.specs.Conversion.{room_of_steps, notes_for, bytes_for}
-use Rattle.scene.specs.Needs.{note_room, IsCounted}
+use Rattle.scene.specs.Needs.{note_room, notes_of_step, bytes_of_step, IsCounted}
+use Rattle.scene.specs.Scenes.{watchers}
 use Rattle.scene.specs.declared.need.SceneNeed.{SceneNeed}
+use Rattle.editor_session.specs.Documents.{kept_scene}
 
 abbrev pub no_need : SceneNeed
 no_need = record { notes = note_room 0 0; document = no_room }
@@ -27,6 +35,26 @@ pub record IsEnoughFor (notes bytes : ℕ) (room : DocumentRoom) (need : SceneNe
 
 abbrev pub need_sum : SceneNeed → SceneNeed → SceneNeed
 need_sum a b = record a { notes = note_room (amount_sum a.notes.notes b.notes.notes) (amount_sum a.notes.bytes b.notes.bytes); document = room_sum a.document b.document }
+
+-- what a step needs of the document, and for the notes that tell the views that watch it
+abbrev pub need_of_step : TextStep → Kept → Entries KeptView → SceneNeed
+need_of_step step k views =
+    let made = step_in step (text_of k.document) in record {
+      notes = note_room (notes_of_step (watchers k.document views) made) (bytes_of_step (watchers k.document views) made);
+      document = need_of k.document.line_end_types step;
+    }
+
+-- the document has room for the steps
+abbrev pub StepsFit : List Step → Kept → Type 0
+StepsFit steps k = HasRoom k (room_of_steps k.document.line_end_types steps)
+
+-- there is room for the notes of the steps
+abbrev pub NotesFit : List Step → Kept → Entries KeptView → Gathered → Type 0
+NotesFit steps k views notes = notes_for steps (kept_scene k views notes) ≤ notes.note_room
+
+-- there is room for the texts of these notes
+abbrev pub TextsFit : List Step → Kept → Entries KeptView → Gathered → Type 0
+TextsFit steps k views notes = bytes_for steps (kept_scene k views notes) ≤ notes.text_room
 
 -- What is told of a need: that it is enough, unless it is not counted.
 

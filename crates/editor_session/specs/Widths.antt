@@ -1,5 +1,5 @@
 -- The width of a document's places, and the texts on the way of steps.
-use Rattle.std.specs.Prelude.{ℕ, ◌+◌, List, length}
+use Rattle.std.specs.Prelude.{◌+◌, List, length}
 use Rattle.ed_model.specs.Session.{Document}
 use Rattle.ed_model.specs.Steps.{Step}
 use Rattle.ed_model.specs.History.{Change}

@@ -34,8 +34,8 @@ pub(crate) fn ask_as(
     value_of(kind, &request)
 }
 
-/// Returns the value of a plain question to `view`. Returns `None` for all other messages and for what the table refuses; such a
-/// message has to be sent. Allocates nothing.
+/// Returns the value of a plain question to `view`. Returns `None` for all other messages and for what the table
+/// refuses; such a message has to be sent. Allocates nothing.
 #[inline(always)]
 pub(crate) fn ask(state: &SessionState, view: u32, message: &SentMessage) -> Option<i64>
     requires kept { IsKept state.now }

@@ -1,27 +1,22 @@
-//! Changes of the document, of the view and of the session other than edits of the text; and attempts to edit a read-only document. Room is
-//! made for all that a change needs, before anything changes.
+//! Changes of the document, of the view and of the session other than edits of the text; and attempts to edit a
+//! read-only document. Room is made for all that a change needs, before anything changes.
 
-ghost use Rattle.std.specs.Prelude.{◌≡◌, ◌++◌, ◌≤◌, ℕ, ℤ, List, [], pos, not, true, false, map, length, OnOk, OnErr, IfErr, IfSome, IsOk, IsSome, IsSomeAnd};
-ghost use Rattle.ed_types.specs.declared.message.Message.{Message};
+ghost use Rattle.std.specs.Prelude.{◌≡◌, ◌≤◌, pos, not, true, false, map, length, OnOk, OnErr, IfErr, IsOk, IsSome};
 ghost use Rattle.ed_types.specs.declared.refusal.Refusal.TheVariants.{OutOfMemory};
-ghost use Rattle.ed_types.specs.Notices.{Notice};
 ghost use Rattle.ed_model.specs.declared.plan.Plan.TheVariants as plan;
-ghost use Rattle.ed_model.specs.Changes.{changed_document, changed_lines, change_told};
-ghost use Rattle.ed_model.specs.Notes.{told, modify_attempt, blank as blank_note};
-ghost use Rattle.ed_model.specs.Performing.{quiet, response};
-ghost use Rattle.ed_model.specs.Session.{Document as ModelDocument, View as ModelView, watching};
+ghost use Rattle.ed_model.specs.Changes.{changed_document};
+ghost use Rattle.ed_model.specs.Session.{Document as ModelDocument};
 ghost use Rattle.ed_model.specs.SoundLaws.{Rise};
-ghost use Rattle.ed_model.specs.Table.{table};
 ghost use Rattle.id_table.specs.Entries.{value_at};
 ghost use Rattle.document_changes.specs.Fit.{IsFitChange, bytes_read};
-ghost use Rattle.document_changes.specs.Needs.{needs_room, notes_of_change};
-ghost use Rattle.scene.specs.Scenes.{views_of, watchers, AreNamed, IsWatched};
+ghost use Rattle.scene.specs.Scenes.{views_of, AreNamed, IsWatched};
 ghost use Rattle.message_requests.specs.Requested.{session_in, documents_in};
 ghost use Rattle.session_changes.specs.Folding.{takes_fold_room};
 ghost use Rattle.session_changes.specs.Kept.{IsKept, DocumentsAreNamed};
-ghost use Rattle.editor_session.specs.Doing.{CanChangeOnceThereIsRoom, IsChangedIn, Changes};
-ghost use Rattle.editor_session.specs.Planned.{IsPlannedAs};
-ghost use Rattle.editor_session.specs.Performed.{unrecorded, IsAnswered, IfFree, IsPlannedForSomeValue, IsPlannedForSomeValueWithText};
+ghost use Rattle.editor_session.specs.Doing.{CanChangeOnceThereIsRoom, views_changed, TellsOfChange, IfChangeIsFree, IsChangedAt, ChangesAt, TellsOfAttempt};
+ghost use Rattle.editor_session.specs.Performed.{IsPlannedForSomeValue};
+ghost use Rattle.editor_session.specs.Documents.{OfDocument, HasDocument};
+ghost use Rattle.editor_session.specs.Performing.{IsPlanned, IsPlanPerformed, TellsNothing, TellsNothingForAnyText, IfPlanIsFree, IfPlanIsFreeForAnyText, AnswersItsValue};
 
 use document::Document;
 use document_changes::{change_document, change_note_need, reserve_change};
@@ -36,7 +31,8 @@ use scene::attempt;
 use session_changes::{change_session, change_view, prepare_session_change, reserve_view_change};
 use std::alloc::{AllocError, Global};
 
-/// Makes room in a document and for notes, and makes `change`, which a message to the view with the id `sender` asks for.
+/// Makes room in a document and for notes, and makes `change`, which a message to the view with the id `sender` asks
+/// for.
 ///
 /// # Errors
 ///
@@ -55,14 +51,14 @@ fn change_with_room(
     requires text { bytes_read change ≤ length text.now }
     requires watched { IsWatched document.old.document views.old }
     ensures document { OnOk result (document.new.document ≡ changed_document text.now change document.old.document) }
-    ensures lines { OnOk result (views_of views.new.entries ≡ map (changed_lines change document.old.document) (views_of views.old.entries)) }
-    ensures told { OnOk result ((v : ModelView) → v.id ≡ sender → notes.new.notes ≡ notes.old.notes ++ change_told v (watchers document.old.document views.old) document.old.document (changed_document text.now change document.old.document) change) }
+    ensures lines { OnOk result (views_of views.new.entries ≡ views_changed change document.old views.old) }
+    ensures told { OnOk result (TellsOfChange change sender text.now document.old views.old notes.old notes.new) }
     ensures same { OnErr result (document.new.document ≡ document.old.document) }
     ensures same_views { OnErr result (views.new ≡ views.old) }
     ensures id { document.new.document.id ≡ document.old.document.id }
     ensures watched { IsWatched document.new.document views.new }
     ensures next { views.new.next ≡ views.old.next }
-    ensures free { needs_room change ≡ false → notes_of_change change document.old.document.history (watchers document.old.document views.old) ≡ 0 → IsOk result }
+    ensures free { IfChangeIsFree change views.old (IsOk result) document.old }
 {
     let Ok(()) = notes.reserve(change_note_need(document, views, change), 0) else {
         return Err(AllocError);
@@ -90,17 +86,18 @@ fn change_with_room_in(
     text: &[u8],
     change: DocumentChange,
 ) -> Result<(), AllocError>
-    requires can { IsSomeAnd (value_at documents.old.entries document) (CanChangeOnceThereIsRoom change text.now views.old) }
+    requires can { HasDocument documents.old document (CanChangeOnceThereIsRoom change text.now views.old) }
     requires named { DocumentsAreNamed documents.old.entries }
     requires rise { Rise 0 documents.old.next (map (λ (d : ModelDocument). d.id) (documents_in documents.old)) }
-    ensures changed { OnOk result (IfSome (value_at documents.old.entries document) (λ k. IsChangedIn change sender text.now k documents.old views.old notes.old documents.new views.new notes.new)) }
+    ensures changed { let made = IsChangedAt document change sender text.now documents.old views.old notes.old in
+        OnOk result (made documents.new views.new notes.new) }
     ensures same { OnErr result (documents_in documents.new ≡ documents_in documents.old) }
     ensures same_views { OnErr result (views.new ≡ views.old) }
     ensures documents { DocumentsAreNamed documents.new.entries }
     ensures views { AreNamed views.new.entries }
     ensures next_document { documents.new.next ≡ documents.old.next }
     ensures next_view { views.new.next ≡ views.old.next }
-    ensures free { IfSome (value_at documents.old.entries document) (λ k. needs_room change ≡ false → notes_of_change change k.document.history (watchers k.document views.old) ≡ 0 → IsOk result) }
+    ensures free { OfDocument documents.old document (IfChangeIsFree change views.old (IsOk result)) }
 {
     let Some(document) = documents.get_mut(document) else {
         unreachable!()
@@ -124,13 +121,13 @@ fn change_making_room(
     notes: &mut NoteList,
 ) -> Result<(), AllocError>
     requires kept { IsKept state.old }
-    requires can { IsSomeAnd (value_at state.old.documents.entries document) (CanChangeOnceThereIsRoom change text.now state.old.views) }
-    ensures changed { OnOk result (IfSome (value_at state.old.documents.entries document) (λ k. Changes change view text.now k state.old notes.old state.new notes.new)) }
+    requires can { HasDocument state.old.documents document (CanChangeOnceThereIsRoom change text.now state.old.views) }
+    ensures changed { OnOk result (ChangesAt document change view text.now state.old notes.old state.new notes.new) }
     ensures same { OnErr result (session_in state.new ≡ session_in state.old) }
     ensures documents { DocumentsAreNamed state.new.documents.entries }
     ensures views { AreNamed state.new.views.entries }
     ensures limits { state.new.limits ≡ state.old.limits }
-    ensures free { IfSome (value_at state.old.documents.entries document) (λ k. needs_room change ≡ false → notes_of_change change k.document.history (watchers k.document state.old.views) ≡ 0 → IsOk result) }
+    ensures free { OfDocument state.old.documents document (IfChangeIsFree change state.old.views (IsOk result)) }
 {
     let SessionState {
         documents,
@@ -156,12 +153,13 @@ pub(crate) fn perform_change(
     notes: &mut NoteList,
 ) -> Result<(), Refusal>
     requires kept { IsKept state.old }
-    requires sent { IsPlannedForSomeValueWithText (session_in state.old) document view text.now (plan.ChangeDocument change) }
-    ensures answer { OnOk result ((value : ℤ) → IsAnswered (session_in state.old) document view text.now (plan.ChangeDocument change value) notes.old.notes (session_in state.new) (response value [] notes.new.notes)) }
+    requires sent { IsPlanned state.old document view text.now (plan.ChangeDocument change) }
+    ensures answer { let performed = IsPlanPerformed state.old document view text.now (plan.ChangeDocument change) in
+        OnOk result (performed notes.old state.new notes.new) }
     ensures same { OnErr result (session_in state.new ≡ session_in state.old) }
     ensures refused { IfErr result (λ refusal. refusal ≡ OutOfMemory) }
     ensures kept { IsKept state.new }
-    ensures free { (value : ℤ) → IfFree (session_in state.old) document view text.now (plan.ChangeDocument change value) (IsOk result) }
+    ensures free { IfPlanIsFree state.old document view text.now (plan.ChangeDocument change) (IsOk result) }
 {
     // States that the session stays sound.
     soundness_is_kept();
@@ -197,7 +195,7 @@ pub(crate) fn perform_free_change(
     requires kept { IsKept state.old }
     requires sent { IsPlannedForSomeValue (session_in state.old) document view (plan.ChangeView change) }
     requires light { takes_fold_room change ≡ false }
-    ensures answer { (m : Message) (value : ℤ) → IsPlannedAs (session_in state.old) view m (unrecorded document view (plan.ChangeView change value)) → table (session_in state.old) view m ≡ Ok (session_in state.new, quiet value) }
+    ensures answer { AnswersItsValue state.old document view (plan.ChangeView change) state.new }
     ensures kept { IsKept state.new }
 {
     // States that the session stays sound.
@@ -219,11 +217,11 @@ pub(crate) fn perform_view_change(
 ) -> Result<(), Refusal>
     requires kept { IsKept state.old }
     requires sent { IsPlannedForSomeValue (session_in state.old) document view (plan.ChangeView change) }
-    ensures answer { OnOk result ((value : ℤ) (text : List ℕ) (notes : List Notice) → IsAnswered (session_in state.old) document view text (plan.ChangeView change value) notes (session_in state.new) (response value [] notes)) }
+    ensures answer { OnOk result (TellsNothingForAnyText state.old document view (plan.ChangeView change) state.new) }
     ensures same { OnErr result (session_in state.new ≡ session_in state.old) }
     ensures refused { IfErr result (λ refusal. refusal ≡ OutOfMemory) }
     ensures kept { IsKept state.new }
-    ensures free { (value : ℤ) (text : List ℕ) → IfFree (session_in state.old) document view text (plan.ChangeView change value) (IsOk result) }
+    ensures free { IfPlanIsFreeForAnyText state.old document view (plan.ChangeView change) (IsOk result) }
 {
     // States that the session stays sound.
     soundness_is_kept();
@@ -249,12 +247,12 @@ pub(crate) fn perform_session_change(
     change: SessionChange,
 ) -> Result<(), Refusal>
     requires kept { IsKept state.old }
-    requires sent { IsPlannedForSomeValueWithText (session_in state.old) document view text.now (plan.ChangeSession change) }
-    ensures answer { OnOk result ((value : ℤ) (notes : List Notice) → IsAnswered (session_in state.old) document view text.now (plan.ChangeSession change value) notes (session_in state.new) (response value [] notes)) }
+    requires sent { IsPlanned state.old document view text.now (plan.ChangeSession change) }
+    ensures answer { OnOk result (TellsNothing state.old document view text.now (plan.ChangeSession change) state.new) }
     ensures same { OnErr result (session_in state.new ≡ session_in state.old) }
     ensures refused { IfErr result (λ refusal. refusal ≡ OutOfMemory) }
     ensures kept { IsKept state.new }
-    ensures free { (value : ℤ) → IfFree (session_in state.old) document view text.now (plan.ChangeSession change value) (IsOk result) }
+    ensures free { IfPlanIsFree state.old document view text.now (plan.ChangeSession change) (IsOk result) }
 {
     // States that the session stays sound.
     soundness_is_kept();
@@ -278,7 +276,7 @@ pub(crate) fn perform_attempt(
 ) -> Result<(), Refusal>
     requires kept { IsKept state.now }
     requires there { IsSome (value_at state.now.documents.entries document) }
-    ensures told { OnOk result (IfSome (value_at state.now.documents.entries document) (λ k. notes.new.notes ≡ notes.old.notes ++ told (watching (views_of state.now.views.entries) k.document) (blank_note modify_attempt))) }
+    ensures told { OnOk result (TellsOfAttempt state.now document notes.old notes.new) }
     ensures refused { IfErr result (λ refusal. refusal ≡ OutOfMemory) }
 {
     let Some(document) = state.documents.get(document) else {

@@ -1,22 +1,20 @@
 //! Edits of the text: room is made for all of an edit, and then it is made, with what follows it.
 
-ghost use Rattle.std.specs.Prelude.{◌≡◌, ◌≤◌, ◌+◌, ◌++◌, ℤ, [], true, false, map, length, OnOk, OnErr, IfOk, IfErr, IfSome, IsOk, IsSome, IsSomeAnd};
+ghost use Rattle.std.specs.Prelude.{◌≡◌, ◌≤◌, ◌+◌, ◌++◌, [], true, false, map, length, OnOk, OnErr, IfOk, IfErr, IsOk, IsSome};
 ghost use Rattle.ed_types.specs.declared.refusal.Refusal.TheVariants.{OutOfMemory};
 ghost use Rattle.ed_model.specs.declared.plan.Edit.TheVariants as edit;
-ghost use Rattle.ed_model.specs.declared.plan.Plan.TheVariants as plan;
 ghost use Rattle.ed_model.specs.LineEnds.{conversion_steps, converted};
-ghost use Rattle.ed_model.specs.Performing.{edit_made, response};
 ghost use Rattle.ed_model.specs.Session.{Document as ModelDocument, text_of};
 ghost use Rattle.ed_model.specs.SoundLaws.{Rise};
-ghost use Rattle.ed_model.specs.Steps.{replacement};
 ghost use Rattle.id_table.specs.Entries.{value_at};
-ghost use Rattle.scene.specs.Scenes.{scene_in, views_of, AreNamed, IsWatched};
+ghost use Rattle.scene.specs.Scenes.{views_of, AreNamed, IsWatched};
 ghost use Rattle.message_requests.specs.Requested.{session_in, documents_in};
 ghost use Rattle.session_changes.specs.Kept.{IsKept, DocumentsAreNamed, ViewsRise};
-ghost use Rattle.editor_session.specs.Edited.{IsEditWithin, IsPastedFor, TakesWithin, is_turned, clipboard_need, taken_along, followed_views, Becomes};
-ghost use Rattle.editor_session.specs.Edits.{CanEdit, Edits, edit_steps};
+ghost use Rattle.editor_session.specs.Edited.{IsEditWithin, TakesWithin, is_turned, clipboard_need, followed_views, BecomesAt};
+ghost use Rattle.editor_session.specs.Edits.{edit_steps, replacement_in, MakesEdit, EditFitsWidth, CanBeEdited, edited_scene, IfNoSteps, IfNoStepsAt, CanEditAt, EditsAt, IsPasted, IfPastesNothing, IsTaken};
 ghost use Rattle.editor_session.specs.Widths.{StepsFitWidth};
-ghost use Rattle.editor_session.specs.Performed.{IsAnswered, IfFree, IsPlannedForSomeValueWithText};
+ghost use Rattle.editor_session.specs.Documents.{OfDocument, HasDocument};
+ghost use Rattle.editor_session.specs.Performing.{IsPlanned, editing, IsPlanPerformed, IfPlanIsFree};
 
 use crate::edits::{follow_edit, replace_bytes, source_bytes};
 use crate::need::replacement_need;
@@ -47,15 +45,16 @@ fn replace_with_room(
     bytes: &[u8],
 ) -> Result<(), AllocError>
     requires range { start + count ≤ length document.old.document.cells }
-    requires wide { StepsFitWidth document.old.document (replacement start count bytes.now (text_of document.old.document)) }
+    requires wide { StepsFitWidth document.old.document (replacement_in start count bytes.now document.old) }
     requires watched { IsWatched document.old.document views.old }
-    ensures scene { OnOk result (scene_in document.new.document views.new.entries notes.new.notes ≡ edit_made (replacement start count bytes.now (text_of document.old.document)) (scene_in document.old.document views.old.entries notes.old.notes)) }
+    ensures scene { let steps = replacement_in start count bytes.now document.old in
+        OnOk result (MakesEdit steps document.old views.old notes.old document.new views.new notes.new) }
     ensures same { OnErr result (document.new.document ≡ document.old.document) }
     ensures same_views { OnErr result (views.new ≡ views.old) }
     ensures id { document.new.document.id ≡ document.old.document.id }
     ensures watched { IsWatched document.new.document views.new }
     ensures next { views.new.next ≡ views.old.next }
-    ensures free { replacement start count bytes.now (text_of document.old.document) ≡ [] → IsOk result }
+    ensures free { replacement_in start count bytes.now document.old ≡ [] → IsOk result }
 {
     let need = replacement_need(document, views, start, count, bytes);
     if !need.is_counted() {
@@ -85,7 +84,8 @@ fn convert_with_room(
 ) -> Result<(), AllocError>
     requires wide { StepsFitWidth document.old.document (conversion_steps to (text_of document.old.document)) }
     requires watched { IsWatched document.old.document views.old }
-    ensures scene { OnOk result (scene_in document.new.document views.new.entries notes.new.notes ≡ edit_made (conversion_steps to (text_of document.old.document)) (scene_in document.old.document views.old.entries notes.old.notes)) }
+    ensures scene { let steps = conversion_steps to (text_of document.old.document) in
+        OnOk result (MakesEdit steps document.old views.old notes.old document.new views.new notes.new) }
     ensures same { OnErr result (document.new.document ≡ document.old.document) }
     ensures same_views { OnErr result (views.new ≡ views.old) }
     ensures id { document.new.document.id ≡ document.old.document.id }
@@ -107,7 +107,8 @@ fn convert_with_room(
     Ok(())
 }
 
-/// Makes room for an edit, and makes its steps. `pasted` is the clipboard with the document's line ends, if the edit inserts that.
+/// Makes room for an edit, and makes its steps. `pasted` is the clipboard with the document's line ends, if the edit
+/// inserts that.
 ///
 /// # Errors
 ///
@@ -123,9 +124,10 @@ fn edit_with_room(
     edit: Edit,
 ) -> Result<(), AllocError>
     requires within { IsEditWithin edit (length document.old.document.cells) (length text.now) }
-    requires wide { StepsFitWidth document.old.document (edit_steps edit text.now clipboard.now pasted.now document.old.document) }
+    requires wide { EditFitsWidth edit text.now clipboard.now pasted.now document.old }
     requires watched { IsWatched document.old.document views.old }
-    ensures scene { OnOk result (scene_in document.new.document views.new.entries notes.new.notes ≡ edit_made (edit_steps edit text.now clipboard.now pasted.now document.old.document) (scene_in document.old.document views.old.entries notes.old.notes)) }
+    ensures scene { let steps = edit_steps edit text.now clipboard.now pasted.now document.old.document in
+        OnOk result (MakesEdit steps document.old views.old notes.old document.new views.new notes.new) }
     ensures same { OnErr result (document.new.document ≡ document.old.document) }
     ensures same_views { OnErr result (views.new ≡ views.old) }
     ensures id { document.new.document.id ≡ document.old.document.id }
@@ -163,10 +165,11 @@ fn edit_in(
     pasted: &[u8],
     edit: Edit,
 ) -> Result<(), AllocError>
-    requires can { IsSomeAnd (value_at documents.old.entries document) (λ k. IsEditWithin edit (length k.document.cells) (length text.now) × StepsFitWidth k.document (edit_steps edit text.now clipboard.now pasted.now k.document) × IsWatched k.document views.old) }
+    requires can { HasDocument documents.old document (CanBeEdited edit text.now clipboard.now pasted.now views.old) }
     requires named { DocumentsAreNamed documents.old.entries }
     requires rise { Rise 0 documents.old.next (map (λ (d : ModelDocument). d.id) (documents_in documents.old)) }
-    ensures made { OnOk result (IfSome (value_at documents.old.entries document) (λ k. Becomes (edit_made (edit_steps edit text.now clipboard.now pasted.now k.document) (scene_in k.document views.old.entries notes.old.notes)) documents.old documents.new views.new notes.new)) }
+    ensures made { let scene = edited_scene edit text.now clipboard.now pasted.now views.old notes.old in
+        OnOk result (BecomesAt document scene documents.old documents.new views.new notes.new) }
     ensures same { OnErr result (documents_in documents.new ≡ documents_in documents.old) }
     ensures same_views { OnErr result (views.new ≡ views.old) }
     ensures documents { DocumentsAreNamed documents.new.entries }
@@ -174,7 +177,7 @@ fn edit_in(
     ensures rise { ViewsRise views.new }
     ensures next_document { documents.new.next ≡ documents.old.next }
     ensures next_view { views.new.next ≡ views.old.next }
-    ensures free { IfSome (value_at documents.old.entries document) (λ k. edit_steps edit text.now clipboard.now pasted.now k.document ≡ [] → IsOk result) }
+    ensures free { OfDocument documents.old document (IfNoSteps edit text.now clipboard.now pasted.now (IsOk result)) }
 {
     let Some(document) = documents.get_mut(document) else {
         unreachable!()
@@ -182,8 +185,8 @@ fn edit_in(
     edit_with_room(document, views, notes, text, clipboard, pasted, edit)
 }
 
-/// Like `edit_in`, in a session, and then does what follows the edit for `view`. `taken` becomes the clipboard, if the edit takes bytes
-/// there.
+/// Like `edit_in`, in a session, and then does what follows the edit for `view`. `taken` becomes the clipboard, if the
+/// edit takes bytes there.
 ///
 /// # Errors
 ///
@@ -201,13 +204,14 @@ fn edit_making_room(
     notes: &mut NoteList,
 ) -> Result<(), AllocError>
     requires kept { IsKept state.old }
-    requires can { IsSomeAnd (value_at state.old.documents.entries document) (CanEdit edit text.now pasted.now follow taken.items state.old) }
-    ensures edited { OnOk result (IfSome (value_at state.old.documents.entries document) (λ k. Edits view edit text.now pasted.now follow state.old notes.old k state.new notes.new)) }
+    requires can { CanEditAt document edit text.now pasted.now follow taken.items state.old }
+    ensures edited { let edited = EditsAt document view edit text.now pasted.now follow state.old notes.old in
+        OnOk result (edited state.new notes.new) }
     ensures same { OnErr result (session_in state.new ≡ session_in state.old) }
     ensures documents { DocumentsAreNamed state.new.documents.entries }
     ensures views { AreNamed state.new.views.entries }
     ensures limits { state.new.limits ≡ state.old.limits }
-    ensures free { IfSome (value_at state.old.documents.entries document) (λ k. edit_steps edit text.now state.old.clipboard.items pasted.now k.document ≡ [] → IsOk result) }
+    ensures free { IfNoStepsAt document edit text.now pasted.now state.old (IsOk result) }
 {
     let SessionState {
         documents,
@@ -275,9 +279,9 @@ fn pasted_bytes(
     edit: Edit,
 ) -> Result<Vec<u8>, AllocError>
     requires there { IsSome (value_at state.now.documents.entries document) }
-    ensures pasted { IfOk result (λ bytes. IfSome (value_at state.now.documents.entries document) (λ k. IsPastedFor edit state.now.clipboard.items k.document.line_end bytes.items)) }
+    ensures pasted { IfOk result (λ bytes. IsPasted state.now document edit bytes.items) }
     ensures free { is_turned edit ≡ false → IsOk result }
-    ensures empty { IfSome (value_at state.now.documents.entries document) (λ k. converted k.document.line_end state.now.clipboard.items ≡ [] → IsOk result) }
+    ensures empty { IfPastesNothing state.now document (IsOk result) }
 {
     if !is_turned(edit) {
         return Ok(Vec::new(alloc));
@@ -300,8 +304,8 @@ fn taken_bytes(
     document: u32,
     follow: Follow,
 ) -> Result<Vec<u8>, AllocError>
-    requires can { IsSomeAnd (value_at state.now.documents.entries document) (λ k. TakesWithin follow (length k.document.cells)) }
-    ensures taken { IfOk result (λ bytes. IfSome (value_at state.now.documents.entries document) (λ k. bytes.items ≡ taken_along follow (text_of k.document))) }
+    requires can { HasDocument state.now.documents document (λ k. TakesWithin follow (length k.document.cells)) }
+    ensures taken { IfOk result (λ bytes. IsTaken state.now document follow bytes.items) }
     ensures free { clipboard_need follow ≡ 0 → IsOk result }
 {
     let Follow::Clipboard { start, count } = follow else {
@@ -330,12 +334,13 @@ pub(crate) fn perform_edit(
     notes: &mut NoteList,
 ) -> Result<(), Refusal>
     requires kept { IsKept state.old }
-    requires sent { IsPlannedForSomeValueWithText (session_in state.old) document view text.now (λ value. plan.Edit edit value follow) }
-    ensures answer { OnOk result ((value : ℤ) → IsAnswered (session_in state.old) document view text.now (plan.Edit edit value follow) notes.old.notes (session_in state.new) (response value [] notes.new.notes)) }
+    requires sent { IsPlanned state.old document view text.now (editing edit follow) }
+    ensures answer { let performed = IsPlanPerformed state.old document view text.now (editing edit follow) in
+        OnOk result (performed notes.old state.new notes.new) }
     ensures same { OnErr result (session_in state.new ≡ session_in state.old) }
     ensures refused { IfErr result (λ refusal. refusal ≡ OutOfMemory) }
     ensures kept { IsKept state.new }
-    ensures free { (value : ℤ) → IfFree (session_in state.old) document view text.now (plan.Edit edit value follow) (IsOk result) }
+    ensures free { IfPlanIsFree state.old document view text.now (editing edit follow) (IsOk result) }
 {
     // States that the steps of an edit fit the text and its limit, and that the session stays sound.
     plans_are_fit();

@@ -2,14 +2,11 @@
 
 ghost use Rattle.std.specs.Prelude.{◌≡◌, ◌≤◌, ◌<◌, ◌+◌, length};
 ghost use Rattle.ed_model.specs.declared.plan.Follow.TheVariants.{Caret, Target as follow_target};
-ghost use Rattle.ed_model.specs.Performing.{edit_made};
-ghost use Rattle.ed_model.specs.Session.{text_of};
-ghost use Rattle.ed_model.specs.Steps.{replacement};
-ghost use Rattle.document.specs.Kept.{HasRoom};
-ghost use Rattle.scene.specs.Conversion.{room_of_steps, notes_for, bytes_for};
-ghost use Rattle.scene.specs.Scenes.{views_of, scene_in, AreNamed, IsWatched};
+ghost use Rattle.scene.specs.Scenes.{AreNamed, IsWatched};
 ghost use Rattle.session_changes.specs.Kept.{ViewsRise};
-ghost use Rattle.editor_session.specs.Edited.{IsStoredIn, stored_bytes, followed_views, followed_clipboard};
+ghost use Rattle.editor_session.specs.Edited.{IsStoredIn, stored_bytes, followed_clipboard, FollowsEdit};
+ghost use Rattle.editor_session.specs.Edits.{replacement_in, MakesEdit};
+ghost use Rattle.editor_session.specs.Needs.{StepsFit, NotesFit, TextsFit};
 
 use document::{Document, TextStep};
 use ed_model::{Follow, LineEnd, Source};
@@ -19,7 +16,8 @@ use notify::NoteList;
 use scene::{make_step, needs_are_enough};
 use selection::Selection;
 
-/// Returns the bytes that an edit inserts. `pasted` is the clipboard with the document's line ends, if the edit inserts that.
+/// Returns the bytes that an edit inserts. `pasted` is the clipboard with the document's line ends, if the edit inserts
+/// that.
 pub(crate) fn source_bytes<'a>(
     source: Source,
     text: &'a [u8],
@@ -43,8 +41,8 @@ pub(crate) fn source_bytes<'a>(
     }
 }
 
-/// Replaces the `count` bytes from `start` on by `bytes`, neither of which is empty: a deletion and then an insertion, in a
-/// transaction of their own. There must be room for both.
+/// Replaces the `count` bytes from `start` on by `bytes`, neither of which is empty: a deletion and then an insertion,
+/// in a transaction of their own. There must be room for both.
 fn replace_some(
     document: &mut Document,
     views: &mut IdTable<View>,
@@ -56,10 +54,11 @@ fn replace_some(
     requires some { (0 < count) × (0 < length bytes.now) }
     requires range { start + count ≤ length document.old.document.cells }
     requires watched { IsWatched document.old.document views.old }
-    requires room { HasRoom document.old (room_of_steps document.old.document.line_end_types (replacement start count bytes.now (text_of document.old.document))) }
-    requires notes { notes_for (replacement start count bytes.now (text_of document.old.document)) (scene_in document.old.document views.old.entries notes.old.notes) ≤ notes.old.note_room }
-    requires texts { bytes_for (replacement start count bytes.now (text_of document.old.document)) (scene_in document.old.document views.old.entries notes.old.notes) ≤ notes.old.text_room }
-    ensures scene { scene_in document.new.document views.new.entries notes.new.notes ≡ edit_made (replacement start count bytes.now (text_of document.old.document)) (scene_in document.old.document views.old.entries notes.old.notes) }
+    requires room { StepsFit (replacement_in start count bytes.now document.old) document.old }
+    requires notes { NotesFit (replacement_in start count bytes.now document.old) document.old views.old notes.old }
+    requires texts { TextsFit (replacement_in start count bytes.now document.old) document.old views.old notes.old }
+    ensures scene { let steps = replacement_in start count bytes.now document.old in
+        MakesEdit steps document.old views.old notes.old document.new views.new notes.new }
     ensures watched { IsWatched document.new.document views.new }
     ensures next { views.new.next ≡ views.old.next }
 {
@@ -79,8 +78,8 @@ fn replace_some(
     document.seal_outside_groups();
 }
 
-/// Replaces the `count` bytes from `start` on by `bytes`: a deletion, then an insertion, each only if it has bytes. There must be
-/// room for them.
+/// Replaces the `count` bytes from `start` on by `bytes`: a deletion, then an insertion, each only if it has bytes.
+/// There must be room for them.
 pub(crate) fn replace_bytes(
     document: &mut Document,
     views: &mut IdTable<View>,
@@ -91,10 +90,11 @@ pub(crate) fn replace_bytes(
 )
     requires range { start + count ≤ length document.old.document.cells }
     requires watched { IsWatched document.old.document views.old }
-    requires room { HasRoom document.old (room_of_steps document.old.document.line_end_types (replacement start count bytes.now (text_of document.old.document))) }
-    requires notes { notes_for (replacement start count bytes.now (text_of document.old.document)) (scene_in document.old.document views.old.entries notes.old.notes) ≤ notes.old.note_room }
-    requires texts { bytes_for (replacement start count bytes.now (text_of document.old.document)) (scene_in document.old.document views.old.entries notes.old.notes) ≤ notes.old.text_room }
-    ensures scene { scene_in document.new.document views.new.entries notes.new.notes ≡ edit_made (replacement start count bytes.now (text_of document.old.document)) (scene_in document.old.document views.old.entries notes.old.notes) }
+    requires room { StepsFit (replacement_in start count bytes.now document.old) document.old }
+    requires notes { NotesFit (replacement_in start count bytes.now document.old) document.old views.old notes.old }
+    requires texts { TextsFit (replacement_in start count bytes.now document.old) document.old views.old notes.old }
+    ensures scene { let steps = replacement_in start count bytes.now document.old in
+        MakesEdit steps document.old views.old notes.old document.new views.new notes.new }
     ensures watched { IsWatched document.new.document views.new }
     ensures next { views.new.next ≡ views.old.next }
 {
@@ -124,7 +124,7 @@ pub(crate) fn replace_bytes(
 pub(crate) fn set_caret(views: &mut IdTable<View>, view: u32, place: usize)
     requires named { AreNamed views.old.entries }
     requires rise { ViewsRise views.old }
-    ensures views { views_of views.new.entries ≡ followed_views view (Caret place) (views_of views.old.entries) }
+    ensures views { FollowsEdit view (Caret place) views.old views.new }
     ensures named { AreNamed views.new.entries }
     ensures next { views.new.next ≡ views.old.next }
 {
@@ -137,7 +137,7 @@ pub(crate) fn set_caret(views: &mut IdTable<View>, view: u32, place: usize)
 pub(crate) fn set_target(views: &mut IdTable<View>, view: u32, start: usize, end: usize)
     requires named { AreNamed views.old.entries }
     requires rise { ViewsRise views.old }
-    ensures views { views_of views.new.entries ≡ followed_views view (follow_target start end) (views_of views.old.entries) }
+    ensures views { FollowsEdit view (follow_target start end) views.old views.new }
     ensures named { AreNamed views.new.entries }
     ensures next { views.new.next ≡ views.old.next }
 {
@@ -156,7 +156,7 @@ pub(crate) fn follow_edit(
 )
     requires named { AreNamed views.old.entries }
     requires rise { ViewsRise views.old }
-    ensures views { views_of views.new.entries ≡ followed_views view follow (views_of views.old.entries) }
+    ensures views { FollowsEdit view follow views.old views.new }
     ensures clipboard { clipboard.new.items ≡ followed_clipboard follow taken.items clipboard.old.items }
     ensures named { AreNamed views.new.entries }
     ensures next { views.new.next ≡ views.old.next }

@@ -1,24 +1,21 @@
-//! Frequent changes of a document: a run's style, a marker, a fold level. They are made without notes if no view listens. Undo and redo, if
-//! no view listens: they need no plan, notes or reply.
+//! Frequent changes of a document: a run's style, a marker, a fold level. They are made without notes if no view
+//! listens. Undo and redo, if no view listens: they need no plan, notes or reply.
 
-ghost use Rattle.std.specs.Prelude.{◌≡◌, ℕ, ℤ, List, map, true, false, Ok, Some, IfNone, IfSome, IfErr, IsOk, IsSomeAnd};
-ghost use Rattle.ed_types.specs.declared.message.Message.{Message};
+ghost use Rattle.std.specs.Prelude.{◌≡◌, map, true, false, Some, IfNone, IfSome, IfErr, IsOk};
 ghost use Rattle.ed_types.specs.declared.refusal.Refusal.TheVariants.{OutOfMemory};
 ghost use Rattle.ed_model.specs.declared.plan.Plan.TheVariants as plan;
-ghost use Rattle.ed_model.specs.Performing.{quiet};
 ghost use Rattle.ed_model.specs.Session.{Document as ModelDocument};
 ghost use Rattle.ed_model.specs.SoundLaws.{Rise};
-ghost use Rattle.ed_model.specs.Table.{table};
-ghost use Rattle.id_table.specs.Entries.{value_at};
 ghost use Rattle.message_plans.specs.Frequent.{frequent_change_of, transaction_of, performing};
 ghost use Rattle.message_plans.specs.Ways.{frequent_change_in};
 ghost use Rattle.message_requests.specs.Requested.{session_in, documents_in};
 ghost use Rattle.session_changes.specs.Kept.{IsKept, DocumentsAreNamed};
-ghost use Rattle.editor_session.specs.Doing.{CanBeMade, IsChangedIn};
-ghost use Rattle.editor_session.specs.Planned.{IsPlannedAs};
+ghost use Rattle.editor_session.specs.Doing.{CanBeMade, IsChangedUnheard};
 ghost use Rattle.editor_session.specs.Plans.{is_free};
-ghost use Rattle.editor_session.specs.Performed.{unrecorded, going, no_notes, IsPlannedForSomeValue};
+ghost use Rattle.editor_session.specs.Performed.{going, IsPlannedForSomeValue};
 ghost use Rattle.editor_session.specs.Answering.{IsAnswer, AnswersValue};
+ghost use Rattle.editor_session.specs.Documents.{HasDocument};
+ghost use Rattle.editor_session.specs.Performing.{HasPlan, AnswersItsValue};
 
 use crate::attached::{look_up, request_to};
 use crate::changing::perform_change;
@@ -35,7 +32,8 @@ use message_requests::{SentMessage, SessionState};
 use notify::NoteList;
 use std::alloc::Global;
 
-/// The bits of a mask by which a view listens for frequent changes: SC_MOD_CHANGESTYLE, SC_MOD_CHANGEFOLD and SC_MOD_CHANGEMARKER.
+/// The bits of a mask by which a view listens for frequent changes: SC_MOD_CHANGESTYLE, SC_MOD_CHANGEFOLD and
+/// SC_MOD_CHANGEMARKER.
 const FREQUENT_CHANGES: u32 = 0x4 | 0x8 | 0x200;
 
 /// A frequent change, and the value that its message answers.
@@ -47,8 +45,8 @@ pub(crate) struct FrequentChange {
     pub value: i64,
 }
 
-/// Returns the kind of a frequent change, if `view` listens for changes of any of the three kinds. Such a view is usually notified, so the
-/// message takes the notifying path directly. `None` otherwise, even if other views listen.
+/// Returns the kind of a frequent change, if `view` listens for changes of any of the three kinds. Such a view is
+/// usually notified, so the message takes the notifying path directly. `None` otherwise, even if other views listen.
 #[inline(always)]
 pub(crate) fn heard_change_of(state: &SessionState, view: u32, way: Way) -> Option<Kind>
     ensures { IfSome result (λ kind. frequent_change_in way ≡ Some kind) }
@@ -74,7 +72,8 @@ pub(crate) fn find_change(
 ) -> Option<FrequentChange>
     requires kept { IsKept state.now }
     requires frequent { frequent_change_of message.now.number ≡ Some kind }
-    ensures { IfSome result (λ found. IsPlannedAs (session_in state.now) view message.now (unrecorded found.document view (plan.ChangeDocument found.change found.value))) }
+    ensures { let has_plan = HasPlan state.now view message.now in
+        IfSome result (λ found. has_plan found.document (plan.ChangeDocument found.change found.value) false) }
 {
     // States that each kind is found by its number, and that a plan's numbers are in range.
     kinds_and_numbers();
@@ -93,8 +92,8 @@ pub(crate) fn find_change(
     })
 }
 
-/// Applies `change` to the document with this id if no view listens, and returns whether it did. Otherwise, and if an allocation fails, all
-/// documents are as they were.
+/// Applies `change` to the document with this id if no view listens, and returns whether it did. Otherwise, and if an
+/// allocation fails, all documents are as they were.
 #[inline(always)]
 fn change_unheard_in(
     documents: &mut DocumentTable,
@@ -102,10 +101,10 @@ fn change_unheard_in(
     document: u32,
     change: DocumentChange,
 ) -> bool
-    requires can { IsSomeAnd (value_at documents.old.entries document) (CanBeMade change views.now) }
+    requires can { HasDocument documents.old document (CanBeMade change views.now) }
     requires named { DocumentsAreNamed documents.old.entries }
     requires rise { Rise 0 documents.old.next (map (λ (d : ModelDocument). d.id) (documents_in documents.old)) }
-    ensures changed { result ≡ true → IfSome (value_at documents.old.entries document) (λ k. (text : List ℕ) (sender : ℕ) → IsChangedIn change sender text k documents.old views.now no_notes documents.new views.now no_notes) }
+    ensures changed { result ≡ true → IsChangedUnheard document change views.now documents.old documents.new }
     ensures same { result ≡ false → documents_in documents.new ≡ documents_in documents.old }
     ensures documents { DocumentsAreNamed documents.new.entries }
     ensures next { documents.new.next ≡ documents.old.next }
@@ -126,7 +125,7 @@ fn perform_change_unheard(
 ) -> bool
     requires kept { IsKept state.old }
     requires sent { IsPlannedForSomeValue (session_in state.old) document view (plan.ChangeDocument change) }
-    ensures answer { result ≡ true → (m : Message) (value : ℤ) → IsPlannedAs (session_in state.old) view m (unrecorded document view (plan.ChangeDocument change value)) → table (session_in state.old) view m ≡ Ok (session_in state.new, quiet value) }
+    ensures answer { result ≡ true → AnswersItsValue state.old document view (plan.ChangeDocument change) state.new }
     ensures same { result ≡ false → session_in state.new ≡ session_in state.old }
     ensures kept { IsKept state.new }
 {
@@ -140,8 +139,9 @@ fn perform_change_unheard(
     change_unheard_in(documents, views, document, change)
 }
 
-/// Makes the frequent change that this message to `view` asks for, and returns the value that is answered. `None`, with nothing changed, if
-/// a view listens, the change is refused or an allocation fails. Out of line, so that other messages do not pay for its stack frame.
+/// Makes the frequent change that this message to `view` asks for, and returns the value that is answered. `None`, with
+/// nothing changed, if a view listens, the change is refused or an allocation fails. Out of line, so that other
+/// messages do not pay for its stack frame.
 #[inline(never)]
 pub(crate) fn answer_unheard_change(
     state: &mut SessionState,
@@ -165,8 +165,8 @@ pub(crate) fn answer_unheard_change(
     }
 }
 
-/// Makes the frequent change that was found for this message to `view`, and returns the reply with its notes. Allocates for the change and
-/// its notes only.
+/// Makes the frequent change that was found for this message to `view`, and returns the reply with its notes. Allocates
+/// for the change and its notes only.
 ///
 /// # Errors
 ///
@@ -180,7 +180,8 @@ pub(crate) fn answer_found_change(
     message: &SentMessage,
 ) -> Result<Reply, Refusal>
     requires kept { IsKept state.old }
-    requires planned { IsPlannedAs (session_in state.old) view message.now (unrecorded found.document view (plan.ChangeDocument found.change found.value)) }
+    requires planned { let what = plan.ChangeDocument found.change found.value in
+        HasPlan state.old view message.now found.document what false }
     ensures answer { IsAnswer state.old view message.now state.new result }
     ensures refused { IfErr result (λ refusal. refusal ≡ OutOfMemory) }
     ensures kept { IsKept state.new }
@@ -206,8 +207,8 @@ pub(crate) fn answer_found_change(
     }
 }
 
-/// Finds the document in which UNDO or REDO, sent to `view`, performs a transaction. `None` if there is no transaction to perform, or if the
-/// view listens for anything.
+/// Finds the document in which UNDO or REDO, sent to `view`, performs a transaction. `None` if there is no transaction
+/// to perform, or if the view listens for anything.
 #[inline(always)]
 fn find_transaction(
     state: &SessionState,
@@ -217,7 +218,7 @@ fn find_transaction(
 ) -> Option<u32>
     requires kept { IsKept state.now }
     requires transaction { transaction_of message.now.number ≡ Some kind }
-    ensures { IfSome result (λ document. IsPlannedAs (session_in state.now) view message.now (unrecorded document view (performing kind))) }
+    ensures { IfSome result (λ document. HasPlan state.now view message.now document (performing kind) false) }
 {
     // States that each kind is found by its number, and that a plan's numbers are in range.
     kinds_and_numbers();
@@ -248,8 +249,9 @@ fn direction_of(kind: Kind) -> Direction
     }
 }
 
-/// Performs this UNDO or REDO, sent to `view`, and returns the value that is answered. `None`, with nothing changed, if a view is notified,
-/// nothing is left to undo or redo, or an allocation fails. Out of line, so that other messages do not pay for its stack frame.
+/// Performs this UNDO or REDO, sent to `view`, and returns the value that is answered. `None`, with nothing changed, if
+/// a view is notified, nothing is left to undo or redo, or an allocation fails. Out of line, so that other messages do
+/// not pay for its stack frame.
 #[inline(never)]
 pub(crate) fn answer_unheard_transaction(
     alloc: Global,

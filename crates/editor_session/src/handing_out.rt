@@ -1,10 +1,9 @@
 //! Bytes of a document that a reply hands out.
 
-ghost use Rattle.std.specs.Prelude.{◌≡◌, ◌≤◌, ◌+◌, ◌*◌, ◌++◌, length, slice_range, IfOk, IfErr, IfSome, IsOk, IsSomeAnd, vec_len, vec_capacity};
+ghost use Rattle.std.specs.Prelude.{◌≡◌, ◌≤◌, ◌+◌, ◌*◌, ◌++◌, IfOk, IfErr, IsOk, vec_len, vec_capacity};
 ghost use Rattle.ed_types.specs.declared.refusal.Refusal.TheVariants.{OutOfMemory};
-ghost use Rattle.ed_model.specs.Performing.{styled_text};
-ghost use Rattle.ed_model.specs.Session.{text_of};
-ghost use Rattle.id_table.specs.Entries.{value_at};
+ghost use Rattle.editor_session.specs.Documents.{HasDocument};
+ghost use Rattle.editor_session.specs.Ranges.{HasRange, styled_range, HandsOut, HandsOutStyled};
 
 use document::Document;
 use ed_types::Refusal;
@@ -13,9 +12,9 @@ use std::alloc::{AllocError, Global};
 
 /// Appends bytes of a document, each followed by its style. There must be room for them.
 fn append_styled(document: &Document, start: usize, count: usize, target: &mut Vec<u8>)
-    requires range { start + count ≤ length document.now.document.cells }
+    requires range { HasRange start count document.now }
     requires room { vec_len target.old + 2 * count ≤ vec_capacity target.old }
-    ensures { target.new.items ≡ target.old.items ++ styled_text (slice_range document.now.document.cells start (start + count)) }
+    ensures { target.new.items ≡ target.old.items ++ styled_range start count document.now }
 {
     // States that no place of the text is past the numbers of `usize`.
     let _ = document.len();
@@ -36,8 +35,8 @@ fn styled_bytes(
     start: usize,
     count: usize,
 ) -> Result<Vec<u8>, AllocError>
-    requires range { start + count ≤ length document.now.document.cells }
-    ensures bytes { IfOk result (λ bytes. bytes.items ≡ styled_text (slice_range document.now.document.cells start (start + count))) }
+    requires range { HasRange start count document.now }
+    ensures bytes { IfOk result (λ bytes. bytes.items ≡ styled_range start count document.now) }
     ensures free { count ≡ 0 → IsOk result }
 {
     let Some(room) = count.checked_mul(2) else {
@@ -64,8 +63,8 @@ pub(crate) fn hand_out(
     start: usize,
     count: usize,
 ) -> Result<Vec<u8>, Refusal>
-    requires range { IsSomeAnd (value_at state.now.documents.entries document) (λ k. start + count ≤ length k.document.cells) }
-    ensures bytes { IfOk result (λ bytes. IfSome (value_at state.now.documents.entries document) (λ k. bytes.items ≡ slice_range (text_of k.document) start (start + count))) }
+    requires range { HasDocument state.now.documents document (HasRange start count) }
+    ensures bytes { IfOk result (λ bytes. HandsOut state.now document start count bytes.items) }
     ensures refused { IfErr result (λ refusal. refusal ≡ OutOfMemory) }
     ensures free { count ≡ 0 → IsOk result }
 {
@@ -91,8 +90,8 @@ pub(crate) fn hand_out_styled(
     start: usize,
     count: usize,
 ) -> Result<Vec<u8>, Refusal>
-    requires range { IsSomeAnd (value_at state.now.documents.entries document) (λ k. start + count ≤ length k.document.cells) }
-    ensures bytes { IfOk result (λ bytes. IfSome (value_at state.now.documents.entries document) (λ k. bytes.items ≡ styled_text (slice_range k.document.cells start (start + count)))) }
+    requires range { HasDocument state.now.documents document (HasRange start count) }
+    ensures bytes { IfOk result (λ bytes. HandsOutStyled state.now document start count bytes.items) }
     ensures refused { IfErr result (λ refusal. refusal ≡ OutOfMemory) }
     ensures free { count ≡ 0 → IsOk result }
 {

@@ -1,25 +1,19 @@
 //! Undo and redo in a document of the session.
 
-ghost use Rattle.std.specs.Prelude.{◌≡◌, ℕ, List, pos, [], map, true, false, Ok, OnOk, OnErr, IfOk, IfErr, IfSome, IsSomeAnd, reverse};
-ghost use Rattle.ed_types.specs.declared.message.Message.{Message};
+ghost use Rattle.std.specs.Prelude.{◌≡◌, pos, [], map, true, false, OnOk, OnErr, IfOk, IfErr};
 ghost use Rattle.ed_types.specs.declared.refusal.Refusal.TheVariants.{OutOfMemory};
-ghost use Rattle.ed_model.specs.History.{latest_text_step};
-ghost use Rattle.ed_model.specs.Performing.{quiet, response, transaction_performed};
-ghost use Rattle.ed_model.specs.Session.{Document as ModelDocument, text_of};
-ghost use Rattle.ed_model.specs.SoundLaws.{AreStepsOf, Rise};
-ghost use Rattle.ed_model.specs.Table.{table};
-ghost use Rattle.ed_model.specs.UndoPlans.{text_steps};
-ghost use Rattle.id_table.specs.Entries.{value_at};
-ghost use Rattle.document.specs.Undoing.{changes_of, history_behind};
-ghost use Rattle.scene.specs.Scenes.{scene_in, AreNamed, IsWatched};
-ghost use Rattle.scene.specs.Undoing.{bits_of, place_behind_any};
+ghost use Rattle.ed_model.specs.Session.{Document as ModelDocument};
+ghost use Rattle.ed_model.specs.SoundLaws.{Rise};
+ghost use Rattle.document.specs.Undoing.{changes_of};
+ghost use Rattle.scene.specs.Scenes.{AreNamed, IsWatched};
 ghost use Rattle.message_requests.specs.Requested.{session_in, documents_in};
 ghost use Rattle.session_changes.specs.Kept.{IsKept, DocumentsAreNamed, ViewsRise};
-ghost use Rattle.editor_session.specs.Edited.{Becomes};
-ghost use Rattle.editor_session.specs.Doing.{CanGoOnceThereIsRoom, Goes, scene_gone};
-ghost use Rattle.editor_session.specs.Planned.{IsPlannedAs};
+ghost use Rattle.editor_session.specs.Doing.{CanGoOnceThereIsRoom, scene_gone, ChangesFitText, place_after, GoesAt};
 ghost use Rattle.editor_session.specs.Widths.{ChangesFitWidth};
-ghost use Rattle.editor_session.specs.Performed.{unrecorded, going, no_notes, IsAnswered, IsPlannedForSomeValue};
+ghost use Rattle.editor_session.specs.Performed.{going, no_notes, IsPlannedForSomeValue};
+ghost use Rattle.editor_session.specs.Documents.{OfDocument, HasDocument, kept_scene};
+ghost use Rattle.editor_session.specs.Performing.{HasGone, AnswersAlone};
+ghost use Rattle.editor_session.specs.Edited.{BecomesAt};
 
 use crate::edits::set_caret;
 use document::{Direction, Document};
@@ -33,12 +27,13 @@ use notify::NoteList;
 use scene::{history_need, perform_history};
 use std::alloc::{AllocError, Global};
 
-/// Makes room in a document and for notes, and performs undo or redo. Returns the position of the caret afterwards, if a step of the
-/// text was made.
+/// Makes room in a document and for notes, and performs undo or redo. Returns the position of the caret afterwards, if
+/// a step of the text was made.
 ///
 /// # Errors
 ///
-/// `AllocError` if an allocation fails, or more than `most` notes would be sent. The document and the views are then as they were.
+/// `AllocError` if an allocation fails, or more than `most` notes would be sent. The document and the views are then as
+/// they were.
 fn go_with_room(
     document: &mut Document,
     views: &mut IdTable<View>,
@@ -46,11 +41,12 @@ fn go_with_room(
     direction: Direction,
     most: usize,
 ) -> Result<Option<usize>, AllocError>
-    requires steps { AreStepsOf (text_of document.old.document) (text_steps (changes_of direction document.old.document.history)) }
+    requires steps { ChangesFitText direction document.old }
     requires wide { ChangesFitWidth document.old.document (changes_of direction document.old.document.history) }
     requires watched { IsWatched document.old.document views.old }
-    ensures scene { OnOk result (scene_in document.new.document views.new.entries notes.new.notes ≡ transaction_performed (bits_of direction) (changes_of direction document.old.document.history) (history_behind direction document.old.document.history) (scene_in document.old.document views.old.entries notes.old.notes)) }
-    ensures place { IfOk result (λ place. place ≡ place_behind_any (latest_text_step (reverse (changes_of direction document.old.document.history)))) }
+    ensures scene { let scene = scene_gone direction views.old notes.old document.old in
+        OnOk result (kept_scene document.new views.new notes.new ≡ scene) }
+    ensures place { IfOk result (λ place. place ≡ place_after direction document.old) }
     ensures same { OnErr result (document.new.document ≡ document.old.document) }
     ensures same_views { OnErr result (views.new ≡ views.old) }
     ensures id { document.new.document.id ≡ document.old.document.id }
@@ -84,11 +80,12 @@ fn go_with_room_in(
     direction: Direction,
     most: usize,
 ) -> Result<Option<usize>, AllocError>
-    requires can { IsSomeAnd (value_at documents.old.entries document) (CanGoOnceThereIsRoom direction views.old) }
+    requires can { HasDocument documents.old document (CanGoOnceThereIsRoom direction views.old) }
     requires named { DocumentsAreNamed documents.old.entries }
     requires rise { Rise 0 documents.old.next (map (λ (d : ModelDocument). d.id) (documents_in documents.old)) }
-    ensures gone { OnOk result (IfSome (value_at documents.old.entries document) (λ k. Becomes (scene_gone direction views.old notes.old k) documents.old documents.new views.new notes.new)) }
-    ensures place { IfOk result (λ place. IfSome (value_at documents.old.entries document) (λ k. place ≡ place_behind_any (latest_text_step (reverse (changes_of direction k.document.history))))) }
+    ensures gone { let scene = scene_gone direction views.old notes.old in
+        OnOk result (BecomesAt document scene documents.old documents.new views.new notes.new) }
+    ensures place { IfOk result (λ place. OfDocument documents.old document (λ k. place ≡ place_after direction k)) }
     ensures same { OnErr result (documents_in documents.new ≡ documents_in documents.old) }
     ensures same_views { OnErr result (views.new ≡ views.old) }
     ensures documents { DocumentsAreNamed documents.new.entries }
@@ -118,8 +115,8 @@ fn go_making_room(
     most: usize,
 ) -> Result<(), AllocError>
     requires kept { IsKept state.old }
-    requires can { IsSomeAnd (value_at state.old.documents.entries document) (CanGoOnceThereIsRoom direction state.old.views) }
-    ensures gone { OnOk result (IfSome (value_at state.old.documents.entries document) (λ k. Goes view direction state.old notes.old k state.new notes.new)) }
+    requires can { HasDocument state.old.documents document (CanGoOnceThereIsRoom direction state.old.views) }
+    ensures gone { OnOk result (GoesAt document view direction state.old notes.old state.new notes.new) }
     ensures same { OnErr result (session_in state.new ≡ session_in state.old) }
     ensures documents { DocumentsAreNamed state.new.documents.entries }
     ensures views { AreNamed state.new.views.entries }
@@ -156,7 +153,7 @@ pub(crate) fn perform_transaction(
 ) -> Result<(), Refusal>
     requires kept { IsKept state.old }
     requires sent { IsPlannedForSomeValue (session_in state.old) document view (λ value. going direction) }
-    ensures answer { OnOk result ((text : List ℕ) → IsAnswered (session_in state.old) document view text (going direction) notes.old.notes (session_in state.new) (response (pos 0) [] notes.new.notes)) }
+    ensures answer { OnOk result (HasGone state.old document view direction notes.old state.new notes.new) }
     ensures same { OnErr result (session_in state.new ≡ session_in state.old) }
     ensures refused { IfErr result (λ refusal. refusal ≡ OutOfMemory) }
     ensures kept { IsKept state.new }
@@ -170,8 +167,8 @@ pub(crate) fn perform_transaction(
     }
 }
 
-/// Like `perform_transaction`, but only if no view is notified; returns whether it was performed. Otherwise, and if an allocation fails,
-/// nothing changes.
+/// Like `perform_transaction`, but only if no view is notified; returns whether it was performed. Otherwise, and if an
+/// allocation fails, nothing changes.
 #[inline(always)]
 pub(crate) fn perform_transaction_unheard(
     alloc: Global,
@@ -182,7 +179,7 @@ pub(crate) fn perform_transaction_unheard(
 ) -> bool
     requires kept { IsKept state.old }
     requires sent { IsPlannedForSomeValue (session_in state.old) document view (λ value. going direction) }
-    ensures answer { result ≡ true → (m : Message) → IsPlannedAs (session_in state.old) view m (unrecorded document view (going direction)) → table (session_in state.old) view m ≡ Ok (session_in state.new, quiet (pos 0)) }
+    ensures answer { result ≡ true → AnswersAlone state.old document view (going direction) state.new (pos 0) }
     ensures same { result ≡ false → session_in state.new ≡ session_in state.old }
     ensures kept { IsKept state.new }
 {

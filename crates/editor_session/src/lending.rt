@@ -1,15 +1,16 @@
 //! Lending bytes of a document as one slice.
 
-ghost use Rattle.std.specs.Prelude.{◌≡◌, ◌⊎◌, ◌≤◌, ◌+◌, map, length, slice_range, IfOk, IfErr, IfSome, IsSomeAnd, Ok, Err};
+ghost use Rattle.std.specs.Prelude.{◌≡◌, ◌⊎◌, map, IfOk, IfErr, Err};
 ghost use Rattle.std.specs.Borrow.{sem};
 ghost use Rattle.ed_types.specs.declared.refusal.Refusal.TheVariants.{NoSuchView, BadArgument};
-ghost use Rattle.id_table.specs.Entries.{value_at};
-ghost use Rattle.ed_model.specs.Session.{Document as ModelDocument, text_of};
+ghost use Rattle.ed_model.specs.Session.{Document as ModelDocument};
 ghost use Rattle.ed_model.specs.SoundLaws.{Rise};
 ghost use Rattle.message_requests.specs.Requested.{session_in, documents_in};
 ghost use Rattle.session_changes.specs.Kept.{IsKept, DocumentsAreNamed};
 ghost use Rattle.editor_session.specs.Lent.{lent_range};
 ghost use Rattle.editor_session.specs.PartLends.{documents_back, state_back};
+ghost use Rattle.editor_session.specs.Documents.{OfDocument, HasDocument};
+ghost use Rattle.editor_session.specs.Ranges.{HasRange, IsRange, LendsRange};
 
 use crate::attached::look_up;
 use document_table::DocumentTable;
@@ -29,8 +30,8 @@ pub(crate) fn document_with(
     count: usize,
 ) -> Result<u32, Refusal>
     requires kept { IsKept state.now }
-    ensures range { IfOk result (λ document. IsSomeAnd (value_at state.now.documents.entries document) (λ k. start + count ≤ length k.document.cells)) }
-    ensures bytes { IfOk result (λ document. IfSome (value_at state.now.documents.entries document) (λ k. lent_range (session_in state.now) view start count ≡ Ok (slice_range (text_of k.document) start (start + count)))) }
+    ensures range { IfOk result (λ document. HasDocument state.now.documents document (HasRange start count)) }
+    ensures bytes { IfOk result (λ document. LendsRange state.now document view start count) }
     ensures refused { IfErr result (λ refusal. lent_range (session_in state.now) view start count ≡ Err refusal) }
     ensures refusals { IfErr result (λ refusal. (refusal ≡ NoSuchView) ⊎ (refusal ≡ BadArgument)) }
 {
@@ -50,11 +51,11 @@ pub(crate) fn document_with(
 /// Lends the `count` bytes of a document from `start` on. The documents do not change.
 #[inline(always)]
 fn lend_in(documents: &mut DocumentTable, document: u32, start: usize, count: usize) -> &[u8]
-    requires there { IsSomeAnd (value_at documents.old.entries document) (λ k. start + count ≤ length k.document.cells) }
+    requires there { HasDocument documents.old document (HasRange start count) }
     requires named { DocumentsAreNamed documents.old.entries }
     requires rise { Rise 0 documents.old.next (map (λ (d : ModelDocument). d.id) (documents_in documents.old)) }
     ensures* back { sem 𝓛 (documents_back documents.entry) }
-    ensures value { IfSome (value_at documents.old.entries document) (λ k. result.now ≡ slice_range (text_of k.document) start (start + count)) }
+    ensures value { OfDocument documents.old document (IsRange start count result.now) }
 {
     let Some(document) = documents.get_mut(document) else {
         unreachable!()
@@ -65,10 +66,10 @@ fn lend_in(documents: &mut DocumentTable, document: u32, start: usize, count: us
 /// The same in a session's state, which does not change.
 #[inline(always)]
 pub(crate) fn lend(state: &mut SessionState, document: u32, start: usize, count: usize) -> &[u8]
-    requires there { IsSomeAnd (value_at state.old.documents.entries document) (λ k. start + count ≤ length k.document.cells) }
+    requires there { HasDocument state.old.documents document (HasRange start count) }
     requires kept { IsKept state.old }
     ensures* back { sem 𝓛 (state_back state.entry) }
-    ensures value { IfSome (value_at state.old.documents.entries document) (λ k. result.now ≡ slice_range (text_of k.document) start (start + count)) }
+    ensures value { OfDocument state.old.documents document (IsRange start count result.now) }
 {
     lend_in(&mut state.documents, document, start, count)
 }

@@ -1,14 +1,13 @@
 //! The memory that a replacement of bytes needs, counted before any is allocated.
 
 ghost use Rattle.std.specs.Prelude.{◌≡◌, ◌≤◌, ◌+◌, ◌-◌, [], length};
-ghost use Rattle.ed_model.specs.Steps.{replacement};
-ghost use Rattle.ed_model.specs.Session.{text_of, watching};
-ghost use Rattle.document.specs.TextSteps.{step_in, IsStepOn, need_of};
+ghost use Rattle.document.specs.TextSteps.{IsStepOn};
 ghost use Rattle.scene.specs.Conversion.{room_of_steps};
-ghost use Rattle.scene.specs.Needs.{note_room, notes_of_step, bytes_of_step};
-ghost use Rattle.scene.specs.Scenes.{views_of, scene_in, AreNamed};
+ghost use Rattle.scene.specs.Needs.{note_room};
+ghost use Rattle.scene.specs.Scenes.{scene_in, AreNamed};
 ghost use Rattle.scene.specs.Undoing.{capped_room};
-ghost use Rattle.editor_session.specs.Needs.{no_need, need_sum, NeedsSteps};
+ghost use Rattle.editor_session.specs.Needs.{no_need, need_sum, NeedsSteps, need_of_step};
+ghost use Rattle.editor_session.specs.Edits.{replacement_in};
 
 use document::{Document, DocumentRoom, TextStep};
 use ed_view::View;
@@ -62,8 +61,7 @@ fn of_notes(notes: usize) -> SceneNeed
 fn step_need(document: &Document, views: &IdTable<View>, step: TextStep) -> SceneNeed
     requires fits { IsStepOn step (length document.now.document.cells) }
     requires named { AreNamed views.now.entries }
-    ensures { let vs = watching (views_of views.now.entries) document.now.document in
-        result ≡ record { notes = note_room (notes_of_step vs (step_in step.entry (text_of document.now.document))) (bytes_of_step vs (step_in step.entry (text_of document.now.document))); document = need_of document.now.document.line_end_types step.entry } }
+    ensures { result ≡ need_of_step step.entry document.now views.now }
 {
     SceneNeed {
         notes: note_need(document, views, step),
@@ -71,7 +69,8 @@ fn step_need(document: &Document, views: &IdTable<View>, step: TextStep) -> Scen
     }
 }
 
-/// Returns what the steps need that replace the `count` bytes from `start` on by `bytes`. Deleted bytes become room for inserted ones.
+/// Returns what the steps need that replace the `count` bytes from `start` on by `bytes`. Deleted bytes become room for
+/// inserted ones.
 pub(crate) fn replacement_need(
     document: &Document,
     views: &IdTable<View>,
@@ -81,9 +80,10 @@ pub(crate) fn replacement_need(
 ) -> SceneNeed
     requires range { start + count ≤ length document.now.document.cells }
     requires named { AreNamed views.now.entries }
-    ensures enough { let steps = replacement start count bytes.now (text_of document.now.document) in
+    ensures enough { let steps = replacement_in start count bytes.now document.now in
         NeedsSteps steps (scene_in document.now.document views.now.entries []) result }
-    ensures document { result.document ≡ capped_room (room_of_steps document.now.document.line_end_types (replacement start count bytes.now (text_of document.now.document))) }
+    ensures document { let steps = replacement_in start count bytes.now document.now in
+        result.document ≡ capped_room (room_of_steps document.now.document.line_end_types steps) }
 {
     let deletion = TextStep::Delete {
         place: start,

@@ -1,15 +1,15 @@
-//! Performing a plan: room is made for all that it needs, and then all is done. If an allocation fails, nothing has changed.
+//! Performing a plan: room is made for all that it needs, and then all is done. If an allocation fails, nothing has
+//! changed.
 
 ghost use Rattle.std.specs.Prelude.{◌≡◌, [], true, OnErr, IfOk, IfErr, IsOk};
 ghost use Rattle.ed_types.specs.declared.refusal.Refusal.TheVariants.{OutOfMemory};
-ghost use Rattle.ed_model.specs.Performing.{response};
 ghost use Rattle.message_requests.specs.Requested.{session_in};
 ghost use Rattle.session_changes.specs.Kept.{IsKept};
 ghost use Rattle.editor_session.specs.Left.{told, IsLeft};
 ghost use Rattle.editor_session.specs.Plans.{is_free};
-ghost use Rattle.editor_session.specs.Planned.{IsPlannedAs, planned_message};
-ghost use Rattle.editor_session.specs.Performed.{IsAnswered, IfFree, IsPlannedWithText};
+ghost use Rattle.editor_session.specs.Performed.{IfFree, IsPlannedWithText};
 ghost use Rattle.editor_session.specs.Answering.{IsAnswer};
+ghost use Rattle.editor_session.specs.Performing.{HasPlan, IsPerformed};
 
 use crate::changing::{
     is_free_change, perform_attempt, perform_change, perform_free_change, perform_session_change,
@@ -27,8 +27,8 @@ use message_requests::{SentMessage, SessionState};
 use notify::NoteList;
 use std::alloc::Global;
 
-/// Performs a plan for the view with this id, on the document with that id, and returns the value that its message answers. Its notes
-/// are appended to `notes`, and the bytes that it hands out take the place of `handed_out`.
+/// Performs a plan for the view with this id, on the document with that id, and returns the value that its message
+/// answers. Its notes are appended to `notes`, and the bytes that it hands out take the place of `handed_out`.
 ///
 /// # Errors
 ///
@@ -47,7 +47,8 @@ fn perform(
     requires kept { IsKept state.old }
     requires sent { IsPlannedWithText (session_in state.old) document view text.now plan.now }
     requires empty { handed_out.old.items ≡ [] }
-    ensures answer { IfOk result (λ value. IsAnswered (session_in state.old) document view text.now plan.now notes.old.notes (session_in state.new) (response value handed_out.new.items notes.new.notes)) }
+    ensures answer { let performed = IsPerformed state.old document view text.now plan.now notes.old state.new in
+        IfOk result (λ value. performed value handed_out.new.items notes.new) }
     ensures same { OnErr result (session_in state.new ≡ session_in state.old) }
     ensures refused { IfErr result (λ refusal. refusal ≡ OutOfMemory) }
     ensures kept { IsKept state.new }
@@ -102,7 +103,8 @@ fn perform(
     }
 }
 
-/// Performs the plan of a message with all notes, its own first if it is recorded, and leaves the reply in the place of another.
+/// Performs the plan of a message with all notes, its own first if it is recorded, and leaves the reply in the place of
+/// another.
 ///
 /// # Errors
 ///
@@ -119,7 +121,7 @@ fn perform_with_notes(
     reply: &mut Reply,
 ) -> Result<i64, Refusal>
     requires kept { IsKept state.old }
-    requires planned { IsPlannedAs (session_in state.old) view message.now (planned_message document view plan.now is_recorded) }
+    requires planned { HasPlan state.old view message.now document plan.now is_recorded }
     ensures answer { IsAnswer state.old view message.now state.new (told result reply.new) }
     ensures place { IsLeft result reply.old reply.new }
     ensures refused { IfErr result (λ refusal. refusal ≡ OutOfMemory) }
@@ -146,7 +148,8 @@ fn perform_with_notes(
     }
 }
 
-/// Like `perform_with_notes`, but sets up nothing for notes if only a value is answered, or if the view changes without an allocation.
+/// Like `perform_with_notes`, but sets up nothing for notes if only a value is answered, or if the view changes without
+/// an allocation.
 ///
 /// # Errors
 ///
@@ -163,7 +166,7 @@ pub(crate) fn perform_message(
     reply: &mut Reply,
 ) -> Result<i64, Refusal>
     requires kept { IsKept state.old }
-    requires planned { IsPlannedAs (session_in state.old) view message.now (planned_message document view plan.now is_recorded) }
+    requires planned { HasPlan state.old view message.now document plan.now is_recorded }
     ensures answer { IsAnswer state.old view message.now state.new (told result reply.new) }
     ensures place { IsLeft result reply.old reply.new }
     ensures refused { IfErr result (λ refusal. refusal ≡ OutOfMemory) }

@@ -1,14 +1,10 @@
 //! Text questions to a session, whose bytes are put into a buffer before any plan is made.
 
-ghost use Rattle.std.specs.Prelude.{◌≡◌, ◌≤◌, ◌+◌, ℕ, List, [], Ok, Some, IsOk, OnOk, OnErr, IfNone, IfSome, IsSome, length, slice_range, vec_len, vec_capacity};
-ghost use Rattle.ed_model.specs.Performing.{response};
+ghost use Rattle.std.specs.Prelude.{◌≡◌, ◌≤◌, ◌+◌, Some, IsOk, OnOk, OnErr, IfNone, length, slice_range, vec_len, vec_capacity};
 ghost use Rattle.ed_model.specs.Session.{text_of};
-ghost use Rattle.ed_model.specs.Table.{table};
 ghost use Rattle.message_plans.specs.Asking.{text_question_of};
-ghost use Rattle.message_requests.specs.Requested.{session_in};
 ghost use Rattle.session_changes.specs.Kept.{IsKept};
-ghost use Rattle.editor_session.specs.Answers.{with_text};
-ghost use Rattle.editor_session.specs.Asked.{reply_to};
+ghost use Rattle.editor_session.specs.Answering.{RepliesBytes, AnswersBytesWithAnyText, RepliesIfItFits};
 
 use crate::attached::{look_up, request_to};
 use document::Document;
@@ -18,8 +14,9 @@ use message_plans::{Way, handed_of, way_of};
 use message_requests::{SentMessage, SessionState};
 use std::alloc::{AllocError, Global};
 
-/// Replaces the contents of a buffer by the `count` bytes of a document from `start` on. A buffer that is too small is replaced by a larger
-/// one, with so much spare capacity that ever longer texts take amortised constant time for each byte.
+/// Replaces the contents of a buffer by the `count` bytes of a document from `start` on. A buffer that is too small is
+/// replaced by a larger one, with so much spare capacity that ever longer texts take amortised constant time for each
+/// byte.
 ///
 /// # Errors
 ///
@@ -49,8 +46,8 @@ fn read_bytes(
     Ok(())
 }
 
-/// Answers this text question to `view`. `None` if the table refuses it, it hands out no bytes or an allocation fails. Out of line, so that
-/// other messages do not pay for its stack frame.
+/// Answers this text question to `view`. `None` if the table refuses it, it hands out no bytes or an allocation fails.
+/// Out of line, so that other messages do not pay for its stack frame.
 #[inline(never)]
 pub(crate) fn read_as(
     alloc: Global,
@@ -62,9 +59,9 @@ pub(crate) fn read_as(
 ) -> Option<i64>
     requires kept { IsKept state.now }
     requires question { text_question_of message.now.number ≡ Some kind }
-    ensures reply { IfSome result (λ value. reply_to (session_in state.now) view message.now ≡ Some (response value into.new.items [])) }
-    ensures answer { IfSome result (λ value. (text : List ℕ) → table (session_in state.now) view (with_text message.now text) ≡ Ok (session_in state.now, response value into.new.items [])) }
-    ensures room { IfSome (reply_to (session_in state.now) view message.now) (λ reply. length reply.text ≤ vec_capacity into.old → IsSome result) }
+    ensures reply { RepliesBytes state.now view message.now into.new.items result }
+    ensures answer { AnswersBytesWithAnyText state.now view message.now into.new.items result }
+    ensures room { RepliesIfItFits state.now view message.now (vec_capacity into.old) result }
     ensures room_stays { vec_capacity into.old ≤ vec_capacity into.new }
     ensures same { IfNone result (into.new ≡ into.old) }
 {
@@ -84,8 +81,8 @@ pub(crate) fn read_as(
     }
 }
 
-/// Answers a text question to `view`: returns the value, and replaces the contents of a buffer by the bytes. `None` for all other messages,
-/// and if the table refuses the message, it hands out no bytes or an allocation fails.
+/// Answers a text question to `view`: returns the value, and replaces the contents of a buffer by the bytes. `None` for
+/// all other messages, and if the table refuses the message, it hands out no bytes or an allocation fails.
 #[inline(always)]
 pub(crate) fn read(
     alloc: Global,
@@ -95,9 +92,9 @@ pub(crate) fn read(
     into: &mut Vec<u8>,
 ) -> Option<i64>
     requires kept { IsKept state.now }
-    ensures reply { IfSome result (λ value. reply_to (session_in state.now) view message.now ≡ Some (response value into.new.items [])) }
-    ensures answer { IfSome result (λ value. (text : List ℕ) → table (session_in state.now) view (with_text message.now text) ≡ Ok (session_in state.now, response value into.new.items [])) }
-    ensures room { IfSome (reply_to (session_in state.now) view message.now) (λ reply. length reply.text ≤ vec_capacity into.old → IsSome result) }
+    ensures reply { RepliesBytes state.now view message.now into.new.items result }
+    ensures answer { AnswersBytesWithAnyText state.now view message.now into.new.items result }
+    ensures room { RepliesIfItFits state.now view message.now (vec_capacity into.old) result }
     ensures room_stays { vec_capacity into.old ≤ vec_capacity into.new }
     ensures same { IfNone result (into.new ≡ into.old) }
 {

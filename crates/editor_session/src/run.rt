@@ -4,10 +4,9 @@ ghost use Rattle.std.specs.Prelude.{◌≡◌, ◌↔◌, true, IfOk, IfErr, IsO
 ghost use Rattle.ed_types.specs.declared.refusal.Refusal.{Refusal};
 ghost use Rattle.ed_types.specs.declared.refusal.Refusal.TheVariants.{OutOfMemory};
 ghost use Rattle.ed_types.specs.declared.script.Outcome.TheVariants.{Refused};
-ghost use Rattle.ed_model.specs.Session.{view_at};
-ghost use Rattle.ed_model.specs.Run.{starting, after_command, outcomes, run_to, loaded, file_at};
+ghost use Rattle.ed_model.specs.Run.{starting, after_command, outcomes, run_to};
 ghost use Rattle.editor_session.specs.Answers.{AnswersBy, StopsWithin};
-ghost use Rattle.editor_session.specs.Commands.{takes_no_memory};
+ghost use Rattle.editor_session.specs.Commands.{takes_no_memory, file_loaded};
 
 use crate::session::Session;
 use ed_model::plans_are_fit;
@@ -141,8 +140,8 @@ impl Run {
     ///
     /// `NoSuchView`, then `BadArgument` if there is no such file; otherwise those of the message that sets the text.
     fn load(&mut self, files: &[Bytes], view: u32, file: u32) -> Result<Reply, Refusal>
-        ensures answer { AnswersBy (loaded self.old.session view (view_at self.old.session.views view) (file_at files.now file)) self.old.session self.new.session result }
-        ensures refused { IfErr (loaded self.old.session view (view_at self.old.session.views view) (file_at files.now file)) (λ refusal. result ≡ Err refusal) }
+        ensures answer { AnswersBy (file_loaded self.old files.now view file) self.old.session self.new.session result }
+        ensures refused { IfErr (file_loaded self.old files.now view file) (λ refusal. result ≡ Err refusal) }
         ensures value { self.new.value ≡ self.old.value }
     {
         if !self.session.has_view(view) {

@@ -1,7 +1,7 @@
-//! A message on its way through a session. `way_of` says by its number which fast path it takes: a question is read; a frequent change is
-//! made with notes if the view that it is sent to listens for such changes, and without if no view listens; UNDO and REDO are performed
-//! without notes if no view listens, and a target message if the view does not record. All others, and what is refused, are planned and
-//! performed.
+//! A message on its way through a session. `way_of` says by its number which fast path it takes: a question is read; a
+//! frequent change is made with notes if the view that it is sent to listens for such changes, and without if no view
+//! listens; UNDO and REDO are performed without notes if no view listens, and a target message if the view does not
+//! record. All others, and what is refused, are planned and performed.
 
 ghost use Rattle.std.specs.Prelude.{◌≡◌, ◌&&◌, IfNone, Some};
 ghost use Rattle.ed_types.specs.Messages.{marks_of};
@@ -37,11 +37,13 @@ fn is_recorded(kind: Kind, request: &Request) -> bool
     request.view.records() && kind.columns().r
 }
 
-/// Plans and performs a message to `view`. Returns the value; the text and the notes of the reply replace those of `reply`.
+/// Plans and performs a message to `view`. Returns the value; the text and the notes of the reply replace those of
+/// `reply`.
 ///
 /// # Errors
 ///
-/// The refusal of the message table, or `OutOfMemory` if an allocation fails. The session and `reply` are then as they were.
+/// The refusal of the message table, or `OutOfMemory` if an allocation fails. The session and `reply` are then as they
+/// were.
 #[inline(always)]
 fn answer_into_by_plan(
     alloc: Global,
@@ -82,9 +84,9 @@ fn answer_into_by_plan(
     }
 }
 
-/// Answers a message to `view` that needs no notes: a plain question; a frequent change, UNDO or REDO if no view listens; a target message if
-/// the view does not record. Returns the value. `None`, with nothing changed, for all other messages, and if the message is refused or an
-/// allocation fails.
+/// Answers a message to `view` that needs no notes: a plain question; a frequent change, UNDO or REDO if no view
+/// listens; a target message if the view does not record. Returns the value. `None`, with nothing changed, for all
+/// other messages, and if the message is refused or an allocation fails.
 #[inline(always)]
 fn answer_without_notes(
     alloc: Global,
@@ -108,12 +110,13 @@ fn answer_without_notes(
     }
 }
 
-/// Answers a message to `view`. Returns the value; the text and the notes of the reply replace those of `reply`. Out of line, so that plain
-/// questions do not pay for its stack frame.
+/// Answers a message to `view`. Returns the value; the text and the notes of the reply replace those of `reply`. Out of
+/// line, so that plain questions do not pay for its stack frame.
 ///
 /// # Errors
 ///
-/// The refusal of the message table, or `OutOfMemory` if an allocation fails. The session and `reply` are then as they were.
+/// The refusal of the message table, or `OutOfMemory` if an allocation fails. The session and `reply` are then as they
+/// were.
 #[inline(never)]
 pub(crate) fn answer_into(
     alloc: Global,
@@ -165,8 +168,9 @@ fn answer_by_plan(
     }
 }
 
-/// Answers a frequent change that is sent to a view that listens for such changes: makes it, with the notes for all views that listen. What
-/// changes nothing or is refused is planned. Out of line, so that changes without listeners do not pay for a list of notes.
+/// Answers a frequent change that is sent to a view that listens for such changes: makes it, with the notes for all
+/// views that listen. What changes nothing or is refused is planned. Out of line, so that changes without listeners do
+/// not pay for a list of notes.
 ///
 /// # Errors
 ///
@@ -192,8 +196,8 @@ fn answer_heard_change(
     }
 }
 
-/// Answers a text question: reads the bytes into memory that becomes the reply's. If nothing is read, the message is planned. Out of line, so
-/// that other messages do not pay for a buffer.
+/// Answers a text question: reads the bytes into memory that becomes the reply's. If nothing is read, the message is
+/// planned. Out of line, so that other messages do not pay for a buffer.
 ///
 /// # Errors
 ///

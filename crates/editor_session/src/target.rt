@@ -1,5 +1,5 @@
-//! Messages that set the target of a view or search in it: a search from match to match sends two of them for each match. They need no notes
-//! and no reply.
+//! Messages that set the target of a view or search in it: a search from match to match sends two of them for each
+//! match. They need no notes and no reply.
 
 ghost use Rattle.std.specs.Prelude.{◌≡◌, IfNone};
 ghost use Rattle.message_requests.specs.Requested.{session_in};
@@ -12,8 +12,9 @@ use ed_model::{Plan, plans_are_fit};
 use message_plans::target_plan_of;
 use message_requests::{SentMessage, SessionState};
 
-/// Performs such a message to `view`, and returns the value that is answered. `None`, with nothing changed, for all other messages, and if the
-/// table refuses the message or the view records. Out of line, so that other messages do not pay for its stack frame.
+/// Performs such a message to `view`, and returns the value that is answered. `None`, with nothing changed, for all
+/// other messages, and if the table refuses the message or the view records. Out of line, so that other messages do not
+/// pay for its stack frame.
 #[inline(never)]
 pub(crate) fn answer_target_message(
     state: &mut SessionState,

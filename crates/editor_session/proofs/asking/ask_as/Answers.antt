@@ -1,4 +1,4 @@
-use Rattle.std.proofs.Common.{◌≡◌, sym, ap, subst, ◌∙◌}
+use Rattle.std.proofs.Common.{sym, ap, subst, ◌∙◌}
 use Rattle.ed_model.specs.PlansFit.{IsSoundRequest}
 use Rattle.message_requests.specs.Requested.{session_in}
 use Rattle.message_plans.specs.Asking.{value_asked}

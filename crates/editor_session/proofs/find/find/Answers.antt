@@ -1,4 +1,4 @@
-use Rattle.std.proofs.Common.{rules, ◌≡◌, sym, subst}
+use Rattle.std.proofs.Common.{rules, sym, subst}
 use Rattle.message_requests.specs.Requested.{session_in}
 use Rattle.editor_session.specs.Planned.{IsFound}
 use Rattle.editor_session.proofs.TableWay.{no_view, no_kind, is_found}

@@ -1,4 +1,4 @@
-use Rattle.std.proofs.Common.{◌≡◌, false, pos, sym, subst, refl}
+use Rattle.std.proofs.Common.{false, pos, sym, subst, refl}
 use Rattle.message_requests.specs.Requested.{session_in}
 use Rattle.editor_session.specs.Planned.{IsPlannedAs}
 use Rattle.editor_session.specs.Performed.{unrecorded}
