@@ -3,8 +3,8 @@
 ghost use Rattle.run_laws.specs.HandleRunLaws.{HandlesNeverComeBack};
 ghost use Rattle.run_laws.specs.IdLaws.{DocumentIdsNeverComeBack, NextIdsNeverFall, OpenedIdsRise, ViewIdsNeverComeBack};
 
-/// The id of a document that was dropped never names a document again, and the id of a view that was closed never names a view
-/// again, whatever commands follow.
+/// The id of a document that was dropped never names a document again, and the id of a view that was closed never names
+/// a view again, whatever commands follow.
 pub fn ids_never_come_back()
     ensures documents { DocumentIdsNeverComeBack }
     ensures views { ViewIdsNeverComeBack }

@@ -1,6 +1,6 @@
-//! The laws of whole runs: facts about lists of commands, from every session that a run reaches; and laws of single definitions,
-//! on line ends, fold parents and display lines. Each law is the contract of a public function, whose body only calls the laws of
-//! `ed_model` that it needs.
+//! The laws of whole runs: facts about lists of commands, from every session that a run reaches; and laws of single
+//! definitions, on line ends, fold parents and display lines. Each law is the contract of a public function, whose body
+//! only calls the laws of `ed_model` that it needs.
 #![tactic(auto)]
 
 mod edit_laws;

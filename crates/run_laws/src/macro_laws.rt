@@ -2,8 +2,8 @@
 
 ghost use Rattle.run_laws.specs.MacroLaws.{RecordingsCanBeReplayed, RepliesRecordOneMessage, RunsRecordOneMessageAReply};
 
-/// The messages that a view recorded between STARTRECORD and STOPRECORD, sent to it from the session before STARTRECORD, lead to
-/// the session after STOPRECORD, except for whether the view records.
+/// The messages that a view recorded between STARTRECORD and STOPRECORD, sent to it from the session before
+/// STARTRECORD, lead to the session after STOPRECORD, except for whether the view records.
 pub fn recordings_can_be_replayed()
     ensures { RecordingsCanBeReplayed }
 {

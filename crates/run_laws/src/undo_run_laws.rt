@@ -2,9 +2,9 @@
 
 ghost use Rattle.run_laws.specs.UndoRunLaws.{UndoGoesBackOverCommands};
 
-/// UNDO messages to views of a document lead back to the text of the latest earlier state of the run with as many transactions
-/// fewer, and as many REDO messages lead forward to the text at first. The commands between may go to views of other documents,
-/// be queries, or open and close views.
+/// UNDO messages to views of a document lead back to the text of the latest earlier state of the run with as many
+/// transactions fewer, and as many REDO messages lead forward to the text at first. The commands between may go to
+/// views of other documents, be queries, or open and close views.
 pub fn undo_goes_back_over_commands()
     ensures { UndoGoesBackOverCommands }
 {
