@@ -9,3 +9,4 @@ pub mod Starts
 pub mod Told
 pub mod Names
 pub mod Replies
+pub mod Questions

@@ -1,6 +1,6 @@
 -- Notes as C sees them.
-use Rattle.std.specs.Prelude.{◌≡◌, ℕ, List, [], length, Option, Some, None}
-use Rattle.ed_types.specs.Notices.{Notice}
+use Rattle.std.specs.Prelude.{◌≡◌, ℕ, List, [], length, Option, Some, None, slice_get}
+use Rattle.ed_types.specs.Notices.{Notice, Response}
 use Rattle.hongpilas_c.specs.declared.notes.NoteInC.{NoteInC}
 
 -- the note with this text
@@ -15,3 +15,7 @@ IsTold c note = (notice_of c note.text ≡ note) × (c.text_length ≡ length no
 abbrev pub text_told : Option Notice → List ℕ
 text_told (Some note) = note.text
 text_told None = []
+
+-- the text of the note of the reply with this index, or nothing if there is none
+abbrev pub note_text : Response → ℕ → List ℕ
+note_text reply index = text_told (slice_get reply.notes index)

@@ -9,8 +9,8 @@ use crate::parts::Parts;
 use std::alloc::{AllocError, Global};
 use std::marker::Model;
 
-/// The handle that C holds: a pointer to the session, and anything before it is opened. Dropping a handle frees nothing, so
-/// that a call may overwrite one that C has not set. `into_box` takes the session back, to be freed.
+/// The handle that C holds: a pointer to the session, and anything before it is opened. Dropping a handle frees
+/// nothing, so that a call may overwrite one that C has not set. `into_box` takes the session back, to be freed.
 #[repr(C)]
 #[derive(Drop)]
 pub struct Handle {

@@ -1,14 +1,12 @@
 //! What a handle points to.
 
-ghost use Rattle.std.specs.Prelude.{◌≡◌, ◌≢◌, [], pos, true, length, Ok};
-ghost use Rattle.ed_types.specs.declared.refusal.Refusal.TheVariants.{OutOfMemory};
+ghost use Rattle.std.specs.Prelude.{◌≡◌, ◌≢◌, [], pos, length, Some, Ok};
 ghost use Rattle.ed_model.specs.Performing.{quiet, response};
-ghost use Rattle.ed_model.specs.Table.{table, opened, closed};
-ghost use Rattle.ed_model.specs.Printed.{refusal_number};
+ghost use Rattle.ed_model.specs.Table.{opened, closed};
 ghost use Rattle.editor_session.specs.Answers.{message_with};
-ghost use Rattle.editor_session.specs.Plans.{is_free};
 ghost use Rattle.editor_session.specs.Lent.{lent_range};
 ghost use Rattle.hongpilas_c.specs.Answers.{answered, refused_with};
+ghost use Rattle.hongpilas_c.specs.Calls.{IsDone, IsRefused, NeverWantsMemory};
 ghost use Rattle.hongpilas_c.specs.Replies.{reply_in};
 
 use crate::answers::{DONE, number_of};
@@ -78,12 +76,12 @@ impl Held {
         text: &[u8],
         value: &mut i64,
     ) -> u32
-        ensures done { result ≡ 0 → table self.old.session view (message_with number w l text.now) ≡ Ok (self.new.session, reply_in self.new) }
+        ensures done { result ≡ 0 → IsDone view (message_with number w l text.now) self.old self.new }
         ensures value { result ≡ 0 → value.new ≡ self.new.value }
-        ensures refused { result ≢ 0 → result ≡ refused_with (table self.old.session view (message_with number w l text.now)) }
+        ensures refused { result ≢ 0 → IsRefused view (message_with number w l text.now) result (Some self.old) }
         ensures kept { result ≢ 0 → self.new ≡ self.old }
         ensures value_kept { result ≢ 0 → value.new ≡ value.old }
-        ensures free { is_free self.old.session view (message_with number w l text.now) ≡ true → result ≢ refusal_number OutOfMemory }
+        ensures free { NeverWantsMemory view (message_with number w l text.now) result (Some self.old) }
     {
         if let Some(answer) = self.session.ask(view, number, w, l) {
             self.read.clear();
@@ -144,7 +142,8 @@ impl Held {
         }
     }
 
-    /// Lends bytes of a view's document, and tells C the address at which they begin. Returns 0 or the number of the refusal.
+    /// Lends bytes of a view's document, and tells C the address at which they begin. Returns 0 or the number of the
+    /// refusal.
     pub(crate) fn lend(
         &mut self,
         view: u32,

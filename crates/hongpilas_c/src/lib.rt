@@ -1,7 +1,7 @@
 //! The calls of a session for programs in C. `include/hongpilas.h` declares them.
 //!
-//! C holds a session by a handle of one word. Each call returns 0 if it was done, or the number of its refusal. A refused
-//! call changes nothing. There is no global state.
+//! C holds a session by a handle of one word. Each call returns 0 if it was done, or the number of its refusal. A
+//! refused call changes nothing. There is no global state.
 #![tactic(auto)]
 
 mod answers;

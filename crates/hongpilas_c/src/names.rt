@@ -35,8 +35,8 @@ fn name_of(number: u32) -> &'static [u8]
     }
 }
 
-/// Lends the name of a refusal: sets `name` to the address of its first byte, and returns its length in bytes. The name is
-/// never freed.
+/// Lends the name of a refusal: sets `name` to the address of its first byte, and returns its length in bytes. The name
+/// is never freed.
 #[unsafe(no_mangle)]
 pub extern "C" fn hongpilas_refusal_name(number: u32, name: &mut *const u8) -> usize
     ensures length { result ≡ length (refusal_name number) }

@@ -3,7 +3,7 @@
 ghost use Rattle.std.specs.Prelude.{◌≡◌, true, false, nat_lt, length, is_some, slice_get, IfSome};
 ghost use Rattle.ed_types.specs.Heard.{with_text};
 ghost use Rattle.hongpilas_c.specs.Calls.{reply_of};
-ghost use Rattle.hongpilas_c.specs.Told.{IsTold, text_told};
+ghost use Rattle.hongpilas_c.specs.Told.{IsTold, note_text};
 ghost use Rattle.hongpilas_c.specs.Copies.{count_copied, copied};
 ghost use Rattle.hongpilas_c.specs.Starts.{start};
 
@@ -43,7 +43,8 @@ pub struct NoteInC {
     pub w: i64,
     /// The second argument of a recorded message, as it was sent.
     pub l: i64,
-    /// The address of the note's text. It is valid until the next message that is done. If the length is 0, it means nothing.
+    /// The address of the note's text. It is valid until the next message that is done. If the length is 0, it means
+    /// nothing.
     pub text: *const u8,
     /// The length of the text, in bytes.
     pub text_length: usize,
@@ -91,8 +92,8 @@ impl Held {
 
     /// Copies the text of a note of the reply, and returns how many bytes that is: 0 if there is no such note.
     fn copy_note_text(&self, index: usize, start: usize, into: &mut [u8]) -> usize
-        ensures count { result ≡ count_copied (text_told (slice_get self.now.reply.notes index)) start into.old }
-        ensures copied { into.new ≡ copied (text_told (slice_get self.now.reply.notes index)) start into.old }
+        ensures count { result ≡ count_copied (note_text self.now.reply index) start into.old }
+        ensures copied { into.new ≡ copied (note_text self.now.reply index) start into.old }
     {
         if index < self.reply.note_count() {
             let (_, text) = self.reply.note(index);
@@ -116,8 +117,8 @@ pub extern "C" fn hongpilas_note(handle: &mut Handle, index: usize, note: &mut N
     held.tell(index, note)
 }
 
-/// Copies the text of a note of the last reply from `start` on, as many bytes as there are and as fit, and returns how many
-/// that is: 0 if there is no such note.
+/// Copies the text of a note of the last reply from `start` on, as many bytes as there are and as fit, and returns how
+/// many that is: 0 if there is no such note.
 #[unsafe(no_mangle)]
 pub extern "C" fn hongpilas_copy_note_text(
     handle: &mut Handle,
@@ -126,8 +127,8 @@ pub extern "C" fn hongpilas_copy_note_text(
     into: &mut [u8],
 ) -> usize
     requires { is_some handle.old.held ≡ true }
-    ensures count { result ≡ count_copied (text_told (slice_get (reply_of handle.old.held).notes index)) start into.old }
-    ensures copied { into.new ≡ copied (text_told (slice_get (reply_of handle.old.held).notes index)) start into.old }
+    ensures count { result ≡ count_copied (note_text (reply_of handle.old.held) index) start into.old }
+    ensures copied { into.new ≡ copied (note_text (reply_of handle.old.held) index) start into.old }
     ensures same { handle.new.held ≡ handle.old.held }
 {
     let held = handle.held();

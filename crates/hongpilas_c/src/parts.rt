@@ -6,8 +6,8 @@ ghost use Rattle.std.specs.Box.Ownership.{box_owns};
 use std::alloc::Allocator;
 use std::marker::Model;
 
-/// A `Box` taken apart: the pointer to its value, and the allocator of its block. It owns what the box owned. `into_box` makes it a
-/// box again, to be dropped. A contract sees the value.
+/// A `Box` taken apart: the pointer to its value, and the allocator of its block. It owns what the box owned.
+/// `into_box` makes it a box again, to be dropped. A contract sees the value.
 pub struct Parts<T, A: Allocator> {
     pub(crate) ptr: *mut T,
     pub(crate) alloc: A,

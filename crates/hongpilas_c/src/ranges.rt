@@ -5,8 +5,9 @@ ghost use Rattle.hongpilas_c.specs.Calls.{IsLendAnswer, IsLent};
 
 use crate::handle::Handle;
 
-/// Lends the `count` bytes of a view's document from `start` on: sets `bytes` to the address of the first. They are valid
-/// until the session's next call, except calls that only read the last reply. Returns 0 or the number of the refusal.
+/// Lends the `count` bytes of a view's document from `start` on: sets `bytes` to the address of the first. They are
+/// valid until the session's next call, except calls that only read the last reply. Returns 0 or the number of the
+/// refusal.
 #[unsafe(no_mangle)]
 pub extern "C" fn hongpilas_lend_range(
     handle: &mut Handle,
@@ -24,7 +25,8 @@ pub extern "C" fn hongpilas_lend_range(
     held.lend(view, start, count, bytes)
 }
 
-/// Copies as many bytes of a view's document as the buffer has, from `start` on. Returns 0 or the number of the refusal.
+/// Copies as many bytes of a view's document as the buffer has, from `start` on. Returns 0 or the number of the
+/// refusal.
 #[unsafe(no_mangle)]
 pub extern "C" fn hongpilas_copy_range(
     handle: &mut Handle,

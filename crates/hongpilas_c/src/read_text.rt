@@ -1,17 +1,17 @@
 //! The text of a reply that was read without a plan.
 
-ghost use Rattle.std.specs.Prelude.{◌≡◌, ℕ, List, [], Ok, pos, IfNone, IfSome};
-ghost use Rattle.ed_model.specs.Performing.{quiet, response};
-ghost use Rattle.ed_model.specs.Table.{table};
+ghost use Rattle.std.specs.Prelude.{◌≡◌, [], pos, IfNone};
+ghost use Rattle.ed_model.specs.Performing.{quiet};
 ghost use Rattle.editor_session.specs.Answers.{message_with};
+ghost use Rattle.hongpilas_c.specs.Questions.{AnswersTextQuestion};
 
 use ed_types::{Bytes, Reply};
 use editor_session::Session;
 use std::alloc::Global;
 use std::marker::Model;
 
-/// The greatest capacity, in bytes, that is kept for the next text question whatever comes before it. Most lines are shorter, so that
-/// reading them allocates nothing, and a session keeps at most one page beyond other messages.
+/// The greatest capacity, in bytes, that is kept for the next text question whatever comes before it. Most lines are
+/// shorter, so that reading them allocates nothing, and a session keeps at most one page beyond other messages.
 const MOST_KEPT: usize = 4096;
 
 /// The bytes that a text question read, in a buffer that is used again. A contract sees a list.
@@ -80,8 +80,8 @@ impl ReadText {
         self.bytes.clear();
     }
 
-    /// Like `read`, after a large text. The next one is often as large, and uses the same buffer. If it fills less than a quarter of the
-    /// buffer, the rest of the buffer is freed.
+    /// Like `read`, after a large text. The next one is often as large, and uses the same buffer. If it fills less than
+    /// a quarter of the buffer, the rest of the buffer is freed.
     #[inline(never)]
     fn read_large(
         &mut self,
@@ -91,7 +91,7 @@ impl ReadText {
         w: i64,
         l: i64,
     ) -> Option<i64>
-        ensures answer { IfSome result (λ value. (text : List ℕ) → table session.now view (message_with number w l text) ≡ Ok (session.now, response value self.new [])) }
+        ensures answer { AnswersTextQuestion session.now view (message_with number w l) self.new result }
         ensures same { IfNone result (self.new ≡ self.old) }
     {
         let value = session.read(view, number, w, l, &mut self.bytes)?;
@@ -101,8 +101,8 @@ impl ReadText {
         Some(value)
     }
 
-    /// Asks a text question: its bytes replace the present ones, and its value is returned. Returns `None` for a message that
-    /// `Session::read` does not answer. Nothing has changed then.
+    /// Asks a text question: its bytes replace the present ones, and its value is returned. Returns `None` for a
+    /// message that `Session::read` does not answer. Nothing has changed then.
     #[inline(always)]
     pub(crate) fn read(
         &mut self,
@@ -112,7 +112,7 @@ impl ReadText {
         w: i64,
         l: i64,
     ) -> Option<i64>
-        ensures answer { IfSome result (λ value. (text : List ℕ) → table session.now view (message_with number w l text) ≡ Ok (session.now, response value self.new [])) }
+        ensures answer { AnswersTextQuestion session.now view (message_with number w l) self.new result }
         ensures same { IfNone result (self.new ≡ self.old) }
     {
         if self.is_large() {

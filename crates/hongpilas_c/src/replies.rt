@@ -30,7 +30,8 @@ pub extern "C" fn hongpilas_text(handle: &mut Handle, text: &mut *const u8) -> u
     tell_start(held.text(), text)
 }
 
-/// Copies the text of the last reply from `start` on, as many bytes as there are and as fit, and returns how many that is.
+/// Copies the text of the last reply from `start` on, as many bytes as there are and as fit, and returns how many that
+/// is.
 #[unsafe(no_mangle)]
 pub extern "C" fn hongpilas_copy_text(handle: &mut Handle, start: usize, into: &mut [u8]) -> usize
     requires { is_some handle.old.held ≡ true }

@@ -1,10 +1,8 @@
 //! Sending a message.
 
 ghost use Rattle.std.specs.Prelude.{◌≡◌, ◌≢◌, true, is_some};
-ghost use Rattle.ed_types.specs.declared.refusal.Refusal.TheVariants.{OutOfMemory};
-ghost use Rattle.ed_model.specs.Printed.{refusal_number};
 ghost use Rattle.editor_session.specs.Answers.{message_with};
-ghost use Rattle.hongpilas_c.specs.Calls.{IsSent, IsRefused, IsFree};
+ghost use Rattle.hongpilas_c.specs.Calls.{HasSent, IsRefused, NeverWantsMemory};
 
 use crate::handle::Handle;
 
@@ -20,11 +18,11 @@ pub extern "C" fn hongpilas_send(
     value: &mut i64,
 ) -> u32
     requires { is_some handle.old.held ≡ true }
-    ensures done { result ≡ 0 → IsSent view (message_with number w l text.now) value.new handle.old.held handle.new.held }
+    ensures done { result ≡ 0 → HasSent view (message_with number w l text.now) value.new handle.old handle.new }
     ensures refused { result ≢ 0 → IsRefused view (message_with number w l text.now) result handle.old.held }
     ensures kept { result ≢ 0 → handle.new.held ≡ handle.old.held }
     ensures value_kept { result ≢ 0 → value.new ≡ value.old }
-    ensures free { IsFree view (message_with number w l text.now) handle.old.held → result ≢ refusal_number OutOfMemory }
+    ensures free { NeverWantsMemory view (message_with number w l text.now) result handle.old.held }
 {
     let held = handle.held();
     held.send(view, number, w, l, text, value)
