@@ -21,7 +21,7 @@ abbrev pub IsSent : ℕ → Message → ℤ → Option Held → Option Held → 
 IsSent view m value (Some old) (Some new) = IsDone view m old new × (value ≡ new.value)
 IsSent view m value _ _ = ⊥
 
--- the message was sent by the handle, with this value in the reply
+-- the handle sent the message, which was done, and this is the value of the reply
 abbrev pub HasSent : ℕ → Message → ℤ → Handle → Handle → Type 0
 HasSent view m value old new = IsSent view m value old.held new.held
 
