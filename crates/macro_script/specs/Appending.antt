@@ -26,9 +26,13 @@ abbrev pub text_field : Option (List ℕ) → List ℕ
 text_field None = []
 text_field (Some text) = space ∷ spelled_text text
 
+-- what follows the word of a line: numbers, a text and the LF
+abbrev pub behind_word : List ℤ → Option (List ℕ) → List ℕ
+behind_word numbers text = number_fields numbers ++ (text_field text ++ line_feed ∷ [])
+
 -- a line: a word, numbers and a text
 abbrev pub line_of : List ℕ → List ℤ → Option (List ℕ) → List ℕ
-line_of word numbers text = word ++ (number_fields numbers ++ (text_field text ++ line_feed ∷ []))
+line_of word numbers text = word ++ behind_word numbers text
 
 -- the text that is lent
 abbrev pub lent_text : Option (Bor (List ℕ)) → Option (List ℕ)

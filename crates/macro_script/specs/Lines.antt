@@ -1,5 +1,5 @@
--- The results of reading lines.
-use Rattle.std.specs.Prelude.{◌≡◌, ◌⊎◌, ℕ, ◌<◌, ◌==◌, List, [], ◌∷◌, length, Option, Some, None, Result, Ok, Err, Vec}
+-- The results of reading and of measuring lines.
+use Rattle.std.specs.Prelude.{◌≡◌, ◌⊎◌, ℕ, ◌<◌, ◌≤◌, ◌==◌, SomeIff, List, [], ◌∷◌, length, Option, Some, None, Result, Ok, Err, Vec}
 use Rattle.std.proofs.Common.{Bor, Global}
 use Rattle.std.specs.List.{slice_split}
 use Rattle.ed_types.specs.declared.script.Command.{Command}
@@ -14,6 +14,10 @@ use Rattle.macro_script.specs.Versions.{number_of}
 abbrev pub SplitsLine : List ℕ → Option (Bor (List ℕ) × Bor (List ℕ)) → Type 0
 SplitsLine text None = slice_split (λ b. b == line_feed) text ≡ text ∷ []
 SplitsLine text (Some parts) = (slice_split (λ b. b == line_feed) text ≡ parts.0.now ∷ slice_split (λ b. b == line_feed) parts.1.now) × (length parts.1.now < length text)
+
+-- the result is the length of the bytes if they fit in a line, and `None` otherwise
+abbrev pub IsLengthIfFits : List ℕ → Option ℕ → Type 0
+IsLengthIfFits bytes result = SomeIff result (length bytes ≤ 65536) (length bytes)
 
 -- the result is what was read, or a failed allocation
 abbrev pub OrMemory : {T : Type 0} → Result T ScriptFault → Result T ScriptFault → Type 0

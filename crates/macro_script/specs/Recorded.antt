@@ -1,10 +1,13 @@
 -- What a view records, as a script.
-use Rattle.std.specs.Prelude.{◌≡◌, ◌≤◌, ◌<◌, slice_get, ℕ, ◌==◌, ◌&&◌, Bool, List, [], ◌∷◌, length, map, find, Option, Some, None}
+use Rattle.std.specs.Prelude.{◌≡◌, ◌≤◌, ◌<◌, slice_get, ℕ, ℤ, ◌==◌, ◌&&◌, Bool, false, List, [], ◌∷◌, ◌++◌, length, map, find, Option, Some, None}
+use Rattle.ed_types.specs.declared.reply.Note.{Note}
 use Rattle.ed_types.specs.Notices.{Notice, Response}
+use Rattle.ed_types.specs.Heard.{with_text}
 use Rattle.ed_types.specs.declared.message.Message.{Message}
 use Rattle.ed_types.specs.declared.script.Command.{Command}
 use Rattle.ed_types.specs.declared.script.Command.TheVariants.{SendMessage}
 use Rattle.ed_model.specs.Notes.{macro_record}
+use Rattle.ed_model.specs.Listing.{keeps_limits}
 use Rattle.ed_model.specs.Recording.{told_message, recorded_messages}
 
 -- what a recorder has: its view, and the commands so far
@@ -15,6 +18,10 @@ pub record Recording : Type 0 where
 -- the command that sends the message to the view
 abbrev pub sending : ℕ → Message → Command
 sending view message = SendMessage view message
+
+-- the command that sends the message with this number, these arguments and this text to the view
+abbrev pub send_command : ℕ → ℕ → ℤ → ℤ → List ℕ → Command
+send_command view number w l text = sending view (record { number = number; w = w; l = l; text = text })
 
 -- whether the note is the view's notification of a recorded message
 abbrev pub is_recording : ℕ → Notice → Bool
@@ -37,7 +44,20 @@ sends_for view (Some n) = sending view (told_message n) ∷ []
 abbrev pub recorded_sends : ℕ → Response → List Command
 recorded_sends view reply = sends_for view (recording_note view reply)
 
--- that is everything that the view recorded in the reply, if it is at most one message, as in each reply of a session
+-- the recording after a reply: what the reply records is added
+abbrev pub after_reply : Recording → Response → Recording
+after_reply r reply = record r { commands = r.commands ++ recorded_sends r.view reply }
+
+-- the recording after a note with this text: the message that the note tells of is added
+abbrev pub after_note : Recording → Note → List ℕ → Recording
+after_note r note text = record r { commands = r.commands ++ sending r.view (told_message (with_text note text)) ∷ [] }
+
+-- the commands exceed a limit of scripts
+abbrev pub IsTooLong : Recording → Type 0
+IsTooLong r = keeps_limits r.commands ≡ false
+
+-- what the reply records is everything that the view recorded in it, if that is at most one message, as in each reply of
+-- a session
 abbrev pub RecordsAll : Type 0
 RecordsAll =
     (view : ℕ) (reply : Response) → length (recorded_messages view (reply ∷ [])) ≤ 1

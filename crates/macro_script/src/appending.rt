@@ -2,7 +2,7 @@
 
 ghost use Rattle.std.specs.Prelude.{◌≡◌, ◌+◌, ◌-◌, ◌∷◌, ◌++◌, [], ◌<◌, ◌≤◌, length, take, vec_len, vec_capacity, IsErr, OnErr};
 ghost use Rattle.ed_model.specs.Spelling.{spelled, spelled_int, spelled_byte, spelled_bytes, spelled_text};
-ghost use Rattle.macro_script.specs.Appending.{Appends, AppendsSome, number_fields, text_field, line_of, lent_text};
+ghost use Rattle.macro_script.specs.Appending.{Appends, AppendsSome, number_fields, text_field, behind_word, line_of, lent_text};
 
 use crate::spelled::{plain_len, spell_byte};
 use itoa::Buffer;
@@ -134,7 +134,8 @@ fn append_fields(out: &mut Vec<u8>, numbers: &[i64]) -> Result<(), AllocError>
     Ok(())
 }
 
-/// Appends the spelling of a byte, as an array. Its length is a constant in each case, so that it is stored without a call.
+/// Appends the spelling of a byte, as an array. Its length is a constant in each case, so that it is stored without a
+/// call.
 fn append_byte(out: &mut Vec<u8>, byte: u8) -> Result<(), AllocError>
     ensures { Appends (spelled_byte byte) out.old.items out.new.items result }
 {
@@ -215,13 +216,14 @@ fn append_behind_word(
     numbers: &[i64],
     text: Option<&[u8]>,
 ) -> Result<(), AllocError>
-    ensures { Appends (number_fields numbers.now ++ (text_field (lent_text text.entry) ++ 10 ∷ [])) out.old.items out.new.items result }
+    ensures { Appends (behind_word numbers.now (lent_text text.entry)) out.old.items out.new.items result }
 {
     append_fields(out, numbers)?;
     append_end(out, text)
 }
 
-/// Appends a line: a word, numbers and a text. Inlined into its callers, where the word and so its length are constants.
+/// Appends a line: a word, numbers and a text. Inlined into its callers, where the word and so its length are
+/// constants.
 ///
 /// # Errors
 ///

@@ -4,7 +4,8 @@ ghost use Rattle.std.specs.Prelude.{◌≡◌, ◌+◌, ◌≤◌, length, SomeI
 ghost use Rattle.std.specs.List.{AllByRecursion};
 ghost use Rattle.ed_model.specs.Spelling.{spelled, spelled_int, spelled_bytes, is_64_bits};
 ghost use Rattle.ed_model.specs.Listing.{listed_command, FitsTypes};
-ghost use Rattle.macro_script.specs.Recorded.{sending};
+ghost use Rattle.macro_script.specs.Recorded.{send_command};
+ghost use Rattle.macro_script.specs.Lines.{IsLengthIfFits};
 
 use crate::lines::LINE_LIMIT;
 use crate::spelled::spell_byte;
@@ -32,7 +33,7 @@ fn id_len(id: u32) -> usize
 
 /// Returns the length of a text's spelling, without quotes, or `None` if it exceeds the limit of a line.
 fn text_len(text: &[u8]) -> Option<usize>
-    ensures len { SomeIff result (length (spelled_bytes text.now) ≤ 65536) (length (spelled_bytes text.now)) }
+    ensures len { IsLengthIfFits (spelled_bytes text.now) result }
     ensures typed { AllByRecursion (λ b. b < 256) text.now }
 {
     let mut len = 0;
@@ -54,8 +55,8 @@ fn within_limit(len: usize) -> Option<usize>
 
 /// Returns the length in bytes of the listed line that sends a message, or `None` if it exceeds the limit.
 pub fn send_len(view: u32, number: u32, w: i64, l: i64, text: &[u8]) -> Option<usize>
-    ensures typed { FitsTypes (sending view (record { number = number; w = w; l = l; text = text.now })) }
-    ensures len { SomeIff result (length (listed_command (sending view (record { number = number; w = w; l = l; text = text.now }))) ≤ 65536) (length (listed_command (sending view (record { number = number; w = w; l = l; text = text.now })))) }
+    ensures typed { FitsTypes (send_command view number w l text.now) }
+    ensures len { IsLengthIfFits (listed_command (send_command view number w l text.now)) result }
 {
     let ids = id_len(view) + id_len(number);
     let arguments = number_len(w) + number_len(l);
@@ -68,7 +69,7 @@ pub fn send_len(view: u32, number: u32, w: i64, l: i64, text: &[u8]) -> Option<u
 /// Returns the length in bytes of a command's listed line, or `None` if it exceeds the limit.
 pub fn line_len(command: &Command) -> Option<usize>
     ensures typed { FitsTypes command.now }
-    ensures len { SomeIff result (length (listed_command command.now) ≤ 65536) (length (listed_command command.now)) }
+    ensures len { IsLengthIfFits (listed_command command.now) result }
 {
     match command {
         Command::OpenView => within_limit(4),

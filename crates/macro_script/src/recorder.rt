@@ -1,11 +1,9 @@
 //! Recording: a script of the messages that a view records.
 
-ghost use Rattle.std.specs.Prelude.{◌≡◌, ◌⊎◌, ◌↔◌, ◌++◌, ◌∷◌, [], OnOk, OnErr, IfErr, IfOk, Ok, Err, None, false, List, ℕ};
+ghost use Rattle.std.specs.Prelude.{◌≡◌, ◌⊎◌, ◌↔◌, [], OnOk, OnErr, IfErr, IfOk, Ok, Err, None, List, ℕ};
 ghost use Rattle.ed_types.specs.declared.script.ScriptFault.TheVariants.{TooLong, OutOfMemory};
-ghost use Rattle.ed_model.specs.Listing.{keeps_limits};
 ghost use Rattle.ed_types.specs.Heard.{with_text};
-ghost use Rattle.ed_model.specs.Recording.{told_message};
-ghost use Rattle.macro_script.specs.Recorded.{sending, is_recording, recording_note, recorded_sends, IsPlaceOf, RecordsAll};
+ghost use Rattle.macro_script.specs.Recorded.{is_recording, recording_note, after_reply, after_note, IsTooLong, IsPlaceOf, RecordsAll};
 
 use crate::script::Script;
 use ed_types::{Bytes, Command, Message, Note, Reply, ScriptFault};
@@ -74,17 +72,18 @@ impl Recorder {
         }
     }
 
-    /// Adds the message that the reply records for the view, if it has such a note. Otherwise adds and allocates nothing.
+    /// Adds the message that the reply records for the view, if it has such a note. Otherwise adds and allocates
+    /// nothing.
     ///
     /// # Errors
     ///
     /// `TooLong` if the script with that message would exceed a limit, like `Script::push`; otherwise `OutOfMemory` if
     /// an allocation fails. The recorder is then unchanged.
     pub fn feed(&mut self, reply: &Reply) -> Result<(), ScriptFault>
-        ensures too_long { (result ≡ Err TooLong) ↔ (keeps_limits (self.old.commands ++ recorded_sends self.old.view reply.now) ≡ false) }
+        ensures too_long { (result ≡ Err TooLong) ↔ IsTooLong (after_reply self.old reply.now) }
         ensures refused { IfErr result (λ fault. (fault ≡ TooLong) ⊎ (fault ≡ OutOfMemory)) }
         ensures nothing { recording_note self.old.view reply.now ≡ None → result ≡ Ok tt }
-        ensures added { OnOk result (self.new ≡ record self.old { commands = self.old.commands ++ recorded_sends self.old.view reply.now }) }
+        ensures added { OnOk result (self.new ≡ after_reply self.old reply.now) }
         ensures kept { OnErr result (self.new ≡ self.old) }
     {
         // brings the fact that the script so far keeps the limits
@@ -98,12 +97,13 @@ impl Recorder {
 
     /// Adds the message of a note.
     fn add(&mut self, note: &Note, text: &[u8]) -> Result<(), ScriptFault>
-        ensures too_long { (result ≡ Err TooLong) ↔ (keeps_limits (self.old.commands ++ sending self.old.view (told_message (with_text note.entry.now text.now)) ∷ []) ≡ false) }
+        ensures too_long { (result ≡ Err TooLong) ↔ IsTooLong (after_note self.old note.entry.now text.now) }
         ensures refused { IfErr result (λ fault. (fault ≡ TooLong) ⊎ (fault ≡ OutOfMemory)) }
-        ensures added { OnOk result (self.new ≡ record self.old { commands = self.old.commands ++ sending self.old.view (told_message (with_text note.entry.now text.now)) ∷ [] }) }
+        ensures added { OnOk result (self.new ≡ after_note self.old note.entry.now text.now) }
         ensures kept { OnErr result (self.new ≡ self.old) }
     {
-        // The limits are checked before the text is copied, so that a failed allocation does not hide that it is too long.
+        // The limits are checked before the text is copied, so that a failed allocation does not hide that it is too
+        // long.
         let (number, w, l) = (note.message, note.w, note.l);
         if !self.script.fits_send(self.view, number, w, l, text) {
             return Err(ScriptFault::TooLong);

@@ -4,7 +4,7 @@ ghost use Rattle.std.specs.Prelude.{◌≡◌, ◌⊎◌, ◌↔◌, ◌++◌, �
 ghost use Rattle.ed_types.specs.declared.script.ScriptFault.TheVariants.{TooLong, OutOfMemory};
 ghost use Rattle.ed_model.specs.Listing.{keeps_limits, listing};
 ghost use Rattle.ed_model.specs.ScriptLaws.{IsScript};
-ghost use Rattle.macro_script.specs.Recorded.{sending};
+ghost use Rattle.macro_script.specs.Recorded.{send_command};
 ghost use Rattle.macro_script.specs.Scripts.{IsProper};
 
 use crate::lengths::{line_len, send_len};
@@ -78,7 +78,7 @@ impl Script {
 
     /// Returns whether the script keeps the limits with one more message, sent to `view`. Allocates nothing.
     pub(crate) fn fits_send(&self, view: u32, number: u32, w: i64, l: i64, text: &[u8]) -> bool
-        ensures { result ≡ keeps_limits (self.now ++ sending view (record { number = number; w = w; l = l; text = text.now }) ∷ []) }
+        ensures { result ≡ keeps_limits (self.now ++ send_command view number w l text.now ∷ []) }
     {
         match send_len(view, number, w, l, text) {
             Some(len) => len < SCRIPT_LIMIT - self.listed,
