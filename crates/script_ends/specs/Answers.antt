@@ -1,11 +1,14 @@
 -- The answers and the output of a script, of its listing and of a check, and of their parts.
-use Rattle.std.specs.Prelude.{◌≡◌, ◌⊎◌, ⊤, ℕ, Bool, true, false, List, [], ◌++◌, length, codes, Option, Result, Ok, Err}
+use Rattle.std.specs.Prelude.{◌≡◌, ◌⊎◌, ⊤, ℕ, Bool, true, false, List, [], ◌++◌, length, codes, Option, Result, Ok, Err, Vec}
+use Rattle.std.proofs.Common.{Global}
 use Rattle.std.specs.Io.KnownBytes.{Keeps, Appends}
 use Rattle.ed_types.specs.declared.script.Command.{Command}
+use Rattle.ed_types.specs.declared.script.Outcome.{Outcome}
 use Rattle.ed_types.specs.declared.script.ScriptFault.{ScriptFault}
 use Rattle.ed_types.specs.declared.script.ScriptFault.TheVariants.{OutOfMemory}
 use Rattle.ed_model.specs.Spelling.{spelled}
 use Rattle.ed_model.specs.Listing.{ended_line}
+use Rattle.ed_model.specs.Printed.{printed_outcome}
 use Rattle.script_ends.specs.declared.fault.RunFault.{RunFault}
 use Rattle.script_ends.specs.declared.fault.RunFault.TheVariants.{Script, Read, Write}
 use Rattle.script_ends.specs.declared.ends.WriteFailed.{WriteFailed}
@@ -87,6 +90,10 @@ Puts text (Ok value) old new before after = Moves old new before after text
 Puts text (Err (Script fault)) old new before after = (fault ≡ OutOfMemory) × MovesPart old new before after text
 Puts text (Err Read) old new before after = ⊥
 Puts text (Err Write) old new before after = AppendsFront old new (before ++ text)
+
+-- the same for the text that an outcome prints
+abbrev pub PutsOutcome : {T : Type 0} → Outcome → Result T RunFault → Option (List ℕ) → Option (List ℕ) → Vec ℕ Global → Vec ℕ Global → Type 0
+PutsOutcome outcome result old new before after = Puts (printed_outcome outcome) result old new before.items after.items
 
 abbrev pub PutCause : {T : Type 0} → Result T RunFault → Bool → Type 0
 PutCause (Ok value) writer = writer ≡ false

@@ -1,5 +1,5 @@
 -- How readers and writers report their failures, and the results of many calls.
-use Rattle.std.specs.Prelude.{◌≡◌, ℕ, ◌≤◌, ◌&&◌, ◌==◌, nat_lt, if◌then◌else◌, Bool, true, false, List, ◌++◌, length, Option, Result, Ok, Err}
+use Rattle.std.specs.Prelude.{◌≡◌, ℕ, ◌≤◌, ◌&&◌, ◌==◌, nat_lt, if◌then◌else◌, Bool, true, false, List, ◌++◌, length, take, Option, IfSome, Result, Ok, Err}
 use Rattle.std.specs.Io.KnownBytes.{Appends, Consumes}
 use Rattle.script_ends.specs.declared.ends.ReadFailed.{ReadFailed}
 use Rattle.script_ends.specs.declared.ends.WriteFailed.{WriteFailed}
@@ -19,6 +19,10 @@ pub record TakesAtMost (limit : ℕ) (old new : Option (List ℕ)) : Type 0 wher
   pub taken : List ℕ
   pub consumed : Consumes old new taken
   pub few : length taken ≤ limit
+
+-- the text is the first `count` bytes that the source had, or all if it had fewer; said only if they are known
+abbrev pub AreFirstBytes : ℕ → Option (List ℕ) → List ℕ → Type 0
+AreFirstBytes count source text = IfSome source (λ bytes. text ≡ take count bytes)
 
 -- a front part of a text was written, and nothing else
 pub record AppendsFront (old new : Option (List ℕ)) (text : List ℕ) : Type 0 where

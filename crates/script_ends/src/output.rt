@@ -1,9 +1,8 @@
 //! Text that is written to a sink through a buffer.
 
 ghost use Rattle.std.specs.Prelude.{◌≡◌, ◌<◌, OnOk, false, length};
-ghost use Rattle.ed_model.specs.Printed.{printed_outcome};
 ghost use Rattle.script_ends.specs.Ends.{WritesAll, WriteEnds};
-ghost use Rattle.script_ends.specs.Answers.{Pours, Puts, PutCause};
+ghost use Rattle.script_ends.specs.Answers.{Pours, PutsOutcome, PutCause};
 
 use crate::ends::{Sink, WriteFailed};
 use crate::fault::RunFault;
@@ -59,7 +58,7 @@ pub fn pour<W: Sink>(sink: &mut W, buffer: &mut Vec<u8>) -> Result<(), WriteFail
 /// `Script` if an allocation fails, and `Write` if a write fails or takes no byte.
 pub fn put<W: Sink>(sink: &mut W, buffer: &mut Vec<u8>, outcome: &Outcome) -> Result<(), RunFault>
     requires { W.has_failed sink.old ≡ false }
-    ensures put { Puts (printed_outcome outcome.now) result (W.contents sink.old) (W.contents sink.new) buffer.old.items buffer.new.items }
+    ensures put { PutsOutcome outcome.now result (W.contents sink.old) (W.contents sink.new) buffer.old buffer.new }
     ensures cause { PutCause result (W.has_failed sink.new) }
 {
     append_outcome(buffer, outcome)?;

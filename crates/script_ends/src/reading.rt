@@ -1,8 +1,8 @@
 //! Reading of scripts and files from a source.
 
-ghost use Rattle.std.specs.Prelude.{◌≡◌, [], OnOk, ◌+◌, ◌<◌, ◌^◌, length, take, IfSome, IfOk, false};
+ghost use Rattle.std.specs.Prelude.{◌≡◌, [], OnOk, ◌+◌, ◌<◌, ◌^◌, length, IfSome, IfOk, false};
 ghost use Rattle.ed_model.specs.Reading.{reading as reading_of};
-ghost use Rattle.script_ends.specs.Ends.{TakesAtMost};
+ghost use Rattle.script_ends.specs.Ends.{TakesAtMost, AreFirstBytes};
 ghost use Rattle.script_ends.specs.Answers.{ReadEnds, ReadsScript, ReadCause};
 ghost use Rattle.script_ends.specs.Files.{ReadsFile};
 
@@ -36,7 +36,7 @@ fn fill<S: Source>(
     requires small { limit < 2 ^ 62 }
     requires empty { text.old.items ≡ [] }
     requires room { 0 < length block.old }
-    ensures text { OnOk result (IfSome (S.remaining source.old) (λ bytes. text.new.items ≡ take (limit + 1) bytes)) }
+    ensures text { OnOk result (AreFirstBytes (limit + 1) (S.remaining source.old) text.new.items) }
     ensures taken { TakesAtMost (limit + 1) (S.remaining source.old) (S.remaining source.new) }
     ensures cause { ReadEnds result (S.has_failed source.new) }
 {
@@ -56,7 +56,7 @@ fn fill<S: Source>(
 fn read_up_to<S: Source>(alloc: Global, source: &mut S, limit: usize) -> Result<Vec<u8>, RunFault>
     requires fresh { S.has_failed source.old ≡ false }
     requires small { limit < 2 ^ 62 }
-    ensures text { IfOk result (λ text. IfSome (S.remaining source.old) (λ bytes. text.items ≡ take (limit + 1) bytes)) }
+    ensures text { IfOk result (λ text. AreFirstBytes (limit + 1) (S.remaining source.old) text.items) }
     ensures taken { TakesAtMost (limit + 1) (S.remaining source.old) (S.remaining source.new) }
     ensures cause { ReadEnds result (S.has_failed source.new) }
 {
@@ -73,7 +73,7 @@ fn read_up_to<S: Source>(alloc: Global, source: &mut S, limit: usize) -> Result<
 /// `Read` if a read fails, and `Script` if an allocation fails.
 pub fn read_text<S: Source>(alloc: Global, source: &mut S) -> Result<Vec<u8>, RunFault>
     requires { S.has_failed source.old ≡ false }
-    ensures text { IfOk result (λ text. IfSome (S.remaining source.old) (λ bytes. text.items ≡ take 16777217 bytes)) }
+    ensures text { IfOk result (λ text. AreFirstBytes 16777217 (S.remaining source.old) text.items) }
     ensures taken { TakesAtMost 16777217 (S.remaining source.old) (S.remaining source.new) }
     ensures cause { ReadEnds result (S.has_failed source.new) }
 {

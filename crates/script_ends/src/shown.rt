@@ -86,7 +86,8 @@ fn line_at(text: &[u8], line: u64) -> &[u8] {
     split_line(rest).0
 }
 
-/// Sets `shown` to a line of a text, counted from 1, as it is shown: at most 120 characters, and `...` if there are more.
+/// Sets `shown` to a line of a text, counted from 1, as it is shown: at most 120 characters, and `...` if there are
+/// more.
 ///
 /// # Errors
 ///
