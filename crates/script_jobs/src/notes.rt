@@ -3,8 +3,9 @@
 ghost use Rattle.std.specs.Prelude.{◌≡◌, false};
 ghost use Rattle.ed_model.specs.Printed.{printed_outcome};
 ghost use Rattle.macro_script.specs.Appending.{Appends};
-ghost use Rattle.script_ends.specs.Answers.{Puts, PutCause};
-ghost use Rattle.script_jobs.specs.Runs.{without_notes, shown_outcome};
+ghost use Rattle.script_ends.specs.Answers.{PutCause};
+ghost use Rattle.script_jobs.specs.declared.notes.Notes.TheVariants.{LeftOut};
+ghost use Rattle.script_jobs.specs.Runs.{PutsOne, without_notes};
 
 use ed_types::Outcome;
 use macro_script::printing::{append_answer, append_outcome};
@@ -37,7 +38,7 @@ fn put_without_notes<W: Sink>(
     outcome: &Outcome,
 ) -> Result<(), RunFault>
     requires { W.has_failed sink.old ≡ false }
-    ensures put { Puts (printed_outcome (without_notes outcome.now)) result (W.contents sink.old) (W.contents sink.new) buffer.old.items buffer.new.items }
+    ensures put { PutsOne LeftOut outcome.now result (W.contents sink.old) (W.contents sink.new) buffer.old buffer.new }
     ensures cause { PutCause result (W.has_failed sink.new) }
 {
     append_without_notes(buffer, outcome)?;
@@ -54,7 +55,7 @@ pub fn put_shown<W: Sink>(
     outcome: &Outcome,
 ) -> Result<(), RunFault>
     requires { W.has_failed sink.old ≡ false }
-    ensures put { Puts (printed_outcome (shown_outcome notes outcome.now)) result (W.contents sink.old) (W.contents sink.new) buffer.old.items buffer.new.items }
+    ensures put { PutsOne notes outcome.now result (W.contents sink.old) (W.contents sink.new) buffer.old buffer.new }
     ensures cause { PutCause result (W.has_failed sink.new) }
 {
     match notes {

@@ -1,12 +1,11 @@
 //! Runs scripts from a source to a sink, and performs jobs.
 
 ghost use Rattle.std.specs.Prelude.{◌≡◌, IfSome, IfOk, count_by, false};
-ghost use Rattle.ed_model.specs.Printed.{printed};
 ghost use Rattle.ed_model.specs.Reading.{reading};
 ghost use Rattle.ed_model.specs.Run.{outcomes, is_unmet as is_unmet_outcome};
 ghost use Rattle.script_ends.specs.Ends.{TakesAtMost};
-ghost use Rattle.script_ends.specs.Answers.{Answers, HasCause, WritesNoneAtRead, Puts, PutCause};
-ghost use Rattle.script_jobs.specs.Runs.{Writes, WriteCause, shown_outcomes, answers, printed_run, printed_without_notes, unmet, text_of_job, value_of_job};
+ghost use Rattle.script_ends.specs.Answers.{HasCause, WritesNoneAtRead, Puts, PutCause};
+ghost use Rattle.script_jobs.specs.Runs.{Prints, WriteCause, text_of_run, new_run, unmet, AnswersRun, AnswersWithoutNotes, AnswersJob};
 
 use crate::notes::{Notes, put_shown};
 use ed_types::{Bytes, Command, Outcome};
@@ -28,8 +27,8 @@ fn is_unmet(outcome: &Outcome) -> bool
     }
 }
 
-/// Performs the commands, puts the text printed for them, with their notes or without, into the buffer, and counts the `expect`
-/// commands that are not met. A failed allocation ends the run.
+/// Performs the commands, puts the text printed for them, with their notes or without, into the buffer, and counts the
+/// `expect` commands that are not met. A failed allocation ends the run.
 fn run_commands<W: Sink>(
     sink: &mut W,
     notes: Notes,
@@ -39,7 +38,8 @@ fn run_commands<W: Sink>(
     commands: &[Command],
 ) -> Result<u64, RunFault>
     requires { W.has_failed sink.old ≡ false }
-    ensures put { Puts (printed (shown_outcomes notes (outcomes files.now commands.now run.old))) result (W.contents sink.old) (W.contents sink.new) buffer.old.items buffer.new.items }
+    ensures put { Puts (text_of_run notes files.now commands.now run.old) result
+        (W.contents sink.old) (W.contents sink.new) buffer.old.items buffer.new.items }
     ensures unmet { IfOk result (λ k. k ≡ count_by is_unmet_outcome (outcomes files.now commands.now run.old)) }
     ensures cause { PutCause result (W.has_failed sink.new) }
 {
@@ -54,7 +54,8 @@ fn run_commands<W: Sink>(
     Ok(unmet)
 }
 
-/// Performs the commands, and writes the text printed for them. What was printed before an allocation failed is still written.
+/// Performs the commands, and writes the text printed for them. What was printed before an allocation failed is still
+/// written.
 fn print_outcomes<W: Sink>(
     alloc: Global,
     sink: &mut W,
@@ -64,7 +65,7 @@ fn print_outcomes<W: Sink>(
     commands: &[Command],
 ) -> Result<u64, RunFault>
     requires { W.has_failed sink.old ≡ false }
-    ensures written { Writes (printed (shown_outcomes notes (outcomes files.now commands.now run.old))) result (W.contents sink.old) (W.contents sink.new) }
+    ensures written { Prints notes files.now commands.now run.old result (W.contents sink.old) (W.contents sink.new) }
     ensures unmet { IfOk result (λ k. k ≡ count_by is_unmet_outcome (outcomes files.now commands.now run.old)) }
     ensures cause { WriteCause result (W.has_failed sink.new) }
 {
@@ -82,9 +83,9 @@ fn print_outcomes<W: Sink>(
     }
 }
 
-/// Performs commands in a new session, and writes the text printed for them. What was printed before an allocation failed
-/// is still written. `print_outcomes` borrows the run from here, so that the proofs of its error paths do not go through
-/// the drop of the run.
+/// Performs commands in a new session, and writes the text printed for them. What was printed before an allocation
+/// failed is still written. `print_outcomes` borrows the run from here, so that the proofs of its error paths do not go
+/// through the drop of the run.
 fn print_run<W: Sink>(
     alloc: Global,
     sink: &mut W,
@@ -93,7 +94,7 @@ fn print_run<W: Sink>(
     commands: &[Command],
 ) -> Result<u64, RunFault>
     requires { W.has_failed sink.old ≡ false }
-    ensures written { Writes (printed (shown_outcomes notes (answers files.now commands.now))) result (W.contents sink.old) (W.contents sink.new) }
+    ensures written { Prints notes files.now commands.now new_run result (W.contents sink.old) (W.contents sink.new) }
     ensures unmet { IfOk result (λ k. k ≡ unmet files.now commands.now) }
     ensures cause { WriteCause result (W.has_failed sink.new) }
 {
@@ -106,9 +107,9 @@ fn print_run<W: Sink>(
 ///
 /// # Errors
 ///
-/// `Script` with the fault of bytes that are no script, or `OutOfMemory` if an allocation fails, which ends a run. `Read` if
-/// a read failed, and `Write` if a write failed or took no byte. Nothing is written before the script is assembled, and the
-/// bytes written before an error are a prefix of the printed text.
+/// `Script` with the fault of bytes that are no script, or `OutOfMemory` if an allocation fails, which ends a run.
+/// `Read` if a read failed, and `Write` if a write failed or took no byte. Nothing is written before the script is
+/// assembled, and the bytes written before an error are a prefix of the printed text.
 pub fn run_script<R: Source, W: Sink>(
     alloc: Global,
     reader: &mut R,
@@ -118,7 +119,7 @@ pub fn run_script<R: Source, W: Sink>(
     requires reader { R.has_failed reader.old ≡ false }
     requires writer { W.has_failed writer.old ≡ false }
     ensures ran { IfSome (R.remaining reader.old) (λ bytes.
-        Answers (printed_run files.items) (unmet files.items) (reading bytes) result (W.contents writer.old) (W.contents writer.new)) }
+        AnswersRun files.items (reading bytes) result (W.contents writer.old) (W.contents writer.new)) }
     ensures taken { TakesAtMost 16777217 (R.remaining reader.old) (R.remaining reader.new) }
     ensures cause { HasCause result (R.has_failed reader.new) (W.has_failed writer.new) }
     ensures unread { WritesNoneAtRead result (W.contents writer.old) (W.contents writer.new) }
@@ -142,7 +143,7 @@ pub fn run_without_notes<R: Source, W: Sink>(
     requires reader { R.has_failed reader.old ≡ false }
     requires writer { W.has_failed writer.old ≡ false }
     ensures ran { IfSome (R.remaining reader.old) (λ bytes.
-        Answers (printed_without_notes files.now) (unmet files.now) (reading bytes) result (W.contents writer.old) (W.contents writer.new)) }
+        AnswersWithoutNotes files.now (reading bytes) result (W.contents writer.old) (W.contents writer.new)) }
     ensures taken { TakesAtMost 16777217 (R.remaining reader.old) (R.remaining reader.new) }
     ensures cause { HasCause result (R.has_failed reader.new) (W.has_failed writer.new) }
     ensures unread { WritesNoneAtRead result (W.contents writer.old) (W.contents writer.new) }
@@ -151,8 +152,8 @@ pub fn run_without_notes<R: Source, W: Sink>(
     print_run(alloc, writer, Notes::LeftOut, files, script.commands())
 }
 
-/// Performs a job: runs, lists or checks the script that the source has. Returns how many `expect` commands were not met,
-/// and 0 for a listing and a check.
+/// Performs a job: runs, lists or checks the script that the source has. Returns how many `expect` commands were not
+/// met, and 0 for a listing and a check.
 ///
 /// # Errors
 ///
@@ -167,7 +168,7 @@ pub fn run_job<R: Source, W: Sink>(
     requires reader { R.has_failed reader.old ≡ false }
     requires writer { W.has_failed writer.old ≡ false }
     ensures done { IfSome (R.remaining reader.old) (λ bytes.
-        Answers (text_of_job job.now files.items) (value_of_job job.now files.items) (reading bytes) result (W.contents writer.old) (W.contents writer.new)) }
+        AnswersJob job.now files.items (reading bytes) result (W.contents writer.old) (W.contents writer.new)) }
     ensures taken { TakesAtMost 16777217 (R.remaining reader.old) (R.remaining reader.new) }
     ensures cause { HasCause result (R.has_failed reader.new) (W.has_failed writer.new) }
     ensures unread { WritesNoneAtRead result (W.contents writer.old) (W.contents writer.new) }
