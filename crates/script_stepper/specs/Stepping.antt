@@ -1,9 +1,10 @@
 -- A script that is performed one command at a time.
-use Rattle.std.specs.Prelude.{◌≡◌, ℕ, ◌≤◌, ◌+◌, List, length, take, slice_get, Option, Some, None}
+use Rattle.std.specs.Prelude.{◌≡◌, ℕ, ◌≤◌, ◌+◌, List, true, length, take, slice_get, Option, Some, None, IfSome}
 use Rattle.ed_types.specs.declared.script.Command.{Command}
 use Rattle.ed_types.specs.declared.script.Outcome.{Outcome}
 use Rattle.ed_model.specs.Run.{Running, starting, outcomes, run_to}
 use Rattle.ed_model.specs.Session.{Session, new_session, greatest_limits}
+use Rattle.editor_session.specs.Commands.{takes_no_memory}
 
 -- a script's commands, the files that it loads, and how many of the commands are done
 pub record Stepping : Type 0 where
@@ -27,6 +28,10 @@ next_outcome s = slice_get (outcomes s.files s.commands (starting (new_session g
 abbrev pub moved_on : Option Outcome → Stepping → Stepping
 moved_on None s = s
 moved_on (Some outcome) s = record s { state = s.state + 1 }
+
+-- the next command, if there is one, needs no memory
+abbrev pub IsNextFree : Stepping → Type 0
+IsNextFree s = IfSome (slice_get s.commands s.state) (λ command. takes_no_memory (session_of s) command ≡ true)
 
 -- The invariant of every stepper: its run is that of its first commands.
 pub record StandsAt (state : ℕ) (commands : List Command) (files : List (List ℕ)) (run : Running) : Type 0 where

@@ -1,12 +1,11 @@
 //! `Stepper` and its calls.
 
-ghost use Rattle.std.specs.Prelude.{◌≡◌, ◌≤◌, ◌<◌, ◌-◌, ◌↔◌, length, take, slice_get, OnOk, OnErr, IfOk, IfErr, IfSome, IsOk, Ok, Err, Some, None, false, true};
+ghost use Rattle.std.specs.Prelude.{◌≡◌, ◌≤◌, ◌<◌, ◌-◌, ◌↔◌, length, OnOk, OnErr, IfOk, IfErr, IsOk, Ok, Err, Some, None, false};
 ghost use Rattle.ed_types.specs.declared.refusal.Refusal.{Refusal};
 ghost use Rattle.ed_types.specs.declared.script.Outcome.TheVariants.{Refused};
 ghost use Rattle.script_stepper.specs.declared.fault.StepFault.TheVariants.{OutOfRange, OutOfMemory};
-ghost use Rattle.script_stepper.specs.Stepping.{Stepping, session_of, next_outcome, moved_on};
+ghost use Rattle.script_stepper.specs.Stepping.{Stepping, session_of, next_outcome, moved_on, IsNextFree};
 ghost use Rattle.ed_model.specs.Run.{run_to};
-ghost use Rattle.editor_session.specs.Commands.{takes_no_memory};
 
 use crate::fault::StepFault;
 use ed_types::{Bytes, Command, Outcome};
@@ -51,8 +50,8 @@ fn perform_all(run: &mut Run, files: &[Bytes], commands: &[Command]) -> Result<(
 }
 
 impl Stepper {
-    /// Returns a stepper before the first command of a script, in a new session. `load` reads from `files`, of which the first
-    /// has number 1. Allocates nothing.
+    /// Returns a stepper before the first command of a script, in a new session. `load` reads from `files`, of which
+    /// the first has number 1. Allocates nothing.
     pub fn new(alloc: Global, script: Script, files: Vec<Bytes>) -> Self
         ensures { result ≡ record { commands = script; files = files.items; state = 0 } }
     {
@@ -91,8 +90,8 @@ impl Stepper {
     ///
     /// # Errors
     ///
-    /// `OutOfMemory` if an allocation fails. The stepper is then unchanged. A command that allocates nothing never has this
-    /// error, nor does one that the model refuses: its refusal is its outcome.
+    /// `OutOfMemory` if an allocation fails. The stepper is then unchanged. A command that allocates nothing never has
+    /// this error, nor does one that the model refuses: its refusal is its outcome.
     pub fn step(&mut self) -> Result<Option<Outcome>, StepFault>
         ensures outcome { IfOk result (λ outcome. outcome ≡ next_outcome self.old) }
         ensures end { (result ≡ Ok None) ↔ (self.old.state ≡ length self.old.commands) }
@@ -100,7 +99,7 @@ impl Stepper {
         ensures refused { IfErr result (λ fault. fault ≡ OutOfMemory) }
         ensures kept { OnErr result (self.new ≡ self.old) }
         ensures goes_on { (refusal : Refusal) → next_outcome self.old ≡ Some (Refused refusal) → IsOk result }
-        ensures free { IfSome (slice_get self.old.commands self.old.state) (λ command. takes_no_memory (session_of self.old) command ≡ true) → IsOk result }
+        ensures free { IsNextFree self.old → IsOk result }
     {
         let Some(command) = self.script.commands().get(self.state) else {
             return Ok(None);
@@ -110,7 +109,8 @@ impl Stepper {
         Ok(Some(outcome))
     }
 
-    /// Goes back by one command, and returns whether there was one. Performs the commands before it again, in a new session.
+    /// Goes back by one command, and returns whether there was one. Performs the commands before it again, in a new
+    /// session.
     ///
     /// # Errors
     ///
@@ -133,8 +133,8 @@ impl Stepper {
     ///
     /// # Errors
     ///
-    /// `OutOfRange` exactly if the script has fewer than `n` commands, and `OutOfMemory` if an allocation fails. The stepper is
-    /// then unchanged.
+    /// `OutOfRange` exactly if the script has fewer than `n` commands, and `OutOfMemory` if an allocation fails. The
+    /// stepper is then unchanged.
     pub fn run_to(&mut self, n: usize) -> Result<(), StepFault>
         ensures range { (result ≡ Err OutOfRange) ↔ (length self.old.commands < n) }
         ensures moved { OnOk result (self.new ≡ record self.old { state = n }) }

@@ -1,4 +1,5 @@
-//! Stepping through a script, from any source of orders to any sink: describes what each command does, and shows the views.
+//! Stepping through a script, from any source of orders to any sink: describes what each command does, and shows the
+//! views.
 #![tactic(auto)]
 
 mod look;

@@ -70,7 +70,8 @@ impl<'a> Walk<'a> {
         Ok(Some((command, outcome)))
     }
 
-    /// Goes to where the first `count` commands are done, or all if there are fewer. Performs them again, in a new session.
+    /// Goes to where the first `count` commands are done, or all if there are fewer. Performs them again, in a new
+    /// session.
     pub fn go_to(&mut self, count: usize) -> Result<(), AllocError> {
         self.run = Run::new(Session::new(self.alloc));
         self.last_view = 0;
@@ -83,7 +84,8 @@ impl<'a> Walk<'a> {
         Ok(())
     }
 
-    /// Sends a message to a view, and returns its reply, or `None` if it is refused. Its changes stay until the next `go_to`.
+    /// Sends a message to a view, and returns its reply, or `None` if it is refused. Its changes stay until the next
+    /// `go_to`.
     pub fn ask(&mut self, view: u32, kind: Kind, w: i64) -> Result<Option<Reply>, AllocError> {
         self.was_asked = true;
         let message = Message {
