@@ -1,13 +1,17 @@
-//! The types at the border of the editing component: messages, replies and their notes, refusals, limits, and the
-//! commands of scripts.
+//! The types at the border of the editing component: messages, replies and their notes, refusals, limits, the commands
+//! of scripts, and Scintilla's numbers for them.
 #![tactic(auto)]
 
 mod bytes;
+pub mod document_option;
+pub mod fold_level;
 mod kind;
 mod laws;
 mod limits;
 mod marks;
 mod message;
+pub mod modification;
+pub mod notification;
 mod refusal;
 mod reply;
 mod script;

@@ -81,6 +81,14 @@ impl Reply {
         }
     }
 
+    /// Sets the value; the text and the notes stay.
+    pub fn set_value(&mut self, value: i64)
+        ensures { self.new ≡ record self.old { value = value } }
+    {
+        let place = &mut self.value;
+        *place = value;
+    }
+
     /// Returns the value of the answer.
     pub fn value(&self) -> i64
         ensures { result ≡ self.now.value }
