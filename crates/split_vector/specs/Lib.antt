@@ -3,4 +3,5 @@ pub mod Cells
 pub mod Ownership
 pub mod Split
 pub mod SplitLends
+pub mod Steps
 pub mod SumLaws

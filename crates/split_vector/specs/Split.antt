@@ -1,5 +1,5 @@
 -- What a contract sees of a `SplitVector`.
-use Rattle.std.specs.Prelude.{◌≡◌, ℕ, ◌+◌, ◌-◌, ◌/◌, ◌^◌, ◌<◌, ◌≤◌, ◌==◌, nat_lt, nat_le, ◌&&◌, if◌then◌else◌, min, max, ◌*◌, List, length, take, drop, ◌++◌, slice_index_or, refl}
+use Rattle.std.specs.Prelude.{◌≡◌, ℕ, ◌+◌, ◌-◌, ◌/◌, ◌^◌, ◌⊎◌, ◌<◌, ◌≤◌, ◌==◌, nat_lt, nat_le, ◌&&◌, if◌then◌else◌, min, max, ◌*◌, List, length, take, drop, ◌++◌, slice_index_or, refl}
 use Rattle.std.specs.Coded.{Coded, code_by, coded×, coded_list, coded_ℕ}
 
 -- the items, how many more fit into the block, how many items lie before the gap, and how many were moved or written so far
@@ -55,6 +55,24 @@ most_room items room count = max count (items + 2 * room)
 -- the size of a block of so many cells once it has grown by a 64th of its size, or to the wanted size if that is larger
 abbrev pub part_larger : ℕ → ℕ → ℕ
 part_larger held wanted = max wanted (held + held / 64)
+
+module _ {X : Type 0} where
+  -- how many cells the block has
+  abbrev pub block_size : Split X → ℕ
+  block_size s = length s.items + s.spare
+
+  -- there is room for `count` more items, and nothing but the spare capacity has changed
+  abbrev pub GainsSpare : ℕ → Split X → Split X → Type 0
+  GainsSpare count old new =
+      (new.items ≡ old.items) × (count ≤ new.spare) × (new.gap ≡ old.gap) × (new.moved ≡ old.moved)
+
+  -- the block did not grow, or has twice as many cells
+  abbrev pub IsDoubled : Split X → Split X → Type 0
+  IsDoubled old new = (new ≡ old) ⊎ (2 * block_size old ≤ block_size new)
+
+  -- the block has grown by a 64th of its size, or to the size for `count` more items if that is larger
+  abbrev pub GrowsByPart : ℕ → Split X → Split X → Type 0
+  GrowsByPart count old new = block_size new ≡ part_larger (block_size old) (length old.items + count)
 
 -- where the gap lies after count items were inserted at the place; it stays if there are none
 abbrev pub gap_after : ℕ → ℕ → ℕ → ℕ

@@ -1,10 +1,11 @@
 //! The fields of a vector, and the steps that keep them a gap buffer. All arithmetic of the gap is in this module.
-ghost use Rattle.std.specs.Prelude.{◌≡◌, ◌≤◌, ◌<◌, ◌+◌, ◌-◌, ◌*◌, ◌^◌, [], ◌∷◌, ◌++◌, length, take, drop, replicate, slice_index_or, slice_set, slice_range, OnOk, OnErr, Some, true};
+ghost use Rattle.std.specs.Prelude.{◌≡◌, ◌≤◌, ◌<◌, ◌+◌, ◌-◌, ◌*◌, ◌^◌, [], ◌∷◌, length, take, drop, replicate, slice_index_or, slice_set, slice_range, OnOk, OnErr, Some, true};
 ghost use Rattle.std.specs.Vec.Ownership.{FitsInBlock};
 ghost use Rattle.std.specs.Mem.{type_size};
 ghost use Rattle.split_vector.specs.Cells.{IsRun};
+ghost use Rattle.split_vector.specs.Steps.{cell_count, IsDeed};
 ghost use Rattle.split_vector.specs.Split.{counted, apart, outside, EachBetween, IsUpdated};
-ghost use Rattle.split_vector.specs.Block.{IsBlock, Has, block_items, block_cells};
+ghost use Rattle.split_vector.specs.Block.{block_items, block_cells, CanEnlarge, Has, IsBlock, IsEnlarged, IsUnchanged, KeepsGap, MovesGap, Removes, Slides, Writes};
 
 use crate::cells::{Base, Cells, Deed, allocate, deallocate, discard, enlarge, no_cells};
 use std::alloc::{AllocError, Allocator};
@@ -33,7 +34,7 @@ pub struct Block<T, A: Allocator> {
 
 /// Frees the block of `len` cells, if there is one.
 fn release<T, A: Allocator>(alloc: &A, base: Base<T>, len: usize, cells: Cells<T>, deed: Deed<T, A>)
-    requires { (cells.at ≡ base.ptr) × (length cells.left + cells.spare + length cells.right ≡ len) × (deed.at ≡ base.ptr) × (deed.len ≡ len) × (deed.alloc ≡ alloc.now) }
+    requires { (cells.at ≡ base.ptr) × (cell_count cells ≡ len) × IsDeed deed base.ptr len alloc.now }
 {
     if len == 0 {
         discard(cells, deed);
@@ -128,7 +129,7 @@ impl<T, A: Allocator> Block<T, A> {
         T: Copy,
         requires here { IsBlock self.old × (4096 ≤ self.old.gap) }
         requires few { 4096 * type_size T.row < 2 ^ 63 }
-        ensures { Has self.new (take (self.old.gap - 4096) (block_items self.old)) self.old.spare (drop (self.old.gap - 4096) (block_items self.old)) self.old.moved }
+        ensures { Slides (self.old.gap - 4096) self.old self.new }
     {
         let from = self.gap - PART;
         let end = self.gap + self.spare;
@@ -147,7 +148,7 @@ impl<T, A: Allocator> Block<T, A> {
         T: Copy,
         requires here { IsBlock self.old × (self.old.gap + 4096 ≤ self.old.len) }
         requires few { 4096 * type_size T.row < 2 ^ 63 }
-        ensures { Has self.new (take (self.old.gap + 4096) (block_items self.old)) self.old.spare (drop (self.old.gap + 4096) (block_items self.old)) self.old.moved }
+        ensures { Slides (self.old.gap + 4096) self.old self.new }
     {
         let gap = self.gap;
         let Some(part) = self.right().first_chunk::<PART>() else {
@@ -162,7 +163,7 @@ impl<T, A: Allocator> Block<T, A> {
     // Moves the gap to `place`, which is near it. Copies the items between the two, and does not count them.
     fn slide_near(&mut self, place: usize)
         requires { IsBlock self.old × (place ≤ self.old.len) }
-        ensures { Has self.new (take place (block_items self.old)) self.old.spare (drop place (block_items self.old)) self.old.moved }
+        ensures { Slides place self.old self.new }
     {
         if place < self.gap {
             let count = self.gap - place;
@@ -182,7 +183,7 @@ impl<T, A: Allocator> Block<T, A> {
     where
         T: Copy,
         requires { IsBlock self.old × (place ≤ self.old.gap) }
-        ensures parted { Has self.new (take self.new.gap (block_items self.old)) self.old.spare (drop self.new.gap (block_items self.old)) self.old.moved }
+        ensures parted { Slides self.new.gap self.old self.new }
         ensures within { place ≤ self.new.gap }
     {
         'parts: while self.gap - place >= PART && is_small_part(self.left()) {
@@ -195,7 +196,7 @@ impl<T, A: Allocator> Block<T, A> {
     where
         T: Copy,
         requires { IsBlock self.old × (self.old.gap ≤ place) × (place ≤ self.old.len) }
-        ensures parted { Has self.new (take self.new.gap (block_items self.old)) self.old.spare (drop self.new.gap (block_items self.old)) self.old.moved }
+        ensures parted { Slides self.new.gap self.old self.new }
         ensures within { self.new.gap ≤ place }
     {
         'parts: while place - self.gap >= PART && is_small_part(self.right()) {
@@ -208,7 +209,7 @@ impl<T, A: Allocator> Block<T, A> {
     where
         T: Copy,
         requires { IsBlock self.old × (place ≤ self.old.len) }
-        ensures { Has self.new (take place (block_items self.old)) self.old.spare (drop place (block_items self.old)) self.old.moved }
+        ensures { Slides place self.old self.new }
     {
         if place < self.gap {
             self.slide_back(place);
@@ -224,7 +225,7 @@ impl<T, A: Allocator> Block<T, A> {
     where
         T: Copy,
         requires { IsBlock self.old × (place ≤ self.old.len) }
-        ensures { Has self.new (take place (block_items self.old)) self.old.spare (drop place (block_items self.old)) (counted self.old.moved (apart place self.old.gap)) }
+        ensures { MovesGap place (apart place self.old.gap) self.old self.new }
     {
         if place == self.gap {
             return;
@@ -238,7 +239,7 @@ impl<T, A: Allocator> Block<T, A> {
     where
         T: Copy,
         requires { IsBlock self.old × (place ≤ self.old.len) }
-        ensures { Has self.new (take place (block_items self.old)) self.old.spare (drop place (block_items self.old)) (counted self.old.moved (apart place self.old.gap)) }
+        ensures { MovesGap place (apart place self.old.gap) self.old self.new }
     {
         let distance = if place < self.gap {
             self.gap - place
@@ -254,7 +255,7 @@ impl<T, A: Allocator> Block<T, A> {
     where
         T: Copy,
         requires { IsBlock self.old × (low ≤ high) × (high ≤ self.old.len) }
-        ensures fields { Has self.new (take self.new.gap (block_items self.old)) self.old.spare (drop self.new.gap (block_items self.old)) (counted self.old.moved (outside low high self.old.gap)) }
+        ensures fields { MovesGap self.new.gap (outside low high self.old.gap) self.old self.new }
         ensures within { (low ≤ self.new.gap) × (self.new.gap ≤ high) }
     {
         if self.gap < low {
@@ -269,7 +270,7 @@ impl<T, A: Allocator> Block<T, A> {
     where
         T: Copy,
         requires { IsBlock self.old × (place + count ≤ self.old.len) }
-        ensures { Has self.new (take place (block_items self.old)) (self.old.spare + count) (drop (place + count) (block_items self.old)) (counted self.old.moved (outside place (place + count) self.old.gap)) }
+        ensures { Removes place count self.old self.new }
     {
         let end = place + count;
         self.reach(place, end);
@@ -283,7 +284,7 @@ impl<T, A: Allocator> Block<T, A> {
     #[inline(always)]
     pub(crate) fn write(&mut self, item: T)
         requires { IsBlock self.old × (0 < self.old.spare) }
-        ensures { Has self.new (self.old.cells.left ++ item ∷ []) (self.old.spare - 1) self.old.cells.right (counted self.old.moved 1) }
+        ensures { Writes (item ∷ []) 1 self.old self.new }
     {
         self.cells.push(self.base, self.gap, item);
         self.gap += 1;
@@ -298,7 +299,7 @@ impl<T, A: Allocator> Block<T, A> {
     where
         T: Copy,
         requires { IsBlock self.old × (length source.now ≤ self.old.spare) }
-        ensures { Has self.new (self.old.cells.left ++ source.now) (self.old.spare - length source.now) self.old.cells.right (counted self.old.moved (length source.now)) }
+        ensures { Writes source.now (length source.now) self.old self.new }
     {
         let count = source.len();
         self.cells.push_slice(self.base, self.gap, source);
@@ -313,7 +314,7 @@ impl<T, A: Allocator> Block<T, A> {
     where
         T: Copy,
         requires { IsBlock self.old × (count ≤ self.old.spare) }
-        ensures { Has self.new (self.old.cells.left ++ replicate count item) (self.old.spare - count) self.old.cells.right (counted self.old.moved count) }
+        ensures { Writes (replicate count item) count self.old self.new }
     {
         self.cells.push_fill(self.base, self.gap, count, item);
         self.gap += count;
@@ -325,7 +326,7 @@ impl<T, A: Allocator> Block<T, A> {
     /// Overwrites the item at `index` with `item`.
     pub(crate) fn replace(&mut self, index: usize, item: T)
         requires { IsBlock self.old × (index < self.old.len) }
-        ensures fields { IsBlock self.new × (self.new.spare ≡ self.old.spare) × (self.new.gap ≡ self.old.gap) × (self.new.moved ≡ self.old.moved) }
+        ensures fields { KeepsGap self.old self.new }
         ensures items { block_items self.new ≡ slice_set (block_items self.old) index item }
     {
         if index < self.gap {
@@ -344,7 +345,7 @@ impl<T, A: Allocator> Block<T, A> {
         T: Copy,
         requires range { IsBlock self.old × (low ≤ high) × (high ≤ self.old.len) }
         requires callable { EachBetween (F.pre change.now) low high (block_items self.old) }
-        ensures fields { IsBlock self.new × (self.new.spare ≡ self.old.spare) × (self.new.gap ≡ self.old.gap) × (self.new.moved ≡ self.old.moved) }
+        ensures fields { KeepsGap self.old self.new }
         ensures items { IsUpdated (F.post change.now) low high (block_items self.old) (block_items self.new) }
     {
         let gap = self.gap;
@@ -364,9 +365,9 @@ impl<T, A: Allocator> Block<T, A> {
 
     // Lets the allocator enlarge the block to `size` cells. No item lies behind the gap.
     fn enlarge(&mut self, size: usize) -> Result<(), AllocError>
-        requires { IsBlock self.old × (self.old.gap ≡ self.old.len) × (0 < self.old.len + self.old.spare) × (self.old.len + self.old.spare ≤ size) × FitsInBlock T.row size }
-        ensures ok { OnOk result (Has self.new self.old.cells.left (size - self.old.len) self.old.cells.right self.old.moved) }
-        ensures err { OnErr result (Has self.new self.old.cells.left self.old.spare self.old.cells.right self.old.moved) }
+        requires { CanEnlarge T.row self.old size }
+        ensures ok { OnOk result (IsEnlarged size self.old self.new) }
+        ensures err { OnErr result (IsUnchanged self.old self.new) }
     {
         let old = self.len + self.spare;
         let (_, none, no_deed) = no_cells(&self.alloc);
@@ -394,8 +395,8 @@ impl<T, A: Allocator> Block<T, A> {
     where
         T: Copy,
         requires { IsBlock self.old × (self.old.len < size) × FitsInBlock T.row size }
-        ensures ok { OnOk result (Has self.new self.old.cells.left (size - self.old.len) self.old.cells.right self.old.moved) }
-        ensures err { OnErr result (Has self.new self.old.cells.left self.old.spare self.old.cells.right self.old.moved) }
+        ensures ok { OnOk result (IsEnlarged size self.old self.new) }
+        ensures err { OnErr result (IsUnchanged self.old self.new) }
     {
         let (base, mut cells, deed) = allocate(&self.alloc, size)?;
         cells.push_slice(base, 0, self.left());
@@ -416,8 +417,8 @@ impl<T, A: Allocator> Block<T, A> {
     where
         T: Copy,
         requires { IsBlock self.old × (self.old.len < size) }
-        ensures ok { OnOk result (Has self.new self.old.cells.left (size - self.old.len) self.old.cells.right self.old.moved) }
-        ensures err { OnErr result (Has self.new self.old.cells.left self.old.spare self.old.cells.right self.old.moved) }
+        ensures ok { OnOk result (IsEnlarged size self.old self.new) }
+        ensures err { OnErr result (IsUnchanged self.old self.new) }
     {
         if !may_hold::<T>(size) {
             return Err(AllocError);

@@ -1,7 +1,7 @@
 //! Reads of the items of a block, on either side of the gap.
 ghost use Rattle.std.specs.Prelude.{◌≡◌, ◌≤◌, ◌<◌, ◌+◌, ◌-◌, ◌⊎◌, ◌++◌, length, take, drop, slice_index_or, slice_range};
 ghost use Rattle.split_vector.specs.Split.{gap_beside};
-ghost use Rattle.split_vector.specs.Block.{IsBlock, block_items};
+ghost use Rattle.split_vector.specs.Block.{block_items, IsBlock, KeepsSizes};
 
 use crate::block::Block;
 use std::alloc::Allocator;
@@ -47,7 +47,7 @@ impl<T, A: Allocator> Block<T, A> {
     where
         T: Copy,
         requires { IsBlock self.old × (low ≤ high) × (high ≤ self.old.len) }
-        ensures fields { IsBlock self.new × (self.new.len ≡ self.old.len) × (self.new.spare ≡ self.old.spare) × (self.new.moved ≡ self.old.moved) }
+        ensures fields { KeepsSizes self.old self.new }
         ensures items { block_items self.new ≡ block_items self.old }
         ensures gap { self.new.gap ≡ gap_beside low high self.old.gap }
         ensures beside { (self.new.gap ≤ low) ⊎ (high ≤ self.new.gap) }
@@ -64,7 +64,7 @@ impl<T, A: Allocator> Block<T, A> {
         T: Copy,
         requires inside { IsBlock self.old × (high ≤ self.old.len) }
         requires between { (low < self.old.gap) × (self.old.gap < high) }
-        ensures fields { IsBlock self.new × (self.new.len ≡ self.old.len) × (self.new.spare ≡ self.old.spare) × (self.new.moved ≡ self.old.moved) }
+        ensures fields { KeepsSizes self.old self.new }
         ensures items { block_items self.new ≡ block_items self.old }
         ensures gap { self.new.gap ≡ gap_beside low high self.old.gap }
         ensures beside { (self.new.gap ≤ low) ⊎ (high ≤ self.new.gap) }

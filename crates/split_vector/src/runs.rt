@@ -1,6 +1,7 @@
 //! Safe steps over runs of cells.
-ghost use Rattle.std.specs.Prelude.{◌≡◌, ◌+◌, ◌-◌, ◌≤◌, ◌^◌, ◌<◌, ◌++◌, length, replicate};
+ghost use Rattle.std.specs.Prelude.{◌≡◌, ◌+◌, ◌-◌, ◌≤◌, ◌<◌, length, replicate};
 ghost use Rattle.split_vector.specs.Split.{EachBetween, IsUpdated};
+ghost use Rattle.split_vector.specs.Steps.{right_start, AreOnTheRight, FitInGap, KeepsLeft, KeepsRight, Pushes, PushesRight};
 
 use crate::cells::{Base, Cells};
 
@@ -15,7 +16,7 @@ impl<T> Cells<T> {
 
     /// Returns the items on the right, which begin in the cell `place`.
     pub(crate) fn right(&self, base: Base<T>, place: usize, len: usize) -> &[T]
-        requires { (base.ptr ≡ self.now.at) × (place ≡ length self.now.left + self.now.spare) × (len ≡ length self.now.right) }
+        requires { (base.ptr ≡ self.now.at) × (place ≡ right_start self.now) × (len ≡ length self.now.right) }
         ensures { result.now ≡ self.now.right }
     {
         self.slice(base, place, len)
@@ -26,8 +27,8 @@ impl<T> Cells<T> {
     pub(crate) fn push_slice(&mut self, base: Base<T>, gap: usize, source: &[T])
     where
         T: Copy,
-        requires { (base.ptr ≡ self.old.at) × (gap ≡ length self.old.left) × (length source.now ≤ self.old.spare) × (length self.old.left + self.old.spare < 2 ^ 63) }
-        ensures { (self.new.at ≡ self.old.at) × (self.new.left ≡ self.old.left ++ source.now) × (self.new.spare ≡ self.old.spare - length source.now) × (self.new.right ≡ self.old.right) }
+        requires { (base.ptr ≡ self.old.at) × FitInGap self.old gap (length source.now) }
+        ensures { Pushes source.now (length source.now) self.old self.new }
     {
         for i in 0..source.len() {
             self.push(base, gap + i, source[i]);
@@ -49,7 +50,7 @@ impl<T> Cells<T> {
         requires cells { (base.ptr ≡ self.old.at) × (gap ≡ length self.old.left) }
         requires range { (low ≤ high) × (high ≤ gap) }
         requires callable { EachBetween (F.pre change.now) low high self.old.left }
-        ensures others { (self.new.at ≡ self.old.at) × (self.new.spare ≡ self.old.spare) × (self.new.right ≡ self.old.right) }
+        ensures others { KeepsRight self.old self.new }
         ensures items { IsUpdated (F.post change.now) low high self.old.left self.new.left }
     {
         for index in low..high {
@@ -71,10 +72,10 @@ impl<T> Cells<T> {
     )
     where
         T: Copy,
-        requires cells { (base.ptr ≡ self.old.at) × (first ≡ length self.old.left + self.old.spare) × (len ≡ length self.old.right) × (first + len < 2 ^ 63) }
+        requires cells { (base.ptr ≡ self.old.at) × AreOnTheRight self.old first len }
         requires range { (low ≤ high) × (high ≤ len) }
         requires callable { EachBetween (F.pre change.now) low high self.old.right }
-        ensures others { (self.new.at ≡ self.old.at) × (self.new.left ≡ self.old.left) × (self.new.spare ≡ self.old.spare) }
+        ensures others { KeepsLeft self.old self.new }
         ensures items { IsUpdated (F.post change.now) low high self.old.right self.new.right }
     {
         for index in low..high {
@@ -87,8 +88,8 @@ impl<T> Cells<T> {
     pub(crate) fn push_fill(&mut self, base: Base<T>, gap: usize, count: usize, item: T)
     where
         T: Copy,
-        requires { (base.ptr ≡ self.old.at) × (gap ≡ length self.old.left) × (count ≤ self.old.spare) × (length self.old.left + self.old.spare < 2 ^ 63) }
-        ensures { (self.new.at ≡ self.old.at) × (self.new.left ≡ self.old.left ++ replicate count item) × (self.new.spare ≡ self.old.spare - count) × (self.new.right ≡ self.old.right) }
+        requires { (base.ptr ≡ self.old.at) × FitInGap self.old gap count }
+        ensures { Pushes (replicate count item) count self.old self.new }
     {
         for i in 0..count {
             self.push(base, gap + i, item);
@@ -100,8 +101,8 @@ impl<T> Cells<T> {
     pub(crate) fn push_right_slice(&mut self, base: Base<T>, end: usize, source: &[T])
     where
         T: Copy,
-        requires { (base.ptr ≡ self.old.at) × (end ≡ length self.old.left + self.old.spare) × (length source.now ≤ self.old.spare) }
-        ensures { (self.new.at ≡ self.old.at) × (self.new.left ≡ self.old.left) × (self.new.spare ≡ self.old.spare - length source.now) × (self.new.right ≡ source.now ++ self.old.right) }
+        requires { (base.ptr ≡ self.old.at) × (end ≡ right_start self.old) × (length source.now ≤ self.old.spare) }
+        ensures { PushesRight source.now (length source.now) self.old self.new }
     {
         let len = source.len();
         for i in 0..len {

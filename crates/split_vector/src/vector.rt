@@ -1,7 +1,7 @@
 //! `SplitVector` and its calls. A contract sees a vector as its `items`, `spare`, `gap` and `moved`.
-ghost use Rattle.std.specs.Prelude.{◌≡◌, ◌≤◌, ◌<◌, ◌+◌, ◌*◌, ◌^◌, ◌==◌, ◌⊎◌, [], ◌∷◌, ◌++◌, length, replicate, slice_index_or, slice_set, slice_range, OnOk, OnErr, IsOk};
+ghost use Rattle.std.specs.Prelude.{◌≡◌, ◌≤◌, ◌<◌, ◌+◌, ◌*◌, ◌^◌, ◌==◌, [], ◌∷◌, ◌++◌, length, replicate, slice_index_or, slice_set, slice_range, OnOk, OnErr, IsOk};
 ghost use Rattle.std.specs.Borrow.{sem};
-ghost use Rattle.split_vector.specs.Split.{split, inserted, deleted, EachBetween, IsUpdated, gap_after, moved_after, gap_closed, moved_closed, most_room, part_larger};
+ghost use Rattle.split_vector.specs.Split.{block_size, deleted, gap_after, gap_closed, inserted, most_room, moved_after, moved_closed, split, EachBetween, GainsSpare, GrowsByPart, IsDoubled, IsUpdated};
 
 use crate::block::Block;
 use std::alloc::{AllocError, Allocator, Global};
@@ -121,9 +121,9 @@ impl<T: Copy, A: Allocator> SplitVector<T, A> {
     /// `AllocError` if the allocation fails, or if no block can be so large. The vector is then unchanged.
     #[inline(always)]
     pub fn reserve(&mut self, count: usize) -> Result<(), AllocError>
-        ensures ok { OnOk result ((self.new.items ≡ self.old.items) × (count ≤ self.new.spare) × (self.new.gap ≡ self.old.gap) × (self.new.moved ≡ self.old.moved)) }
+        ensures ok { OnOk result (GainsSpare count self.old self.new) }
         ensures room_is_there { count ≤ self.old.spare → IsOk result × (self.new ≡ self.old) }
-        ensures doubles { OnOk result ((self.new ≡ self.old) ⊎ (2 * (length self.old.items + self.old.spare) ≤ length self.new.items + self.new.spare)) }
+        ensures doubles { OnOk result (IsDoubled self.old self.new) }
         ensures at_most { OnOk result (self.new.spare ≤ most_room (length self.old.items) self.old.spare count) }
         ensures err { OnErr result (self.new ≡ self.old) }
         ensures within { length self.new.items + self.new.spare < 2 ^ 63 }
@@ -138,8 +138,8 @@ impl<T: Copy, A: Allocator> SplitVector<T, A> {
     #[inline(never)]
     fn grow(&mut self, count: usize) -> Result<(), AllocError>
         requires { self.old.spare < count }
-        ensures ok { OnOk result ((self.new.items ≡ self.old.items) × (count ≤ self.new.spare) × (self.new.gap ≡ self.old.gap) × (self.new.moved ≡ self.old.moved)) }
-        ensures doubles { OnOk result (2 * (length self.old.items + self.old.spare) ≤ length self.new.items + self.new.spare) }
+        ensures ok { OnOk result (GainsSpare count self.old self.new) }
+        ensures doubles { OnOk result (2 * block_size self.old ≤ block_size self.new) }
         ensures at_most { OnOk result (self.new.spare ≤ most_room (length self.old.items) self.old.spare count) }
         ensures err { OnErr result (self.new ≡ self.old) }
         ensures within { length self.new.items + self.new.spare < 2 ^ 63 }
@@ -160,9 +160,9 @@ impl<T: Copy, A: Allocator> SplitVector<T, A> {
     ///
     /// `AllocError` if the allocation fails, or if no block can be so large. The vector is then unchanged.
     pub fn reserve_narrow(&mut self, count: usize) -> Result<(), AllocError>
-        ensures ok { OnOk result ((self.new.items ≡ self.old.items) × (count ≤ self.new.spare) × (self.new.gap ≡ self.old.gap) × (self.new.moved ≡ self.old.moved)) }
+        ensures ok { OnOk result (GainsSpare count self.old self.new) }
         ensures room_is_there { count ≤ self.old.spare → IsOk result × (self.new ≡ self.old) }
-        ensures grows { self.old.spare < count → OnOk result (length self.new.items + self.new.spare ≡ part_larger (length self.old.items + self.old.spare) (length self.old.items + count)) }
+        ensures grows { self.old.spare < count → OnOk result (GrowsByPart count self.old self.new) }
         ensures at_most { OnOk result (self.new.spare ≤ most_room (length self.old.items) self.old.spare count) }
         ensures err { OnErr result (self.new ≡ self.old) }
         ensures within { length self.new.items + self.new.spare < 2 ^ 63 }
