@@ -1,11 +1,15 @@
 -- How many stored starts a list of calls of a `Partitioning` changes in all by moving the step.
 use Rattle.std.specs.Prelude.{ℕ, ◌+◌, ◌≤◌, List, [], ◌∷◌}
 use Rattle.split_vector.specs.Split.{apart}
+use Rattle.partitioning.specs.Partitions.{Partitions}
 
 -- where the step stands, and how many stored starts its moves have changed so far
 pub record Steps : Type 0 where
   pub step_at : ℕ
   pub stepped : ℕ
+
+abbrev pub steps_of : Partitions → Steps
+steps_of p = record { step_at = p.step_at; stepped = p.stepped }
 
 -- What each call that names a partition keeps to: it changes no more starts than the step's distance from that
 -- partition and one. A step that stops on the way leaves the rest of the distance.

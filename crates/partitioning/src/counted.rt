@@ -81,6 +81,14 @@ impl<'a, P: Place, A: Allocator> CountedStarts<'a, P, A> {
         self.table.count()
     }
 
+    // The starts rise from 0, and none is past the end.
+    #[inline(always)]
+    pub(crate) fn are_partitions(&self)
+        ensures { ArePartitions self.now.starts self.now.length }
+    {
+        self.table.are_partitions();
+    }
+
     /// Returns the length of the whole.
     pub(crate) fn length(&self) -> usize
         ensures length { result ≡ self.now.length }

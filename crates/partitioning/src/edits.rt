@@ -1,8 +1,8 @@
 //! The calls that change partitions. Text that is inserted or deleted moves the step to its partition.
 ghost use Rattle.std.specs.Prelude.{◌≡◌, ◌≤◌, ◌<◌, ◌+◌, ◌-◌, length, insert, remove};
 ghost use Rattle.partitioning.specs.Partitions.{ArePartitions, CanStart, CanLose, raised_behind, lowered_behind};
-ghost use Rattle.partitioning.specs.Stored.{steps_between};
-ghost use Rattle.split_vector.specs.Split.{apart, counted};
+ghost use Rattle.partitioning.specs.Stored.{stepped_to};
+ghost use Rattle.partitioning.specs.SumLaws.{KeepsTo, steps_of};
 
 use crate::places::Place;
 use crate::table::Partitioning;
@@ -21,10 +21,10 @@ impl<P: Place, A: Allocator> Partitioning<P, A> {
         ensures step_moves { index ≤ self.old.step_at + 1 → self.new.step_at ≡ self.old.step_at + 1 }
         ensures step_stays { self.old.step_at + 1 < index → self.new.step_at ≡ self.old.step_at }
         ensures stepped { self.new.stepped ≡ self.old.stepped }
-        ensures few { self.new.stepped + apart index self.new.step_at ≤ self.old.stepped + (apart index self.old.step_at + 1) }
+        ensures few { KeepsTo index (steps_of self.old) (steps_of self.new) }
         ensures sound { ArePartitions self.new.starts self.new.length }
     {
-        let _ = self.count(); // brings the fact that the step's place is small
+        self.are_partitions();
         let place = P::from_usize(start);
         if index <= self.step_at + 1 {
             self.body.insert_reserved(index, place);
@@ -45,7 +45,7 @@ impl<P: Place, A: Allocator> Partitioning<P, A> {
         ensures step_moves { index ≤ self.old.step_at → self.new.step_at + 1 ≡ self.old.step_at }
         ensures step_stays { self.old.step_at < index → self.new.step_at ≡ self.old.step_at }
         ensures stepped { self.new.stepped ≡ self.old.stepped }
-        ensures few { self.new.stepped + apart index self.new.step_at ≤ self.old.stepped + (apart index self.old.step_at + 1) }
+        ensures few { KeepsTo index (steps_of self.old) (steps_of self.new) }
         ensures sound { ArePartitions self.new.starts self.new.length }
     {
         let count = self.count();
@@ -65,8 +65,8 @@ impl<P: Place, A: Allocator> Partitioning<P, A> {
         ensures room { self.new.room ≡ self.old.room }
         ensures step_at { self.new.step_at ≡ index }
         ensures counted { self.old.stepped ≤ self.new.stepped }
-        ensures stepped { self.new.stepped ≡ counted self.old.stepped (steps_between self.old.step_at index (length self.old.starts)) }
-        ensures few { self.new.stepped + apart index self.new.step_at ≤ self.old.stepped + (apart index self.old.step_at + 1) }
+        ensures stepped { self.new.stepped ≡ stepped_to index self.old }
+        ensures few { KeepsTo index (steps_of self.old) (steps_of self.new) }
         ensures sound { ArePartitions self.new.starts self.new.length }
     {
         self.step_to(index);
@@ -83,8 +83,8 @@ impl<P: Place, A: Allocator> Partitioning<P, A> {
         ensures room { self.new.room ≡ self.old.room }
         ensures step_at { self.new.step_at ≡ index }
         ensures counted { self.old.stepped ≤ self.new.stepped }
-        ensures stepped { self.new.stepped ≡ counted self.old.stepped (steps_between self.old.step_at index (length self.old.starts)) }
-        ensures few { self.new.stepped + apart index self.new.step_at ≤ self.old.stepped + (apart index self.old.step_at + 1) }
+        ensures stepped { self.new.stepped ≡ stepped_to index self.old }
+        ensures few { KeepsTo index (steps_of self.old) (steps_of self.new) }
         ensures sound { ArePartitions self.new.starts self.new.length }
     {
         self.step_to(index);

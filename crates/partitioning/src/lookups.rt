@@ -73,7 +73,7 @@ fn last_among<P: Place, A: Allocator>(
     ensures few { (k : ℕ) → IsFloorLog k (behind - first) → probes.new ≤ probes.old + (1 + k) }
     ensures many { (k : ℕ) → IsFloorLog k (behind - first) → counted probes.old k ≤ probes.new }
 {
-    let _ = starts.count(); // brings the fact that the starts rise
+    starts.are_partitions();
     let mut low = first;
     let mut width = behind - first;
     'halving: while width > 1 {

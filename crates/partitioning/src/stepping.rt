@@ -1,7 +1,7 @@
 //! Moves of the step.
 ghost use Rattle.std.specs.Prelude.{◌≡◌, ◌≤◌, ◌<◌, ◌+◌, length, map};
-ghost use Rattle.partitioning.specs.Stored.{AreWithin, IsTurned, near_count};
-ghost use Rattle.split_vector.specs.Split.{counted, apart};
+ghost use Rattle.partitioning.specs.Stored.{AreWithin, IsTurned, IsOneTurned, near_count, stepped_to};
+ghost use Rattle.split_vector.specs.Split.{counted};
 
 use crate::places::Place;
 use crate::table::Partitioning;
@@ -20,7 +20,7 @@ fn near_starts(step: usize, count: usize) -> usize
 fn turn_one<P: Place, A: Allocator>(body: &mut SplitVector<P, A>, index: usize, end: P)
     requires index { index < length body.old.items }
     requires within { AreWithin (P.number end) (map P.number body.old.items) }
-    ensures turned { IsTurned (P.number end) index (index + 1) (map P.number body.old.items) (map P.number body.new.items) }
+    ensures turned { IsOneTurned (P.number end) index (map P.number body.old.items) (map P.number body.new.items) }
     ensures spare { body.new.spare ≡ body.old.spare }
 {
     let distance = end.minus(body.get(index));
@@ -47,7 +47,7 @@ impl<P: Place, A: Allocator> Partitioning<P, A> {
         ensures step_at { self.new.step_at ≡ self.old.step_at + 1 }
         ensures stepped { self.new.stepped ≡ counted self.old.stepped 1 }
     {
-        let _ = self.count(); // brings the fact that the number of starts is small
+        self.are_partitions();
         let index = self.step_at + 1;
         turn_one(&mut self.body, index, self.end);
         self.step_at = index;
@@ -64,7 +64,7 @@ impl<P: Place, A: Allocator> Partitioning<P, A> {
         ensures room { self.new.room ≡ self.old.room }
         ensures step_at { self.new.step_at ≡ index }
         ensures counted { self.old.stepped ≤ self.new.stepped }
-        ensures stepped { let count = length self.old.starts in self.new.stepped ≡ counted self.old.stepped (apart (near_count index count) (near_count self.old.step_at count)) }
+        ensures stepped { self.new.stepped ≡ stepped_to index self.old }
     {
         let count = self.count();
         let near = near_starts(self.step_at, count);
@@ -86,7 +86,7 @@ impl<P: Place, A: Allocator> Partitioning<P, A> {
         ensures room { self.new.room ≡ self.old.room }
         ensures step_at { self.new.step_at ≡ index }
         ensures counted { self.old.stepped ≤ self.new.stepped }
-        ensures stepped { let count = length self.old.starts in self.new.stepped ≡ counted self.old.stepped (apart (near_count index count) (near_count self.old.step_at count)) }
+        ensures stepped { self.new.stepped ≡ stepped_to index self.old }
     {
         if index == self.step_at {
             return;

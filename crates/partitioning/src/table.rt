@@ -69,6 +69,15 @@ impl<P: Place, A: Allocator> Partitioning<P, A> {
         self.body.len()
     }
 
+    // The starts rise from 0, and none is past the end. There are fewer than 2^63, together with the room for more.
+    #[inline(always)]
+    pub(crate) fn are_partitions(&self)
+        ensures within { length self.now.starts + self.now.room < 2 ^ 63 }
+        ensures sound { ArePartitions self.now.starts self.now.length }
+    {
+        self.count();
+    }
+
     /// Returns the length of the whole.
     pub fn length(&self) -> usize
         ensures length { result ≡ self.now.length }
@@ -110,7 +119,7 @@ impl<P: Place, A: Allocator> Partitioning<P, A> {
         ensures start { result ≡ slice_index self.now.starts index }
         ensures within { result ≤ self.now.length }
     {
-        let _ = &self.end;
+        self.are_partitions();
         self.place_of(index).to_usize()
     }
 

@@ -26,7 +26,7 @@ halving-preserved g c =
       end = omega (arith, h.invariant.end);
       range =
           let t = c.if-is_at_most.ensures in
-          earlier_half s c.args.starts.now.length (g.P.Place.number c.args.wanted) h.low h.width (h.width / 2) c.count.ensures.sound h.invariant.range
+          earlier_half s c.args.starts.now.length (g.P.Place.number c.args.wanted) h.low h.width (h.width / 2) c.are_partitions.ensures h.invariant.range
           (omega arith) (omega arith) (omega (arith, below_where_not _ _ t.1, c.probe.ensures.start));
       counted = omega arith;
       many = halved_again n c.args.probes.now h.probes c.probe.new.probes h.width (h.width - h.width / 2) (omega arith) c.probe.ensures.probes (omega arith) h.invariant.many;
@@ -36,7 +36,7 @@ halving-preserved g c =
 pub returns-clause-last : goal.returns-clause-last
 returns-clause-last g c =
     let h = c.halving in
-    found c.args.starts.now.starts c.args.starts.now.length (g.P.Place.number c.args.wanted) h.low h.width c.count.ensures.sound h.invariant.range (omega arith)
+    found c.args.starts.now.starts c.args.starts.now.length (g.P.Place.number c.args.wanted) h.low h.width c.are_partitions.ensures h.invariant.range (omega arith)
 
 pub returns-clause-many : goal.returns-clause-many
 returns-clause-many g c = λ k log. read_enough (c.args.behind - c.args.first) c.args.probes.now c.halving.probes c.halving.width k (omega arith) c.halving.invariant.many log
