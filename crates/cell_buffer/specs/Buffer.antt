@@ -1,6 +1,8 @@
 -- What a contract sees of `Cells`.
-use Rattle.std.specs.Prelude.{◌≡◌, ◌≤◌, ◌<◌, ℕ, ◌+◌, ◌-◌, ◌⊎◌, ◌==◌, if◌then◌else◌, min, nat_lt, nat_le, Bool, true, false, List, [], ◌∷◌, ◌++◌, length, take, drop, Option, Some, None}
-use Rattle.ed_model.specs.Text.{Cell, plain_cell}
+use Rattle.std.specs.Prelude.{◌≡◌, ◌≤◌, ◌<◌, ℕ, ◌+◌, ◌-◌, ◌⊎◌, ◌==◌, if◌then◌else◌, min, max, nat_lt, nat_le, Bool, true, false, List, [], ◌∷◌, ◌++◌, length, take, drop, slice_index, slice_range, Option, Some, None}
+use Rattle.ed_model.specs.Text.{Cell, bytes_of, plain_cell}
+use Rattle.ed_model.specs.Changes.{restyled}
+use Rattle.split_vector.specs.Split.{Split, gap_after, gap_closed, most_room, moved_after, moved_closed}
 
 -- The cells; whether memory is kept for a style of each (otherwise all are 0); for how many cells, from the first on,
 -- the styles are stored (those behind are 0); and how many more cells are promised to fit in. Then, for the gap buffer
@@ -23,6 +25,52 @@ no_cells = record { cells = []; keeps_styles = false; styled = 0; room = 0; spar
 abbrev pub stored : Bool → ℕ → ℕ
 stored true n = n
 stored false n = 0
+
+-- for how many styles of `count` bytes the cells keep memory
+abbrev pub styles_of_bytes : Buffer → ℕ → ℕ
+styles_of_bytes b count = stored b.keeps_styles count
+
+-- there is memory for `count` more bytes, and for their styles if styles are kept
+abbrev pub HasMemory : ℕ → Buffer → Type 0
+HasMemory count b = (count ≤ b.spare.0) × (styles_of_bytes b count ≤ b.spare.1)
+
+-- the statement holds if there is that memory
+abbrev pub IfMemory : ℕ → Buffer → Type 0 → Type 0
+IfMemory count b P = count ≤ b.spare.0 → styles_of_bytes b count ≤ b.spare.1 → P
+
+-- for how many more styles there is memory at most after room for `count` more bytes was requested
+abbrev pub most_style_spare : Buffer → ℕ → ℕ
+most_style_spare b count = most_room (styles_of_bytes b (length b.cells)) b.spare.1 (styles_of_bytes b count)
+
+-- there is room for `count` more bytes, or the old room if that is more, and nothing else changes
+abbrev pub GainsRoom : ℕ → Buffer → Buffer → Type 0
+GainsRoom count old new = new ≡ record old { room = max old.room count }
+
+-- the same, but the memory may change as well
+abbrev pub GainsRoomAndMemory : ℕ → Buffer → Buffer → Type 0
+GainsRoomAndMemory count old new = new ≡ record old { room = max old.room count; spare = new.spare }
+
+-- memory is kept for styles, and nothing else changes
+abbrev pub GainsStyles : Buffer → Buffer → Type 0
+GainsStyles old new = new ≡ record old { keeps_styles = true; spare = (old.spare.0, new.spare.1) }
+
+-- once styles are kept, there is memory for the styles of the cells and of the room at most, or for twice as many as
+-- there was memory for before
+abbrev pub StyleBlockFits : Buffer → Buffer → Type 0
+StyleBlockFits old new = length old.cells + new.spare.1 ≤ most_room 0 old.spare.1 (length old.cells + old.room)
+
+-- `count` bytes, and their styles if styles are kept, take spare capacity
+abbrev pub TakesSpare : ℕ → Buffer → Buffer → Type 0
+TakesSpare count old new =
+    (new.spare.0 + count ≡ old.spare.0) × (new.spare.1 + styles_of_bytes old count ≡ old.spare.1)
+
+-- the spare capacity once `count` cells were deleted
+abbrev pub spare_after_deletion : Buffer → ℕ → ℕ × ℕ
+spare_after_deletion b count = (b.spare.0 + count, b.spare.1 + styles_of_bytes b count)
+
+-- the `count` bytes from the start on
+abbrev pub bytes_in : Buffer → (start count : ℕ) → List ℕ
+bytes_in b start count = slice_range (bytes_of b.cells) start (start + count)
 
 -- each byte with its style, or with style 0 where none is stored
 abbrev pub paired : List ℕ → List ℕ → List Cell
@@ -48,18 +96,77 @@ styled_ahead = 4096
 abbrev pub styled_up_to : ℕ → ℕ → ℕ → ℕ
 styled_up_to n end styled = if nat_le end styled then styled else end + min (n - end) styled_ahead
 
+-- where both gaps lie after `count` cells were inserted at the place
+abbrev pub gaps_after_insertion : Buffer → (place count : ℕ) → ℕ × ℕ
+gaps_after_insertion b place count =
+    (gap_after place count b.gaps.0, gap_after place (styles_in b place count) b.gaps.1)
+
+-- both counters after that insertion
+abbrev pub moved_after_insertion : Buffer → (place count : ℕ) → ℕ × ℕ
+moved_after_insertion b place count =
+    (moved_after place count b.gaps.0 b.moved.0, moved_after place (styles_in b place count) b.gaps.1 b.moved.1)
+
+-- where both gaps lie after the `count` cells from the place on were deleted
+abbrev pub gaps_after_deletion : Buffer → (place count : ℕ) → ℕ × ℕ
+gaps_after_deletion b place count =
+    (gap_closed place count b.gaps.0, gap_closed place (styles_out b place count) b.gaps.1)
+
+-- both counters after that deletion
+abbrev pub moved_after_deletion : Buffer → (place count : ℕ) → ℕ × ℕ
+moved_after_deletion b place count =
+    (moved_closed place count b.gaps.0 b.moved.0, moved_closed place (styles_out b place count) b.gaps.1 b.moved.1)
+
+-- where the gap of the styles lies once the styles of the first `styled` cells are stored
+abbrev pub gap_after_storing : Buffer → ℕ → ℕ
+gap_after_storing b styled = gap_after b.styled (styled - b.styled) b.gaps.1
+
+-- the counter of the styles then
+abbrev pub moved_after_storing : Buffer → ℕ → ℕ
+moved_after_storing b styled = moved_after b.styled (styled - b.styled) b.gaps.1 b.moved.1
+
+-- the styles up to the end are stored, and nothing else changes except the gap and the counter of the styles
+abbrev pub StoresStyles : ℕ → Buffer → Buffer → Type 0
+StoresStyles end old new =
+    new ≡ record old {
+      styled = styled_up_to (length old.cells) end old.styled;
+      gaps = (old.gaps.0, new.gaps.1);
+      moved = (old.moved.0, new.moved.1);
+    }
+
+-- the same up to the end of `count` cells from the start on, which get these styles
+abbrev pub SetsStyles : (start count : ℕ) → List ℕ → Buffer → Buffer → Type 0
+SetsStyles start count styles old new =
+    new ≡ record old {
+      cells = take start old.cells ++ restyled styles (drop start old.cells);
+      styled = styled_up_to (length old.cells) (start + count) old.styled;
+      gaps = (old.gaps.0, new.gaps.1);
+      moved = (old.moved.0, new.moved.1);
+    }
+
 -- xs with the new items instead of those from the place on
 abbrev pub overwritten : List ℕ → ℕ → List ℕ → List ℕ
 overwritten xs place new = take place xs ++ new ++ drop (place + length new) xs
+
+-- the new items stand instead of those from the place on, and nothing else changes
+abbrev pub Overwrites : ℕ → List ℕ → Split ℕ → Split ℕ → Type 0
+Overwrites place new before after = after ≡ record before { items = overwritten before.items place new }
 
 -- the range from a place up to an end, if the end is not 0
 abbrev pub range_between : ℕ → ℕ → Option (ℕ × ℕ)
 range_between first end = if end == 0 then None else Some (first, end - first)
 
+-- the same, of a pair of both ends
+abbrev pub range_of : ℕ × ℕ → Option (ℕ × ℕ)
+range_of ends = range_between ends.0 ends.1
+
 -- the range with one more place behind it, if there is a range
 abbrev pub widened : ℕ → Option (ℕ × ℕ) → Option (ℕ × ℕ)
 widened place None = Some (place, 1)
 widened place (Some range) = Some (range.0, place + 1 - range.0)
+
+-- the range, with the place behind it if the place gets another style
+abbrev pub range_with : List ℕ → (place style : ℕ) → Option (ℕ × ℕ) → Option (ℕ × ℕ)
+range_with styles place style range = if slice_index styles place == style then range else widened place range
 
 -- What it costs one gap buffer to insert or delete `count` items, at least one, at a place: at most the distance of the
 -- gap from the place, and the items. The gap then lies at the place, or behind what was inserted.
@@ -72,3 +179,7 @@ pub record CostsBoth (place count styles_count : ℕ) (old new : Buffer) : Type 
   pub bytes : CostsAtMost place count old.gaps.0 old.moved.0 new.gaps.0 new.moved.0
   pub styles : CostsAtMost place styles_count old.gaps.1 old.moved.1 new.gaps.1 new.moved.1
   pub no_styles : styles_count ≡ 0 → (new.gaps.1 ≡ old.gaps.1) × (new.moved.1 ≡ old.moved.1)
+
+-- the cost of an insertion of `count` bytes
+abbrev pub CostsInsertion : (place count : ℕ) → Buffer → Buffer → Type 0
+CostsInsertion place count old new = CostsBoth place count (styles_in old place count) old new

@@ -4,12 +4,12 @@
 ghost use Rattle.std.specs.Prelude.{◌≡◌, ◌<◌, ◌≤◌, ◌+◌, ◌-◌, ◌^◌, true, false, ◌++◌, [], ◌∷◌, length, take, drop, replicate, min, max, slice_get, slice_range, vec_len, vec_capacity, IfOk, OnOk, OnErr, IsOk};
 ghost use Rattle.ed_model.specs.Text.{bytes_of, styles_of, plain_cells};
 ghost use Rattle.ed_model.specs.Steps.{Insert, edited_cells};
-ghost use Rattle.ed_model.specs.Changes.{restyled};
 ghost use Rattle.ed_model.specs.Indicators.{changed_range};
-ghost use Rattle.split_vector.specs.Split.{most_room, gap_after, moved_after, gap_closed, moved_closed};
-ghost use Rattle.cell_buffer.specs.Buffer.{no_cells, stored, styles_in, styles_out, styled_up_to, CostsBoth};
+ghost use Rattle.split_vector.specs.Split.{most_room};
+ghost use Rattle.cell_buffer.specs.Buffer.{bytes_in, gap_after_storing, gaps_after_deletion, gaps_after_insertion, most_style_spare, moved_after_deletion, moved_after_insertion, moved_after_storing, no_cells, spare_after_deletion, styles_in, styles_of_bytes, styles_out, CostsBoth, CostsInsertion, GainsRoom, GainsRoomAndMemory, GainsStyles, HasMemory, IfMemory, SetsStyles, StoresStyles, StyleBlockFits, TakesSpare};
+ghost use Rattle.cell_buffer.specs.Growing.{HasCapacity, HasRoomFor};
 
-use crate::growth::grow_blocks;
+use crate::growth::{grow_blocks, size_is_small};
 use crate::styling::{fill, overwrite};
 use split_vector::SplitVector;
 use std::alloc::{AllocError, Global};
@@ -94,7 +94,7 @@ impl Cells {
         ensures within { length self.now.cells + self.now.room < 2 ^ 63 }
     {
         let room = self.room;
-        let _ = self.bytes.spare(); // brings the fact that the sum is small
+        size_is_small(&self.bytes);
         room
     }
 
@@ -145,13 +145,13 @@ impl Cells {
     #[tactic(auto, using(crate::proofs::Pairs::pairs_length))]
     #[inline(always)]
     pub fn reserve(&mut self, count: usize) -> Result<(), AllocError>
-        ensures ok { OnOk result (self.new ≡ record self.old { room = max self.old.room count; spare = self.new.spare }) }
+        ensures ok { OnOk result (GainsRoomAndMemory count self.old self.new) }
         ensures room_is_there { count ≤ self.old.room → IsOk result × (self.new ≡ self.old) }
-        ensures memory_is_there { count ≤ self.old.spare.0 → stored self.old.keeps_styles count ≤ self.old.spare.1 → IsOk result × (self.new ≡ record self.old { room = max self.old.room count }) }
+        ensures memory_is_there { IfMemory count self.old (IsOk result × GainsRoom count self.old self.new) }
         ensures bytes_stay { count ≤ self.old.spare.0 → self.new.spare.0 ≡ self.old.spare.0 }
-        ensures styles_stay { stored self.old.keeps_styles count ≤ self.old.spare.1 → self.new.spare.1 ≡ self.old.spare.1 }
+        ensures styles_stay { styles_of_bytes self.old count ≤ self.old.spare.1 → self.new.spare.1 ≡ self.old.spare.1 }
         ensures at_most { self.new.spare.0 ≤ most_room (length self.old.cells) self.old.spare.0 count }
-        ensures styles_at_most { self.new.spare.1 ≤ most_room (stored self.old.keeps_styles (length self.old.cells)) self.old.spare.1 (stored self.old.keeps_styles count) }
+        ensures styles_at_most { self.new.spare.1 ≤ most_style_spare self.old count }
         ensures err { OnErr result (self.new ≡ record self.old { spare = self.new.spare }) }
         ensures within { length self.new.cells + self.new.room < 2 ^ 63 }
     {
@@ -166,8 +166,8 @@ impl Cells {
     #[inline(always)]
     #[tactic(auto, using(crate::proofs::Pairs::pairs_length))]
     fn fits(&self, count: usize) -> bool
-        ensures yes { result ≡ true → (count ≤ self.now.spare.0) × (stored self.now.keeps_styles count ≤ self.now.spare.1) }
-        ensures there { count ≤ self.now.spare.0 → stored self.now.keeps_styles count ≤ self.now.spare.1 → result ≡ true }
+        ensures yes { result ≡ true → HasMemory count self.now }
+        ensures there { IfMemory count self.now (result ≡ true) }
         ensures no { result ≡ false → self.now.room < count }
         ensures within { length self.now.cells + self.now.spare.0 < 2 ^ 63 }
     {
@@ -187,11 +187,11 @@ impl Cells {
     #[tactic(auto, using(crate::proofs::Pairs::pairs_length))]
     fn grow(&mut self, count: usize) -> Result<(), AllocError>
         requires { self.old.room < count }
-        ensures ok { OnOk result (self.new ≡ record self.old { room = max self.old.room count; spare = self.new.spare }) }
+        ensures ok { OnOk result (GainsRoomAndMemory count self.old self.new) }
         ensures bytes_stay { count ≤ self.old.spare.0 → self.new.spare.0 ≡ self.old.spare.0 }
-        ensures styles_stay { stored self.old.keeps_styles count ≤ self.old.spare.1 → self.new.spare.1 ≡ self.old.spare.1 }
+        ensures styles_stay { styles_of_bytes self.old count ≤ self.old.spare.1 → self.new.spare.1 ≡ self.old.spare.1 }
         ensures at_most { self.new.spare.0 ≤ most_room (length self.old.cells) self.old.spare.0 count }
-        ensures styles_at_most { self.new.spare.1 ≤ most_room (stored self.old.keeps_styles (length self.old.cells)) self.old.spare.1 (stored self.old.keeps_styles count) }
+        ensures styles_at_most { self.new.spare.1 ≤ most_style_spare self.old count }
         ensures err { OnErr result (self.new ≡ record self.old { spare = self.new.spare }) }
         ensures within { length self.new.cells + self.new.room < 2 ^ 63 }
     {
@@ -216,9 +216,9 @@ impl Cells {
     /// `AllocError` if the allocation fails. Nothing has changed then.
     #[tactic(auto, using(crate::proofs::Pairs::pairs_length, crate::proofs::Stored::plain_where_none_stored))]
     pub fn keep_styles(&mut self) -> Result<(), AllocError>
-        ensures ok { OnOk result (self.new ≡ record self.old { keeps_styles = true; spare = (self.old.spare.0, self.new.spare.1) }) }
+        ensures ok { OnOk result (GainsStyles self.old self.new) }
         ensures plain { self.old.keeps_styles ≡ false → self.new.cells ≡ plain_cells (bytes_of self.new.cells) }
-        ensures at_most { self.old.keeps_styles ≡ false → OnOk result (length self.old.cells + self.new.spare.1 ≤ most_room 0 self.old.spare.1 (length self.old.cells + self.old.room)) }
+        ensures at_most { self.old.keeps_styles ≡ false → OnOk result (StyleBlockFits self.old self.new) }
         ensures kept { self.old.keeps_styles ≡ true → IsOk result × (self.new ≡ self.old) }
         ensures err { OnErr result (self.new ≡ self.old) }
     {
@@ -226,7 +226,7 @@ impl Cells {
             return Ok(());
         }
         let len = self.bytes.len();
-        let _ = self.bytes.spare(); // brings the fact that the sum is small
+        size_is_small(&self.bytes);
         let Ok(()) = self.styles.reserve(len + self.room) else {
             return Err(AllocError);
         };
@@ -242,11 +242,11 @@ impl Cells {
         ensures len { length self.new.cells ≡ length self.old.cells + length bytes.now }
         ensures keeps { self.new.keeps_styles ≡ self.old.keeps_styles }
         ensures room { self.new.room + length bytes.now ≡ self.old.room }
-        ensures spare { (self.new.spare.0 + length bytes.now ≡ self.old.spare.0) × (self.new.spare.1 + stored self.old.keeps_styles (length bytes.now) ≡ self.old.spare.1) }
+        ensures spare { TakesSpare (length bytes.now) self.old self.new }
         ensures styled { self.new.styled ≡ self.old.styled + styles_in self.old place (length bytes.now) }
-        ensures gaps { self.new.gaps ≡ (gap_after place (length bytes.now) self.old.gaps.0, gap_after place (styles_in self.old place (length bytes.now)) self.old.gaps.1) }
-        ensures moved { self.new.moved ≡ (moved_after place (length bytes.now) self.old.gaps.0 self.old.moved.0, moved_after place (styles_in self.old place (length bytes.now)) self.old.gaps.1 self.old.moved.1) }
-        ensures cost { CostsBoth place (length bytes.now) (styles_in self.old place (length bytes.now)) self.old self.new }
+        ensures gaps { self.new.gaps ≡ gaps_after_insertion self.old place (length bytes.now) }
+        ensures moved { self.new.moved ≡ moved_after_insertion self.old place (length bytes.now) }
+        ensures cost { CostsInsertion place (length bytes.now) self.old self.new }
     {
         self.bytes.insert_slice_reserved(place, bytes);
         if place < self.styles.len() {
@@ -263,13 +263,13 @@ impl Cells {
         ensures len { length self.new.cells + count ≡ length self.old.cells }
         ensures keeps { self.new.keeps_styles ≡ self.old.keeps_styles }
         ensures room { self.new.room ≡ self.old.room + count }
-        ensures spare { self.new.spare ≡ (self.old.spare.0 + count, self.old.spare.1 + stored self.old.keeps_styles count) }
+        ensures spare { self.new.spare ≡ spare_after_deletion self.old count }
         ensures styled { self.new.styled + styles_out self.old place count ≡ self.old.styled }
-        ensures gaps { self.new.gaps ≡ (gap_closed place count self.old.gaps.0, gap_closed place (styles_out self.old place count) self.old.gaps.1) }
-        ensures moved { self.new.moved ≡ (moved_closed place count self.old.gaps.0 self.old.moved.0, moved_closed place (styles_out self.old place count) self.old.gaps.1 self.old.moved.1) }
+        ensures gaps { self.new.gaps ≡ gaps_after_deletion self.old place count }
+        ensures moved { self.new.moved ≡ moved_after_deletion self.old place count }
         ensures cost { CostsBoth place count (styles_out self.old place count) self.old self.new }
     {
-        let _ = self.bytes.len(); // brings the fact that the sum is small
+        size_is_small(&self.bytes);
         self.bytes.delete(place, count);
         let styled = self.styles.len();
         if place < styled {
@@ -285,9 +285,9 @@ impl Cells {
     fn store_styles(&mut self, end: usize)
         requires within { end ≤ length self.old.cells }
         requires kept { self.old.keeps_styles ≡ true }
-        ensures same { self.new ≡ record self.old { styled = styled_up_to (length self.old.cells) end self.old.styled; gaps = (self.old.gaps.0, self.new.gaps.1); moved = (self.old.moved.0, self.new.moved.1) } }
-        ensures gap { self.new.gaps.1 ≡ gap_after self.old.styled (self.new.styled - self.old.styled) self.old.gaps.1 }
-        ensures moved { self.new.moved.1 ≡ moved_after self.old.styled (self.new.styled - self.old.styled) self.old.gaps.1 self.old.moved.1 }
+        ensures same { StoresStyles end self.old self.new }
+        ensures gap { self.new.gaps.1 ≡ gap_after_storing self.old self.new.styled }
+        ensures moved { self.new.moved.1 ≡ moved_after_storing self.old self.new.styled }
     {
         if self.styles.len() < end {
             self.store_more(end);
@@ -301,9 +301,9 @@ impl Cells {
         requires within { end ≤ length self.old.cells }
         requires kept { self.old.keeps_styles ≡ true }
         requires more { self.old.styled < end }
-        ensures same { self.new ≡ record self.old { styled = styled_up_to (length self.old.cells) end self.old.styled; gaps = (self.old.gaps.0, self.new.gaps.1); moved = (self.old.moved.0, self.new.moved.1) } }
-        ensures gap { self.new.gaps.1 ≡ gap_after self.old.styled (self.new.styled - self.old.styled) self.old.gaps.1 }
-        ensures moved { self.new.moved.1 ≡ moved_after self.old.styled (self.new.styled - self.old.styled) self.old.gaps.1 self.old.moved.1 }
+        ensures same { StoresStyles end self.old self.new }
+        ensures gap { self.new.gaps.1 ≡ gap_after_storing self.old self.new.styled }
+        ensures moved { self.new.moved.1 ≡ moved_after_storing self.old self.new.styled }
     {
         let styled = self.styles.len();
         let ahead = (self.bytes.len() - end).min(STYLED_AHEAD);
@@ -318,13 +318,13 @@ impl Cells {
     pub fn set_styles(&mut self, start: usize, styles: &[u8]) -> Option<(usize, usize)>
         requires within { start + length styles.now ≤ length self.old.cells }
         requires kept { self.old.keeps_styles ≡ true }
-        ensures cells { self.new ≡ record self.old { cells = take start self.old.cells ++ restyled styles.now (drop start self.old.cells); styled = styled_up_to (length self.old.cells) (start + length styles.now) self.old.styled; gaps = (self.old.gaps.0, self.new.gaps.1); moved = (self.old.moved.0, self.new.moved.1) } }
-        ensures gap { self.new.gaps.1 ≡ gap_after self.old.styled (self.new.styled - self.old.styled) self.old.gaps.1 }
-        ensures moved { self.new.moved.1 ≡ moved_after self.old.styled (self.new.styled - self.old.styled) self.old.gaps.1 self.old.moved.1 }
+        ensures cells { SetsStyles start (length styles.now) styles.now self.old self.new }
+        ensures gap { self.new.gaps.1 ≡ gap_after_storing self.old self.new.styled }
+        ensures moved { self.new.moved.1 ≡ moved_after_storing self.old self.new.styled }
         ensures len { length self.new.cells ≡ length self.old.cells }
         ensures changed { result ≡ changed_range (styles_of self.old.cells) (styles_of self.new.cells) }
     {
-        let _ = self.bytes.len(); // brings the fact that the sum is small
+        size_is_small(&self.bytes);
         self.store_styles(start + styles.len());
         overwrite(&mut self.styles, start, styles)
     }
@@ -336,13 +336,13 @@ impl Cells {
     pub fn set_style_run(&mut self, start: usize, count: usize, style: u8) -> Option<(usize, usize)>
         requires within { start + count ≤ length self.old.cells }
         requires kept { self.old.keeps_styles ≡ true }
-        ensures cells { self.new ≡ record self.old { cells = take start self.old.cells ++ restyled (replicate count style) (drop start self.old.cells); styled = styled_up_to (length self.old.cells) (start + count) self.old.styled; gaps = (self.old.gaps.0, self.new.gaps.1); moved = (self.old.moved.0, self.new.moved.1) } }
-        ensures gap { self.new.gaps.1 ≡ gap_after self.old.styled (self.new.styled - self.old.styled) self.old.gaps.1 }
-        ensures moved { self.new.moved.1 ≡ moved_after self.old.styled (self.new.styled - self.old.styled) self.old.gaps.1 self.old.moved.1 }
+        ensures cells { SetsStyles start count (replicate count style) self.old self.new }
+        ensures gap { self.new.gaps.1 ≡ gap_after_storing self.old self.new.styled }
+        ensures moved { self.new.moved.1 ≡ moved_after_storing self.old self.new.styled }
         ensures len { length self.new.cells ≡ length self.old.cells }
         ensures changed { result ≡ changed_range (styles_of self.old.cells) (styles_of self.new.cells) }
     {
-        let _ = self.bytes.len(); // brings the fact that the sum is small
+        size_is_small(&self.bytes);
         self.store_styles(start + count);
         fill(&mut self.styles, start, count, style)
     }
@@ -364,7 +364,7 @@ impl Cells {
         ensures joined { result.0.now ++ result.1.now ≡ slice_range (bytes_of self.now.cells) start (start + count) }
         ensures begun { 0 < count → 0 < length result.0.now }
     {
-        let _ = self.bytes.len(); // brings the fact that the sum is small
+        size_is_small(&self.bytes);
         let end = start + count;
         let (before, behind) = self.bytes.halves();
         let gap = before.len();
@@ -390,8 +390,8 @@ impl Cells {
         target: &mut Vec<u8>,
     ) -> Result<(), AllocError>
         requires { start + count ≤ length self.now.cells }
-        ensures ok { OnOk result (target.new.items ≡ target.old.items ++ slice_range (bytes_of self.now.cells) start (start + count)) }
-        ensures room_is_there { vec_len target.old + count ≤ vec_capacity target.old → IsOk result }
+        ensures ok { OnOk result (target.new.items ≡ target.old.items ++ bytes_in self.now start count) }
+        ensures room_is_there { HasRoomFor count target.old → IsOk result }
         ensures kept { vec_capacity target.old ≤ vec_capacity target.new }
         ensures err { OnErr result (target.new.items ≡ target.old.items) }
     {
@@ -418,7 +418,7 @@ impl Cells {
     ) -> Result<Vec<u8>, AllocError>
         requires { start + count ≤ length self.now.cells }
         ensures bytes { IfOk result (λ text. text.items ≡ slice_range (bytes_of self.now.cells) start (start + count)) }
-        ensures room { 0 < count → IfOk result (λ text. min (count + spare) (2 ^ 64 - 1) ≤ vec_capacity text) }
+        ensures room { 0 < count → IfOk result (λ text. HasCapacity (count + spare) text) }
         ensures free { count ≡ 0 → IsOk result }
     {
         let (first, second) = self.parts_of(start, count);
@@ -468,7 +468,7 @@ impl Cells {
 // allocation: a text that is not in the caches is fetched while the allocator works.
 fn copied(alloc: Global, bytes: &[u8], spare: usize) -> Result<Vec<u8>, AllocError>
     ensures bytes { IfOk result (λ copy. copy.items ≡ bytes.now) }
-    ensures room { 0 < length bytes.now → IfOk result (λ copy. min (length bytes.now + spare) (2 ^ 64 - 1) ≤ vec_capacity copy) }
+    ensures room { 0 < length bytes.now → IfOk result (λ copy. HasCapacity (length bytes.now + spare) copy) }
     ensures free { length bytes.now ≡ 0 → IsOk result }
 {
     let Some((last, before)) = bytes.split_last() else {
@@ -489,7 +489,7 @@ fn copied(alloc: Global, bytes: &[u8], spare: usize) -> Result<Vec<u8>, AllocErr
 // The case of `copied` for one byte.
 fn one_byte(alloc: Global, byte: u8, spare: usize) -> Result<Vec<u8>, AllocError>
     ensures byte { IfOk result (λ copy. copy.items ≡ byte ∷ []) }
-    ensures room { IfOk result (λ copy. min (1 + spare) (2 ^ 64 - 1) ≤ vec_capacity copy) }
+    ensures room { IfOk result (λ copy. HasCapacity (1 + spare) copy) }
 {
     let mut copy = Vec::with_capacity(alloc, spare.saturating_add(1))?;
     copy.push_reserved(byte);
@@ -500,7 +500,7 @@ fn one_byte(alloc: Global, byte: u8, spare: usize) -> Result<Vec<u8>, AllocError
 #[inline(never)]
 fn append_both(first: &[u8], second: &[u8], target: &mut Vec<u8>) -> Result<(), AllocError>
     ensures ok { OnOk result (target.new.items ≡ target.old.items ++ (first.now ++ second.now)) }
-    ensures room_is_there { vec_len target.old + (length first.now + length second.now) ≤ vec_capacity target.old → IsOk result }
+    ensures room_is_there { HasRoomFor (length first.now + length second.now) target.old → IsOk result }
     ensures kept { vec_capacity target.old ≤ vec_capacity target.new }
     ensures err { OnErr result (target.new.items ≡ target.old.items) }
 {

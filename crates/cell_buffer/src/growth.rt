@@ -4,8 +4,8 @@
 //! whose bytes were written just then, and after that each time that gaps have moved over the whole text many times.
 
 ghost use Rattle.std.specs.Prelude.{◌≡◌, ◌≤◌, ◌<◌, ◌+◌, ◌-◌, ◌*◌, ◌^◌, ◌⊎◌, true, false, length, IsTrue, OnOk, OnErr, IsOk};
-ghost use Rattle.split_vector.specs.Split.{most_room, part_larger};
-ghost use Rattle.cell_buffer.specs.Growing.{HasSameItems, IsDoubled};
+ghost use Rattle.split_vector.specs.Split.{block_size, most_room, GrowsByPart, IsDoubled};
+ghost use Rattle.cell_buffer.specs.Growing.{most_style_room, AreDoubled, HasSameItems, HasStyleRoom, IsFullPrice, IsPaidFor, StylesFit};
 
 use split_vector::SplitVector;
 use std::alloc::AllocError;
@@ -19,6 +19,14 @@ const PARTS: usize = 64;
 
 /// The unit of `paid_from`, in bytes. In units the number takes four bytes, which fit beside a `bool`.
 const UNIT: usize = 65_536;
+
+// A block has fewer than 2^63 cells.
+#[inline(always)]
+pub(crate) fn size_is_small(block: &SplitVector<u8>)
+    ensures { block_size block.now < 2 ^ 63 }
+{
+    block.spare();
+}
 
 // Returns how many units the bytes make, at most `u32::MAX`.
 fn units(bytes: u64) -> u32
@@ -55,7 +63,7 @@ fn grow_block(block: &mut SplitVector<u8>, count: usize, by_little: bool) -> Res
     ensures ok { OnOk result (count ≤ block.new.spare) }
     ensures room_is_there { count ≤ block.old.spare → IsOk result × (block.new ≡ block.old) }
     ensures room_stays { block.old.spare ≤ block.new.spare }
-    ensures part { by_little ≡ true → block.old.spare < count → OnOk result (length block.new.items + block.new.spare ≡ part_larger (length block.old.items + block.old.spare) (length block.old.items + count)) }
+    ensures part { by_little ≡ true → block.old.spare < count → OnOk result (GrowsByPart count block.old block.new) }
     ensures doubles { by_little ≡ false → IsDoubled block.old block.new }
     ensures at_most { block.new.spare ≤ most_room (length block.old.items) block.old.spare count }
     ensures err { OnErr result (block.new ≡ block.old) }
@@ -85,20 +93,20 @@ pub(crate) fn grow_blocks(
     ensures bytes { HasSameItems bytes.old bytes.new }
     ensures styles { HasSameItems styles.old styles.new }
     ensures ok { OnOk result (count ≤ bytes.new.spare) }
-    ensures styles_ok { keeps_styles ≡ true → OnOk result (length bytes.old.items + count ≤ length styles.old.items + styles.new.spare) }
+    ensures styles_ok { keeps_styles ≡ true → OnOk result (HasStyleRoom count bytes.old styles.old styles.new.spare) }
     ensures bytes_stay { count ≤ bytes.old.spare → bytes.new ≡ bytes.old }
-    ensures styles_stay { (keeps_styles ≡ false) ⊎ (length bytes.old.items + count ≤ length styles.old.items + styles.old.spare) → styles.new ≡ styles.old }
+    ensures styles_stay { StylesFit keeps_styles count bytes.old styles.old → styles.new ≡ styles.old }
     ensures room_stays { (bytes.old.spare ≤ bytes.new.spare) × (styles.old.spare ≤ styles.new.spare) }
     ensures at_most { bytes.new.spare ≤ most_room (length bytes.old.items) bytes.old.spare count }
-    ensures styles_at_most { styles.new.spare ≤ most_room (length styles.old.items) styles.old.spare (length bytes.old.items - length styles.old.items + count) }
-    ensures paid { (IsDoubled bytes.old bytes.new × IsDoubled styles.old styles.new) ⊎ ((64 * count ≤ length bytes.old.items) × (paid_from.old * 65536 + 65536 ≤ bytes.old.moved)) }
-    ensures price { OnOk result (64 * count ≤ length bytes.old.items → (bytes.old.moved + 64 * length bytes.old.items < paid_from.new * 65536 + 2 * 65536) ⊎ (paid_from.new ≡ 2 ^ 32 - 1)) }
+    ensures styles_at_most { styles.new.spare ≤ most_style_room count bytes.old styles.old }
+    ensures paid { AreDoubled bytes.old bytes.new styles.old styles.new ⊎ IsPaidFor count bytes.old paid_from.old }
+    ensures price { OnOk result (64 * count ≤ length bytes.old.items → IsFullPrice bytes.old paid_from.new) }
     ensures err { OnErr result ((styles.new ≡ styles.old) × (paid_from.new ≡ paid_from.old)) }
-    ensures within { (length bytes.new.items + bytes.new.spare < 2 ^ 63) × (length styles.new.items + styles.new.spare < 2 ^ 63) }
+    ensures within { (block_size bytes.new < 2 ^ 63) × (block_size styles.new < 2 ^ 63) }
 {
     let len = bytes.len();
     let by_little = grows_by_little(len, count, bytes.moved(), *paid_from);
-    let _ = styles.spare(); // brings the fact that the sum is small
+    size_is_small(styles);
     let Ok(()) = grow_block(bytes, count, by_little) else {
         return Err(AllocError);
     };

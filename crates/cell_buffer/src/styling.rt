@@ -1,8 +1,9 @@
 //! Overwriting of styles, and which of them changed.
-ghost use Rattle.std.specs.Prelude.{◌≡◌, ◌<◌, ◌≤◌, ◌+◌, ◌==◌, if◌then◌else◌, length, replicate, slice_set, slice_index};
+ghost use Rattle.std.specs.Prelude.{◌≡◌, ◌<◌, ◌≤◌, ◌+◌, length, replicate, slice_set};
 ghost use Rattle.ed_model.specs.Indicators.{changed_range};
-ghost use Rattle.cell_buffer.specs.Buffer.{overwritten, widened, range_between};
+ghost use Rattle.cell_buffer.specs.Buffer.{range_of, range_with, Overwrites};
 
+use crate::growth::size_is_small;
 use split_vector::SplitVector;
 
 /// A range as its start and its length, or `None`.
@@ -14,7 +15,7 @@ type Ends = (usize, usize);
 
 // Returns the range between the ends.
 fn between(ends: Ends) -> Range
-    ensures { result ≡ range_between ends.0 ends.1 }
+    ensures { result ≡ range_of ends }
 {
     let (first, end) = ends;
     if end == 0 {
@@ -29,9 +30,9 @@ fn between(ends: Ends) -> Range
 fn put(styles: &mut SplitVector<u8>, place: usize, style: u8, ends: Ends) -> Ends
     requires { place < length styles.old.items }
     ensures styles { styles.new ≡ record styles.old { items = slice_set styles.old.items place style } }
-    ensures changed { range_between result.0 result.1 ≡ (if slice_index styles.old.items place == style then range_between ends.0 ends.1 else widened place (range_between ends.0 ends.1)) }
+    ensures changed { range_of result ≡ range_with styles.old.items place style (range_of ends) }
 {
-    let _ = styles.len(); // brings the fact that the place is small
+    size_is_small(styles);
     let was = styles.get(place);
     styles.set(place, style);
     if was == style {
@@ -47,10 +48,10 @@ fn put(styles: &mut SplitVector<u8>, place: usize, style: u8, ends: Ends) -> End
 /// Replaces the styles from `start` on by `new`, and returns the smallest range with all that changed.
 pub(crate) fn overwrite(styles: &mut SplitVector<u8>, start: usize, new: &[u8]) -> Range
     requires { start + length new.now ≤ length styles.old.items }
-    ensures styles { styles.new ≡ record styles.old { items = overwritten styles.old.items start new.now } }
+    ensures styles { Overwrites start new.now styles.old styles.new }
     ensures changed { result ≡ changed_range styles.old.items styles.new.items }
 {
-    let _ = styles.len(); // brings the fact that the places are small
+    size_is_small(styles);
     let mut ends = (0, 0);
     for i in 0..new.len() {
         ends = put(styles, start + i, new[i], ends);
@@ -61,10 +62,10 @@ pub(crate) fn overwrite(styles: &mut SplitVector<u8>, start: usize, new: &[u8]) 
 /// Replaces `count` styles from `start` on by `style`, and returns the smallest range with all that changed.
 pub(crate) fn fill(styles: &mut SplitVector<u8>, start: usize, count: usize, style: u8) -> Range
     requires { start + count ≤ length styles.old.items }
-    ensures styles { styles.new ≡ record styles.old { items = overwritten styles.old.items start (replicate count style) } }
+    ensures styles { Overwrites start (replicate count style) styles.old styles.new }
     ensures changed { result ≡ changed_range styles.old.items styles.new.items }
 {
-    let _ = styles.len(); // brings the fact that the places are small
+    size_is_small(styles);
     let mut ends = (0, 0);
     for i in 0..count {
         ends = put(styles, start + i, style, ends);
