@@ -1,5 +1,8 @@
 -- How runs are stored, as a list of starts and a list of values: the list that they stand for, and what is true of them.
-use Rattle.std.specs.Prelude.{◌≡◌, ◌≢◌, ℕ, ◌-◌, ◌<◌, ◌≤◌, Bool, true, List, [], ◌∷◌, ◌++◌, length, replicate, slice_index_or}
+use Rattle.std.specs.Prelude.{◌≡◌, ◌≢◌, ℕ, ◌+◌, ◌-◌, ◌<◌, ◌≤◌, Bool, true, List, [], ◌∷◌, ◌++◌, length, map, take, drop, replicate, slice_index, slice_index_or}
+use Rattle.split_vector.specs.Split.{Split}
+use Rattle.partitioning.specs.Partitions.{Partitions}
+use Rattle.run_styles.specs.Runs.{inserted, filled, deleted}
 
 module _ {V : Type 0} where
   -- each value from its start up to the next one, or up to the end
@@ -39,3 +42,65 @@ module _ {V : Type 0} where
     pub exact : IsExact eq
     pub for_starts : room ≤ starts_room
     pub for_values : room ≤ values_room
+
+-- where the run starts
+abbrev pub start_of_run : Partitions → ℕ → ℕ
+start_of_run starts index = slice_index starts.starts index
+
+-- where the run starts, or the end if it comes behind the last
+abbrev pub start_or_end : Partitions → ℕ → ℕ
+start_or_end starts index = slice_index_or starts.starts index starts.length
+
+-- where the run ends
+abbrev pub end_of_run : Partitions → ℕ → ℕ
+end_of_run starts index = start_or_end starts (index + 1)
+
+-- the place lies inside the run, behind its start
+abbrev pub IsInsideRun : Partitions → ℕ → ℕ → Type 0
+IsInsideRun starts index place =
+    (index < length starts.starts) × (start_of_run starts index < place) × (place < end_of_run starts index) × (place < starts.length)
+
+-- the place lies inside the run, behind its start, or is its end
+abbrev pub IsInsideOrEnd : Partitions → ℕ → ℕ → Type 0
+IsInsideOrEnd starts index place =
+    (index < length starts.starts) × (start_of_run starts index < place) × (place ≤ end_of_run starts index) × (place ≤ starts.length)
+
+-- the place is one of the run's
+abbrev pub IsInRun : Partitions → ℕ → ℕ → Type 0
+IsInRun starts index place =
+    (index < length starts.starts) × (start_of_run starts index ≤ place) × (place < end_of_run starts index) × (place < starts.length)
+
+-- the run has at least `count` places, and `count` is at least 1
+abbrev pub HasPlaces : Partitions → ℕ → ℕ → Type 0
+HasPlaces starts index count =
+    (index < length starts.starts) × (0 < count) × (start_of_run starts index + count ≤ end_of_run starts index) × (0 < starts.length)
+
+-- the starts without that of the run, whose `count` places are deleted
+abbrev pub starts_without : Partitions → ℕ → ℕ → List ℕ
+starts_without starts index count = take index starts.starts ++ map (λ s. s - count) (drop (index + 1) starts.starts)
+
+module _ {V : Type 0} where
+  -- the list that the runs stand for
+  abbrev pub list_of : Partitions → Split V → List V
+  list_of starts values = expansion starts.starts values.items starts.length
+
+  -- no two neighbours among the first runs are equal
+  abbrev pub DifferBefore : Split V → ℕ → Type 0
+  DifferBefore values index = NeighboursDiffer (take index values.items)
+
+  -- the list with the value x in the runs from the first up to the end
+  abbrev pub runs_filled : Partitions → Split V → (first end : ℕ) → V → List V
+  runs_filled starts values first end x =
+      filled (list_of starts values) (start_of_run starts first) (start_or_end starts end - start_of_run starts first) x
+
+  -- the list with `count` places with the value x at its end
+  abbrev pub inserted_at_end : Partitions → Split V → ℕ → V → List V
+  inserted_at_end starts values count x = inserted (list_of starts values) starts.length count x
+
+  -- the list without the first `count` places of the run
+  abbrev pub deleted_in_run : Partitions → Split V → (index count : ℕ) → List V
+  deleted_in_run starts values index count = deleted (list_of starts values) (start_of_run starts index) count
+
+  -- the list without the first `count` places from the run on
+  abbrev pub deleted_from_run : Partitions → Split V → (index count : ℕ) → List V
+  deleted_from_run starts values index count = deleted (list_of starts values) (start_or_end starts index) count

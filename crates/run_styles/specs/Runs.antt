@@ -1,5 +1,5 @@
 -- What a contract sees of a `RunStyles`, and what its calls do to the list.
-use Rattle.std.specs.Prelude.{◌≡◌, ◌≢◌, ℕ, ◌+◌, ◌-◌, ◌<◌, ◌≤◌, Bool, ◌||◌, ◌==◌, if◌then◌else◌, List, [], ◌∷◌, ◌++◌, length, take, drop, replicate, slice_get, slice_index_or, refl}
+use Rattle.std.specs.Prelude.{◌≡◌, ◌≢◌, ℕ, ◌+◌, ◌-◌, ◌<◌, ◌≤◌, Bool, ◌||◌, ◌==◌, if◌then◌else◌, max, List, [], ◌∷◌, ◌++◌, length, take, drop, replicate, slice_get, slice_index_or, refl}
 use Rattle.std.specs.Coded.{Coded, code_by, coded×, coded_list, coded_ℕ}
 use Rattle.split_vector.specs.Split.{most_room}
 
@@ -18,6 +18,14 @@ pub record IsSpareFor (runs count : ℕ) (old new : Spare) : Type 0 where
   pub values : new.values ≤ most_room runs old.values count
   pub starts_there : count ≤ old.starts → new.starts ≡ old.starts
   pub values_there : count ≤ old.values → new.values ≡ old.values
+
+-- the statement holds if there is memory for so many more runs
+abbrev pub IfMemory : ℕ → Spare → Type 0 → Type 0
+IfMemory count memory P = count ≤ memory.starts → count ≤ memory.values → P
+
+-- memory for more starts may be there, and that for values is the same
+abbrev pub GainsOnlyStarts : Spare → Spare → Type 0
+GainsOnlyStarts old new = (new.values ≡ old.values) × (old.starts ≤ new.starts)
 
 -- No memory was allocated or freed: the runs and the spare capacity together are as many before (`was` runs) as
 -- afterwards (`now` runs).
@@ -58,11 +66,31 @@ module _ {V : Type 0} where
   inserted_value eq d xs place =
       if place == 0 || (place == length xs || eq (slice_index_or xs place d) d) then d else slice_index_or xs (place - 1) d
 
+  -- xs with count places inserted before the place, with the value that the rule gives them
+  abbrev pub with_space : (V → V → Bool) → V → List V → ℕ → ℕ → List V
+  with_space eq d xs place count = inserted xs place count (inserted_value eq d xs place)
+
+  -- the places all have the value x already
+  abbrev pub IsFilled : List V → ℕ → ℕ → V → Type 0
+  IsFilled xs place count x = filled xs place count x ≡ xs
+
+  -- there is room for so many more runs, or the old room if that is more
+  abbrev pub with_room : Runs V → ℕ → Runs V
+  with_room r count = record r { room = max r.room count }
+
+  -- nothing has changed except the room and the memory
+  abbrev pub ChangesOnlyRoom : Runs V → Runs V → Type 0
+  ChangesOnlyRoom old new = new ≡ record old { room = new.room; spare = new.spare }
+
   -- how many runs of equal values xs has; an empty list is one run
   abbrev pub run_count : (V → V → Bool) → List V → ℕ
   run_count eq [] = 1
   run_count eq (x ∷ []) = 1
   run_count eq (x ∷ y ∷ ys) = if eq x y then run_count eq (y ∷ ys) else run_count eq (y ∷ ys) + 1
+
+  -- no memory was allocated or freed for the runs
+  abbrev pub KeepsMemory : (V → V → Bool) → Runs V → Runs V → Type 0
+  KeepsMemory eq old new = IsSameMemory (run_count eq old.values) old.spare (run_count eq new.values) new.spare
 
   -- from the start up to the place all values are equal, and the one before the start differs
   pub record IsRunStart (xs : List V) (place start : ℕ) : Type 0 where

@@ -1,7 +1,7 @@
 //! The steps of an insertion and of a deletion, over the two fields of `RunStyles`.
 ghost use Rattle.std.specs.Prelude.{◌≡◌, ◌≤◌, ◌<◌, ◌+◌, length};
-ghost use Rattle.run_styles.specs.Expansion.{expansion, IsTable, IsExact, NeighboursDiffer};
-ghost use Rattle.run_styles.specs.Runs.{inserted, deleted, inserted_value};
+ghost use Rattle.run_styles.specs.Expansion.{IsExact, IsTable, NeighboursDiffer, inserted_at_end, list_of};
+ghost use Rattle.run_styles.specs.Runs.{inserted, deleted, with_space};
 
 use crate::table::{delete_runs, end_of, insert_first, insert_last, join_at, run_about};
 use partitioning::{Partitioning, Place};
@@ -22,7 +22,7 @@ fn insert_at_start<P: Place, V: Copy + Eq, A: Allocator>(
     requires fits { starts.old.length + count ≤ P.GREATEST }
     requires room { (0 < starts.old.room) × (0 < values.old.spare) }
     ensures table { IsTable starts.new.starts values.new.items starts.new.length }
-    ensures list { expansion starts.new.starts values.new.items starts.new.length ≡ inserted (expansion starts.old.starts values.old.items starts.old.length) 0 count default }
+    ensures list { list_of starts.new values.new ≡ inserted (list_of starts.old values.old) 0 count default }
     ensures differ { NeighboursDiffer values.new.items }
     ensures room { starts.old.room ≤ starts.new.room + 1 }
     ensures spare { values.old.spare ≤ values.new.spare + 1 }
@@ -50,7 +50,7 @@ fn insert_at_end<P: Place, V: Copy + Eq, A: Allocator>(
     requires fits { starts.old.length + count ≤ P.GREATEST }
     requires room { (0 < starts.old.room) × (0 < values.old.spare) }
     ensures table { IsTable starts.new.starts values.new.items starts.new.length }
-    ensures list { expansion starts.new.starts values.new.items starts.new.length ≡ inserted (expansion starts.old.starts values.old.items starts.old.length) starts.old.length count default }
+    ensures list { list_of starts.new values.new ≡ inserted_at_end starts.old values.old count default }
     ensures differ { NeighboursDiffer values.new.items }
     ensures room { starts.old.room ≤ starts.new.room + 1 }
     ensures spare { values.old.spare ≤ values.new.spare + 1 }
@@ -78,7 +78,7 @@ fn insert_inside<P: Place, V: Copy + Eq, A: Allocator>(
     requires inside { (0 < count) × (0 < place) × (place < starts.old.length) }
     requires fits { starts.old.length + count ≤ P.GREATEST }
     ensures table { IsTable starts.new.starts values.now.items starts.new.length }
-    ensures list { expansion starts.new.starts values.now.items starts.new.length ≡ inserted (expansion starts.old.starts values.now.items starts.old.length) place count (inserted_value V.eq default (expansion starts.old.starts values.now.items starts.old.length) place) }
+    ensures list { list_of starts.new values.now ≡ with_space V.eq default (list_of starts.old values.now) place count }
     ensures room { starts.new.room ≡ starts.old.room }
     ensures start_cells { length starts.new.starts + starts.new.room ≡ length starts.old.starts + starts.old.room }
 {
@@ -102,11 +102,11 @@ pub(crate) fn insert_default<P: Place, V: Copy + Eq, A: Allocator>(
     requires table { IsTable starts.old.starts values.old.items starts.old.length }
     requires differ { NeighboursDiffer values.old.items }
     requires some { 0 < count }
-    requires within { place ≤ length (expansion starts.old.starts values.old.items starts.old.length) }
-    requires fits { length (expansion starts.old.starts values.old.items starts.old.length) + count ≤ P.GREATEST }
+    requires within { place ≤ length (list_of starts.old values.old) }
+    requires fits { length (list_of starts.old values.old) + count ≤ P.GREATEST }
     requires room { (0 < starts.old.room) × (0 < values.old.spare) }
     ensures table { IsTable starts.new.starts values.new.items starts.new.length }
-    ensures list { expansion starts.new.starts values.new.items starts.new.length ≡ inserted (expansion starts.old.starts values.old.items starts.old.length) place count (inserted_value V.eq default (expansion starts.old.starts values.old.items starts.old.length) place) }
+    ensures list { list_of starts.new values.new ≡ with_space V.eq default (list_of starts.old values.old) place count }
     ensures differ { NeighboursDiffer values.new.items }
     ensures room { starts.old.room ≤ starts.new.room + 1 }
     ensures spare { values.old.spare ≤ values.new.spare + 1 }
@@ -136,9 +136,9 @@ pub(crate) fn delete_places<P: Place, V: Copy + Eq, A: Allocator>(
     requires exact { IsExact V.eq }
     requires table { IsTable starts.old.starts values.old.items starts.old.length }
     requires differ { NeighboursDiffer values.old.items }
-    requires within { (0 < count) × (place + count ≤ length (expansion starts.old.starts values.old.items starts.old.length)) }
+    requires within { (0 < count) × (place + count ≤ length (list_of starts.old values.old)) }
     ensures table { IsTable starts.new.starts values.new.items starts.new.length }
-    ensures list { expansion starts.new.starts values.new.items starts.new.length ≡ deleted (expansion starts.old.starts values.old.items starts.old.length) place count }
+    ensures list { list_of starts.new values.new ≡ deleted (list_of starts.old values.old) place count }
     ensures differ { NeighboursDiffer values.new.items }
     ensures room { starts.old.room ≤ starts.new.room }
     ensures spare { values.old.spare ≤ values.new.spare }

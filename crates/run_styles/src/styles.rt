@@ -1,7 +1,7 @@
 //! `RunStyles` and its calls. A contract sees it as its default value, its list of values and its room for runs.
 ghost use Rattle.std.specs.Prelude.{◌≡◌, ◌≤◌, ◌<◌, ◌+◌, ◌↔◌, [], length, max, slice_get, Some, All, IsTrue, IfOk, IfNone, IfSome, OnOk, OnErr, IsOk};
 ghost use Rattle.run_styles.specs.Expansion.{IsExact};
-ghost use Rattle.run_styles.specs.Runs.{runs, spare, inserted, deleted, filled, inserted_value, run_count, IsSpareFor, IsSameMemory, IsRunStart, IsRunEnd, IsChangedRange};
+ghost use Rattle.run_styles.specs.Runs.{runs, spare, inserted, deleted, filled, run_count, with_room, with_space, ChangesOnlyRoom, GainsOnlyStarts, IfMemory, IsSpareFor, IsRunStart, IsRunEnd, IsChangedRange, KeepsMemory};
 
 use crate::edits::{delete_places, insert_default};
 use crate::table::{changed_range, end_of, overwrite, run_at, run_near, run_of};
@@ -69,6 +69,14 @@ impl<P: Place, V: Copy + Eq, A: Allocator> RunStyles<P, V, A> {
         self.starts.length()
     }
 
+    // There are at most as many places as a `P` can count.
+    #[inline(always)]
+    fn places_are_few(&self)
+        ensures { length self.now.values ≤ P.GREATEST }
+    {
+        self.length();
+    }
+
     /// Returns the value at `place`.
     pub fn value_at(&self, place: usize) -> V
         requires { place < length self.now.values }
@@ -125,14 +133,14 @@ impl<P: Place, V: Copy + Eq, A: Allocator> RunStyles<P, V, A> {
     ///
     /// `AllocError` if an allocation fails. Nothing has changed then, except that memory for more starts may be there.
     pub fn reserve(&mut self, count: usize) -> Result<(), AllocError>
-        ensures ok { OnOk result ((count ≤ self.new.room) × (self.new ≡ record self.old { room = self.new.room; spare = self.new.spare })) }
+        ensures ok { OnOk result ((count ≤ self.new.room) × ChangesOnlyRoom self.old self.new) }
         ensures room_is_there { count ≤ self.old.room → IsOk result × (self.new ≡ self.old) }
         ensures room_stays { self.old.room ≤ self.new.room }
         ensures at_most { OnOk result (self.new.room ≤ max self.old.room count) }
         ensures spare_at_most { IsSpareFor (run_count V.eq self.old.values) count self.old.spare self.new.spare }
-        ensures memory_is_there { count ≤ self.old.spare.starts → count ≤ self.old.spare.values → IsOk result × (self.new ≡ record self.old { room = max self.old.room count }) }
+        ensures memory_is_there { IfMemory count self.old.spare (IsOk result × (self.new ≡ with_room self.old count)) }
         ensures err { OnErr result (self.new ≡ record self.old { spare = self.new.spare }) }
-        ensures err_memory { OnErr result ((self.new.spare.values ≡ self.old.spare.values) × (self.old.spare.starts ≤ self.new.spare.starts)) }
+        ensures err_memory { OnErr result (GainsOnlyStarts self.old.spare self.new.spare) }
     {
         if count <= self.room {
             return Ok(());
@@ -151,14 +159,14 @@ impl<P: Place, V: Copy + Eq, A: Allocator> RunStyles<P, V, A> {
         ensures values { self.new.values ≡ filled self.old.values place count value }
         ensures default { self.new.default ≡ self.old.default }
         ensures room { self.old.room ≤ self.new.room + 2 }
-        ensures memory { IsSameMemory (run_count V.eq self.old.values) self.old.spare (run_count V.eq self.new.values) self.new.spare }
+        ensures memory { KeepsMemory V.eq self.old self.new }
         ensures none { IfNone result (self.new.values ≡ self.old.values) }
         ensures changed { IfSome result (IsChangedRange self.old.values self.new.values) }
     {
         if count == 0 {
             return None;
         }
-        let _ = self.length(); // brings the fact that the end is a `usize`
+        self.places_are_few();
         let end = place + count;
         let first = run_of(&self.starts, place);
         let last = run_near(&self.starts, end - 1, first);
@@ -193,10 +201,10 @@ impl<P: Place, V: Copy + Eq, A: Allocator> RunStyles<P, V, A> {
         requires within { place ≤ length self.old.values }
         requires fits { length self.old.values + count ≤ P.GREATEST }
         requires room { 1 ≤ self.old.room }
-        ensures values { self.new.values ≡ inserted self.old.values place count (inserted_value V.eq self.old.default self.old.values place) }
+        ensures values { self.new.values ≡ with_space V.eq self.old.default self.old.values place count }
         ensures default { self.new.default ≡ self.old.default }
         ensures room { self.old.room ≤ self.new.room + 1 }
-        ensures memory { IsSameMemory (run_count V.eq self.old.values) self.old.spare (run_count V.eq self.new.values) self.new.spare }
+        ensures memory { KeepsMemory V.eq self.old self.new }
     {
         if count == 0 {
             return;
@@ -219,7 +227,7 @@ impl<P: Place, V: Copy + Eq, A: Allocator> RunStyles<P, V, A> {
         ensures values { self.new.values ≡ inserted self.old.values place count value }
         ensures default { self.new.default ≡ self.old.default }
         ensures room { self.old.room ≤ self.new.room + 2 }
-        ensures memory { IsSameMemory (run_count V.eq self.old.values) self.old.spare (run_count V.eq self.new.values) self.new.spare }
+        ensures memory { KeepsMemory V.eq self.old self.new }
     {
         if count == 0 {
             return;
@@ -235,7 +243,7 @@ impl<P: Place, V: Copy + Eq, A: Allocator> RunStyles<P, V, A> {
         ensures values { self.new.values ≡ deleted self.old.values place count }
         ensures default { self.new.default ≡ self.old.default }
         ensures room { self.old.room ≤ self.new.room }
-        ensures memory { IsSameMemory (run_count V.eq self.old.values) self.old.spare (run_count V.eq self.new.values) self.new.spare }
+        ensures memory { KeepsMemory V.eq self.old self.new }
     {
         if count == 0 {
             return;

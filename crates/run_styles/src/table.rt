@@ -1,9 +1,9 @@
 //! The steps of the calls of `RunStyles`, over its two fields: the starts of the runs, and their values. Between the
 //! steps two neighbouring runs may have the same value. No step allocates: the number of cells of each block stays the
 //! same (`start_cells`, `value_cells`).
-ghost use Rattle.std.specs.Prelude.{ℕ, ◌≡◌, ◌≢◌, ◌⊎◌, ◌≤◌, ◌<◌, ◌+◌, ◌-◌, ◌^◌, [], ◌∷◌, ◌++◌, Some, length, take, drop, map, slice_get, slice_index, slice_index_or, insert, remove, IfNone, IfSome};
-ghost use Rattle.run_styles.specs.Expansion.{expansion, IsTable, IsExact, NeighboursDiffer};
-ghost use Rattle.run_styles.specs.Runs.{filled, deleted, inserted};
+ghost use Rattle.std.specs.Prelude.{ℕ, ◌≡◌, ◌≢◌, ◌⊎◌, ◌≤◌, ◌<◌, ◌+◌, ◌-◌, ◌^◌, [], ◌∷◌, ◌++◌, Some, length, take, drop, slice_get, slice_index, slice_index_or, insert, remove, IfNone, IfSome};
+ghost use Rattle.run_styles.specs.Expansion.{DifferBefore, HasPlaces, IsExact, IsInRun, IsInsideOrEnd, IsInsideRun, IsTable, NeighboursDiffer, deleted_from_run, deleted_in_run, end_of_run, inserted_at_end, list_of, runs_filled, start_of_run, start_or_end, starts_without};
+ghost use Rattle.run_styles.specs.Runs.{IsFilled, filled, inserted};
 ghost use Rattle.run_styles.specs.Changes.{IsTrimmed};
 
 use partitioning::{Partitioning, Place, Probes};
@@ -13,7 +13,7 @@ use std::alloc::Allocator;
 /// Returns where a run ends.
 pub(crate) fn end_of<P: Place, A: Allocator>(starts: &Partitioning<P, A>, index: usize) -> usize
     requires { index < length starts.now.starts }
-    ensures { result ≡ slice_index_or starts.now.starts (index + 1) starts.now.length }
+    ensures { result ≡ end_of_run starts.now index }
 {
     let count = starts.count();
     if index + 1 < count {
@@ -131,10 +131,10 @@ pub(crate) fn split_run<P: Place, V: Copy, A: Allocator>(
     place: usize,
 )
     requires table { IsTable starts.old.starts values.old.items starts.old.length }
-    requires inside { (index < length starts.old.starts) × (slice_index starts.old.starts index < place) × (place < slice_index_or starts.old.starts (index + 1) starts.old.length) × (place < starts.old.length) }
+    requires inside { IsInsideRun starts.old index place }
     requires room { (0 < starts.old.room) × (0 < values.old.spare) }
     ensures table { IsTable starts.new.starts values.new.items starts.new.length }
-    ensures list { expansion starts.new.starts values.new.items starts.new.length ≡ expansion starts.old.starts values.old.items starts.old.length }
+    ensures list { list_of starts.new values.new ≡ list_of starts.old values.old }
     ensures starts { starts.new.starts ≡ insert starts.old.starts (index + 1) place }
     ensures values { values.new.items ≡ take (index + 1) values.old.items ++ drop index values.old.items }
     ensures length { starts.new.length ≡ starts.old.length }
@@ -157,12 +157,12 @@ pub(crate) fn end_at<P: Place, V: Copy, A: Allocator>(
     place: usize,
 )
     requires table { IsTable starts.old.starts values.old.items starts.old.length }
-    requires inside { (index < length starts.old.starts) × (slice_index starts.old.starts index < place) × (place ≤ slice_index_or starts.old.starts (index + 1) starts.old.length) × (place ≤ starts.old.length) }
+    requires inside { IsInsideOrEnd starts.old index place }
     requires differ { NeighboursDiffer values.old.items }
     requires room { (0 < starts.old.room) × (0 < values.old.spare) }
     ensures table { IsTable starts.new.starts values.new.items starts.new.length }
-    ensures list { expansion starts.new.starts values.new.items starts.new.length ≡ expansion starts.old.starts values.old.items starts.old.length }
-    ensures ends { (index < length starts.new.starts) × (slice_index_or starts.new.starts (index + 1) starts.new.length ≡ place) }
+    ensures list { list_of starts.new values.new ≡ list_of starts.old values.old }
+    ensures ends { (index < length starts.new.starts) × (end_of_run starts.new index ≡ place) }
     ensures front { take (index + 1) values.new.items ≡ take (index + 1) values.old.items }
     ensures behind { NeighboursDiffer (drop (index + 1) values.new.items) }
     ensures length { starts.new.length ≡ starts.old.length }
@@ -184,14 +184,14 @@ pub(crate) fn start_at<P: Place, V: Copy, A: Allocator>(
     place: usize,
 ) -> usize
     requires table { IsTable starts.old.starts values.old.items starts.old.length }
-    requires inside { (index < length starts.old.starts) × (slice_index starts.old.starts index ≤ place) × (place < slice_index_or starts.old.starts (index + 1) starts.old.length) × (place < starts.old.length) }
+    requires inside { IsInRun starts.old index place }
     requires few { length starts.old.starts < 2 ^ 63 }
     requires room { (0 < starts.old.room) × (0 < values.old.spare) }
     ensures table { IsTable starts.new.starts values.new.items starts.new.length }
-    ensures list { expansion starts.new.starts values.new.items starts.new.length ≡ expansion starts.old.starts values.old.items starts.old.length }
+    ensures list { list_of starts.new values.new ≡ list_of starts.old values.old }
     ensures starts { (result < length starts.new.starts) × (slice_index starts.new.starts result ≡ place) }
     ensures shifted { (index ≤ result) × (result ≤ index + 1) }
-    ensures front { NeighboursDiffer (take (index + 1) values.old.items) → NeighboursDiffer (take result values.new.items) }
+    ensures front { DifferBefore values.old (index + 1) → DifferBefore values.new result }
     ensures starts_behind { drop (result + 1) starts.new.starts ≡ drop (index + 1) starts.old.starts }
     ensures values_behind { drop (result + 1) values.new.items ≡ drop (index + 1) values.old.items }
     ensures length { starts.new.length ≡ starts.old.length }
@@ -261,7 +261,7 @@ pub(crate) fn replace_runs<P: Place, V: Copy + Eq, A: Allocator>(
     requires front { NeighboursDiffer (take first values.old.items) }
     requires behind { NeighboursDiffer (drop end values.old.items) }
     ensures table { IsTable starts.new.starts values.new.items starts.new.length }
-    ensures list { expansion starts.new.starts values.new.items starts.new.length ≡ filled (expansion starts.old.starts values.old.items starts.old.length) (slice_index starts.old.starts first) (slice_index_or starts.old.starts end starts.old.length - slice_index starts.old.starts first) value }
+    ensures list { list_of starts.new values.new ≡ runs_filled starts.old values.old first end value }
     ensures differ { NeighboursDiffer values.new.items }
     ensures length { starts.new.length ≡ starts.old.length }
     ensures room { starts.old.room ≤ starts.new.room }
@@ -291,7 +291,7 @@ pub(crate) fn overwrite<P: Place, V: Copy + Eq, A: Allocator>(
     requires range { (low < high) × (high ≤ starts.old.length) }
     requires room { (2 ≤ starts.old.room) × (2 ≤ values.old.spare) }
     ensures table { IsTable starts.new.starts values.new.items starts.new.length }
-    ensures list { expansion starts.new.starts values.new.items starts.new.length ≡ filled (expansion starts.old.starts values.old.items starts.old.length) low (high - low) value }
+    ensures list { list_of starts.new values.new ≡ filled (list_of starts.old values.old) low (high - low) value }
     ensures differ { NeighboursDiffer values.new.items }
     ensures length { starts.new.length ≡ starts.old.length }
     ensures room { starts.old.room ≤ starts.new.room + 2 }
@@ -320,8 +320,8 @@ fn next_other<P: Place, V: Copy + Eq, A: Allocator>(
     requires differ { NeighboursDiffer values.now.items }
     requires within { place < starts.now.length }
     ensures from { place ≤ result }
-    ensures same { (k : ℕ) → place ≤ k → k < result → slice_get (expansion starts.now.starts values.now.items starts.now.length) k ≡ Some value }
-    ensures other { slice_get (expansion starts.now.starts values.now.items starts.now.length) result ≢ Some value }
+    ensures same { (k : ℕ) → place ≤ k → k < result → slice_get (list_of starts.now values.now) k ≡ Some value }
+    ensures other { slice_get (list_of starts.now values.now) result ≢ Some value }
 {
     let run = run_near(starts, place, likely);
     if values.get(run) == value {
@@ -344,8 +344,8 @@ fn last_other<P: Place, V: Copy + Eq, A: Allocator>(
     requires differ { NeighboursDiffer values.now.items }
     requires within { (0 < end) × (end ≤ starts.now.length) }
     ensures to { result ≤ end }
-    ensures same { (k : ℕ) → result ≤ k → k < end → slice_get (expansion starts.now.starts values.now.items starts.now.length) k ≡ Some value }
-    ensures other { 0 < result → slice_get (expansion starts.now.starts values.now.items starts.now.length) (result - 1) ≢ Some value }
+    ensures same { (k : ℕ) → result ≤ k → k < end → slice_get (list_of starts.now values.now) k ≡ Some value }
+    ensures other { 0 < result → slice_get (list_of starts.now values.now) (result - 1) ≢ Some value }
 {
     let run = run_near(starts, end - 1, likely);
     if values.get(run) == value {
@@ -370,8 +370,8 @@ pub(crate) fn changed_range<P: Place, V: Copy + Eq, A: Allocator>(
     requires table { IsTable starts.now.starts values.now.items starts.now.length }
     requires differ { NeighboursDiffer values.now.items }
     requires within { (0 < count) × (place + count ≤ starts.now.length) }
-    ensures none { IfNone result (filled (expansion starts.now.starts values.now.items starts.now.length) place count value ≡ expansion starts.now.starts values.now.items starts.now.length) }
-    ensures some { IfSome result (IsTrimmed (expansion starts.now.starts values.now.items starts.now.length) place count value) }
+    ensures none { IfNone result (IsFilled (list_of starts.now values.now) place count value) }
+    ensures some { IfSome result (IsTrimmed (list_of starts.now values.now) place count value) }
 {
     let _length = starts.length();
     let end = place + count;
@@ -395,7 +395,7 @@ pub(crate) fn join_at<P: Place, V: Copy + Eq, A: Allocator>(
     requires front { NeighboursDiffer (take index values.old.items) }
     requires behind { NeighboursDiffer (drop index values.old.items) }
     ensures table { IsTable starts.new.starts values.new.items starts.new.length }
-    ensures list { expansion starts.new.starts values.new.items starts.new.length ≡ expansion starts.old.starts values.old.items starts.old.length }
+    ensures list { list_of starts.new values.new ≡ list_of starts.old values.old }
     ensures differ { NeighboursDiffer values.new.items }
     ensures length { starts.new.length ≡ starts.old.length }
     ensures room { starts.old.room ≤ starts.new.room }
@@ -418,8 +418,8 @@ pub(crate) fn drop_run<P: Place, V: Copy, A: Allocator>(
 )
     requires table { IsTable starts.old.starts values.old.items starts.old.length }
     requires range { (index < length starts.old.starts) × (1 < length starts.old.starts) × (0 < starts.old.length) }
-    requires whole { slice_index starts.old.starts index + count ≡ slice_index_or starts.old.starts (index + 1) starts.old.length }
-    ensures starts { starts.new.starts ≡ take index starts.old.starts ++ map (λ s. s - count) (drop (index + 1) starts.old.starts) }
+    requires whole { slice_index starts.old.starts index + count ≡ end_of_run starts.old index }
+    ensures starts { starts.new.starts ≡ starts_without starts.old index count }
     ensures values { values.new.items ≡ take index values.old.items ++ drop (index + 1) values.old.items }
     ensures length { starts.new.length + count ≡ starts.old.length }
     ensures room { starts.old.room ≤ starts.new.room }
@@ -442,10 +442,10 @@ pub(crate) fn take_from<P: Place, V: Copy, A: Allocator>(
     count: usize,
 )
     requires table { IsTable starts.old.starts values.old.items starts.old.length }
-    requires range { (index < length starts.old.starts) × (0 < count) × (slice_index starts.old.starts index + count ≤ slice_index_or starts.old.starts (index + 1) starts.old.length) × (0 < starts.old.length) }
+    requires range { HasPlaces starts.old index count }
     ensures table { IsTable starts.new.starts values.new.items starts.new.length }
-    ensures list { expansion starts.new.starts values.new.items starts.new.length ≡ deleted (expansion starts.old.starts values.old.items starts.old.length) (slice_index starts.old.starts index) count }
-    ensures at { (index ≤ length values.new.items) × (slice_index_or starts.new.starts index starts.new.length ≡ slice_index starts.old.starts index) }
+    ensures list { list_of starts.new values.new ≡ deleted_in_run starts.old values.old index count }
+    ensures at { (index ≤ length values.new.items) × (start_or_end starts.new index ≡ start_of_run starts.old index) }
     ensures front { take index values.new.items ≡ take index values.old.items }
     ensures behind { NeighboursDiffer (drop index values.old.items) → NeighboursDiffer (drop index values.new.items) }
     ensures length { starts.new.length + count ≡ starts.old.length }
@@ -473,10 +473,10 @@ pub(crate) fn delete_runs<P: Place, V: Copy, A: Allocator>(
     count: usize,
 )
     requires table { IsTable starts.old.starts values.old.items starts.old.length }
-    requires range { (index ≤ length starts.old.starts) × (slice_index_or starts.old.starts index starts.old.length + count ≤ starts.old.length) }
+    requires range { (index ≤ length starts.old.starts) × (start_or_end starts.old index + count ≤ starts.old.length) }
     requires behind { NeighboursDiffer (drop index values.old.items) }
     ensures table { IsTable starts.new.starts values.new.items starts.new.length }
-    ensures list { expansion starts.new.starts values.new.items starts.new.length ≡ deleted (expansion starts.old.starts values.old.items starts.old.length) (slice_index_or starts.old.starts index starts.old.length) count }
+    ensures list { list_of starts.new values.new ≡ deleted_from_run starts.old values.old index count }
     ensures index { index ≤ length values.new.items }
     ensures front { take index values.new.items ≡ take index values.old.items }
     ensures behind { NeighboursDiffer (drop index values.new.items) }
@@ -506,7 +506,7 @@ pub(crate) fn insert_first<P: Place, V: Copy, A: Allocator>(
     requires fits { starts.old.length + count ≤ P.GREATEST }
     requires room { (0 < starts.old.room) × (0 < values.old.spare) }
     ensures table { IsTable starts.new.starts values.new.items starts.new.length }
-    ensures list { expansion starts.new.starts values.new.items starts.new.length ≡ inserted (expansion starts.old.starts values.old.items starts.old.length) 0 count value }
+    ensures list { list_of starts.new values.new ≡ inserted (list_of starts.old values.old) 0 count value }
     ensures values { values.new.items ≡ value ∷ values.old.items }
     ensures room { starts.old.room ≤ starts.new.room + 1 }
     ensures spare { values.old.spare ≤ values.new.spare + 1 }
@@ -530,7 +530,7 @@ pub(crate) fn insert_last<P: Place, V: Copy, A: Allocator>(
     requires fits { starts.old.length + count ≤ P.GREATEST }
     requires room { (0 < starts.old.room) × (0 < values.old.spare) }
     ensures table { IsTable starts.new.starts values.new.items starts.new.length }
-    ensures list { expansion starts.new.starts values.new.items starts.new.length ≡ inserted (expansion starts.old.starts values.old.items starts.old.length) starts.old.length count value }
+    ensures list { list_of starts.new values.new ≡ inserted_at_end starts.old values.old count value }
     ensures values { values.new.items ≡ values.old.items ++ value ∷ [] }
     ensures room { starts.old.room ≤ starts.new.room + 1 }
     ensures spare { values.old.spare ≤ values.new.spare + 1 }
