@@ -1,15 +1,13 @@
 -- Marks of 64 bytes, bit by bit.
-use Rattle.std.proofs.Common.{◌≡◌, ℕ, suc, ◌+◌, ◌-◌, ◌*◌, ◌/◌, ◌%◌, ◌^◌, ◌<◌, ◌≤◌, ◌≢◌, Bool, true, false, cond, eqb, List, length, get_or, map, replicate, refl, sym, ap, ◌∙◌, arith, subst, bit_and, bit_or, ◌||◌, ◌&&◌, inl, inr, pow_pos, pow_mono, div-lt_iff_lt-mul, le-div_iff_mul-le}
+use Rattle.std.proofs.Common.{◌≡◌, ℕ, ◌+◌, ◌-◌, ◌%◌, ◌^◌, ◌<◌, ◌≤◌, ◌≢◌, Bool, true, false, cond, eqb, List, length, get_or, map, replicate, refl, sym, ap, ◌∙◌, arith, subst, bit_and, bit_or, ◌||◌, ◌&&◌, inl, inr, pow_pos}
 use Rattle.std.specs.Int.{bit_at}
 use Rattle.std.specs.Simd.Lanes.{zip2, mask_l, top}
 use Rattle.std.proofs.lemmas.Simd.{length-zip2, get_or-zip2, length-replicate, get_or-replicate, bit_mask_l, mask_l-mod}
-use Rattle.std.proofs.lemmas.Nat.{and-not, and_comm}
-use Rattle.std.proofs.lemmas.Nat.Bits.{and_pow}
 use Rattle.std.proofs.lemmas.Bool.{cases_eq}
 use Rattle.std.proofs.lemmas.List.{length-map}
 use Rattle.std.proofs.Math.ListN.{get_or-map}
 use Rattle.target_search.specs.Found.{NonePasses}
-use Rattle.std.proofs.Math.Nat.{two-pow-succ, div-eq_of_lt}
+use Rattle.std.proofs.Math.Nat.{div-eq_of_lt}
 
 -- the lanes of 64 bytes that hold one of them
 abbrev holding : List ℕ → ℕ → List ℕ
@@ -72,34 +70,6 @@ marked_lane v w a b x y k p q l =
     (get_or-zip2 bit_and (holding_either v a b) (holding_either w x y) k 0 0 0 (omega arith) (omega arith)
     ∙ (λ i. bit_and (get_or-holding_either v a b k p l i) (get_or-holding_either w x y k q l i)))
     ∙ lane_top (eqb (get_or v k 0) a) (eqb (get_or v k 0) b) (eqb (get_or w k 0) x) (eqb (get_or w k 0) y))
-
--- a bit that is clear
-pub clear_false : (b : Bool) (m : ℕ) → m ≡ cond b 1 0 → m ≡ 0 → b ≡ false
-clear_false true m e z = absurd (omega arith)
-clear_false false m e z = refl
-
--- the marks without one of their bits are fewer
-pub cleared_smaller : (m k : ℕ) → m < 2 ^ 64 → k < 64 → bit_at m k ≡ 1 → bit_and m (2 ^ 64 - 1 - 1 * 2 ^ k % 2 ^ 64) < m
-cleared_smaller m k fits l there =
-    let small : 2 ^ k < 2 ^ 64 = omega (arith, two-pow-succ k, pow_pos k, pow_mono {i = suc k} {j = 64} (omega arith)) in
-    let one : 1 * 2 ^ k % 2 ^ 64 ≡ 2 ^ k = omega arith in
-    let parts = and-not 64 (2 ^ k) m small fits in
-    let both : bit_and (2 ^ k) m ≡ 1 * 2 ^ k = and_comm _ _ ∙ and_pow m k ∙ ap (λ x. x * 2 ^ k) there in
-    subst (λ x. bit_and m (2 ^ 64 - 1 - x) < m) (sym one) (omega (arith, and_comm m (2 ^ 64 - 1 - 2 ^ k), pow_pos k))
-
--- the highest bit that is set
-pub top_set : (m k : ℕ) → 2 ^ k ≤ m → m < 2 * 2 ^ k → bit_at m k ≡ 1
-top_set m k low high =
-    let p = pow_pos k in
-    let a : m / 2 ^ k < 2 = (div-lt_iff_lt-mul p).1 high in
-    let b : 1 ≤ m / 2 ^ k = (le-div_iff_mul-le p).1 (omega arith) in
-    omega arith
-
--- the bits above it
-pub clear_above : (m j k : ℕ) → m < 2 * 2 ^ j → j < k → bit_at m k ≡ 0
-clear_above m j k high l =
-    let a : m < 2 ^ k = omega (arith, two-pow-succ j, pow_mono {i = suc j} {j = k} (omega arith)) in
-    ap (λ x. x % 2) (div-eq_of_lt a)
 
 bit_at_zero : (k : ℕ) → bit_at 0 k ≡ 0
 bit_at_zero k = ap (λ x. x % 2) (div-eq_of_lt (pow_pos k))

@@ -1,18 +1,19 @@
 //! The search in a part of the text if case does not count or words do. Two rare bytes of the pattern, in both cases,
 //! show for 64 places at once where the pattern may stand. Only these places are compared.
 
-ghost use Rattle.std.specs.Prelude.{◌≡◌, ℕ, ◌+◌, ◌-◌, ◌≤◌, ◌<◌, ◌^◌, false, length};
+ghost use Rattle.std.specs.Prelude.{◌≡◌, ℕ, ◌+◌, ◌≤◌, ◌<◌, ◌^◌, false, length};
 ghost use Rattle.std.specs.Int.{bit_at};
 ghost use Rattle.target_search.specs.Found.{IsPart, FindsFirst, FindsLast};
-ghost use Rattle.target_search.specs.Searches.{text_of, size_of, is_match_of, MarksMatches};
+ghost use Rattle.target_search.specs.Searches.{end_in, text_of, size_of, is_match_of, MarksMatches};
 ghost use Rattle.target_search.specs.Rare.{IsRareOf};
 
-use crate::marks::{highest, lowest, without};
 use crate::rare::RareByte;
 use crate::search::Search;
+use bit_marks::{highest, lowest, without};
 
 impl<'a> Search<'a> {
-    // Returns marks of the 64 places from `start` on in a part of the text, which begins at `offset`: where a match may begin.
+    // Returns marks of the 64 places from `start` on in a part of the text, which begins at `offset`: where a match may
+    // begin.
     #[inline(always)]
     fn marks(
         &self,
@@ -110,7 +111,7 @@ impl<'a> Search<'a> {
         requires small { offset + length part.now < 2 ^ 64 }
         requires some { 0 < size_of self.now }
         requires room { size_of self.now ≤ length part.now }
-        ensures { FindsFirst (is_match_of self.now) offset (offset + length part.now + 1 - size_of self.now) result }
+        ensures { FindsFirst (is_match_of self.now) offset (end_in self.now part.now offset) result }
     {
         let (rare, other) = RareByte::two_of(self.pattern);
         let end = part.len() - (self.pattern.len() - 1);
@@ -131,7 +132,7 @@ impl<'a> Search<'a> {
         requires small { offset + length part.now < 2 ^ 64 }
         requires some { 0 < size_of self.now }
         requires room { size_of self.now ≤ length part.now }
-        ensures { FindsLast (is_match_of self.now) offset (offset + length part.now + 1 - size_of self.now) result }
+        ensures { FindsLast (is_match_of self.now) offset (end_in self.now part.now offset) result }
     {
         let (rare, other) = RareByte::two_of(self.pattern);
         let mut end = part.len() - (self.pattern.len() - 1);

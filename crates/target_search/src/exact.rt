@@ -2,11 +2,11 @@
 //! byte of the pattern, and after too many of them without a match for the whole pattern. Backwards it searches for the
 //! whole pattern at once.
 
-ghost use Rattle.std.specs.Prelude.{◌≡◌, ◌+◌, ◌-◌, ◌≤◌, ◌<◌, ◌^◌, ◌||◌, true, false, length};
+ghost use Rattle.std.specs.Prelude.{◌≡◌, ◌+◌, ◌≤◌, ◌<◌, ◌^◌, ◌||◌, true, false, length};
 ghost use Rattle.ed_model.specs.Numbers.{meets};
 ghost use Rattle.ed_model.specs.Matches.{match_case, whole_word, word_start};
 ghost use Rattle.target_search.specs.Found.{IsPart, FindsFirst, FindsLast};
-ghost use Rattle.target_search.specs.Searches.{text_of, size_of, is_match_of};
+ghost use Rattle.target_search.specs.Searches.{end_in, text_of, size_of, is_match_of};
 
 use crate::search::Search;
 use memchr::arch::all::packedpair::Pair;
@@ -36,7 +36,7 @@ impl<'a> Search<'a> {
         requires small { offset + length part.now < 2 ^ 64 }
         requires some { 0 < size_of self.now }
         requires within { start ≤ length part.now }
-        ensures { FindsFirst (is_match_of self.now) (offset + start) (offset + length part.now + 1 - size_of self.now) result }
+        ensures { FindsFirst (is_match_of self.now) (offset + start) (end_in self.now part.now offset) result }
     {
         let found = memmem::find(&part[start..], self.pattern)?;
         Some(offset + start + found)
@@ -49,7 +49,7 @@ impl<'a> Search<'a> {
         requires part { IsPart (text_of self.now) part.now offset }
         requires small { offset + length part.now < 2 ^ 64 }
         requires some { 0 < size_of self.now }
-        ensures { FindsFirst (is_match_of self.now) offset (offset + length part.now + 1 - size_of self.now) result }
+        ensures { FindsFirst (is_match_of self.now) offset (end_in self.now part.now offset) result }
     {
         let rare = rarest(self.pattern);
         let others = self.pattern.len() - 1;
@@ -75,7 +75,7 @@ impl<'a> Search<'a> {
         requires part { IsPart (text_of self.now) part.now offset }
         requires small { offset + length part.now < 2 ^ 64 }
         requires some { 0 < size_of self.now }
-        ensures { FindsLast (is_match_of self.now) offset (offset + length part.now + 1 - size_of self.now) result }
+        ensures { FindsLast (is_match_of self.now) offset (end_in self.now part.now offset) result }
     {
         let found = memmem::rfind(part, self.pattern)?;
         Some(offset + found)

@@ -1,8 +1,7 @@
 //! Marks of 64 places at once: where two bytes stand at their distance, in either case.
 
-ghost use Rattle.std.specs.Prelude.{◌≡◌, ◌≢◌, ℕ, ◌+◌, ◌≤◌, ◌<◌, ◌&&◌, false, length, slice_index};
-ghost use Rattle.std.specs.Int.{bit_at};
-ghost use Rattle.target_search.specs.Cases.{is_either};
+ghost use Rattle.std.specs.Prelude.{◌+◌, ◌≤◌, length};
+ghost use Rattle.target_search.specs.Cases.{MarkPairs};
 
 use std::simd::prelude::*;
 
@@ -18,8 +17,7 @@ pub(crate) fn marks_of_two(
 ) -> u64
     requires first { first_at + 64 ≤ length bytes.now }
     requires second { second_at + 64 ≤ length bytes.now }
-    ensures { (k : ℕ) → k < 64 → bit_at result k ≡ 0
-        → (is_either first (slice_index bytes.now (first_at + k)) && is_either second (slice_index bytes.now (second_at + k))) ≡ false }
+    ensures { MarkPairs bytes.now first first_at second second_at result }
 {
     let firsts = u8x64::from_slice(&bytes[first_at..]);
     let seconds = u8x64::from_slice(&bytes[second_at..]);
@@ -27,38 +25,4 @@ pub(crate) fn marks_of_two(
     let are_second = seconds.simd_eq(u8x64::splat(second.0))
         | seconds.simd_eq(u8x64::splat(second.1));
     (are_first & are_second).to_bitmask()
-}
-
-/// Returns the lowest bit that is set.
-#[inline(always)]
-pub(crate) fn lowest(marks: u64) -> usize
-    requires { marks ≢ 0 }
-    ensures within { result < 64 }
-    ensures set { bit_at marks result ≡ 1 }
-    ensures below { (k : ℕ) → k < result → bit_at marks k ≡ 0 }
-{
-    marks.trailing_zeros() as usize
-}
-
-/// Returns the highest bit that is set.
-#[inline(always)]
-pub(crate) fn highest(marks: u64) -> usize
-    requires { marks ≢ 0 }
-    ensures within { result < 64 }
-    ensures set { bit_at marks result ≡ 1 }
-    ensures above { (k : ℕ) → result < k → bit_at marks k ≡ 0 }
-{
-    marks.ilog2() as usize
-}
-
-/// Returns the marks without one of their bits.
-#[inline(always)]
-pub(crate) fn without(marks: u64, bit: usize) -> u64
-    requires within { bit < 64 }
-    requires set { bit_at marks bit ≡ 1 }
-    ensures smaller { result < marks }
-    ensures gone { bit_at result bit ≡ 0 }
-    ensures kept { (k : ℕ) → k < 64 → k ≢ bit → bit_at result k ≡ bit_at marks k }
-{
-    marks & !(1 << bit)
 }

@@ -1,7 +1,6 @@
 //! Bytes of a pattern that are rare in texts. They show where the pattern cannot stand.
 
-ghost use Rattle.std.specs.Prelude.{◌≡◌, ℕ, ◌+◌, ◌≤◌, ◌<◌, ◌&&◌, true, false, length, slice_index};
-ghost use Rattle.std.specs.Int.{bit_at};
+ghost use Rattle.std.specs.Prelude.{◌≡◌, ℕ, ◌+◌, ◌≤◌, ◌<◌, true, length};
 ghost use Rattle.ed_model.specs.Matches.{folded};
 ghost use Rattle.target_search.specs.Cases.{is_either};
 
@@ -62,7 +61,7 @@ fn rarest_two(pattern: &[u8]) -> (usize, usize)
 }
 
 impl RareByte {
-    ghost use Rattle.target_search.specs.Rare.{IsRareOf};
+    ghost use Rattle.target_search.specs.Rare.{IsRareOf, MarkBoth};
 
     // Returns the byte of a pattern at a place.
     fn at(pattern: &[u8], place: usize) -> Self
@@ -91,8 +90,7 @@ impl RareByte {
     pub(crate) fn marks_with(&self, other: &Self, bytes: &[u8], start: usize) -> u64
         requires first { start + self.now.place + 64 ≤ length bytes.now }
         requires second { start + other.now.place + 64 ≤ length bytes.now }
-        ensures { (k : ℕ) → k < 64 → bit_at result k ≡ 0
-            → (is_either self.now.cases (slice_index bytes.now (start + self.now.place + k)) && is_either other.now.cases (slice_index bytes.now (start + other.now.place + k))) ≡ false }
+        ensures { MarkBoth self.now other.now bytes.now start result }
     {
         marks_of_two(
             bytes,

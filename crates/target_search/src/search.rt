@@ -17,7 +17,7 @@ pub(crate) struct Search<'a> {
 }
 
 impl<'a> Search<'a> {
-    ghost use Rattle.target_search.specs.Searches.{text_of, size_of, is_match_of};
+    ghost use Rattle.target_search.specs.Searches.{LieOverSeam, end_in, text_of, size_of, is_match_of};
 
     /// Returns whether the flags allow the bytes around a match at `place`.
     #[inline]
@@ -51,7 +51,7 @@ impl<'a> Search<'a> {
         requires small { offset + length part.now < 2 ^ 64 }
         requires some { 0 < size_of self.now }
         requires room { size_of self.now ≤ length part.now }
-        ensures { FindsFirst (is_match_of self.now) offset (offset + length part.now + 1 - size_of self.now) result }
+        ensures { FindsFirst (is_match_of self.now) offset (end_in self.now part.now offset) result }
     {
         if self.flags.counts_case() && !self.flags.starts_words() {
             self.first_exact(part, offset)
@@ -66,7 +66,7 @@ impl<'a> Search<'a> {
         requires small { offset + length part.now < 2 ^ 64 }
         requires some { 0 < size_of self.now }
         requires room { size_of self.now ≤ length part.now }
-        ensures { FindsLast (is_match_of self.now) offset (offset + length part.now + 1 - size_of self.now) result }
+        ensures { FindsLast (is_match_of self.now) offset (end_in self.now part.now offset) result }
     {
         if self.flags.counts_case() && !self.flags.starts_words() {
             self.last_exact(part, offset)
@@ -209,7 +209,7 @@ impl<'a> Search<'a> {
         requires order { from ≤ end }
         ensures order { (from ≤ result.0) × (result.0 ≤ result.1) × (result.1 ≤ end) }
         ensures front { from < result.0 → result.0 + size_of self.now ≤ length self.now.before.now + 1 }
-        ensures seam { result.0 < result.1 → (length self.now.before.now < result.0 + size_of self.now) × (result.1 ≤ length self.now.before.now) }
+        ensures seam { result.0 < result.1 → LieOverSeam self.now result.0 result.1 }
         ensures behind { result.1 < end → length self.now.before.now ≤ result.1 }
     {
         let middle = self.before.len();

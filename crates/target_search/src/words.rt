@@ -1,27 +1,21 @@
 //! The words around a match.
 
 ghost use Rattle.std.specs.Prelude.{◌≡◌, ◌++◌};
-ghost use Rattle.ed_model.specs.Matches.{is_word_byte as is_byte_of_word, word_before, word_after};
+ghost use Rattle.ed_model.specs.Matches.{word_after};
 ghost use Rattle.target_search.specs.Found.{words_pass};
 
 use crate::flags::SearchFlags;
-
-// Returns whether the byte belongs to a word: an ASCII letter or digit, `_`, or a byte from 0x80 on.
-fn is_word_byte(byte: u8) -> bool
-    ensures { result ≡ is_byte_of_word byte }
-{
-    byte.is_ascii_alphanumeric() || byte == b'_' || byte >= 0x80
-}
+use char_cut::is_word;
 
 // Returns whether a byte of a word stands at `place`.
 fn is_word_at(before: &[u8], after: &[u8], place: usize) -> bool
     ensures { result ≡ word_after (before.now ++ after.now) place }
 {
     if place < before.len() {
-        return is_word_byte(before[place]);
+        return is_word(before[place]);
     }
     let behind = place - before.len();
-    behind < after.len() && is_word_byte(after[behind])
+    behind < after.len() && is_word(after[behind])
 }
 
 /// Returns whether the flags allow the bytes around a match from `place` to `end`.

@@ -1,5 +1,5 @@
-use Rattle.target_search.proofs.MarkedBytes.{top_set, clear_above}
-use Rattle.target_search.proofs.marks.highest.Goals as goal
+use Rattle.bit_marks.proofs.Clearing.{top_set, clear_above}
+use Rattle.bit_marks.proofs.highest.Goals as goal
 
 pub returns-clause-set : goal.returns-clause-set
 returns-clause-set c = top_set _ _ c.ilog2.ensures.power_le c.ilog2.ensures.next_power_gt

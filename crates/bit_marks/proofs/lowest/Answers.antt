@@ -1,6 +1,6 @@
 use Rattle.std.proofs.Common.{arith, w64}
 use Rattle.std.proofs.lemmas.Nat.Bits.{bit_at-trailing_zeros}
-use Rattle.target_search.proofs.marks.lowest.Goals as goal
+use Rattle.bit_marks.proofs.lowest.Goals as goal
 
 pub returns-clause-set : goal.returns-clause-set
 returns-clause-set c = (bit_at-trailing_zeros w64 c.args.marks (omega (arith, c.requires)) c.ranges.marks.fits).1

@@ -1,7 +1,7 @@
 use Rattle.std.proofs.Common.{w64}
 use Rattle.std.proofs.lemmas.Nat.Bits.{bit_at_clear_same, bit_at_clear_other}
-use Rattle.target_search.proofs.MarkedBytes.{cleared_smaller}
-use Rattle.target_search.proofs.marks.without.Goals as goal
+use Rattle.bit_marks.proofs.Clearing.{cleared_smaller}
+use Rattle.bit_marks.proofs.without.Goals as goal
 
 pub returns-clause-smaller : goal.returns-clause-smaller
 returns-clause-smaller c = cleared_smaller c.args.marks c.args.bit c.ranges.marks.fits c.requires.within c.requires.set
