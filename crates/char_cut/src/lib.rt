@@ -7,7 +7,8 @@
 //!
 //! From its start on, a text consists of CRLF, well-formed UTF-8 sequences, and otherwise single bytes. So the cuts are
 //! defined over the whole text. But no byte inside a character can be the first of a longer one, so the bytes around a
-//! place determine its character, at the same cost in each text. The text is given as two halves, as a gap buffer has it.
+//! place determine its character, at the same cost in each text. The text is given as two halves, as a gap buffer has
+//! it.
 #![tactic(auto)]
 
 mod cuts;
