@@ -1,7 +1,7 @@
 //! `Selection`: anchor and caret.
 
 ghost use Rattle.std.specs.Prelude.{◌≡◌, ◌==◌, ◌+◌, ◌^◌, ◌<◌, min, max};
-ghost use Rattle.selection.specs.Positions.{moved_by, count_of};
+ghost use Rattle.selection.specs.Positions.{count_of, selection_moved_by};
 
 use crate::movements::Movement;
 
@@ -50,7 +50,7 @@ impl Selection {
     pub fn moved(&mut self, movement: Movement)
         requires anchor { self.old.anchor + count_of movement < 2 ^ 64 }
         requires caret { self.old.caret + count_of movement < 2 ^ 64 }
-        ensures { self.new ≡ record { anchor = moved_by movement self.old.anchor; caret = moved_by movement self.old.caret } }
+        ensures { self.new ≡ selection_moved_by movement self.old }
     {
         self.anchor = movement.moved(self.anchor);
         self.caret = movement.moved(self.caret);
