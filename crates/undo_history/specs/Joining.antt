@@ -1,11 +1,14 @@
 -- Which steps join, as the code decides it: by the places of steps and the number of their bytes.
-use Rattle.std.specs.Prelude.{ℕ, ◌+◌, ◌==◌, nat_le, ◌&&◌, ◌||◌, Bool, true, false, length, Option, Some, None}
+use Rattle.std.specs.Prelude.{◌≡◌, ℕ, ◌+◌, ◌==◌, nat_le, ◌&&◌, ◌||◌, Bool, true, false, List, length, reverse, take, Option, Some, None}
+use Rattle.ed_model.specs.History.{first_changes, latest_text_step}
 use Rattle.ed_model.specs.Steps as model
 use Rattle.undo_history.specs.declared.records.StepKind.{StepKind}
 use Rattle.undo_history.specs.declared.records.StepKind.TheVariants.{Insert, Delete}
 use Rattle.undo_history.specs.declared.records.ChangeKind.{ChangeKind}
 use Rattle.undo_history.specs.declared.records.ChangeKind.TheVariants.{Text, Container}
 use Rattle.undo_history.specs.declared.records.StepOutline.{StepOutline}
+use Rattle.undo_history.specs.declared.records.StepRecord.{StepRecord}
+use Rattle.undo_history.specs.Records.{EndsInOrder, bytes_end, entries_in, transactions}
 
 abbrev pub outline : StepKind → ℕ → ℕ → StepOutline
 outline kind place count = record { kind = kind; place = place; count = count }
@@ -17,6 +20,15 @@ outline_of (model.Delete place bytes) = outline Delete place (length bytes)
 abbrev pub outline_if_any : Option model.Step → Option StepOutline
 outline_if_any None = None
 outline_if_any (Some step) = Some (outline_of step)
+
+-- the latest step of the text in the last transaction of the first `past` steps
+abbrev pub latest_outline : List StepRecord → List ℕ → ℕ → Option StepOutline
+latest_outline steps bytes past =
+    outline_if_any (latest_text_step (first_changes (transactions (reverse (take past (entries_in steps bytes))))))
+
+abbrev pub IsLatestOutline : List StepRecord → ℕ → Option StepOutline → Type 0
+IsLatestOutline steps past found =
+    (bytes : List ℕ) → EndsInOrder bytes_end 0 steps (length bytes) → found ≡ latest_outline steps bytes past
 
 abbrev pub by_kinds : StepKind → StepKind → StepOutline → StepOutline → Bool
 by_kinds Insert Insert step earlier = step.place == earlier.place + earlier.count

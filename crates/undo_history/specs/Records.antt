@@ -5,6 +5,7 @@ use Rattle.ed_model.specs.History.{Change, TextStep, ContainerStep, Transaction,
 use Rattle.undo_history.specs.Steps.{step_of}
 use Rattle.undo_history.specs.declared.records.ChangeKind.{ChangeKind}
 use Rattle.undo_history.specs.declared.records.ChangeKind.TheVariants.{Text, Container}
+use Rattle.undo_history.specs.declared.records.LentChange.{LentChange}
 use Rattle.undo_history.specs.declared.records.StepRecord.{StepRecord}
 
 -- Parts that end where their records say, the first beginning at `from`.
@@ -32,6 +33,10 @@ bytes_end r = r.bytes_end
 abbrev pub change_of : ChangeKind → List ℕ → Change
 change_of (Text kind place) bytes = TextStep (step_of kind place bytes)
 change_of (Container coalesce token) bytes = ContainerStep token coalesce
+
+-- the change that is lent
+abbrev pub change_lent : LentChange → Change
+change_lent c = change_of c.kind c.bytes.now
 
 -- a container's step has no bytes
 abbrev pub HasItsBytes : ChangeKind → List ℕ → Type 0

@@ -1,12 +1,19 @@
 //! `UndoHistory` and its calls.
 
-ghost use Rattle.std.specs.Prelude.{true, false, [], ◌∷◌, ◌++◌, ◌≡◌, ◌≤◌, ◌<◌, ◌+◌, ◌*◌, ◌^◌, ◌==◌, if◌then◌else◌, max, length, take, slice_get, OnOk, OnErr, IsOk};
-ghost use Rattle.ed_model.specs.History.{at_save_point, can_undo, can_redo, sealed_outside_groups, with_change, joins, begins_transaction, appended, TextStep, with_container_step, group_begun, group_ended, saved, emptied, collecting_set, undone, redone, reachable, undo_changes, redo_changes, inverse_change};
+ghost use Rattle.std.specs.Prelude.{true, false, [], ◌≡◌, ◌≤◌, ◌<◌, ◌+◌, ◌^◌, ◌==◌, if◌then◌else◌, length};
+ghost use Rattle.std.specs.Prelude.{slice_get, OnOk, OnErr, IsOk};
+ghost use Rattle.ed_model.specs.History.{at_save_point, can_undo, can_redo, undone, redone, undo_changes, redo_changes};
+ghost use Rattle.ed_model.specs.History.{begins_transaction, appended, joins, TextStep, with_container_step};
+ghost use Rattle.ed_model.specs.History.{sealed_outside_groups, group_begun, group_ended, saved, emptied, reachable};
+ghost use Rattle.ed_model.specs.History.{inverse_change};
 ghost use Rattle.ed_model.specs.Numbers.{is_number};
-ghost use Rattle.undo_history.specs.Kept.{fresh, HasRoom};
+ghost use Rattle.undo_history.specs.Kept.{fresh, with_collecting, HasRoom, HistoryBecomes};
+ghost use Rattle.undo_history.specs.Kept.{IfSpare, OnlyRoomChanges, RoomAtMost, BlocksAtMost, BlocksGrowBySpare};
+ghost use Rattle.undo_history.specs.Kept.{IfNothingIsDropped, UsesRoom, UsesStepRoom, UsesSpare, UsesStepSpare};
+ghost use Rattle.undo_history.specs.Kept.{UsesSpareAtMost};
 ghost use Rattle.undo_history.specs.Steps.{step_of};
-ghost use Rattle.undo_history.specs.Dropping.{without_future, without_undone};
-ghost use Rattle.undo_history.specs.Records.{change_of, HasItsBytes, LastIsOpen};
+ghost use Rattle.undo_history.specs.Dropping.{with_past_change, without_future, without_undone};
+ghost use Rattle.undo_history.specs.Records.{change_lent, change_of, HasItsBytes, LastIsOpen};
 
 use crate::joining::{belongs, find_latest_step};
 use crate::records::{
@@ -18,7 +25,8 @@ use split_vector::SplitVector;
 use std::alloc::{AllocError, Global};
 use std::marker::Model;
 
-/// The undo history of a document. Undo and redo move a boundary among the records; an append drops the records behind it.
+/// The undo history of a document. Undo and redo move a boundary among the records; an append drops the records behind
+/// it.
 #[derive(Drop)]
 pub struct UndoHistory {
     // The gap of both stands behind all items, since items are only appended, or deleted at the end.
@@ -147,13 +155,13 @@ impl UndoHistory {
         ensures same { self.new.history ≡ self.old.history }
         ensures ok { OnOk result (HasRoom self.new steps bytes) }
         ensures room_is_there { HasRoom self.old steps bytes → IsOk result × (self.new ≡ self.old) }
-        ensures memory_is_there { steps ≤ self.old.spare.0 → bytes ≤ self.old.spare.1 → IsOk result × (self.new ≡ record self.old { step_room = self.new.step_room; byte_room = self.new.byte_room }) }
+        ensures memory_is_there { IfSpare self.old steps bytes (IsOk result × OnlyRoomChanges self.old self.new) }
         ensures room_stays { (self.old.step_room ≤ self.new.step_room) × (self.old.byte_room ≤ self.new.byte_room) }
-        ensures rooms { (self.new.step_room ≤ max self.old.step_room steps) × (self.new.byte_room ≤ max self.old.byte_room bytes) }
-        ensures at_most { (self.new.taken.0 ≤ max (2 * self.old.taken.0) (self.old.taken.0 + steps)) × (self.new.taken.1 ≤ max (2 * self.old.taken.1) (self.old.taken.1 + bytes)) }
+        ensures rooms { RoomAtMost steps bytes self.old self.new }
+        ensures at_most { BlocksAtMost steps bytes self.old self.new }
         ensures steps_stay { steps ≤ self.old.spare.0 → self.new.spare.0 ≡ self.old.spare.0 }
         ensures bytes_stay { bytes ≤ self.old.spare.1 → self.new.spare.1 ≡ self.old.spare.1 }
-        ensures grown { (self.new.taken.0 + self.old.spare.0 ≡ self.old.taken.0 + self.new.spare.0) × (self.new.taken.1 + self.old.spare.1 ≡ self.old.taken.1 + self.new.spare.1) }
+        ensures grown { BlocksGrowBySpare self.old self.new }
         ensures err { OnErr result (self.new ≡ record self.old { taken = self.new.taken; spare = self.new.spare }) }
     {
         if !self.is_collecting {
@@ -174,11 +182,11 @@ impl UndoHistory {
         ensures same { self.new.history ≡ self.old.history }
         ensures ok { OnOk result (HasRoom self.new steps bytes) }
         ensures room_stays { (self.old.step_room ≤ self.new.step_room) × (self.old.byte_room ≤ self.new.byte_room) }
-        ensures rooms { (self.new.step_room ≤ max self.old.step_room steps) × (self.new.byte_room ≤ max self.old.byte_room bytes) }
-        ensures at_most { (self.new.taken.0 ≤ max (2 * self.old.taken.0) (self.old.taken.0 + steps)) × (self.new.taken.1 ≤ max (2 * self.old.taken.1) (self.old.taken.1 + bytes)) }
+        ensures rooms { RoomAtMost steps bytes self.old self.new }
+        ensures at_most { BlocksAtMost steps bytes self.old self.new }
         ensures steps_stay { steps ≤ self.old.spare.0 → self.new.spare.0 ≡ self.old.spare.0 }
         ensures bytes_stay { bytes ≤ self.old.spare.1 → self.new.spare.1 ≡ self.old.spare.1 }
-        ensures grown { (self.new.taken.0 + self.old.spare.0 ≡ self.old.taken.0 + self.new.spare.0) × (self.new.taken.1 + self.old.spare.1 ≡ self.old.taken.1 + self.new.spare.1) }
+        ensures grown { BlocksGrowBySpare self.old self.new }
         ensures err { OnErr result (self.new ≡ record self.old { taken = self.new.taken; spare = self.new.spare }) }
     {
         let Ok(()) = self.steps.reserve(steps) else {
@@ -207,11 +215,11 @@ impl UndoHistory {
         requires { HasRoom self.old 1 0 }
         ensures history { self.new.history ≡ with_container_step token coalesce self.old.history }
         ensures taken { self.new.taken ≡ self.old.taken }
-        ensures room { self.old.history.collecting ≡ true → (self.new.step_room + 1 ≡ self.old.step_room) × (self.new.byte_room ≡ self.old.byte_room) }
+        ensures room { self.old.history.collecting ≡ true → UsesStepRoom self.old self.new }
         ensures not_collecting { self.old.history.collecting ≡ false → self.new ≡ self.old }
         ensures steps_left { self.old.step_room ≤ self.new.step_room + 1 }
         ensures bytes_left { self.old.byte_room ≤ self.new.byte_room }
-        ensures spare { self.old.history.collecting ≡ true → self.old.history.future ≡ [] → (self.new.spare.0 + 1 ≡ self.old.spare.0) × (self.new.spare.1 ≡ self.old.spare.1) }
+        ensures spare { IfNothingIsDropped self.old (UsesStepSpare self.old self.new) }
         ensures spare_left { (self.old.spare.0 ≤ self.new.spare.0 + 1) × (self.old.spare.1 ≤ self.new.spare.1) }
     {
         self.append(false, ChangeKind::Container { token, coalesce }, &[]);
@@ -262,7 +270,7 @@ impl UndoHistory {
     /// Turns the collection of steps on or off. When it is off, the history forgets all but whether the document counts
     /// as modified.
     pub fn set_collecting(&mut self, on: bool)
-        ensures { self.new ≡ record self.old { history = collecting_set on self.old.history; spare = if on then self.old.spare else self.old.taken } }
+        ensures { self.new ≡ with_collecting on self.old }
     {
         if on {
             self.is_collecting = true;
@@ -276,7 +284,8 @@ impl UndoHistory {
         self.is_collecting = false;
     }
 
-    /// Moves the last past transaction to those that can be redone, and seals the one before it. The caller reverts its changes.
+    /// Moves the last past transaction to those that can be redone, and seals the one before it. The caller reverts its
+    /// changes.
     pub fn undo(&mut self)
         ensures { self.new ≡ record self.old { history = undone self.old.history } }
     {
@@ -312,7 +321,7 @@ impl UndoHistory {
     /// bytes, and whether it is the last of its transaction. Allocates nothing.
     pub fn change_to_undo(&self, index: usize) -> LentChange
         requires { index < length (undo_changes self.now.history) }
-        ensures change { slice_get (undo_changes self.now.history) index ≡ Some (inverse_change (change_of result.kind result.bytes.now)) }
+        ensures change { slice_get (undo_changes self.now.history) index ≡ Some (inverse_change (change_lent result)) }
         ensures bytes { HasItsBytes result.kind result.bytes.now }
         ensures last { result.is_last ≡ (index + 1 == length (undo_changes self.now.history)) }
     {
@@ -338,7 +347,7 @@ impl UndoHistory {
     /// and whether it is the last of its transaction. Allocates nothing.
     pub fn change_to_redo(&self, index: usize) -> LentChange
         requires { index < length (redo_changes self.now.history) }
-        ensures change { slice_get (redo_changes self.now.history) index ≡ Some (change_of result.kind result.bytes.now) }
+        ensures change { slice_get (redo_changes self.now.history) index ≡ Some (change_lent result) }
         ensures bytes { HasItsBytes result.kind result.bytes.now }
         ensures last { result.is_last ≡ (index + 1 == length (redo_changes self.now.history)) }
     {
@@ -360,12 +369,12 @@ impl UndoHistory {
         ensures history { self.new.history ≡ appended later (change_of kind bytes.now) self.old.history }
         ensures begins { result ≡ begins_transaction later (change_of kind bytes.now) self.old.history }
         ensures taken { self.new.taken ≡ self.old.taken }
-        ensures room { self.old.history.collecting ≡ true → (self.new.step_room + 1 ≡ self.old.step_room) × (self.new.byte_room + length bytes.now ≡ self.old.byte_room) }
+        ensures room { self.old.history.collecting ≡ true → UsesRoom (length bytes.now) self.old self.new }
         ensures not_collecting { self.old.history.collecting ≡ false → self.new ≡ self.old }
         ensures steps_left { self.old.step_room ≤ self.new.step_room + 1 }
         ensures bytes_left { self.old.byte_room ≤ self.new.byte_room + length bytes.now }
-        ensures spare { self.old.history.collecting ≡ true → self.old.history.future ≡ [] → (self.new.spare.0 + 1 ≡ self.old.spare.0) × (self.new.spare.1 + length bytes.now ≡ self.old.spare.1) }
-        ensures spare_left { (self.old.spare.0 ≤ self.new.spare.0 + 1) × (self.old.spare.1 ≤ self.new.spare.1 + length bytes.now) }
+        ensures spare { IfNothingIsDropped self.old (UsesSpare (length bytes.now) self.old self.new) }
+        ensures spare_left { UsesSpareAtMost (length bytes.now) self.old self.new }
     {
         if !self.is_collecting {
             return false;
@@ -389,12 +398,12 @@ impl UndoHistory {
         ensures history { self.new.history ≡ appended later (TextStep (step_of kind place bytes.now)) self.old.history }
         ensures begins { result ≡ begins_transaction later (TextStep (step_of kind place bytes.now)) self.old.history }
         ensures taken { self.new.taken ≡ self.old.taken }
-        ensures room { self.old.history.collecting ≡ true → (self.new.step_room + 1 ≡ self.old.step_room) × (self.new.byte_room + length bytes.now ≡ self.old.byte_room) }
+        ensures room { self.old.history.collecting ≡ true → UsesRoom (length bytes.now) self.old self.new }
         ensures not_collecting { self.old.history.collecting ≡ false → self.new ≡ self.old }
         ensures steps_left { self.old.step_room ≤ self.new.step_room + 1 }
         ensures bytes_left { self.old.byte_room ≤ self.new.byte_room + length bytes.now }
-        ensures spare { self.old.history.collecting ≡ true → self.old.history.future ≡ [] → (self.new.spare.0 + 1 ≡ self.old.spare.0) × (self.new.spare.1 + length bytes.now ≡ self.old.spare.1) }
-        ensures spare_left { (self.old.spare.0 ≤ self.new.spare.0 + 1) × (self.old.spare.1 ≤ self.new.spare.1 + length bytes.now) }
+        ensures spare { IfNothingIsDropped self.old (UsesSpare (length bytes.now) self.old self.new) }
+        ensures spare_left { UsesSpareAtMost (length bytes.now) self.old self.new }
     {
         if self.steps.len() > self.past {
             return self.append_instead(later, kind, place, bytes);
@@ -410,12 +419,12 @@ impl UndoHistory {
         ensures history { self.new.history ≡ appended later (TextStep (step_of kind place bytes.now)) self.old.history }
         ensures begins { result ≡ begins_transaction later (TextStep (step_of kind place bytes.now)) self.old.history }
         ensures taken { self.new.taken ≡ self.old.taken }
-        ensures room { self.old.history.collecting ≡ true → (self.new.step_room + 1 ≡ self.old.step_room) × (self.new.byte_room + length bytes.now ≡ self.old.byte_room) }
+        ensures room { self.old.history.collecting ≡ true → UsesRoom (length bytes.now) self.old self.new }
         ensures not_collecting { self.old.history.collecting ≡ false → self.new ≡ self.old }
         ensures steps_left { self.old.step_room ≤ self.new.step_room + 1 }
         ensures bytes_left { self.old.byte_room ≤ self.new.byte_room + length bytes.now }
-        ensures spare { self.old.history.collecting ≡ true → self.old.history.future ≡ [] → (self.new.spare.0 + 1 ≡ self.old.spare.0) × (self.new.spare.1 + length bytes.now ≡ self.old.spare.1) }
-        ensures spare_left { (self.old.spare.0 ≤ self.new.spare.0 + 1) × (self.old.spare.1 ≤ self.new.spare.1 + length bytes.now) }
+        ensures spare { IfNothingIsDropped self.old (UsesSpare (length bytes.now) self.old self.new) }
+        ensures spare_left { UsesSpareAtMost (length bytes.now) self.old self.new }
     {
         let change = ChangeKind::Text { kind, place };
         self.append(later, change, bytes)
@@ -455,7 +464,7 @@ impl UndoHistory {
     // Drops what was undone, and the save point if only a redo could reach it.
     #[inline(always)]
     fn drop_future(&mut self)
-        ensures dropped { self.new ≡ record self.old { history = without_future self.old.history; spare = self.new.spare } }
+        ensures dropped { HistoryBecomes (without_future self.old.history) self.old self.new }
         ensures nothing { self.old.history.future ≡ [] → self.new.spare ≡ self.old.spare }
         ensures spare_left { (self.old.spare.0 ≤ self.new.spare.0) × (self.old.spare.1 ≤ self.new.spare.1) }
     {
@@ -468,7 +477,7 @@ impl UndoHistory {
     // Drops what was undone. There is usually nothing.
     #[inline(always)]
     fn drop_undone(&mut self)
-        ensures dropped { self.new ≡ record self.old { history = without_undone self.old.history; spare = self.new.spare } }
+        ensures dropped { HistoryBecomes (without_undone self.old.history) self.old self.new }
         ensures nothing { self.old.history.future ≡ [] → self.new.spare ≡ self.old.spare }
         ensures spare_left { (self.old.spare.0 ≤ self.new.spare.0) × (self.old.spare.1 ≤ self.new.spare.1) }
     {
@@ -480,7 +489,7 @@ impl UndoHistory {
     // The slow path of `drop_undone`, out of line: something was undone.
     #[inline(never)]
     fn delete_undone(&mut self)
-        ensures dropped { self.new ≡ record self.old { history = without_undone self.old.history; spare = self.new.spare } }
+        ensures dropped { HistoryBecomes (without_undone self.old.history) self.old self.new }
         ensures spare_left { (self.old.spare.0 ≤ self.new.spare.0) × (self.old.spare.1 ≤ self.new.spare.1) }
     {
         let kept = bytes_before(all_steps(&self.steps), self.past);
@@ -496,11 +505,11 @@ impl UndoHistory {
         requires last { self.old.history.future ≡ [] }
         requires begun { joined ≡ true → LastIsOpen self.old.history.past }
         requires room { (0 < self.old.step_room) × (length bytes.now ≤ self.old.byte_room) }
-        ensures history { self.new.history ≡ record self.old.history { past = with_change joined (change_of kind bytes.now) self.old.history.past } }
+        ensures history { self.new.history ≡ with_past_change joined (change_of kind bytes.now) self.old.history }
         ensures taken { self.new.taken ≡ self.old.taken }
         ensures steps_left { self.new.step_room + 1 ≡ self.old.step_room }
         ensures bytes_left { self.new.byte_room + length bytes.now ≡ self.old.byte_room }
-        ensures spare { (self.new.spare.0 + 1 ≡ self.old.spare.0) × (self.new.spare.1 + length bytes.now ≡ self.old.spare.1) }
+        ensures spare { UsesSpare (length bytes.now) self.old self.new }
     {
         let stored = end_of(&self.bytes);
         self.bytes.insert_slice_reserved(stored, bytes);

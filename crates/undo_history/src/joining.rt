@@ -1,9 +1,7 @@
 //! Which changes join the last transaction: successive typing, and successive deletions of single characters.
 
-ghost use Rattle.std.specs.Prelude.{◌≡◌, ◌≤◌, ℕ, List, length, reverse, take};
-ghost use Rattle.ed_model.specs.History.{latest_text_step, first_changes};
-ghost use Rattle.undo_history.specs.Joining.{steps_go_on, belongs_after, outline_if_any};
-ghost use Rattle.undo_history.specs.Records.{EndsInOrder, bytes_end, entries_in, transactions};
+ghost use Rattle.std.specs.Prelude.{◌≡◌, ◌≤◌, length};
+ghost use Rattle.undo_history.specs.Joining.{IsLatestOutline, steps_go_on, belongs_after};
 
 use crate::records::{ChangeKind, StepKind, StepOutline, StepRecord, bytes_before};
 
@@ -42,7 +40,7 @@ pub fn belongs(kind: ChangeKind, count: usize, latest: Option<StepOutline>) -> b
 #[inline]
 pub fn find_latest_step(steps: &[StepRecord], past: usize) -> Option<StepOutline>
     requires { past ≤ length steps.now }
-    ensures { (bytes : List ℕ) → EndsInOrder bytes_end 0 steps.now (length bytes) → result ≡ outline_if_any (latest_text_step (first_changes (transactions (reverse (take past (entries_in steps.now bytes)))))) }
+    ensures { IsLatestOutline steps.now past result }
 {
     for i in (0..past).rev() {
         let step = steps[i];

@@ -60,13 +60,21 @@ pub struct StepOutline {
     pub count: usize,
 }
 
+// A law: a vector has few items, and little room for more. `len` says so.
+#[inline(always)]
+fn items_are_few<T: Copy>(items: &SplitVector<T>)
+    ensures { length items.now.items + items.now.spare < 2 ^ 63 }
+{
+    items.len();
+}
+
 /// Returns all records. Their gap stands behind them, since records are only appended, or deleted at the end.
 pub fn all_steps(steps: &SplitVector<StepRecord>) -> &[StepRecord]
     requires { steps.now.gap ≡ length steps.now.items }
     ensures steps { result.now ≡ steps.now.items }
     ensures within { length steps.now.items < 2 ^ 63 }
 {
-    let _ = steps.len(); // brings the bound on the number of steps
+    items_are_few(steps);
     let (before, _) = steps.halves();
     before
 }
@@ -88,7 +96,7 @@ pub fn end_of<T: Copy>(items: &SplitVector<T>) -> usize
     ensures end { result ≡ length items.now.items }
     ensures within { length items.now.items + items.now.spare < 2 ^ 63 }
 {
-    let _ = items.len(); // brings the fact that the sum is small
+    items_are_few(items);
     items.gap()
 }
 
