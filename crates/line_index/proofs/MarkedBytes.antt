@@ -1,11 +1,9 @@
 -- Marks of 64 bytes, bit by bit.
-use Rattle.std.proofs.Common.{◌≡◌, ℕ, suc, ◌+◌, ◌-◌, ◌*◌, ◌%◌, ◌^◌, ◌<◌, Bool, true, false, cond, eqb, ◌==◌, ◌||◌, ◌&&◌, List, length, get_or, map, replicate, refl, sym, ap, ◌∙◌, arith, w8, subst, bit_and, bit_or, pow_pos, pow_mono}
+use Rattle.std.proofs.Common.{◌≡◌, ℕ, ◌+◌, ◌%◌, ◌^◌, ◌<◌, Bool, true, false, cond, eqb, ◌==◌, ◌||◌, ◌&&◌, List, length, get_or, map, replicate, refl, sym, ap, ◌∙◌, arith, w8, bit_or}
 use Rattle.std.specs.Int.{bit_at}
 use Rattle.std.specs.Simd.Lanes.{zip2, mask_l, top}
 use Rattle.std.proofs.lemmas.Simd.{length-zip2, get_or-zip2, length-replicate, get_or-replicate, bit_mask_l, tops_compared, mask_l-mod}
-use Rattle.std.proofs.lemmas.Nat.{and-not, and_comm}
-use Rattle.std.proofs.lemmas.Nat.Bits.{bit_at_or, and_pow}
-use Rattle.std.proofs.Math.Nat.{two-pow-succ}
+use Rattle.std.proofs.lemmas.Nat.Bits.{bit_at_or}
 use Rattle.ed_model.specs.declared.plan.LineEndTypes.{LineEndTypes}
 use Rattle.ed_model.specs.declared.plan.LineEndTypes.TheVariants.{Default}
 use Rattle.ed_model.specs.Lines.{knows_unicode}
@@ -22,26 +20,12 @@ marked_lane v byte k long l =
     ∙ bit_mask_l bits k
     ∙ ap (λ b. cond b 1 0) (get_or-zip2 eqb v (replicate 64 byte) k 0 0 false (omega arith) (omega (arith, length-replicate 64 byte)) ∙ ap (eqb (get_or v k 0)) (get_or-replicate 64 k byte 0 l))
 
--- a bit that is clear
-pub clear_false : (b : Bool) (m : ℕ) → m ≡ cond b 1 0 → m ≡ 0 → b ≡ false
-clear_false true m e z = absurd (omega arith)
-clear_false false m e z = refl
-
 -- a clear bit of the union of two marks is clear in both
 pub clear_first : (a b k : ℕ) → bit_at (bit_or a b) k ≡ 0 → bit_at a k ≡ 0
 clear_first a b k h = omega (arith, bit_at_or a b k)
 
 pub clear_second : (a b k : ℕ) → bit_at (bit_or a b) k ≡ 0 → bit_at b k ≡ 0
 clear_second a b k h = omega (arith, bit_at_or a b k)
-
--- the marks without one of their bits are fewer
-pub cleared_smaller : (m k : ℕ) → m < 2 ^ 64 → k < 64 → bit_at m k ≡ 1 → bit_and m (2 ^ 64 - 1 - 1 * 2 ^ k % 2 ^ 64) < m
-cleared_smaller m k fits l there =
-    let small : 2 ^ k < 2 ^ 64 = omega (arith, two-pow-succ k, pow_pos k, pow_mono {i = suc k} {j = 64} (omega arith)) in
-    let one : 1 * 2 ^ k % 2 ^ 64 ≡ 2 ^ k = omega arith in
-    let parts = and-not 64 (2 ^ k) m small fits in
-    let both : bit_and (2 ^ k) m ≡ 1 * 2 ^ k = and_comm _ _ ∙ and_pow m k ∙ ap (λ x. x * 2 ^ k) there in
-    subst (λ x. bit_and m (2 ^ 64 - 1 - x) < m) (sym one) (omega (arith, and_comm m (2 ^ 64 - 1 - 2 ^ k), pow_pos k))
 
 -- bit k of a mark is clear unless the byte at k is the one
 abbrev pub Unmarked : ℕ → List ℕ → ℕ → ℕ → Type 0

@@ -4,6 +4,7 @@ use Rattle.ed_model.specs.declared.plan.LineEndTypes.{LineEndTypes}
 use Rattle.ed_model.specs.declared.plan.LineEndTypes.TheVariants.{Default, Unicode}
 use Rattle.ed_model.specs.Lines.{line_of}
 use Rattle.ed_model.specs.NeighbourLaws.{count_before}
+use Rattle.line_index.specs.Index.{Index}
 use Rattle.line_index.specs.declared.change.NearLines.{NearLines}
 use Rattle.line_index.specs.declared.change.LinesAbout.{LinesAbout}
 use Rattle.line_index.specs.declared.change.LineChange.{LineChange}
@@ -30,6 +31,22 @@ change_since about new_end starts length =
 -- the effect of a step at `place` that replaced text up to `old_end` by text up to `new_end`
 abbrev pub change_about : ℕ → ℕ → ℕ → List ℕ → List ℕ → ℕ → LineChange
 change_about place old_end new_end old new length = change_since (lines_about place old_end old) new_end new length
+
+-- that of an insertion of `count` bytes
+abbrev pub change_by_insertion : ℕ → ℕ → Index → Index → LineChange
+change_by_insertion place count old new = change_about place place (place + count) old.starts new.starts new.length
+
+-- that of a deletion of `count` bytes
+abbrev pub change_by_deletion : ℕ → ℕ → Index → Index → LineChange
+change_by_deletion place count old new = change_about place (place + count) place old.starts new.starts new.length
+
+-- it names old lines and new ones that exist
+abbrev pub NamesLines : List ℕ → List ℕ → LineChange → Type 0
+NamesLines old new change = (change.old_lines.two_behind < length old) × (change.new_lines.two_behind < length new)
+
+-- if no start went and there are as many lines as before, these are the lines near the place
+abbrev pub StayNear : ℕ → ℕ → ℕ → List ℕ → NearLines → Type 0
+StayNear went lines place starts near = went ≡ 0 → length starts ≡ lines → near ≡ near_lines starts place
 
 -- the new line to which an old one moves
 abbrev pub line_after : LineChange → ℕ → ℕ

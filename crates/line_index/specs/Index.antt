@@ -18,6 +18,10 @@ pub record Index : Type 0 where
 abbrev pub index : LineEndTypes → List ℕ → ℕ → ℕ → Index
 index types starts end room = record { types = types; starts = starts; length = end; room = room }
 
+-- that of the partitions of a text into lines
+abbrev pub index_by : LineEndTypes → Partitions → Index
+index_by types lines = index types lines.starts lines.length lines.room
+
 -- the index has the line starts of the text, and its length
 pub record IsIndexOf (text : List ℕ) (i : Index) : Type 0 where
   pub starts : i.starts ≡ line_starts i.types text
@@ -42,6 +46,11 @@ pub record WasInserted (place count : ℕ) (near : List ℕ) (i : Index) : Type 
   pub bytes : List ℕ
   pub is : IsInsertion place count near old bytes i
 
+-- whichever text the index was of, it is now that of the text with the bytes
+abbrev pub FollowsInsertion : ℕ → ℕ → List ℕ → Index → Index → Type 0
+FollowsInsertion place count near was now =
+    (old bytes : List ℕ) → IsInsertion place count near old bytes was → IsIndexOf (edited (Insert place bytes) old) now
+
 -- The index is that of a text from which `count` bytes were deleted from the place on. `near` are now the bytes around
 -- it, and there is room for the new lines.
 pub record IsDeletion (place count : ℕ) (near old : List ℕ) (i : Index) : Type 0 where
@@ -55,6 +64,18 @@ pub record WasDeleted (place count : ℕ) (near : List ℕ) (i : Index) : Type 0
   pub old : List ℕ
   pub is : IsDeletion place count near old i
 
+-- whichever text the index was of, it is now that of the text without the bytes
+abbrev pub FollowsDeletion : ℕ → ℕ → List ℕ → Index → Index → Type 0
+FollowsDeletion place count near was now =
+    (old : List ℕ) → IsDeletion place count near old was → IsIndexOf (take place old ++ drop (place + count) old) now
+
+-- the same of the partitions
+abbrev pub StartsFollowInsertion : LineEndTypes → ℕ → ℕ → List ℕ → Partitions → Partitions → Type 0
+StartsFollowInsertion types place count near was now = FollowsInsertion place count near (index_by types was) (index_by types now)
+
+abbrev pub StartsFollowDeletion : LineEndTypes → ℕ → ℕ → List ℕ → Partitions → Partitions → Type 0
+StartsFollowDeletion types place count near was now = FollowsDeletion place count near (index_by types was) (index_by types now)
+
 -- the places from one up to another where a line starts
 abbrev pub starts_within : LineEndTypes → List ℕ → ℕ → ℕ → List ℕ
 starts_within types text from to = filter (is_line_start types text) (range_with_len from (to - from))
@@ -62,6 +83,18 @@ starts_within types text from to = filter (is_line_start types text) (range_with
 -- the same places, by the bytes around them alone, of which the first stands at `base`
 abbrev pub starts_near : LineEndTypes → List ℕ → ℕ → ℕ → ℕ → List ℕ
 starts_near types near base from to = filter (λ place. is_line_start types near (place - base)) (range_with_len from (to - from))
+
+-- how many these are
+abbrev pub count_near : LineEndTypes → List ℕ → ℕ → ℕ → ℕ → ℕ
+count_near types near base from to = length (starts_near types near base from to)
+
+-- the starts of the lines with these inserted before line `at`
+abbrev pub with_starts : LineEndTypes → List ℕ → ℕ → ℕ → ℕ → ℕ → Partitions → List ℕ
+with_starts types near base from to at was = take at was.starts ++ starts_near types near base from to ++ drop at was.starts
+
+-- the line is there, and starts at the place or before it
+abbrev pub StartsUpTo : List ℕ → ℕ → ℕ → Type 0
+StartsUpTo starts line place = (line < length starts) × (slice_index starts line ≤ place)
 
 -- the start of line `at` is the first that can lie from `from` up to `to`, and none does: the starts before it are
 -- below `from`, the others at `to` or behind it

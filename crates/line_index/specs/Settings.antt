@@ -7,7 +7,7 @@ use Rattle.ed_model.specs.Carry.{regrouped}
 use Rattle.ed_model.specs.MergeLaws.{JoinsRows}
 use Rattle.line_index.specs.declared.edit.LineEdit.{LineEdit}
 use Rattle.line_index.specs.Edits.{after_edits, FitLines, fresh_lines}
-use Rattle.line_index.specs.Index.{starts_within}
+use Rattle.line_index.specs.Index.{Index, starts_within}
 use Rattle.line_index.specs.StepEdits.{joined, came}
 
 -- where the next of these lines starts; behind the last one, the place past the end of the text
@@ -35,12 +35,20 @@ abbrev pub all_inside_edits : LineEndTypes → ℕ → List ℕ → List LineEdi
 all_inside_edits new line [] = []
 all_inside_edits new line (count ∷ counts) = inside_edits new line count ++ all_inside_edits new (line_past new line count) counts
 
+-- the edits of all lines of a text when the setting becomes this one
+abbrev pub edits_to : LineEndTypes → List ℕ → List LineEdit
+edits_to new text = all_inside_edits new 0 (lines_inside text (line_starts Default text))
+
 -- the effect of another setting on the lines of a text, as edits in order; the same setting has none
 abbrev pub edits_of_setting : LineEndTypes → LineEndTypes → List ℕ → List LineEdit
 edits_of_setting Default Default text = []
 edits_of_setting Unicode Unicode text = []
-edits_of_setting Default Unicode text = all_inside_edits Unicode 0 (lines_inside text (line_starts Default text))
-edits_of_setting Unicode Default text = all_inside_edits Default 0 (lines_inside text (line_starts Default text))
+edits_of_setting Default Unicode text = edits_to Unicode text
+edits_of_setting Unicode Default text = edits_to Default text
+
+-- the effect of another setting than that of an index
+abbrev pub edits_for_types : LineEndTypes → Index → List ℕ → List LineEdit
+edits_for_types new i text = edits_of_setting i.types new text
 
 -- the edits carry what is kept of each line as the setting does
 abbrev pub SettingsCarryRows : Type 0 → Type 0

@@ -5,7 +5,9 @@ ghost use Rattle.ed_model.specs.Lines.{is_line_start};
 ghost use Rattle.line_index.specs.Index.{CanAdd, MarkStarts, WereAdded};
 
 use crate::halves::{next_start, starts_at};
-use crate::marks::{lowest, marks, without};
+use crate::marks::marks;
+use crate::starts::starts_are_sound;
+use bit_marks::{lowest, without};
 use ed_model::LineEndTypes;
 use partitioning::{Partitioning, Place};
 
@@ -70,7 +72,7 @@ pub(crate) fn add_at<P: Place>(
     requires { (base ≤ place) × CanAdd types (before.now ++ after.now) base place (place + 1) first starts.old }
     ensures { WereAdded types (before.now ++ after.now) base place (place + 1) first result starts.old starts.new }
 {
-    let _ = starts.count(); // brings the fact that the number of lines is small
+    starts_are_sound(starts);
     if starts_at(types, before, after, place - base) {
         starts.insert_reserved(first, place);
         return first + 1;
@@ -95,7 +97,7 @@ pub(crate) fn add_marked<P: Place>(
     requires base { base ≤ place }
     ensures { WereAdded types (before.now ++ after.now) base place (place + 64) first result starts.old starts.new }
 {
-    let _ = starts.length(); // brings the fact that the text is not too long
+    starts_are_sound(starts);
     let mut line = first;
     let mut left = marks;
     'adding: while left != 0 {

@@ -35,7 +35,8 @@ pub struct LineChange {
     pub old_lines: NearLines,
     /// The new lines at the end of what the step inserted; of a deletion, at its place.
     pub new_lines: NearLines,
-    /// The length of the text after the step, in bytes. If it is 0, all rows of lines are dropped, and the one line is fresh.
+    /// The length of the text after the step, in bytes. If it is 0, all rows of lines are dropped, and the one line is
+    /// fresh.
     pub length: usize,
 }
 

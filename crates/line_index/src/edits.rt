@@ -1,7 +1,8 @@
 //! The effect of a step on lines, as a short list of edits that needs no allocation.
 
 ghost use Rattle.std.specs.Prelude.{◌≡◌, ◌+◌, ◌-◌, ◌^◌, ◌≤◌, ◌<◌, ◌∷◌, ◌++◌, [], true, length};
-ghost use Rattle.line_index.specs.StepEdits.{SmallLines, came, edits_of, follows, joined, leaves_lines, last_at, last_one_behind, settled};
+ghost use Rattle.line_index.specs.StepEdits.{SmallLines, edits_of, follows, leaves_lines};
+ghost use Rattle.line_index.specs.StepEdits.{came, joined, last_at, last_one_behind, settled};
 
 use crate::change::{LineChange, NearLines};
 use crate::edit::LineEdit;

@@ -2,7 +2,8 @@
 
 ghost use Rattle.std.specs.Prelude.{◌≡◌, ℕ, ◌+◌, ◌≤◌, ◌<◌, ◌++◌, true, false, length, slice_index};
 ghost use Rattle.ed_model.specs.Text.{stands};
-ghost use Rattle.ed_model.specs.Lines.{is_line_start, line_end_before, unicode_end_before, line_end_length, knows_unicode};
+ghost use Rattle.ed_model.specs.Lines.{is_line_start, knows_unicode};
+ghost use Rattle.ed_model.specs.Lines.{line_end_before, line_end_length, unicode_end_before};
 ghost use Rattle.line_index.specs.Ends.{may_end};
 
 use ed_model::LineEndTypes;

@@ -1,7 +1,8 @@
 //! Laws, each a public function with an empty body, whose contract states what holds of all texts, steps and rows.
 
 ghost use Rattle.ed_model.specs.Rows.{Flags, Row};
-ghost use Rattle.line_index.specs.Settings.{SettingsBringAll, SettingsBringFewLines, SettingsCarryRows, SettingsFitLines};
+ghost use Rattle.line_index.specs.Settings.{SettingsBringAll, SettingsBringFewLines};
+ghost use Rattle.line_index.specs.Settings.{SettingsCarryRows, SettingsFitLines};
 ghost use Rattle.line_index.specs.StepEdits.{EditsBringFewLines, EditsCarryRows, EditsFitLines};
 
 use ed_model::single_rows;

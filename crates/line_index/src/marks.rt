@@ -1,6 +1,6 @@
 //! Marks of 64 bytes at once: which of them may be the last one of a line end.
 
-ghost use Rattle.std.specs.Prelude.{◌≡◌, ◌≢◌, ℕ, ◌+◌, ◌≤◌, ◌<◌, ◌==◌, false, length, slice_index};
+ghost use Rattle.std.specs.Prelude.{◌≡◌, ℕ, ◌+◌, ◌≤◌, ◌<◌, ◌==◌, false, length, slice_index};
 ghost use Rattle.std.specs.Int.{bit_at};
 ghost use Rattle.line_index.specs.Ends.{may_end};
 
@@ -31,27 +31,4 @@ pub(crate) fn marks(types: LineEndTypes, bytes: &[u8], at: usize) -> u64
                 | (marks_of(0xA8, bytes, at) | marks_of(0xA9, bytes, at))
         }
     }
-}
-
-/// Returns the lowest bit that is set.
-#[inline(always)]
-pub(crate) fn lowest(marks: u64) -> usize
-    requires { marks ≢ 0 }
-    ensures within { result < 64 }
-    ensures set { bit_at marks result ≡ 1 }
-    ensures below { (k : ℕ) → k < result → bit_at marks k ≡ 0 }
-{
-    marks.trailing_zeros() as usize
-}
-
-/// Returns the marks without one of their bits.
-#[inline(always)]
-pub(crate) fn without(marks: u64, bit: usize) -> u64
-    requires within { bit < 64 }
-    requires set { bit_at marks bit ≡ 1 }
-    ensures smaller { result < marks }
-    ensures gone { bit_at result bit ≡ 0 }
-    ensures kept { (k : ℕ) → k < 64 → k ≢ bit → bit_at result k ≡ bit_at marks k }
-{
-    marks & !(1 << bit)
 }

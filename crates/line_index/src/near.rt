@@ -4,7 +4,8 @@ ghost use Rattle.std.specs.Prelude.{◌≡◌, ◌+◌, ◌≤◌, ◌++◌, len
 ghost use Rattle.line_index.specs.Index.{bytes_near};
 
 /// Lends the bytes that a step reads, in two halves: the `count` bytes that it inserted at `place`, and up to three on
-/// each side. After a deletion `count` is 0. `before` and `after` are the halves of the text, which the step has changed.
+/// each side. After a deletion `count` is 0. `before` and `after` are the halves of the text, which the step has
+/// changed.
 #[inline(always)]
 pub fn near_step<'a>(
     before: &'a [u8],

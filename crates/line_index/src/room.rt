@@ -4,7 +4,8 @@ ghost use Rattle.std.specs.Prelude.{◌≡◌, ◌≤◌, ◌<◌, ◌+◌, ◌-
 ghost use Rattle.ed_model.specs.Lines.{line_count};
 ghost use Rattle.ed_model.specs.Text.{carriage_return, line_feed};
 ghost use Rattle.line_index.specs.Index.{starts_within};
-ghost use Rattle.line_index.specs.RoomLaws.{DeletionAddsFewLines, FirstBytesHaveFewLines, InsertionAddsFewLines, lines_for_deletion, lines_for_insertion};
+ghost use Rattle.line_index.specs.RoomLaws.{DeletionAddsFewLines, FirstBytesHaveFewLines, InsertionAddsFewLines};
+ghost use Rattle.line_index.specs.RoomLaws.{lines_for_deletion, lines_for_insertion};
 
 use crate::halves::{first_place, next_place, starts_at};
 use crate::unicode_blocks;
@@ -177,7 +178,8 @@ pub fn lines_for_insertion(types: LineEndTypes, bytes: &[u8]) -> usize
     lines_in(types, bytes) + 2 * LONGEST_END - 1
 }
 
-/// Returns for how many lines a deletion requires room: three, since a line end may form of the bytes that it brings together.
+/// Returns for how many lines a deletion requires room: three, since a line end may form of the bytes that it brings
+/// together.
 pub const fn lines_for_deletion() -> usize
     ensures { result ≡ lines_for_deletion }
 {

@@ -1,11 +1,12 @@
 //! Another setting of line ends: its effect on the lines of a text, and the starts that the text then has.
 
-ghost use Rattle.std.specs.Prelude.{◌≡◌, ℕ, ◌+◌, ◌-◌, ◌^◌, ◌≤◌, ◌<◌, ◌++◌, true, false, [], length, IsOk, OnOk, IfOk, ◌*◌, vec_len, vec_capacity};
+ghost use Rattle.std.specs.Prelude.{◌≡◌, ℕ, ◌+◌, ◌-◌, ◌^◌, ◌≤◌, ◌<◌, ◌++◌, ◌*◌, [], length};
+ghost use Rattle.std.specs.Prelude.{true, false, IsOk, OnOk, IfOk, vec_len, vec_capacity};
 ghost use Rattle.ed_model.specs.declared.plan.LineEndTypes.TheVariants.{Default, Unicode};
-ghost use Rattle.ed_model.specs.Lines.{is_line_start, line_starts, line_count};
+ghost use Rattle.ed_model.specs.Lines.{is_line_start, line_count};
 ghost use Rattle.line_index.specs.Edits.{fresh_lines};
 ghost use Rattle.line_index.specs.Index.{IsIndexOf, starts_within};
-ghost use Rattle.line_index.specs.Settings.{all_inside_edits, edits_of_setting, inside_edits, line_past, lines_inside};
+ghost use Rattle.line_index.specs.Settings.{edits_for_types, edits_to, inside_edits, line_past};
 
 use crate::edit::LineEdit;
 use crate::halves::{next_start, starts_at};
@@ -85,8 +86,8 @@ fn push_all_inside(
     requires none { edits.old.items ≡ [] }
     requires no_room { vec_capacity edits.old ≡ 0 }
     requires short { length before.now + length after.now < 2 ^ 63 }
-    ensures edits { OnOk result (edits.new.items ≡ all_inside_edits types 0 (lines_inside (before.now ++ after.now) (line_starts Default (before.now ++ after.now)))) }
-    ensures free { all_inside_edits types 0 (lines_inside (before.now ++ after.now) (line_starts Default (before.now ++ after.now))) ≡ [] → IsOk result }
+    ensures edits { OnOk result (edits.new.items ≡ edits_to types (before.now ++ after.now)) }
+    ensures free { edits_to types (before.now ++ after.now) ≡ [] → IsOk result }
     ensures few { OnOk result (vec_capacity edits.new ≤ 2 * vec_len edits.new) }
 {
     let end = before.len() + after.len() + 1;
@@ -134,8 +135,8 @@ impl<P: Place> LineIndex<P> {
     ) -> Result<Vec<LineEdit>, AllocError>
         requires text { IsIndexOf (before.now ++ after.now) self.now }
         requires short { self.now.length < 2 ^ 63 }
-        ensures edits { IfOk result (λ edits. edits.items ≡ edits_of_setting self.now.types types (before.now ++ after.now)) }
-        ensures free { edits_of_setting self.now.types types (before.now ++ after.now) ≡ [] → IsOk result }
+        ensures edits { IfOk result (λ edits. edits.items ≡ edits_for_types types self.now (before.now ++ after.now)) }
+        ensures free { edits_for_types types self.now (before.now ++ after.now) ≡ [] → IsOk result }
         ensures at_most { IfOk result (λ edits. vec_capacity edits ≤ 2 * vec_len edits) }
     {
         let mut edits = Vec::new(alloc);

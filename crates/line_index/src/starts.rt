@@ -1,11 +1,12 @@
 //! Line starts among the partitions: finding them, and removing and inserting them around a step.
 
-ghost use Rattle.std.specs.Prelude.{ℕ, ◌≡◌, ◌+◌, ◌-◌, ◌^◌, ◌≤◌, ◌<◌, ◌++◌, IsTrue, IfSome, false, min, length, take, drop, slice_index};
+ghost use Rattle.std.specs.Prelude.{ℕ, ◌≡◌, ◌+◌, ◌-◌, ◌^◌, ◌≤◌, ◌<◌, ◌++◌, IsTrue, IfSome, false, min, length};
+ghost use Rattle.std.specs.Prelude.{take, drop, slice_index};
 ghost use Rattle.ed_model.specs.Lines.{line_of};
-ghost use Rattle.partitioning.specs.Partitions.{IsFloorLog, IsLastAtMost};
+ghost use Rattle.partitioning.specs.Partitions.{ArePartitions, IsFloorLog, IsLastAtMost};
 ghost use Rattle.split_vector.specs.Split.{counted};
-ghost use Rattle.line_index.specs.Index.{CanAdd, WereAdded, starts_near};
-ghost use Rattle.line_index.specs.Change.{near_lines};
+ghost use Rattle.line_index.specs.Index.{CanAdd, StartsUpTo, WereAdded, count_near, with_starts};
+ghost use Rattle.line_index.specs.Change.{StayNear, near_lines};
 ghost use Rattle.line_index.specs.StepEdits.{SmallLines};
 ghost use Rattle.ed_model.specs.NeighbourLaws.{count_before};
 
@@ -14,6 +15,17 @@ use crate::change::{LinesAbout, NearLines};
 use crate::halves::next_place;
 use ed_model::LineEndTypes;
 use partitioning::{Partitioning, Place, Probes};
+
+// A law: the starts of lines rise from 0 on up to the end of the text, and there are few. `count` and `length` say so.
+#[inline(always)]
+pub(crate) fn starts_are_sound<P: Place>(starts: &Partitioning<P>)
+    ensures few { length starts.now.starts + starts.now.room < 2 ^ 63 }
+    ensures long { starts.now.length < 2 ^ 64 }
+    ensures sound { ArePartitions starts.now.starts starts.now.length }
+{
+    starts.count();
+    starts.length();
+}
 
 // Returns the line that holds `place`.
 pub(crate) fn line_at<P: Place>(
@@ -27,7 +39,7 @@ pub(crate) fn line_at<P: Place>(
     ensures few { (k : ℕ) → IsFloorLog k (length starts.now.starts) → probes.new ≤ probes.old + (2 + k) }
     ensures many { (k : ℕ) → IsFloorLog k (length starts.now.starts) → counted probes.old k ≤ probes.new }
 {
-    let _ = starts.count(); // brings the fact that the starts rise
+    starts_are_sound(starts);
     starts.partition_of(place, probes)
 }
 
@@ -35,9 +47,9 @@ pub(crate) fn line_at<P: Place>(
 // behind `place`.
 #[tactic(auto, using(crate::proofs::Finding::last_of_all))]
 fn reaches<P: Place>(starts: &Partitioning<P>, line: usize, place: usize) -> bool
-    requires { (line < length starts.now.starts) × (slice_index starts.now.starts line ≤ place) }
+    requires { StartsUpTo starts.now.starts line place }
     ensures yes { IsTrue result → IsLastAtMost starts.now.starts place line }
-    ensures no { result ≡ false → (line + 1 < length starts.now.starts) × (slice_index starts.now.starts (line + 1) ≤ place) }
+    ensures no { result ≡ false → StartsUpTo starts.now.starts (line + 1) place }
 {
     let count = starts.count();
     line + 1 == count || place < starts.start_of(line + 1)
@@ -74,7 +86,7 @@ fn line_in_front<P: Place>(starts: &Partitioning<P>, place: usize, likely: usize
 // one usually holds `place`.
 #[inline(never)]
 fn line_behind<P: Place>(starts: &Partitioning<P>, place: usize, line: usize) -> usize
-    requires { (line < length starts.now.starts) × (slice_index starts.now.starts line ≤ place) }
+    requires { StartsUpTo starts.now.starts line place }
     ensures { IsLastAtMost starts.now.starts place result }
 {
     let count = starts.count();
@@ -115,7 +127,7 @@ pub(crate) fn likely_line<P: Place>(starts: &Partitioning<P>, place: usize, like
     ensures within { result < length starts.now.starts }
     ensures small { length starts.now.starts + starts.now.room < 2 ^ 63 }
 {
-    let _ = starts.count();
+    starts_are_sound(starts);
     line_from(starts, place, likely)
 }
 
@@ -126,7 +138,7 @@ fn line_or_next<P: Place>(starts: &Partitioning<P>, line: usize, place: usize) -
     requires high { (k : ℕ) → line + 1 < k → k < length starts.now.starts → place < slice_index starts.now.starts k }
     ensures { IsLastAtMost starts.now.starts place result }
 {
-    let _ = starts.count(); // brings the fact that the number of lines is small
+    starts_are_sound(starts);
     if reaches(starts, line, place) {
         line
     } else {
@@ -139,7 +151,7 @@ pub(crate) fn lines_before<P: Place>(starts: &Partitioning<P>, place: usize, lin
     requires { line ≡ line_of starts.now.starts (place - 1) }
     ensures { result ≡ count_before place starts.now.starts }
 {
-    let _ = starts.count(); // brings the fact that the first line starts at 0
+    starts_are_sound(starts);
     if place == 0 { 0 } else { line + 1 }
 }
 
@@ -153,7 +165,7 @@ fn line_up_to<P: Place>(starts: &Partitioning<P>, line: usize, next: usize, plac
     requires high { (k : ℕ) → line + 1 < k → k < length starts.now.starts → place < slice_index starts.now.starts k }
     ensures { IsLastAtMost starts.now.starts place result }
 {
-    let _ = starts.count(); // brings the fact that the starts rise
+    starts_are_sound(starts);
     if place < next { line } else { line + 1 }
 }
 
@@ -173,7 +185,7 @@ fn few_lines<P: Place>(
     ensures lines { IfSome result (λ lines. lines ≡ near_lines starts.now.starts place) }
     ensures within { IfSome result (λ lines. lines.two_behind < length starts.now.starts) }
 {
-    let _ = starts.length(); // brings the fact that no line starts past the greatest number
+    starts_are_sound(starts);
     let count = starts.count();
     if line >= count || starts.start_of(line) > front {
         return None;
@@ -214,8 +226,7 @@ pub(crate) fn lines_near<P: Place>(
     ensures small_lines { SmallLines result }
     ensures small { length starts.now.starts + starts.now.room < 2 ^ 63 }
 {
-    let _ = starts.count(); // brings the fact that the number of lines is small
-    let _ = starts.length(); // brings the fact that no line starts past the greatest number
+    starts_are_sound(starts);
     let last = place.saturating_add(2);
     let at = line_from(starts, place, likely);
     if reaches(starts, at, last) {
@@ -250,7 +261,7 @@ fn lines_anywhere<P: Place>(
     ensures lines { result.1 ≡ near_lines starts.now.starts end }
     ensures within { result.1.two_behind < length starts.now.starts }
 {
-    let _ = starts.count(); // brings the fact that the starts rise
+    starts_are_sound(starts);
     let before = likely.saturating_sub(1);
     if let Some(lines) = few_lines(starts, front, end, end.saturating_add(2), before) {
         return (before, lines);
@@ -276,7 +287,7 @@ pub(crate) fn lines_at_step<P: Place>(
     ensures small_lines { SmallLines result.1 }
     ensures small { length starts.now.starts + starts.now.room < 2 ^ 63 }
 {
-    let _ = starts.count(); // brings the fact that the number of lines is small
+    starts_are_sound(starts);
     let last = end.saturating_add(2);
     if let Some(lines) = few_lines(starts, front, end, last, likely) {
         return (likely, lines);
@@ -303,7 +314,7 @@ pub(crate) fn lines_after_step<P: Place>(
 ) -> NearLines
     requires small { SmallLines about.now.old_lines }
     requires within { about.now.old_lines.two_behind < lines }
-    requires kept { went ≡ 0 → length starts.now.starts ≡ lines → about.now.old_lines ≡ near_lines starts.now.starts end }
+    requires kept { StayNear went lines end starts.now.starts about.now.old_lines }
     ensures lines { result ≡ near_lines starts.now.starts end }
     ensures within { result.two_behind < length starts.now.starts }
     ensures small_lines { SmallLines result }
@@ -370,7 +381,8 @@ fn add_from<P: Place>(
 
 // Inserts the line starts from `from` up to `to` before line `first`, by the bytes around those places alone, of which
 // the first stands at `base`. There are no such starts yet, and there must be room for them. Usually no line starts
-// there, which one look at the bytes decides, or one line starts behind the last of them, as after a line end was typed.
+// there, which one look at the bytes decides, or one line starts behind the last of them, as after a line end was
+// typed.
 #[inline(always)]
 pub(crate) fn add_starts<P: Place>(
     starts: &mut Partitioning<P>,
@@ -385,9 +397,9 @@ pub(crate) fn add_starts<P: Place>(
     requires can { CanAdd types (before.now ++ after.now) base from to first starts.old }
     requires near { (base ≤ from) × (from ≤ to) × (to ≤ base + (length before.now + length after.now) + 1) }
     requires behind { base < from }
-    ensures starts { starts.new.starts ≡ take first starts.old.starts ++ starts_near types (before.now ++ after.now) base from to ++ drop first starts.old.starts }
+    ensures starts { starts.new.starts ≡ with_starts types (before.now ++ after.now) base from to first starts.old }
     ensures length { starts.new.length ≡ starts.old.length }
-    ensures room { starts.new.room + length (starts_near types (before.now ++ after.now) base from to) ≡ starts.old.room }
+    ensures room { starts.new.room + count_near types (before.now ++ after.now) base from to ≡ starts.old.room }
 {
     let place = base + next_place(types, before, after, from - base - 1, to - base);
     if place == to {

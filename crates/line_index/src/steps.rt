@@ -1,14 +1,18 @@
 //! Steps: the effect of an insertion or a deletion on the lines around it.
 
-ghost use Rattle.std.specs.Prelude.{◌≡◌, ℕ, ◌+◌, ◌-◌, ◌^◌, ◌≤◌, ◌<◌, ◌++◌, List, min, length, take, drop};
-ghost use Rattle.ed_model.specs.Steps.{Insert, edited, moved_back};
-ghost use Rattle.line_index.specs.Index.{IsIndexOf, IsInsertion, IsDeletion, WasInserted, WasDeleted, index, last_touched};
-ghost use Rattle.line_index.specs.Change.{MovesLines, change_about, last_line, moved_on};
+ghost use Rattle.std.specs.Prelude.{◌≡◌, ◌+◌, ◌^◌, ◌≤◌, ◌<◌, ◌++◌, min, length};
+ghost use Rattle.ed_model.specs.Steps.{moved_back};
+ghost use Rattle.line_index.specs.Index.{FollowsDeletion, FollowsInsertion, WasDeleted, WasInserted};
+ghost use Rattle.line_index.specs.Index.{StartsFollowDeletion, StartsFollowInsertion, index_by, last_touched};
+ghost use Rattle.line_index.specs.Change.{MovesLines, NamesLines, change_by_deletion, change_by_insertion};
+ghost use Rattle.line_index.specs.Change.{last_line, moved_on};
 ghost use Rattle.line_index.specs.StepEdits.{SmallLines};
 
 use crate::change::{LineChange, LinesAbout, NearLines};
 use crate::index::LineIndex;
-use crate::starts::{add_starts, lines_after_step, lines_at_step, lines_before, remove_starts};
+use crate::starts::{
+    add_starts, lines_after_step, lines_at_step, lines_before, remove_starts, starts_are_sound,
+};
 use ed_model::LineEndTypes;
 use partitioning::{Partitioning, Place};
 
@@ -48,14 +52,14 @@ fn put_in<P: Place>(
     before: &[u8],
     after: &[u8],
 ) -> LineChange
-    requires was { WasInserted place count (before.now ++ after.now) (index types starts.old.starts starts.old.length starts.old.room) }
+    requires was { WasInserted place count (before.now ++ after.now) (index_by types starts.old) }
     requires fits { starts.old.length + count ≤ P.GREATEST }
     requires short { starts.old.length + count < 2 ^ 63 }
-    ensures index { (old bytes : List ℕ) → IsInsertion place count (before.now ++ after.now) old bytes (index types starts.old.starts starts.old.length starts.old.room) → IsIndexOf (edited (Insert place bytes) old) (index types starts.new.starts starts.new.length starts.new.room) }
+    ensures index { StartsFollowInsertion types place count (before.now ++ after.now) starts.old starts.new }
     ensures room { starts.new.room + length starts.new.starts ≡ starts.old.room + length starts.old.starts }
-    ensures change { result ≡ change_about place place (place + count) starts.old.starts starts.new.starts starts.new.length }
+    ensures change { result ≡ change_by_insertion place count (index_by types starts.old) (index_by types starts.new) }
     ensures moves { MovesLines (moved_on place count) starts.old.starts starts.new.starts result }
-    ensures lines { (result.old_lines.two_behind < length starts.old.starts) × (result.new_lines.two_behind < length starts.new.starts) }
+    ensures lines { NamesLines starts.old.starts starts.new.starts result }
     ensures small { SmallLines result.old_lines × SmallLines result.new_lines }
 {
     let edited = starts.step_at();
@@ -94,16 +98,16 @@ fn take_out<P: Place>(
     before: &[u8],
     after: &[u8],
 ) -> LineChange
-    requires was { WasDeleted place count (before.now ++ after.now) (index types starts.old.starts starts.old.length starts.old.room) }
+    requires was { WasDeleted place count (before.now ++ after.now) (index_by types starts.old) }
     requires short { starts.old.length < 2 ^ 63 }
-    ensures index { (old : List ℕ) → IsDeletion place count (before.now ++ after.now) old (index types starts.old.starts starts.old.length starts.old.room) → IsIndexOf (take place old ++ drop (place + count) old) (index types starts.new.starts starts.new.length starts.new.room) }
+    ensures index { StartsFollowDeletion types place count (before.now ++ after.now) starts.old starts.new }
     ensures room { starts.new.room + length starts.new.starts ≡ starts.old.room + length starts.old.starts }
-    ensures change { result ≡ change_about place (place + count) place starts.old.starts starts.new.starts starts.new.length }
+    ensures change { result ≡ change_by_deletion place count (index_by types starts.old) (index_by types starts.new) }
     ensures moves { MovesLines (moved_back place count) starts.old.starts starts.new.starts result }
-    ensures lines { (result.old_lines.two_behind < length starts.old.starts) × (result.new_lines.two_behind < length starts.new.starts) }
+    ensures lines { NamesLines starts.old.starts starts.new.starts result }
     ensures small { SmallLines result.old_lines × SmallLines result.new_lines }
 {
-    let _ = starts.length(); // brings the fact that the text is not too long
+    starts_are_sound(starts);
     let edited = starts.step_at();
     let lines = starts.count();
     let (line, old_lines) = lines_at_step(starts, place.saturating_sub(1), place + count, edited);
@@ -129,9 +133,10 @@ fn take_out<P: Place>(
 }
 
 impl<P: Place> LineIndex<P> {
-    /// Updates the index after `count` bytes were inserted at `place`, and returns the effect on the lines. `before` and
-    /// `after` are the halves of those bytes with up to three on each side (`near_step`), which are all that is read.
-    /// There must be room for the new lines (`lines_for_insertion`), and the text must be shorter than 2^63 bytes.
+    /// Updates the index after `count` bytes were inserted at `place`, and returns the effect on the lines. `before`
+    /// and `after` are the halves of those bytes with up to three on each side (`near_step`), which are all that is
+    /// read. There must be room for the new lines (`lines_for_insertion`), and the text must be shorter than 2^63
+    /// bytes.
     #[inline(always)]
     pub fn inserted(
         &mut self,
@@ -144,11 +149,11 @@ impl<P: Place> LineIndex<P> {
         requires fits { self.old.length + count ≤ P.GREATEST }
         requires short { self.old.length + count < 2 ^ 63 }
         ensures types { self.new.types ≡ self.old.types }
-        ensures index { (old bytes : List ℕ) → IsInsertion place count (before.now ++ after.now) old bytes self.old → IsIndexOf (edited (Insert place bytes) old) self.new }
+        ensures index { FollowsInsertion place count (before.now ++ after.now) self.old self.new }
         ensures room { self.new.room + length self.new.starts ≡ self.old.room + length self.old.starts }
-        ensures change { result ≡ change_about place place (place + count) self.old.starts self.new.starts self.new.length }
+        ensures change { result ≡ change_by_insertion place count self.old self.new }
         ensures moves { MovesLines (moved_on place count) self.old.starts self.new.starts result }
-        ensures lines { (result.old_lines.two_behind < length self.old.starts) × (result.new_lines.two_behind < length self.new.starts) }
+        ensures lines { NamesLines self.old.starts self.new.starts result }
         ensures small { SmallLines result.old_lines × SmallLines result.new_lines }
     {
         put_in(&mut self.starts, self.types, place, count, before, after)
@@ -163,11 +168,11 @@ impl<P: Place> LineIndex<P> {
         requires was { WasDeleted place count (before.now ++ after.now) self.old }
         requires short { self.old.length < 2 ^ 63 }
         ensures types { self.new.types ≡ self.old.types }
-        ensures index { (old : List ℕ) → IsDeletion place count (before.now ++ after.now) old self.old → IsIndexOf (take place old ++ drop (place + count) old) self.new }
+        ensures index { FollowsDeletion place count (before.now ++ after.now) self.old self.new }
         ensures room { self.new.room + length self.new.starts ≡ self.old.room + length self.old.starts }
-        ensures change { result ≡ change_about place (place + count) place self.old.starts self.new.starts self.new.length }
+        ensures change { result ≡ change_by_deletion place count self.old self.new }
         ensures moves { MovesLines (moved_back place count) self.old.starts self.new.starts result }
-        ensures lines { (result.old_lines.two_behind < length self.old.starts) × (result.new_lines.two_behind < length self.new.starts) }
+        ensures lines { NamesLines self.old.starts self.new.starts result }
         ensures small { SmallLines result.old_lines × SmallLines result.new_lines }
     {
         take_out(&mut self.starts, self.types, place, count, before, after)

@@ -1,8 +1,8 @@
 //! Counting of lines if line ends of Unicode count: many bytes are tested at once.
 
-ghost use Rattle.std.specs.Prelude.{◌≡◌, ◌≤◌, ◌<◌, ◌+◌, ◌==◌, ◌||◌, ◌&&◌, not, if◌then◌else◌, length};
+ghost use Rattle.std.specs.Prelude.{◌≡◌, ◌≤◌, ◌<◌, ◌+◌, length};
 ghost use Rattle.ed_model.specs.declared.plan.LineEndTypes.TheVariants.{Unicode};
-ghost use Rattle.ed_model.specs.Text.{carriage_return, line_feed};
+ghost use Rattle.line_index.specs.Ends.{ends_with};
 ghost use Rattle.line_index.specs.Index.{starts_within};
 
 use crate::room::{BLOCK, count_starts};
@@ -11,7 +11,7 @@ use ed_model::LineEndTypes;
 // Returns how many lines end with the byte, 1 or 0, by the two bytes before it and the one behind. It has no branch, so
 // that many bytes are tested at once.
 fn ends_with(third: u8, second: u8, byte: u8, next: u8) -> u8
-    ensures { result ≡ (if byte == line_feed || (byte == carriage_return && not (next == line_feed)) || ((byte == 0x85 && second == 0xC2) || ((byte == 0xA8 || byte == 0xA9) && second == 0x80 && third == 0xE2)) then 1 else 0) }
+    ensures { result ≡ ends_with third second byte next }
 {
     let known = (byte == b'\n') | ((byte == b'\r') & (next != b'\n'));
     let next_line = (byte == 0x85) & (second == 0xC2);

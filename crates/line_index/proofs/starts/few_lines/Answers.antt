@@ -7,7 +7,7 @@ use Rattle.line_index.proofs.starts.few_lines.Goals as goal
 pub returns-clause-lines : goal.returns-clause-lines
 returns-clause-lines g c =
     near_lines_are c.args.starts.now.starts c.args.starts.now.length c.args.place c.saturating_add.result c.args.last c.line_up_to.result c.line_up_to-2.result c.line_up_to-3.result
-    c.length.ensures.sound (omega (arith, c.length.type_inv, c.length.ensures.length)) c.saturating_add.ensures c.requires.last c.line_up_to.ensures c.line_up_to-2.ensures c.line_up_to-3.ensures
+    c.starts_are_sound.ensures.sound (omega (arith, c.starts_are_sound.ensures.long)) c.saturating_add.ensures c.requires.last c.line_up_to.ensures c.line_up_to-2.ensures c.line_up_to-3.ensures
 
 -- one line that holds all places
 one_line :
@@ -23,7 +23,7 @@ pub returns-then-line-count-2-clause-lines : goal.returns-then-line-count-2-clau
 returns-then-line-count-2-clause-lines g c =
     let starts = c.args.starts.now.starts in
     let low : slice_index starts c.args.line ≤ c.args.front = omega (arith, c.start_of.ensures.start, c.if-start_of-front.false) in
-    one_line starts c.args.starts.now.length c.args.front c.args.place c.args.last c.args.line c.length.ensures.sound (omega (arith, c.length.type_inv, c.length.ensures.length)) c.requires.order (omega (arith, c.ranges.place.fits)) c.requires.last low
+    one_line starts c.args.starts.now.length c.args.front c.args.place c.args.last c.args.line c.starts_are_sound.ensures.sound (omega (arith, c.starts_are_sound.ensures.long)) c.requires.order (omega (arith, c.ranges.place.fits)) c.requires.last low
     (last_of_all starts c.args.last c.args.line (omega (arith, low, c.requires.order, c.requires.last, c.ranges.place.fits)) (omega (arith, c.if-line-count-2.true, c.count-count.ensures.count)))
 
 pub returns-then-last-next-clause-front : goal.returns-then-last-next-clause-front
@@ -37,6 +37,6 @@ pub returns-then-last-next-clause-lines : goal.returns-then-last-next-clause-lin
 returns-then-last-next-clause-lines g c =
     let starts = c.args.starts.now.starts in
     let low : slice_index starts c.args.line ≤ c.args.front = omega (arith, c.start_of.ensures.start, c.if-start_of-front.false) in
-    one_line starts c.args.starts.now.length c.args.front c.args.place c.args.last c.args.line c.length.ensures.sound (omega (arith, c.length.type_inv, c.length.ensures.length)) c.requires.order (omega (arith, c.ranges.place.fits)) c.requires.last low
+    one_line starts c.args.starts.now.length c.args.front c.args.place c.args.last c.args.line c.starts_are_sound.ensures.sound (omega (arith, c.starts_are_sound.ensures.long)) c.requires.order (omega (arith, c.ranges.place.fits)) c.requires.last low
     (next_behind starts c.args.starts.now.length c.args.last c.args.line c.count-count.ensures.sound (omega (arith, low, c.requires.order, c.requires.last, c.ranges.place.fits)) (omega (arith, c.if-line-count.false, c.if-line-count-2.false, c.count-count.ensures.count))
     (omega (arith, c.start_of-next.ensures.start, c.if-last-next.true)))
