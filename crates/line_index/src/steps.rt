@@ -107,7 +107,6 @@ fn take_out<P: Place>(
     ensures lines { NamesLines starts.old.starts starts.new.starts result }
     ensures small { SmallLines result.old_lines × SmallLines result.new_lines }
 {
-    starts_are_sound(starts);
     let edited = starts.step_at();
     let lines = starts.count();
     let (line, old_lines) = lines_at_step(starts, place.saturating_sub(1), place + count, edited);
