@@ -10,6 +10,7 @@ ghost use Rattle.document.specs.Kept.{FitsWidth, bound_of, no_room};
 use crate::places::{Indicators, Lines};
 use cell_buffer::Cells;
 use ed_model::{LineEnd, LineEndTypes};
+use ed_types::document_option;
 use line_rows::LineRows;
 use std::alloc::{AllocError, Global};
 use std::marker::Model;
@@ -45,9 +46,6 @@ impl Model for Document {
     ghost invariant = { AreParts };
 }
 
-/// The option for large texts: `SC_DOCUMENTOPTION_TEXT_LARGE` of Scintilla.
-const TEXT_LARGE: u32 = 0x100;
-
 impl Document {
     ghost use Rattle.std.specs.Borrow.{sem};
     ghost use Rattle.document.specs.Lends.{lent_and_back};
@@ -62,7 +60,7 @@ impl Document {
         ensures document { IfOk result (λ k. k.document ≡ new_document id options) }
         ensures room { IfOk result (λ k. k.room ≡ no_room) }
     {
-        let is_large = options & TEXT_LARGE != 0;
+        let is_large = options & document_option::TEXT_LARGE != 0;
         let lines = Lines::new(alloc, is_large)?;
         let rows = LineRows::new(alloc);
         Ok(Document {
@@ -99,7 +97,7 @@ impl Document {
     pub fn is_large(&self) -> bool
         ensures { result ≡ is_large self.now.document }
     {
-        self.options & TEXT_LARGE != 0
+        self.options & document_option::TEXT_LARGE != 0
     }
 
     /// Returns a bound: each text of the document is shorter, in bytes. It depends on the width of places.

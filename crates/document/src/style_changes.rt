@@ -9,17 +9,15 @@ ghost use Rattle.ed_model.specs.Text.{styles_of};
 ghost use Rattle.document.specs.Changes.{CanStyle};
 
 use crate::kept::Document;
+use ed_types::document_option;
 use std::alloc::AllocError;
-
-/// The option for no styles: `SC_DOCUMENTOPTION_STYLES_NONE` of Scintilla.
-const STYLES_NONE: u32 = 0x1;
 
 impl Document {
     // Returns whether the document keeps no styles: all are 0 then, whatever is set.
     fn keeps_no_styles(&self) -> bool
         ensures { result ≡ keeps_no_styles self.now.document }
     {
-        self.options & STYLES_NONE != 0
+        self.options & document_option::STYLES_NONE != 0
     }
 
     /// Allocates memory for the styles of the cells, and stores styles from now on, unless the document keeps none.
