@@ -4,6 +4,7 @@ use Rattle.std.proofs.lemmas.List.{length-map}
 use Rattle.ed_model.specs.Text.{Cell, bytes_of}
 use Rattle.ed_model.specs.Lines.{line_count}
 use Rattle.ed_model.specs.Steps.{Step, edited, edited_cells}
+use Rattle.ed_model.specs.Indicators.{indicator_after, indicators_after}
 use Rattle.ed_model.specs.MergeLaws.{end_of}
 use Rattle.ed_model.specs.proved.Steps.{bytes_of_edited_cells}
 use Rattle.line_index.specs.declared.change.LineChange.{LineChange}
@@ -40,9 +41,10 @@ pub parts_after :
     (step : Step) (cells new_cells : List Cell) (room new_room options : ℕ) (lines new_lines : LinesOf) (rows new_rows : KeptRows) (indicators new_indicators : IndicatorsOf)
     → ArePartsOf cells room options lines rows indicators → new_cells ≡ edited_cells step cells → HasLinesOf lines.index.types new_cells new_lines.index → new_lines.is_large ≡ lines.is_large
     → new_lines.index.room + length new_lines.index.starts ≡ lines.index.room + length lines.index.starts → AreCarried rows new_rows lines.index.types step (bytes_of cells)
-    → new_indicators.decorated.length ≡ length new_cells → new_indicators.is_large ≡ indicators.is_large → length new_cells + new_room ≡ length cells + room
+    → new_indicators.decorated.length ≡ length new_cells → new_indicators.decorated.values ≡ indicators_after step indicators.decorated.values
+    → new_indicators.is_large ≡ indicators.is_large → length new_cells + new_room ≡ length cells + room
     → ArePartsOf new_cells new_room options new_lines new_rows new_indicators
-parts_after step cells new_cells room new_room options lines new_lines rows new_rows indicators new_indicators parts is has width sum carried marked indicator_width as_long =
+parts_after step cells new_cells room new_room options lines new_lines rows new_rows indicators new_indicators parts is has width sum carried marked values indicator_width as_long =
     let text : bytes_of new_cells ≡ edited step (bytes_of cells) = ap bytes_of is ∙ bytes_of_edited_cells step cells in
     let starts = lines_of_index lines.index.types (bytes_of new_cells) new_lines.index has.index has.types_are in
     let count : length new_rows.rows ≡ length new_lines.index.starts = carried.row_count ∙ ap (line_count lines.index.types) (sym text) ∙ sym starts in
@@ -51,6 +53,7 @@ parts_after step cells new_cells room new_room options lines new_lines rows new_
       row_count = count;
       row_room = omega (arith, count, sum, carried.room_for_lines, parts.row_count, parts.row_room);
       indicator_count = marked;
+      all_indicators = ap length values ∙ length-map indicators.decorated.values (indicator_after step) ∙ parts.all_indicators;
       line_width = width ∙ parts.line_width;
       indicator_width = indicator_width ∙ parts.indicator_width;
       fits = omega (arith, as_long, parts.fits);

@@ -19,6 +19,7 @@ parts_restyled cells new room new_room options lines rows indicators parts bytes
   row_count = parts.row_count;
   row_room = parts.row_room;
   indicator_count = parts.indicator_count ∙ sym as_long;
+  all_indicators = parts.all_indicators;
   line_width = parts.line_width;
   indicator_width = parts.indicator_width;
   fits = omega (arith, parts.fits, as_long, same);

@@ -46,6 +46,7 @@ parts_retyped to cells room options lines new_lines rows new_rows indicators edi
       row_count = ap length regroups ∙ each rows_together lines.index.types to text rows.rows ∙ sym after;
       row_room = omega (arith, before, after, sum, fresh, parts.row_room, ap fresh_lines told, all lines.index.types to text);
       indicator_count = parts.indicator_count;
+      all_indicators = parts.all_indicators;
       line_width = width ∙ parts.line_width;
       indicator_width = parts.indicator_width;
       fits = parts.fits;

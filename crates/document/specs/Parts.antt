@@ -56,12 +56,14 @@ kept_in d = record {
   spare = spare_in d;
 }
 
--- The line starts are those of the text, with a row for each line; each byte has its indicators; the places are wide enough.
+-- The line starts are those of the text, with a row for each line; each byte has its values of the 32 indicators; the
+-- places are wide enough.
 pub record ArePartsOf (cells : List Cell) (room options : ℕ) (lines : LinesOf) (rows : KeptRows) (indicators : IndicatorsOf) : Type 0 where
   pub indexed : IsIndexOf (bytes_of cells) lines.index
   pub row_count : length rows.rows ≡ length lines.index.starts
   pub row_room : rows.room.lines ≤ lines.index.room
   pub indicator_count : indicators.decorated.length ≡ length cells
+  pub all_indicators : length indicators.decorated.values ≡ 32
   pub line_width : lines.is_large ≡ meets options 0x100
   pub indicator_width : indicators.is_large ≡ meets options 0x100
   pub fits : length cells + room < bound_of (meets options 0x100)

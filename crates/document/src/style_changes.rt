@@ -107,7 +107,6 @@ impl Document {
         ensures spare { self.new.spare ≡ record self.old.spare { fill = None } }
         ensures changed { result ≡ changed_range (slice_index_or self.old.document.indicators indicator []) (slice_index_or self.new.document.indicators indicator []) }
     {
-        let _ = self.indicators.length(); // brings the fact that there are 32 indicators
         self.indicators.fill(indicator, start, count, value)
     }
 }

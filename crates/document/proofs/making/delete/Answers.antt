@@ -44,7 +44,8 @@ returns-clause-stepped c =
     record {
       together = λ options parts. parts_after step cells c.take_out-change.new.cells.cells room c.take_out-change.new.cells.room options lines c.take_out-change.new.lines rows c.carry_rows.new.rows
           indicators c.delete.new.self parts put.cells put.lines put.width put.line_room carried
-          (omega (arith, c.delete.ensures.length, put.len, parts.indicator_count)) c.delete.ensures.width (omega (arith, put.len, put.room));
+          (omega (arith, c.delete.ensures.length, put.len, parts.indicator_count)) (c.delete.ensures.values (slice_range (bytes_of cells) c.args.place (c.args.place + c.args.count)) counted)
+          c.delete.ensures.width (omega (arith, put.len, put.room));
       cells = put.cells;
       types = put.lines.types_are;
       rows = carried;

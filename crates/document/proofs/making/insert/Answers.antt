@@ -42,7 +42,7 @@ returns-clause-stepped c =
     record {
       together = λ options parts. parts_after step cells c.put_in-change.new.cells.cells room c.put_in-change.new.cells.room options lines c.put_in-change.new.lines rows c.carry_rows.new.rows
           indicators c.insert.new.self parts put.cells put.lines put.width put.line_room carried
-          (omega (arith, c.insert.ensures.length, put.len, parts.indicator_count)) c.insert.ensures.width (omega (arith, put.len, put.room));
+          (omega (arith, c.insert.ensures.length, put.len, parts.indicator_count)) (c.insert.ensures.values c.args.bytes.now refl) c.insert.ensures.width (omega (arith, put.len, put.room));
       cells = put.cells;
       types = put.lines.types_are;
       rows = carried;
