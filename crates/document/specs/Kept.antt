@@ -1,6 +1,8 @@
 -- What a contract sees of a `Document`.
-use Rattle.std.specs.Prelude.{◌≡◌, ℕ, ◌+◌, ◌^◌, ◌≤◌, ◌<◌, Bool, true, false, length, min, max, ◌-◌, Option}
-use Rattle.ed_model.specs.Session.{Document, is_large}
+use Rattle.std.specs.Prelude.{◌≡◌, ℕ, ◌+◌, ◌^◌, ◌≤◌, ◌<◌, Bool, true, false, List, length, min, max, slice_range, ◌-◌, Option}
+use Rattle.ed_model.specs.Lines.{line_starts}
+use Rattle.ed_model.specs.Changes.{marker_count}
+use Rattle.ed_model.specs.Session.{Document, is_large, text_of}
 use Rattle.document.specs.declared.room.DocumentRoom.{DocumentRoom}
 
 -- The room for changes of a document that are no steps of its text: how many more views and markers fit in; for how
@@ -75,6 +77,26 @@ pub record IsAtMost (new old need : DocumentRoom) : Type 0 where
   pub insertions : new.insertions ≤ max old.insertions need.insertions
   pub steps : new.steps ≤ max old.steps need.steps
   pub bytes : new.bytes ≤ max old.bytes need.bytes
+
+-- no room is added, except that so many deleted bytes become room
+abbrev pub AddsNoRoomBut : ℕ → Kept → Kept → Type 0
+AddsNoRoomBut freed old new = IsAtMost new.room (with_freed freed old.room) no_room
+
+-- how many views fit into the document in all: those attached to it, and those for which there is room
+abbrev pub view_room_in_all : Kept → ℕ
+view_room_in_all k = k.spare.views + length k.document.views
+
+-- how many markers fit into the document in all: those that it has, and those for which there is room
+abbrev pub marker_room_in_all : Kept → ℕ
+marker_room_in_all k = k.spare.markers + marker_count k.document.rows
+
+-- the `count` bytes of the text from `start` on
+abbrev pub text_from : ℕ → ℕ → Document → List ℕ
+text_from start count d = slice_range (text_of d) start (start + count)
+
+-- where the lines of the document start
+abbrev pub line_starts_in : Document → List ℕ
+line_starts_in d = line_starts d.line_end_types (text_of d)
 
 -- each text of a document of this width is shorter than that, in bytes
 abbrev pub bound_of : Bool → ℕ

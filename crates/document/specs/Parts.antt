@@ -6,7 +6,7 @@ use Rattle.ed_model.specs.Lines.{line_count}
 use Rattle.ed_model.specs.Rows.{rows_together}
 use Rattle.ed_model.specs.Carry.{carried_by}
 use Rattle.ed_model.specs.Changes.{marker_count}
-use Rattle.ed_model.specs.Steps.{Step, edited, edited_cells}
+use Rattle.ed_model.specs.Steps.{Step, Insert, edited, edited_cells}
 use Rattle.ed_model.specs.Indicators.{indicators_after}
 use Rattle.ed_model.specs.MergeLaws.{end_of}
 use Rattle.ed_model.specs.Session.{Document}
@@ -16,10 +16,12 @@ use Rattle.line_index.specs.StepEdits.{change_of}
 use Rattle.ed_model.specs.declared.plan.LineEndTypes.{LineEndTypes}
 use Rattle.line_index.specs.Index.{Index, IsIndexOf}
 use Rattle.line_rows.specs.Kept.{KeptRows}
-use Rattle.document.specs.Kept.{Kept, ChangeRoom, document_room, bound_of}
-use Rattle.document.specs.TextSteps.{bytes_out}
+use Rattle.cell_buffer.specs.Buffer.{Buffer}
+use Rattle.document.specs.Kept.{Kept, ChangeRoom, document_room, bound_of, text_part}
+use Rattle.document.specs.declared.text_step.TextStep.{TextStep as Lent}
+use Rattle.document.specs.TextSteps.{bytes_out, deletion_of, deletion_room, insertion_room, need_of, step_in}
 use Rattle.document.specs.declared.room.DocumentRoom.{DocumentRoom}
-use Rattle.document.specs.Places.{LinesOf, IndicatorsOf}
+use Rattle.document.specs.Places.{LinesOf, IndicatorsOf, LinesFit}
 use Rattle.document.specs.declared.kept.Document.TheInside.{Inside}
 
 abbrev pub document_in : Inside → Document
@@ -100,6 +102,16 @@ pub record AreCarried (old new : KeptRows) (types : LineEndTypes) (step : Step) 
   pub markers : old.room.markers ≤ new.room.markers
   pub markers_in_all : new.room.markers + marker_count new.rows ≡ old.room.markers + marker_count old.rows
 
+-- the rows are carried through each step whose effect on the lines this is
+abbrev pub AreCarriedBy : LineChange → KeptRows → KeptRows → Type 0
+AreCarriedBy change old new =
+    (types : LineEndTypes) (step : Step) (text : List ℕ) → IsChange old change types step text
+    → AreCarried old new types step text
+
+-- there is room for the lines of the text after the insertion
+abbrev pub InsertionFits : ℕ → List ℕ → List Cell → Index → Type 0
+InsertionFits place bytes cells i = LinesFit i.types (bytes_of (edited_cells (Insert place bytes) cells)) i
+
 -- the index has the lines of these cells' bytes, by the line ends of these types; no public contract cites this
 pub record HasLinesOf (types : LineEndTypes) (cells : List Cell) (lines : Index) : Type 0 where
   pub types_are : lines.types ≡ types
@@ -115,6 +127,10 @@ pub record TextParts : Type 0 where
 
 abbrev pub text_parts : List Cell → ℕ → LinesOf → KeptRows → IndicatorsOf → TextParts
 text_parts cells room lines rows indicators = record { cells = cells; room = room; lines = lines; rows = rows; indicators = indicators }
+
+-- the parts that the functions of a step take one by one
+abbrev pub parts_in : Buffer → LinesOf → KeptRows → IndicatorsOf → TextParts
+parts_in cells lines rows indicators = text_parts cells.cells cells.room lines rows indicators
 
 -- these are the parts of a document with these options
 abbrev pub AreTogether : ℕ → TextParts → Type 0
@@ -144,3 +160,24 @@ pub record AreStepped (old new : TextParts) (step : Step) (need : DocumentRoom) 
   pub text_made : new.room ≤ old.room + bytes_out step
   pub insertions_made : new.indicators.decorated.room ≤ old.indicators.decorated.room
   pub unfilled : new.indicators.decorated.ready ≡ None
+
+-- there is room for an insertion of these bytes, for a deletion, and for a step
+abbrev pub CanTakeInsertion : List ℕ → TextParts → Type 0
+CanTakeInsertion bytes p = CanTake p (insertion_room p.lines.index.types bytes)
+
+abbrev pub CanTakeDeletion : TextParts → Type 0
+CanTakeDeletion p = CanTake p deletion_room
+
+abbrev pub CanTakeStep : Lent → TextParts → Type 0
+CanTakeStep step p = CanTake p (text_part (need_of p.lines.index.types step))
+
+-- the parts after the insertion, after the deletion of `count` bytes from `place` on, and after the step
+abbrev pub AreInserted : ℕ → List ℕ → TextParts → TextParts → Type 0
+AreInserted place bytes old new = AreStepped old new (Insert place bytes) (insertion_room old.lines.index.types bytes)
+
+abbrev pub AreDeleted : ℕ → ℕ → TextParts → TextParts → Type 0
+AreDeleted place count old new = AreStepped old new (deletion_of place count (bytes_of old.cells)) deletion_room
+
+abbrev pub AreSteppedBy : Lent → TextParts → TextParts → Type 0
+AreSteppedBy step old new =
+    AreStepped old new (step_in step (bytes_of old.cells)) (text_part (need_of old.lines.index.types step))

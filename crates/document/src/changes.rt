@@ -1,8 +1,11 @@
 //! Changes of a document that allocate nothing, and its list of views.
 
-ghost use Rattle.std.specs.Prelude.{◌≡◌, ◌≤◌, ◌<◌, ◌+◌, ◌-◌, ◌^◌, ◌∷◌, ◌++◌, [], length, min, OnOk, OnErr, IsOk, max, vec_len, vec_capacity};
+ghost use Rattle.std.specs.Prelude.{◌≡◌, ◌≤◌, ◌<◌, ◌+◌, ◌-◌, ◌^◌, length, max, OnOk, OnErr, IsOk};
+ghost use Rattle.std.specs.Prelude.{vec_len, vec_capacity};
 ghost use Rattle.ed_model.specs.History.{sealed_outside_groups, saved, group_begun, group_ended, emptied, collecting_set};
 ghost use Rattle.ed_model.specs.Session.{without, left_by};
+ghost use Rattle.document.specs.Kept.{view_room_in_all};
+ghost use Rattle.document.specs.Changes.{with_attached_view, with_held_by_callers, with_history};
 
 use crate::kept::Document;
 use ed_model::LineEnd;
@@ -32,14 +35,14 @@ impl Document {
 
     /// Seals the last transaction unless a group is open: no step joins it any more.
     pub fn seal_outside_groups(&mut self)
-        ensures { self.new ≡ record self.old { document = record self.old.document { history = sealed_outside_groups self.old.document.history } } }
+        ensures { self.new ≡ with_history (sealed_outside_groups self.old.document.history) self.old }
     {
         self.history.seal_outside_groups();
     }
 
     /// Makes this state the save point: the document counts as unmodified here (`SCI_SETSAVEPOINT`).
     pub fn set_save_point(&mut self)
-        ensures { self.new ≡ record self.old { document = record self.old.document { history = saved self.old.document.history } } }
+        ensures { self.new ≡ with_history (saved self.old.document.history) self.old }
     {
         self.history.set_save_point();
     }
@@ -47,21 +50,21 @@ impl Document {
     /// Opens a group (`SCI_BEGINUNDOACTION`). Its steps are one transaction, which no earlier step belongs to.
     pub fn begin_group(&mut self)
         requires { self.old.document.history.depth + 1 < 2 ^ 64 }
-        ensures { self.new ≡ record self.old { document = record self.old.document { history = group_begun self.old.document.history } } }
+        ensures { self.new ≡ with_history (group_begun self.old.document.history) self.old }
     {
         self.history.begin_group();
     }
 
     /// Closes the innermost group, if one is open (`SCI_ENDUNDOACTION`).
     pub fn end_group(&mut self)
-        ensures { self.new ≡ record self.old { document = record self.old.document { history = group_ended self.old.document.history } } }
+        ensures { self.new ≡ with_history (group_ended self.old.document.history) self.old }
     {
         self.history.end_group();
     }
 
     /// Forgets all steps (`SCI_EMPTYUNDOBUFFER`). This state becomes the save point, and no group is open.
     pub fn forget_history(&mut self)
-        ensures { self.new ≡ record self.old { document = record self.old.document { history = emptied self.old.document.history } } }
+        ensures { self.new ≡ with_history (emptied self.old.document.history) self.old }
     {
         self.history.empty();
     }
@@ -69,7 +72,7 @@ impl Document {
     /// Turns the collection of steps on or off (`SCI_SETUNDOCOLLECTION`). When it is off, the document forgets all
     /// steps, but not whether it counts as modified.
     pub fn set_collecting(&mut self, on: bool)
-        ensures { self.new ≡ record self.old { document = record self.old.document { history = collecting_set on self.old.document.history } } }
+        ensures { self.new ≡ with_history (collecting_set on self.old.document.history) self.old }
     {
         self.history.set_collecting(on);
     }
@@ -77,14 +80,14 @@ impl Document {
     /// Adds a reference that a caller holds (`SCI_ADDREFDOCUMENT`).
     pub fn hold(&mut self)
         requires { self.old.document.held_by_callers + 1 < 2 ^ 32 }
-        ensures { self.new ≡ record self.old { document = record self.old.document { held_by_callers = self.old.document.held_by_callers + 1 } } }
+        ensures { self.new ≡ with_held_by_callers (self.old.document.held_by_callers + 1) self.old }
     {
         self.held_by_callers += 1;
     }
 
     /// Releases a reference that a caller holds, if there is one (`SCI_RELEASEDOCUMENT`).
     pub fn release(&mut self)
-        ensures { self.new ≡ record self.old { document = record self.old.document { held_by_callers = self.old.document.held_by_callers - 1 } } }
+        ensures { self.new ≡ with_held_by_callers (self.old.document.held_by_callers - 1) self.old }
     {
         self.held_by_callers = self.held_by_callers.saturating_sub(1);
     }
@@ -111,7 +114,7 @@ impl Document {
     /// Attaches a view, behind those that are attached. There must be room for it.
     pub fn attach_reserved(&mut self, view: u32)
         requires { 0 < self.old.spare.views }
-        ensures document { self.new.document ≡ record self.old.document { views = self.old.document.views ++ view ∷ [] } }
+        ensures document { self.new.document ≡ with_attached_view view self.old.document }
         ensures room { self.new.room ≡ self.old.room }
         ensures spare { self.new.spare ≡ record self.old.spare { views = self.old.spare.views - 1 } }
     {
@@ -124,7 +127,7 @@ impl Document {
         ensures room { self.new.room ≡ self.old.room }
         ensures spare { self.new.spare ≡ record self.old.spare { views = self.new.spare.views } }
         ensures room_stays { self.old.spare.views ≤ self.new.spare.views }
-        ensures view_room { self.new.spare.views + length self.new.document.views ≡ self.old.spare.views + length self.old.document.views }
+        ensures view_room { view_room_in_all self.new ≡ view_room_in_all self.old }
     {
         leave(&mut self.views, view);
     }

@@ -1,11 +1,11 @@
 //! `Document`: how it is made and read.
 
-ghost use Rattle.std.specs.Prelude.{◌≡◌, ◌≤◌, ◌<◌, ◌+◌, ◌-◌, ◌++◌, ◌^◌, length, min, slice_get, slice_range, vec_len, vec_capacity, OnOk, OnErr, IsOk, IfOk, Some, nat_lt};
+ghost use Rattle.std.specs.Prelude.{◌≡◌, ◌≤◌, ◌<◌, ◌+◌, ◌-◌, ◌++◌, ◌^◌, length, min, slice_get, vec_len, vec_capacity, OnOk, OnErr, IsOk, IfOk, Some, nat_lt};
 ghost use Rattle.ed_model.specs.Text.{bytes_of, styles_of};
 ghost use Rattle.ed_model.specs.Lines.{line_starts, line_count, line_of, start_of_line, start_after_line, end_of_line};
 ghost use Rattle.ed_model.specs.Session.{new_document, text_of, lines_in, references, is_large};
 ghost use Rattle.line_index.specs.Index.{IsIndexOf};
-ghost use Rattle.document.specs.Kept.{FitsWidth, bound_of, no_room};
+ghost use Rattle.document.specs.Kept.{FitsWidth, bound_of, no_room, text_from};
 
 use crate::places::{Indicators, Lines};
 use cell_buffer::Cells;
@@ -151,7 +151,7 @@ impl Document {
         target: &mut Vec<u8>,
     ) -> Result<(), AllocError>
         requires { start + count ≤ length self.now.document.cells }
-        ensures ok { OnOk result (target.new.items ≡ target.old.items ++ slice_range (text_of self.now.document) start (start + count)) }
+        ensures ok { OnOk result (target.new.items ≡ target.old.items ++ text_from start count self.now.document) }
         ensures room_is_there { vec_len target.old + count ≤ vec_capacity target.old → IsOk result }
         ensures kept { vec_capacity target.old ≤ vec_capacity target.new }
         ensures err { OnErr result (target.new.items ≡ target.old.items) }
@@ -173,7 +173,7 @@ impl Document {
         spare: usize,
     ) -> Result<Vec<u8>, AllocError>
         requires { start + count ≤ length self.now.document.cells }
-        ensures bytes { IfOk result (λ text. text.items ≡ slice_range (text_of self.now.document) start (start + count)) }
+        ensures bytes { IfOk result (λ text. text.items ≡ text_from start count self.now.document) }
         ensures room { 0 < count → IfOk result (λ text. min (count + spare) (2 ^ 64 - 1) ≤ vec_capacity text) }
         ensures free { count ≡ 0 → IsOk result }
     {
@@ -184,7 +184,7 @@ impl Document {
     pub fn lend(&mut self, start: usize, count: usize) -> &[u8]
         requires { start + count ≤ length self.old.document.cells }
         ensures* back { sem 𝓛 (lent_and_back self.entry) }
-        ensures value { result.now ≡ slice_range (text_of self.old.document) start (start + count) }
+        ensures value { result.now ≡ text_from start count self.old.document }
     {
         self.cells.lend(start, count)
     }

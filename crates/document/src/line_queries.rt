@@ -1,8 +1,9 @@
 //! Look-ups of a document's lines, which are counted from 0.
 
 ghost use Rattle.std.specs.Prelude.{◌≡◌, ◌≤◌, ◌<◌, ◌+◌, ◌^◌, length};
-ghost use Rattle.ed_model.specs.Lines.{line_starts, line_of, start_of_line, start_after_line, end_of_line};
+ghost use Rattle.ed_model.specs.Lines.{line_of, start_of_line, start_after_line, end_of_line};
 ghost use Rattle.ed_model.specs.Session.{text_of, lines_in};
+ghost use Rattle.document.specs.Kept.{line_starts_in};
 
 use crate::kept::Document;
 use partitioning::Probes;
@@ -57,7 +58,7 @@ impl Document {
     /// Returns the line that holds `place` (`SCI_LINEFROMPOSITION`): the last one that starts at `place` or before it.
     /// For a place past the end this is the last of all.
     pub fn line_of(&self, place: usize) -> usize
-        ensures line { result ≡ line_of (line_starts self.now.document.line_end_types (text_of self.now.document)) place }
+        ensures line { result ≡ line_of (line_starts_in self.now.document) place }
         ensures within { result < lines_in self.now.document }
         ensures small { result < 2 ^ 63 }
     {

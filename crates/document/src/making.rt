@@ -1,13 +1,12 @@
 //! A step on those parts of a document that it changes: the text, its lines, their rows and the indicators.
 
-ghost use Rattle.std.specs.Prelude.{◌≡◌, ◌≤◌, ◌+◌, length, slice_range};
+ghost use Rattle.std.specs.Prelude.{◌≡◌, ◌≤◌, ◌+◌, length};
 ghost use Rattle.ed_model.specs.Text.{bytes_of};
-ghost use Rattle.ed_model.specs.Steps.{Insert, Delete};
-ghost use Rattle.line_index.specs.RoomLaws.{lines_for_insertion, lines_for_deletion};
+ghost use Rattle.ed_model.specs.Steps.{Insert};
 ghost use Rattle.line_index.specs.StepEdits.{SmallLines, change_of};
-ghost use Rattle.document.specs.Kept.{document_room, text_part};
-ghost use Rattle.document.specs.Parts.{text_parts, AreOfOne, CanTake, AreStepped};
-ghost use Rattle.document.specs.TextSteps.{step_in, IsStepOn, need_of};
+ghost use Rattle.document.specs.Parts.{parts_in, AreOfOne, CanTakeInsertion, CanTakeDeletion, CanTakeStep};
+ghost use Rattle.document.specs.Parts.{AreInserted, AreDeleted, AreSteppedBy};
+ghost use Rattle.document.specs.TextSteps.{IsStepOn, deletion_change, step_change};
 
 use crate::pieces::{carry_rows, put_in, take_out};
 use crate::places::{Indicators, Lines};
@@ -26,10 +25,11 @@ fn insert(
     place: usize,
     bytes: &[u8],
 ) -> LineChange
-    requires parts { AreOfOne (text_parts cells.old.cells cells.old.room lines.old rows.old indicators.old) }
+    requires parts { AreOfOne (parts_in cells.old lines.old rows.old indicators.old) }
     requires fits { place ≤ length cells.old.cells }
-    requires room { CanTake (text_parts cells.old.cells cells.old.room lines.old rows.old indicators.old) (document_room (length bytes.now) (lines_for_insertion lines.old.index.types bytes.now) 1 0 0) }
-    ensures stepped { AreStepped (text_parts cells.old.cells cells.old.room lines.old rows.old indicators.old) (text_parts cells.new.cells cells.new.room lines.new rows.new indicators.new) (Insert place bytes.now) (document_room (length bytes.now) (lines_for_insertion lines.old.index.types bytes.now) 1 0 0) }
+    requires room { CanTakeInsertion bytes.now (parts_in cells.old lines.old rows.old indicators.old) }
+    ensures stepped { AreInserted place bytes.now (parts_in cells.old lines.old rows.old indicators.old)
+        (parts_in cells.new lines.new rows.new indicators.new) }
     ensures styles { cells.new.keeps_styles ≡ cells.old.keeps_styles }
     ensures lines { result ≡ change_of lines.old.index.types (Insert place bytes.now) (bytes_of cells.old.cells) }
     ensures small { SmallLines result.old_lines × SmallLines result.new_lines }
@@ -50,12 +50,13 @@ fn delete(
     place: usize,
     count: usize,
 ) -> LineChange
-    requires parts { AreOfOne (text_parts cells.old.cells cells.old.room lines.old rows.old indicators.old) }
+    requires parts { AreOfOne (parts_in cells.old lines.old rows.old indicators.old) }
     requires fits { place + count ≤ length cells.old.cells }
-    requires room { CanTake (text_parts cells.old.cells cells.old.room lines.old rows.old indicators.old) (document_room 0 lines_for_deletion 0 0 0) }
-    ensures stepped { AreStepped (text_parts cells.old.cells cells.old.room lines.old rows.old indicators.old) (text_parts cells.new.cells cells.new.room lines.new rows.new indicators.new) (Delete place (slice_range (bytes_of cells.old.cells) place (place + count))) (document_room 0 lines_for_deletion 0 0 0) }
+    requires room { CanTakeDeletion (parts_in cells.old lines.old rows.old indicators.old) }
+    ensures stepped { AreDeleted place count (parts_in cells.old lines.old rows.old indicators.old)
+        (parts_in cells.new lines.new rows.new indicators.new) }
     ensures styles { cells.new.keeps_styles ≡ cells.old.keeps_styles }
-    ensures lines { result ≡ change_of lines.old.index.types (Delete place (slice_range (bytes_of cells.old.cells) place (place + count))) (bytes_of cells.old.cells) }
+    ensures lines { result ≡ deletion_change lines.old.index.types place count (bytes_of cells.old.cells) }
     ensures small { SmallLines result.old_lines × SmallLines result.new_lines }
 {
     let change = take_out(cells, lines, place, count);
@@ -74,12 +75,13 @@ pub(crate) fn make_step(
     indicators: &mut Indicators,
     step: TextStep,
 ) -> LineChange
-    requires parts { AreOfOne (text_parts cells.old.cells cells.old.room lines.old rows.old indicators.old) }
+    requires parts { AreOfOne (parts_in cells.old lines.old rows.old indicators.old) }
     requires fits { IsStepOn step (length cells.old.cells) }
-    requires room { CanTake (text_parts cells.old.cells cells.old.room lines.old rows.old indicators.old) (text_part (need_of lines.old.index.types step)) }
-    ensures stepped { AreStepped (text_parts cells.old.cells cells.old.room lines.old rows.old indicators.old) (text_parts cells.new.cells cells.new.room lines.new rows.new indicators.new) (step_in step.entry (bytes_of cells.old.cells)) (text_part (need_of lines.old.index.types step.entry)) }
+    requires room { CanTakeStep step (parts_in cells.old lines.old rows.old indicators.old) }
+    ensures stepped { AreSteppedBy step.entry (parts_in cells.old lines.old rows.old indicators.old)
+        (parts_in cells.new lines.new rows.new indicators.new) }
     ensures styles { cells.new.keeps_styles ≡ cells.old.keeps_styles }
-    ensures lines { result ≡ change_of lines.old.index.types (step_in step.entry (bytes_of cells.old.cells)) (bytes_of cells.old.cells) }
+    ensures lines { result ≡ step_change lines.old.index.types step.entry (bytes_of cells.old.cells) }
     ensures small { SmallLines result.old_lines × SmallLines result.new_lines }
 {
     match step {

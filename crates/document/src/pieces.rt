@@ -1,15 +1,15 @@
 //! Insertion of bytes into a text and of their lines into its index, piece by piece.
 
-ghost use Rattle.std.specs.Prelude.{◌≡◌, ℕ, List, slice_range, ◌≤◌, ◌<◌, ◌+◌, length};
+ghost use Rattle.std.specs.Prelude.{◌≡◌, ◌≤◌, ◌<◌, ◌+◌, length};
 ghost use Rattle.ed_model.specs.Text.{bytes_of};
-ghost use Rattle.ed_model.specs.declared.plan.LineEndTypes.{LineEndTypes};
-ghost use Rattle.ed_model.specs.Lines.{line_count};
-ghost use Rattle.ed_model.specs.Steps.{Step, Insert, Delete, edited_cells};
+ghost use Rattle.ed_model.specs.Steps.{Insert, edited_cells};
 ghost use Rattle.line_index.specs.RoomLaws.{lines_for_deletion, lines_for_insertion};
 ghost use Rattle.line_index.specs.StepEdits.{SmallLines, change_of};
 ghost use Rattle.line_index.specs.Index.{IsIndexOf};
 ghost use Rattle.document.specs.Kept.{bound_of};
-ghost use Rattle.document.specs.Parts.{HasLinesOf, IsChange, WasChanged, AreCarried};
+ghost use Rattle.document.specs.Parts.{HasLinesOf, InsertionFits, WasChanged, AreCarriedBy};
+ghost use Rattle.document.specs.Places.{line_room_in_all};
+ghost use Rattle.document.specs.TextSteps.{cells_without, deletion_change};
 
 use crate::places::Lines;
 use cell_buffer::Cells;
@@ -17,7 +17,8 @@ use ed_model::{rows_match_lines, rows_that_meet};
 use line_index::{LineChange, edits_of_steps, near_step, room_for_steps};
 use line_rows::LineRows;
 
-// How many bytes are inserted at once: few enough to be in the processor's cache still when they are searched for line ends.
+// How many bytes are inserted at once: few enough to be in the processor's cache still when they are searched for line
+// ends.
 const PIECE: usize = 1 << 16;
 
 // Inserts a piece, and returns its effect on the lines. There must be room for its bytes, and for as many lines as it
@@ -28,14 +29,14 @@ fn put_piece(cells: &mut Cells, lines: &mut Lines, place: usize, bytes: &[u8]) -
     requires room { length bytes.now ≤ cells.old.room }
     requires fits { length cells.old.cells + cells.old.room < bound_of lines.old.is_large }
     requires lines { IsIndexOf (bytes_of cells.old.cells) lines.old.index }
-    requires line_room { line_count lines.old.index.types (bytes_of (edited_cells (Insert place bytes.now) cells.old.cells)) ≤ length lines.old.index.starts + lines.old.index.room }
+    requires line_room { InsertionFits place bytes.now cells.old.cells lines.old.index }
     ensures cells { cells.new.cells ≡ edited_cells (Insert place bytes.now) cells.old.cells }
     ensures styles { cells.new.keeps_styles ≡ cells.old.keeps_styles }
     ensures len { length cells.new.cells ≡ length cells.old.cells + length bytes.now }
     ensures room { cells.new.room + length bytes.now ≡ cells.old.room }
     ensures lines { HasLinesOf lines.old.index.types cells.new.cells lines.new.index }
     ensures width { lines.new.is_large ≡ lines.old.is_large }
-    ensures line_room { lines.new.index.room + length lines.new.index.starts ≡ lines.old.index.room + length lines.old.index.starts }
+    ensures line_room { line_room_in_all lines.new.index ≡ line_room_in_all lines.old.index }
     ensures change { result ≡ change_of lines.old.index.types (Insert place bytes.now) (bytes_of cells.old.cells) }
     ensures small { SmallLines result.old_lines × SmallLines result.new_lines }
 {
@@ -59,7 +60,7 @@ fn put_pieces(cells: &mut Cells, lines: &mut Lines, place: usize, bytes: &[u8]) 
     ensures room { cells.new.room + length bytes.now ≡ cells.old.room }
     ensures lines { HasLinesOf lines.old.index.types cells.new.cells lines.new.index }
     ensures width { lines.new.is_large ≡ lines.old.is_large }
-    ensures line_room { lines.new.index.room + length lines.new.index.starts ≡ lines.old.index.room + length lines.old.index.starts }
+    ensures line_room { line_room_in_all lines.new.index ≡ line_room_in_all lines.old.index }
     ensures change { result ≡ change_of lines.old.index.types (Insert place bytes.now) (bytes_of cells.old.cells) }
     ensures small { SmallLines result.old_lines × SmallLines result.new_lines }
 {
@@ -89,7 +90,7 @@ pub(crate) fn put_in(cells: &mut Cells, lines: &mut Lines, place: usize, bytes: 
     ensures room { cells.new.room + length bytes.now ≡ cells.old.room }
     ensures lines { HasLinesOf lines.old.index.types cells.new.cells lines.new.index }
     ensures width { lines.new.is_large ≡ lines.old.is_large }
-    ensures line_room { lines.new.index.room + length lines.new.index.starts ≡ lines.old.index.room + length lines.old.index.starts }
+    ensures line_room { line_room_in_all lines.new.index ≡ line_room_in_all lines.old.index }
     ensures change { result ≡ change_of lines.old.index.types (Insert place bytes.now) (bytes_of cells.old.cells) }
     ensures small { SmallLines result.old_lines × SmallLines result.new_lines }
 {
@@ -115,14 +116,14 @@ pub(crate) fn take_out(
     requires fits { length cells.old.cells + cells.old.room < bound_of lines.old.is_large }
     requires lines { IsIndexOf (bytes_of cells.old.cells) lines.old.index }
     requires line_room { lines_for_deletion ≤ lines.old.index.room }
-    ensures cells { cells.new.cells ≡ edited_cells (Delete place (slice_range (bytes_of cells.old.cells) place (place + count))) cells.old.cells }
+    ensures cells { cells.new.cells ≡ cells_without place count cells.old.cells }
     ensures styles { cells.new.keeps_styles ≡ cells.old.keeps_styles }
     ensures len { length cells.new.cells + count ≡ length cells.old.cells }
     ensures room { cells.new.room ≡ cells.old.room + count }
     ensures lines { HasLinesOf lines.old.index.types cells.new.cells lines.new.index }
     ensures width { lines.new.is_large ≡ lines.old.is_large }
-    ensures line_room { lines.new.index.room + length lines.new.index.starts ≡ lines.old.index.room + length lines.old.index.starts }
-    ensures change { result ≡ change_of lines.old.index.types (Delete place (slice_range (bytes_of cells.old.cells) place (place + count))) (bytes_of cells.old.cells) }
+    ensures line_room { line_room_in_all lines.new.index ≡ line_room_in_all lines.old.index }
+    ensures change { result ≡ deletion_change lines.old.index.types place count (bytes_of cells.old.cells) }
     ensures small { SmallLines result.old_lines × SmallLines result.new_lines }
 {
     room_for_steps();
@@ -138,7 +139,7 @@ pub(crate) fn take_out(
 fn carry_by_edits(rows: &mut LineRows, change: LineChange)
     requires was { WasChanged rows.old change }
     requires small { SmallLines change.old_lines × SmallLines change.new_lines }
-    ensures carried { (types : LineEndTypes) (step : Step) (text : List ℕ) → IsChange rows.old change types step text → AreCarried rows.old rows.new types step text }
+    ensures carried { AreCarriedBy change rows.old rows.new }
 {
     edits_of_steps();
     rows_that_meet();
@@ -151,7 +152,7 @@ fn carry_by_edits(rows: &mut LineRows, change: LineChange)
 pub(crate) fn carry_rows(rows: &mut LineRows, change: &LineChange)
     requires was { WasChanged rows.old change.now }
     requires small { SmallLines change.now.old_lines × SmallLines change.now.new_lines }
-    ensures carried { (types : LineEndTypes) (step : Step) (text : List ℕ) → IsChange rows.old change.now types step text → AreCarried rows.old rows.new types step text }
+    ensures carried { AreCarriedBy change.now rows.old rows.new }
 {
     edits_of_steps();
     rows_that_meet();

@@ -1,17 +1,19 @@
 //! Line starts and indicators of a text whose places are stored in 32 bits, or in 64 if the text may be large.
 
-ghost use Rattle.std.specs.Prelude.{◌≡◌, pos, ℕ, List, take, drop, ◌<◌, ◌≤◌, ◌+◌, ◌^◌, ◌++◌, [], length, max, replicate, slice_index, slice_set, IfOk, OnOk, OnErr, IsOk, Some, None, ◌*◌, vec_len, vec_capacity};
-ghost use Rattle.ed_model.specs.Lines.{line_count, line_of, end_of_line};
+ghost use Rattle.std.specs.Prelude.{◌≡◌, pos, ◌<◌, ◌≤◌, ◌+◌, ◌*◌, ◌^◌, ◌++◌, [], length, slice_index};
+ghost use Rattle.std.specs.Prelude.{IfOk, OnOk, OnErr, IsOk, Some, None, vec_len, vec_capacity};
+ghost use Rattle.ed_model.specs.Lines.{line_of, end_of_line};
 ghost use Rattle.std.specs.List.{AllByRecursion};
 ghost use Rattle.ed_model.specs.TextPlans.{at_place};
-ghost use Rattle.ed_model.specs.Steps.{Insert, Delete, edited};
-ghost use Rattle.ed_model.specs.Indicators.{changed_range, filled, indicators_after};
-ghost use Rattle.line_index.specs.Index.{IsIndexOf, IsInsertion, IsDeletion, WasInserted, WasDeleted};
-ghost use Rattle.line_index.specs.Change.{change_about, change_since, lines_about};
-ghost use Rattle.line_index.specs.Settings.{edits_of_setting};
+ghost use Rattle.line_index.specs.Index.{IsIndexOf, WasInserted, WasDeleted};
+ghost use Rattle.line_index.specs.Change.{change_since, lines_about};
 ghost use Rattle.line_index.specs.StepEdits.{SmallLines};
+ghost use Rattle.decorations.specs.Decorated.{AreSlotsFor, HaveSlotsOf, values_of, run_about, mask_of};
 ghost use Rattle.document.specs.Kept.{bound_of};
-ghost use Rattle.decorations.specs.Decorated.{decorated, nothing_held, AreRunsFor, AreSlotsFor, HaveSlotsOf, values_of, run_about, mask_of};
+ghost use Rattle.document.specs.Places.{FollowsInsertion, FollowsDeletion, LinesFit, change_between};
+ghost use Rattle.document.specs.Places.{line_room_in_all, no_indicators, range_of_fill, type_edits};
+ghost use Rattle.document.specs.Places.{AreFilled, ChangeOnlyMemory, GainFillRoom, GainInsertionRoom};
+ghost use Rattle.document.specs.Places.{HaveDeleted, HaveInserted, HaveRunsFor};
 
 use decorations::Decorations;
 use ed_model::LineEndTypes;
@@ -160,9 +162,9 @@ impl Lines {
         requires fits { self.old.index.length + count < bound_of self.old.is_large }
         ensures width { self.new.is_large ≡ self.old.is_large }
         ensures types { self.new.index.types ≡ self.old.index.types }
-        ensures index { (old bytes : List ℕ) → IsInsertion place count (before.now ++ after.now) old bytes self.old.index → IsIndexOf (edited (Insert place bytes) old) self.new.index }
-        ensures room { self.new.index.room + length self.new.index.starts ≡ self.old.index.room + length self.old.index.starts }
-        ensures change { result ≡ change_about place place (place + count) self.old.index.starts self.new.index.starts self.new.index.length }
+        ensures index { FollowsInsertion place count (before.now ++ after.now) self.old.index self.new.index }
+        ensures room { line_room_in_all self.new.index ≡ line_room_in_all self.old.index }
+        ensures change { result ≡ change_between place place (place + count) self.old.index self.new.index }
         ensures small { SmallLines result.old_lines × SmallLines result.new_lines }
     {
         match &mut self.kept {
@@ -184,9 +186,9 @@ impl Lines {
         requires short { self.old.index.length < 2 ^ 63 }
         ensures width { self.new.is_large ≡ self.old.is_large }
         ensures types { self.new.index.types ≡ self.old.index.types }
-        ensures index { (old : List ℕ) → IsDeletion place count (before.now ++ after.now) old self.old.index → IsIndexOf (take place old ++ drop (place + count) old) self.new.index }
-        ensures room { self.new.index.room + length self.new.index.starts ≡ self.old.index.room + length self.old.index.starts }
-        ensures change { result ≡ change_about place (place + count) place self.old.index.starts self.new.index.starts self.new.index.length }
+        ensures index { FollowsDeletion place count (before.now ++ after.now) self.old.index self.new.index }
+        ensures room { line_room_in_all self.new.index ≡ line_room_in_all self.old.index }
+        ensures change { result ≡ change_between place (place + count) place self.old.index self.new.index }
         ensures small { SmallLines result.old_lines × SmallLines result.new_lines }
     {
         match &mut self.kept {
@@ -205,8 +207,8 @@ impl Lines {
     ) -> Result<Vec<LineEdit>, AllocError>
         requires text { IsIndexOf (before.now ++ after.now) self.now.index }
         requires short { self.now.index.length < 2 ^ 63 }
-        ensures edits { IfOk result (λ edits. edits.items ≡ edits_of_setting self.now.index.types types (before.now ++ after.now)) }
-        ensures free { edits_of_setting self.now.index.types types (before.now ++ after.now) ≡ [] → IsOk result }
+        ensures edits { IfOk result (λ edits. edits.items ≡ type_edits types (before.now ++ after.now) self.now.index) }
+        ensures free { type_edits types (before.now ++ after.now) self.now.index ≡ [] → IsOk result }
         ensures at_most { IfOk result (λ edits. vec_capacity edits ≤ 2 * vec_len edits) }
     {
         match &self.kept {
@@ -218,12 +220,12 @@ impl Lines {
     /// Like `line_index::LineIndex::set_types`.
     pub(crate) fn set_types(&mut self, types: LineEndTypes, before: &[u8], after: &[u8])
         requires text { IsIndexOf (before.now ++ after.now) self.old.index }
-        requires room { line_count types (before.now ++ after.now) ≤ length self.old.index.starts + self.old.index.room }
+        requires room { LinesFit types (before.now ++ after.now) self.old.index }
         requires short { self.old.index.length < 2 ^ 63 }
         ensures width { self.new.is_large ≡ self.old.is_large }
         ensures types { self.new.index.types ≡ types }
         ensures index { IsIndexOf (before.now ++ after.now) self.new.index }
-        ensures room { self.new.index.room + length self.new.index.starts ≡ self.old.index.room + length self.old.index.starts }
+        ensures room { line_room_in_all self.new.index ≡ line_room_in_all self.old.index }
     {
         match &mut self.kept {
             LinesByWidth::Small(lines) => lines.set_types(types, before, after),
@@ -278,7 +280,7 @@ impl Model for Indicators {
 impl Indicators {
     /// Returns the indicators of the empty text. `is_large` selects places of 64 bits. Allocates nothing.
     pub(crate) fn new(alloc: Global, is_large: bool) -> Self
-        ensures { result ≡ record { decorated = decorated 0 (replicate 32 []) 0 None nothing_held; is_large = is_large } }
+        ensures { result ≡ no_indicators is_large }
     {
         let kept = if is_large {
             IndicatorsByWidth::Large(Decorations::new(alloc))
@@ -342,11 +344,11 @@ impl Indicators {
     /// `AllocError` if an allocation fails. Nothing has changed then, except that there may be memory for more runs.
     #[inline(always)]
     pub(crate) fn reserve(&mut self, insertions: usize) -> Result<(), AllocError>
-        ensures ok { OnOk result (self.new ≡ record self.old { decorated = record self.old.decorated { room = max self.old.decorated.room insertions; held = self.new.decorated.held } }) }
+        ensures ok { OnOk result (GainInsertionRoom insertions self.old self.new) }
         ensures room_is_there { insertions ≤ self.old.decorated.room → IsOk result × (self.new ≡ self.old) }
-        ensures runs_at_most { AreRunsFor (insertions + 3) self.old.decorated.values self.old.decorated.held self.new.decorated.held }
+        ensures runs_at_most { HaveRunsFor (insertions + 3) self.old self.new }
         ensures slots { HaveSlotsOf self.old.decorated.held self.new.decorated.held }
-        ensures err { OnErr result (self.new ≡ record self.old { decorated = record self.old.decorated { held = self.new.decorated.held } }) }
+        ensures err { OnErr result (ChangeOnlyMemory self.old self.new) }
     {
         match &mut self.kept {
             IndicatorsByWidth::Small(indicators) => indicators.reserve(insertions),
@@ -361,7 +363,7 @@ impl Indicators {
         requires room { 0 < self.old.decorated.room }
         ensures width { self.new.is_large ≡ self.old.is_large }
         ensures length { self.new.decorated.length ≡ self.old.decorated.length + count }
-        ensures values { (bytes : List ℕ) → length bytes ≡ count → self.new.decorated.values ≡ indicators_after (Insert place bytes) self.old.decorated.values }
+        ensures values { HaveInserted place count self.old self.new }
         ensures room { self.new.decorated.room + 1 ≡ self.old.decorated.room }
         ensures ready { self.new.decorated.ready ≡ None }
     {
@@ -376,7 +378,7 @@ impl Indicators {
         requires { place + count ≤ self.old.decorated.length }
         ensures width { self.new.is_large ≡ self.old.is_large }
         ensures length { self.new.decorated.length + count ≡ self.old.decorated.length }
-        ensures values { (bytes : List ℕ) → length bytes ≡ count → self.new.decorated.values ≡ indicators_after (Delete place bytes) self.old.decorated.values }
+        ensures values { HaveDeleted place count self.old self.new }
         ensures room { self.new.decorated.room ≡ self.old.decorated.room }
         ensures ready { self.new.decorated.ready ≡ None }
     {
@@ -394,11 +396,11 @@ impl Indicators {
     /// and runs.
     pub(crate) fn reserve_fill(&mut self, indicator: usize) -> Result<(), AllocError>
         requires { indicator < 32 }
-        ensures ok { OnOk result (self.new ≡ record self.old { decorated = record self.old.decorated { ready = Some indicator; held = self.new.decorated.held } }) }
+        ensures ok { OnOk result (GainFillRoom indicator self.old self.new) }
         ensures room_is_there { self.old.decorated.ready ≡ Some indicator → IsOk result × (self.new ≡ self.old) }
-        ensures runs_at_most { AreRunsFor (self.old.decorated.room + 3) self.old.decorated.values self.old.decorated.held self.new.decorated.held }
+        ensures runs_at_most { HaveRunsFor (self.old.decorated.room + 3) self.old self.new }
         ensures slots_at_most { AreSlotsFor (indicator + 1) self.old.decorated.held self.new.decorated.held }
-        ensures err { OnErr result (self.new ≡ record self.old { decorated = record self.old.decorated { held = self.new.decorated.held } }) }
+        ensures err { OnErr result (ChangeOnlyMemory self.old self.new) }
     {
         match &mut self.kept {
             IndicatorsByWidth::Small(indicators) => indicators.reserve_fill(indicator),
@@ -417,8 +419,8 @@ impl Indicators {
         requires indicator { indicator < 32 }
         requires within { start + count ≤ self.old.decorated.length }
         requires room { self.old.decorated.ready ≡ Some indicator }
-        ensures values { self.new ≡ record self.old { decorated = record self.old.decorated { values = slice_set self.old.decorated.values indicator (filled start count value (values_of self.old.decorated.values indicator)); ready = None; held = self.new.decorated.held } } }
-        ensures changed { result ≡ changed_range (values_of self.old.decorated.values indicator) (filled start count value (values_of self.old.decorated.values indicator)) }
+        ensures values { AreFilled indicator start count value self.old self.new }
+        ensures changed { result ≡ range_of_fill indicator start count value self.old }
     {
         match &mut self.kept {
             IndicatorsByWidth::Small(indicators) => {

@@ -1,11 +1,14 @@
 //! Changes of the rows of a document's lines: markers, fold levels and line states. Lines are counted from 0.
 
-ghost use Rattle.std.specs.Prelude.{◌≡◌, ◌≤◌, ◌<◌, ◌+◌, ◌-◌, ◌^◌, [], length, max, OnOk, OnErr, IsOk};
+ghost use Rattle.std.specs.Prelude.{◌≡◌, ◌≤◌, ◌<◌, ◌+◌, ◌-◌, ◌^◌, [], length, OnOk, OnErr, IsOk};
 ghost use Rattle.ed_model.specs.declared.plan.DocumentChange.TheVariants.{AddMarker, AddMarkers, DeleteMarker, DeleteMarkers, DeleteHandle, SetLevel, SetState};
-ghost use Rattle.ed_model.specs.Changes.{changed_document, document_row, marker_count};
+ghost use Rattle.ed_model.specs.Changes.{changed_document, document_row};
 ghost use Rattle.ed_model.specs.LinePlans.{numbers_in};
 ghost use Rattle.ed_model.specs.Session.{lines_in};
+ghost use Rattle.document.specs.Kept.{marker_room_in_all};
 ghost use Rattle.document.specs.Changes.{line_it_left, markers_changed, numbers_of, with_more_markers};
+ghost use Rattle.document.specs.Changes.{after_change, less_marker_room};
+ghost use Rattle.document.specs.Changes.{with_level_room, with_marker_room, with_state_room};
 
 use crate::kept::Document;
 use line_rows::LineRows;
@@ -41,7 +44,7 @@ impl Document {
     ///
     /// `AllocError` if the allocation fails. The document is then unchanged.
     pub fn reserve_markers(&mut self, count: usize) -> Result<(), AllocError>
-        ensures ok { OnOk result (self.new ≡ record self.old { spare = record self.old.spare { markers = max self.old.spare.markers count } }) }
+        ensures ok { OnOk result (self.new ≡ with_marker_room count self.old) }
         ensures room_is_there { count ≤ self.old.spare.markers → IsOk result × (self.new ≡ self.old) }
         ensures err { OnErr result (self.new ≡ self.old) }
     {
@@ -58,7 +61,7 @@ impl Document {
         ensures handle { result ≡ self.old.document.next_handle }
         ensures document { self.new.document ≡ changed_document [] (AddMarker line number) self.old.document }
         ensures room { self.new.room ≡ self.old.room }
-        ensures spare { self.new.spare ≡ record self.old.spare { markers = self.old.spare.markers - 1 } }
+        ensures spare { self.new.spare ≡ less_marker_room 1 self.old.spare }
     {
         self.rows.add_reserved(line, number)
     }
@@ -71,7 +74,7 @@ impl Document {
         requires handles { self.old.document.next_handle + length (numbers_in mask) < 2 ^ 32 }
         ensures document { self.new.document ≡ changed_document [] (AddMarkers line mask) self.old.document }
         ensures room { self.new.room ≡ self.old.room }
-        ensures spare { self.new.spare ≡ record self.old.spare { markers = self.old.spare.markers - length (numbers_in mask) } }
+        ensures spare { self.new.spare ≡ less_marker_room (length (numbers_in mask)) self.old.spare }
     {
         add_markers(&mut self.rows, line, mask);
     }
@@ -84,7 +87,7 @@ impl Document {
         ensures document { self.new.document ≡ changed_document [] (DeleteMarker line number) self.old.document }
         ensures room { self.new.room ≡ self.old.room }
         ensures spare { self.new.spare ≡ record self.old.spare { markers = self.new.spare.markers } }
-        ensures marker_room { self.new.spare.markers + marker_count self.new.document.rows ≡ self.old.spare.markers + marker_count self.old.document.rows }
+        ensures marker_room { marker_room_in_all self.new ≡ marker_room_in_all self.old }
     {
         self.rows.delete(line, number)
     }
@@ -96,7 +99,7 @@ impl Document {
         ensures document { self.new.document ≡ changed_document [] (DeleteMarkers number) self.old.document }
         ensures room { self.new.room ≡ self.old.room }
         ensures spare { self.new.spare ≡ record self.old.spare { markers = self.new.spare.markers } }
-        ensures marker_room { self.new.spare.markers + marker_count self.new.document.rows ≡ self.old.spare.markers + marker_count self.old.document.rows }
+        ensures marker_room { marker_room_in_all self.new ≡ marker_room_in_all self.old }
     {
         self.rows.delete_all(number)
     }
@@ -108,7 +111,7 @@ impl Document {
         ensures document { self.new.document ≡ changed_document [] (DeleteHandle handle) self.old.document }
         ensures room { self.new.room ≡ self.old.room }
         ensures spare { self.new.spare ≡ record self.old.spare { markers = self.new.spare.markers } }
-        ensures marker_room { self.new.spare.markers + marker_count self.new.document.rows ≡ self.old.spare.markers + marker_count self.old.document.rows }
+        ensures marker_room { marker_room_in_all self.new ≡ marker_room_in_all self.old }
     {
         self.rows.delete_handle(handle)
     }
@@ -119,7 +122,7 @@ impl Document {
     ///
     /// `AllocError` if the allocation fails. The document is then unchanged.
     pub fn reserve_levels(&mut self, count: usize) -> Result<(), AllocError>
-        ensures ok { OnOk result (self.new ≡ record self.old { spare = record self.old.spare { levels = max self.old.spare.levels count } }) }
+        ensures ok { OnOk result (self.new ≡ with_level_room count self.old) }
         ensures room_is_there { count ≤ self.old.spare.levels → IsOk result × (self.new ≡ self.old) }
         ensures err { OnErr result (self.new ≡ self.old) }
     {
@@ -131,7 +134,7 @@ impl Document {
         requires line { line < lines_in self.old.document }
         requires room { line < self.old.spare.levels }
         ensures before { result ≡ (document_row self.old.document line).level }
-        ensures document { self.new ≡ record self.old { document = changed_document [] (SetLevel line level) self.old.document } }
+        ensures document { self.new ≡ after_change [] (SetLevel line level) self.old }
     {
         self.rows.set_level(line, level)
     }
@@ -142,7 +145,7 @@ impl Document {
     ///
     /// `AllocError` if the allocation fails. The document is then unchanged.
     pub fn reserve_states(&mut self, count: usize) -> Result<(), AllocError>
-        ensures ok { OnOk result (self.new ≡ record self.old { spare = record self.old.spare { states = max self.old.spare.states count } }) }
+        ensures ok { OnOk result (self.new ≡ with_state_room count self.old) }
         ensures room_is_there { count ≤ self.old.spare.states → IsOk result × (self.new ≡ self.old) }
         ensures err { OnErr result (self.new ≡ self.old) }
     {
@@ -154,7 +157,7 @@ impl Document {
         requires line { line < lines_in self.old.document }
         requires room { line < self.old.spare.states }
         ensures before { result ≡ (document_row self.old.document line).state }
-        ensures document { self.new ≡ record self.old { document = changed_document [] (SetState line state) self.old.document } }
+        ensures document { self.new ≡ after_change [] (SetState line state) self.old }
     {
         self.rows.set_state(line, state)
     }

@@ -1,14 +1,13 @@
 //! Steps of a document's text, and their room.
 
 ghost use Rattle.std.specs.Prelude.{◌≡◌, ℕ, true, ◌≤◌, ◌<◌, ◌+◌, length, None, OnOk, OnErr, IsOk};
-ghost use Rattle.ed_model.specs.Changes.{marker_count};
-ghost use Rattle.ed_model.specs.History.{TextStep as Text, appended, begins_transaction};
-ghost use Rattle.ed_model.specs.Session.{text_of};
+ghost use Rattle.ed_model.specs.History.{begins_transaction};
 ghost use Rattle.ed_model.specs.Performing.{document_after};
-ghost use Rattle.line_index.specs.StepEdits.{SmallLines, change_of};
-ghost use Rattle.document.specs.Kept.{HasRoom, HasTextRoom, HasHistoryRoom, TakesRoom, IsAtMost, FitsWidth, no_room, with_freed, text_part, history_part};
-ghost use Rattle.line_index.specs.RoomLaws.{lines_for_insertion, lines_for_deletion};
-ghost use Rattle.document.specs.TextSteps.{bytes_out, step_in, IsStepOn, need_of};
+ghost use Rattle.line_index.specs.StepEdits.{SmallLines};
+ghost use Rattle.document.specs.Kept.{HasRoom, HasTextRoom, HasHistoryRoom, TakesRoom, IsAtMost, FitsWidth};
+ghost use Rattle.document.specs.Kept.{AddsNoRoomBut, marker_room_in_all, no_room, text_part, history_part};
+ghost use Rattle.document.specs.TextSteps.{FreesDeletedBytes, IsStepOn, bytes_out, change_on, line_change_of};
+ghost use Rattle.document.specs.TextSteps.{need_on, step_on, with_appended};
 
 use crate::kept::Document;
 use crate::making::make_step;
@@ -21,7 +20,7 @@ use undo_history::StepKind;
 impl Document {
     /// Returns the room that a step needs, for the text and for the history.
     pub fn step_need(&self, step: TextStep) -> DocumentRoom
-        ensures need { result ≡ need_of self.now.document.line_end_types step.entry }
+        ensures need { result ≡ need_on self.now step.entry }
     {
         match step {
             TextStep::Insert { bytes, .. } => DocumentRoom {
@@ -81,16 +80,16 @@ impl Document {
     #[inline(always)]
     pub fn step(&mut self, step: TextStep) -> LineChange
         requires fits { IsStepOn step (length self.old.document.cells) }
-        requires room { HasTextRoom self.old (need_of self.old.document.line_end_types step) }
-        ensures document { self.new.document ≡ document_after (step_in step.entry (text_of self.old.document)) self.old.document }
-        ensures room_left { TakesRoom self.old.room self.new.room (text_part (need_of self.old.document.line_end_types step.entry)) }
-        ensures text_freed { self.old.room.text + bytes_out (step_in step.entry (text_of self.old.document)) ≤ self.new.room.text + (need_of self.old.document.line_end_types step.entry).text }
-        ensures none_made { IsAtMost self.new.room (with_freed (bytes_out (step_in step.entry (text_of self.old.document))) self.old.room) no_room }
-        ensures lines { result ≡ change_of self.old.document.line_end_types (step_in step.entry (text_of self.old.document)) (text_of self.old.document) }
+        requires room { HasTextRoom self.old (need_on self.old step) }
+        ensures document { self.new.document ≡ document_after (step_on self.old step.entry) self.old.document }
+        ensures room_left { TakesRoom self.old.room self.new.room (text_part (need_on self.old step.entry)) }
+        ensures text_freed { FreesDeletedBytes step.entry self.old self.new }
+        ensures none_made { AddsNoRoomBut (bytes_out (step_on self.old step.entry)) self.old self.new }
+        ensures lines { result ≡ line_change_of self.old (step_on self.old step.entry) }
         ensures small { SmallLines result.old_lines × SmallLines result.new_lines }
         ensures spare { self.new.spare ≡ record self.old.spare { markers = self.new.spare.markers; fill = None } }
         ensures marker_room { self.old.spare.markers ≤ self.new.spare.markers }
-        ensures markers_in_all { self.new.spare.markers + marker_count self.new.document.rows ≡ self.old.spare.markers + marker_count self.old.document.rows }
+        ensures markers_in_all { marker_room_in_all self.new ≡ marker_room_in_all self.old }
     {
         self.end_styled = self.end_styled.min(step.place());
         make_step(
@@ -106,10 +105,10 @@ impl Document {
     /// it is not the first step of its message. There must be room for it in the history. The text does not change.
     pub fn append(&mut self, later: bool, step: TextStep) -> bool
         requires fits { IsStepOn step (length self.old.document.cells) }
-        requires room { HasHistoryRoom self.old (need_of self.old.document.line_end_types step) }
-        ensures document { self.new.document ≡ record self.old.document { history = appended later (Text (step_in step.entry (text_of self.old.document))) self.old.document.history } }
-        ensures begins { result ≡ begins_transaction later (Text (step_in step.entry (text_of self.old.document))) self.old.document.history }
-        ensures room_left { TakesRoom self.old.room self.new.room (history_part (need_of self.old.document.line_end_types step.entry)) }
+        requires room { HasHistoryRoom self.old (need_on self.old step) }
+        ensures document { self.new.document ≡ with_appended later step.entry self.old }
+        ensures begins { result ≡ begins_transaction later (change_on self.old step.entry) self.old.document.history }
+        ensures room_left { TakesRoom self.old.room self.new.room (history_part (need_on self.old step.entry)) }
         ensures none_made { IsAtMost self.new.room self.old.room no_room }
         ensures spare { self.new.spare ≡ self.old.spare }
     {

@@ -1,12 +1,10 @@
 //! Changes of a document's styles and indicators.
 
-ghost use Rattle.std.specs.Prelude.{◌≡◌, ◌≤◌, ◌<◌, ◌+◌, true, [], length, slice_index_or, OnOk, OnErr, IsOk, Some, None};
+ghost use Rattle.std.specs.Prelude.{◌≡◌, ◌≤◌, ◌<◌, ◌+◌, true, [], length, OnOk, OnErr, IsOk, Some, None};
 ghost use Rattle.ed_model.specs.declared.plan.DocumentChange.TheVariants.{FillIndicator, StyleBytes, StyleRun};
-ghost use Rattle.ed_model.specs.Changes.{changed_document};
-ghost use Rattle.ed_model.specs.Indicators.{changed_range};
 ghost use Rattle.ed_model.specs.Session.{keeps_no_styles};
-ghost use Rattle.ed_model.specs.Text.{styles_of};
-ghost use Rattle.document.specs.Changes.{CanStyle};
+ghost use Rattle.document.specs.Changes.{CanStyle, DocumentIsChanged, after_change, changed_styles, changed_values};
+ghost use Rattle.document.specs.Changes.{with_fill_room};
 
 use crate::kept::Document;
 use ed_types::document_option;
@@ -45,8 +43,8 @@ impl Document {
     pub fn style_run(&mut self, count: usize, style: u8) -> Option<(usize, usize)>
         requires within { self.old.document.end_styled + count ≤ length self.old.document.cells }
         requires room { CanStyle self.old }
-        ensures document { self.new ≡ record self.old { document = changed_document [] (StyleRun count style) self.old.document } }
-        ensures changed { result ≡ changed_range (styles_of self.old.document.cells) (styles_of self.new.document.cells) }
+        ensures document { self.new ≡ after_change [] (StyleRun count style) self.old }
+        ensures changed { result ≡ changed_styles self.old self.new }
     {
         let keeps_none = self.keeps_no_styles();
         let start = self.end_styled;
@@ -62,8 +60,8 @@ impl Document {
     pub fn style_bytes(&mut self, styles: &[u8]) -> Option<(usize, usize)>
         requires within { self.old.document.end_styled + length styles.now ≤ length self.old.document.cells }
         requires room { CanStyle self.old }
-        ensures document { self.new ≡ record self.old { document = changed_document styles.now (StyleBytes (length styles.now)) self.old.document } }
-        ensures changed { result ≡ changed_range (styles_of self.old.document.cells) (styles_of self.new.document.cells) }
+        ensures document { self.new ≡ after_change styles.now (StyleBytes (length styles.now)) self.old }
+        ensures changed { result ≡ changed_styles self.old self.new }
     {
         let keeps_none = self.keeps_no_styles();
         let start = self.end_styled;
@@ -82,7 +80,7 @@ impl Document {
     /// `AllocError` if an allocation fails. The document is then unchanged.
     pub fn reserve_fill(&mut self, indicator: usize) -> Result<(), AllocError>
         requires { indicator < 32 }
-        ensures ok { OnOk result (self.new ≡ record self.old { spare = record self.old.spare { fill = Some indicator } }) }
+        ensures ok { OnOk result (self.new ≡ with_fill_room indicator self.old) }
         ensures room_is_there { self.old.spare.fill ≡ Some indicator → IsOk result × (self.new ≡ self.old) }
         ensures err { OnErr result (self.new ≡ self.old) }
     {
@@ -102,10 +100,10 @@ impl Document {
         requires indicator { indicator < 32 }
         requires within { start + count ≤ length self.old.document.cells }
         requires room { self.old.spare.fill ≡ Some indicator }
-        ensures document { self.new.document ≡ changed_document [] (FillIndicator indicator start count value) self.old.document }
+        ensures document { DocumentIsChanged (FillIndicator indicator start count value) self.old self.new }
         ensures room { self.new.room ≡ self.old.room }
         ensures spare { self.new.spare ≡ record self.old.spare { fill = None } }
-        ensures changed { result ≡ changed_range (slice_index_or self.old.document.indicators indicator []) (slice_index_or self.new.document.indicators indicator []) }
+        ensures changed { result ≡ changed_values indicator self.old self.new }
     {
         self.indicators.fill(indicator, start, count, value)
     }

@@ -1,13 +1,11 @@
 //! The line ends that count in a document, and a container's own steps.
 
-ghost use Rattle.std.specs.Prelude.{◌≡◌, ◌≤◌, ◌+◌, ◌-◌, [], length, OnOk, IsOk, IfOk, ◌*◌, vec_len, vec_capacity};
+ghost use Rattle.std.specs.Prelude.{◌≡◌, ◌≤◌, ◌-◌, ◌*◌, [], OnOk, IsOk, IfOk, vec_len, vec_capacity};
 ghost use Rattle.ed_model.specs.declared.plan.DocumentChange.TheVariants.{AppendContainer, SetLineEndTypes};
-ghost use Rattle.ed_model.specs.Changes.{changed_document, marker_count};
-ghost use Rattle.ed_model.specs.Session.{lines_in, text_of};
+ghost use Rattle.ed_model.specs.Changes.{changed_document};
 ghost use Rattle.line_index.specs.Edits.{fresh_lines};
-ghost use Rattle.line_index.specs.Settings.{edits_of_setting};
-ghost use Rattle.document.specs.Kept.{HasHistoryRoom, IsAtMost, TakesRoom, document_room, no_room};
-ghost use Rattle.document.specs.Changes.{container_need};
+ghost use Rattle.document.specs.Kept.{HasHistoryRoom, IsAtMost, TakesRoom, document_room, marker_room_in_all, no_room};
+ghost use Rattle.document.specs.Changes.{BringFewLines, container_need, line_type_edits};
 
 use crate::kept::Document;
 use crate::room::DocumentRoom;
@@ -26,9 +24,9 @@ impl Document {
         alloc: Global,
         types: LineEndTypes,
     ) -> Result<Vec<LineEdit>, AllocError>
-        ensures edits { IfOk result (λ edits. edits.items ≡ edits_of_setting self.now.document.line_end_types types (text_of self.now.document)) }
-        ensures few { IfOk result (λ edits. lines_in self.now.document + fresh_lines edits.items ≤ length self.now.document.cells + 1) }
-        ensures free { edits_of_setting self.now.document.line_end_types types (text_of self.now.document) ≡ [] → IsOk result }
+        ensures edits { IfOk result (λ edits. edits.items ≡ line_type_edits types self.now.document) }
+        ensures few { IfOk result (λ edits. BringFewLines edits.items self.now.document) }
+        ensures free { line_type_edits types self.now.document ≡ [] → IsOk result }
         ensures at_most { IfOk result (λ edits. vec_capacity edits ≤ 2 * vec_len edits) }
     {
         edits_of_settings();
@@ -59,13 +57,13 @@ impl Document {
     /// (`line_type_edits`), through which the rows are carried. There must be room for the fresh lines. The caller
     /// carries the flags that views keep of the lines.
     pub fn set_line_end_types(&mut self, types: LineEndTypes, edits: &[LineEdit])
-        requires edits { edits.now ≡ edits_of_setting self.old.document.line_end_types types (text_of self.old.document) }
+        requires edits { edits.now ≡ line_type_edits types self.old.document }
         requires room { fresh_lines edits.now ≤ self.old.room.lines }
         ensures document { self.new.document ≡ changed_document [] (SetLineEndTypes types) self.old.document }
         ensures room { self.new.room ≡ record self.old.room { lines = self.old.room.lines - fresh_lines edits.now } }
         ensures spare { self.new.spare ≡ record self.old.spare { markers = self.new.spare.markers } }
         ensures marker_room { self.old.spare.markers ≤ self.new.spare.markers }
-        ensures markers_in_all { self.new.spare.markers + marker_count self.new.document.rows ≡ self.old.spare.markers + marker_count self.old.document.rows }
+        ensures markers_in_all { marker_room_in_all self.new ≡ marker_room_in_all self.old }
     {
         edits_of_settings();
         rows_that_meet();

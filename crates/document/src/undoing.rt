@@ -1,16 +1,15 @@
 //! Undo and redo of a document: their changes one by one, and the move of the history.
 
-ghost use Rattle.std.specs.Prelude.{◌≡◌, ◌<◌, ◌≤◌, ◌+◌, ℕ, List, length, slice_get, None, Some, IsSomeAnd};
-ghost use Rattle.ed_model.specs.Changes.{marker_count};
-ghost use Rattle.ed_model.specs.History.{TextStep as Text, at_save_point, inverse_change};
-ghost use Rattle.ed_model.specs.Performing.{document_after};
-ghost use Rattle.ed_model.specs.Session.{text_of};
-ghost use Rattle.ed_model.specs.Steps.{Step};
-ghost use Rattle.line_index.specs.StepEdits.{SmallLines, change_of as change_of_lines};
+ghost use Rattle.std.specs.Prelude.{◌≡◌, ◌<◌, ◌≤◌, ℕ, List, length, None, Some, IsSomeAnd};
+ghost use Rattle.ed_model.specs.History.{at_save_point, inverse_change};
+ghost use Rattle.line_index.specs.StepEdits.{SmallLines};
 ghost use Rattle.undo_history.specs.Records.{change_of, HasItsBytes};
-ghost use Rattle.document.specs.Kept.{IsAtMost, TakesRoom, no_room, with_freed};
-ghost use Rattle.document.specs.TextSteps.{bytes_out};
-ghost use Rattle.document.specs.Undoing.{changes_of, history_behind, save_point_told, outline_of, bytes_in, room_of_step, room_of_change, CanMake, IsLentOf};
+ghost use Rattle.document.specs.Kept.{AddsNoRoomBut, marker_room_in_all};
+ghost use Rattle.document.specs.Changes.{with_history};
+ghost use Rattle.document.specs.TextSteps.{bytes_out, line_change_of};
+ghost use Rattle.document.specs.Undoing.{changes_of, history_behind, save_point_told, outline_of, bytes_in};
+ghost use Rattle.document.specs.Undoing.{need_of_change, performed_at, CanMake, FreesBytesOf, IfStep};
+ghost use Rattle.document.specs.Undoing.{IsDocumentAfter, IsLentOf, OfChange, TakesRoomOf};
 
 use crate::kept::Document;
 use crate::making::make_step;
@@ -67,7 +66,7 @@ fn inverse(kind: ChangeKind) -> ChangeKind
 #[inline(always)]
 fn change_at(history: &UndoHistory, direction: Direction, index: usize) -> LentChange
     requires there { index < length (changes_of direction history.now.history) }
-    ensures change { slice_get (changes_of direction history.now.history) index ≡ Some (change_of result.kind result.bytes.now) }
+    ensures change { performed_at direction index history.now.history ≡ Some (change_of result.kind result.bytes.now) }
     ensures bytes { HasItsBytes result.kind result.bytes.now }
 {
     match direction {
@@ -85,7 +84,7 @@ fn change_at(history: &UndoHistory, direction: Direction, index: usize) -> LentC
 // Returns the change that is performed at `index` as a step of the text, or `None` if it is a container's.
 fn step_at(history: &UndoHistory, direction: Direction, index: usize) -> Option<TextStep>
     requires there { index < length (changes_of direction history.now.history) }
-    ensures step { IsSomeAnd (slice_get (changes_of direction history.now.history) index) (IsLentOf result) }
+    ensures step { IsSomeAnd (performed_at direction index history.now.history) (IsLentOf result) }
 {
     let change = change_at(history, direction, index);
     match change.kind {
@@ -141,10 +140,11 @@ impl Document {
         }
     }
 
-    /// Returns the change that undo or redo performs at `index`, counted from 0 in the order of performing, without its bytes.
+    /// Returns the change that undo or redo performs at `index`, counted from 0 in the order of performing, without its
+    /// bytes.
     pub fn change_outline(&self, direction: Direction, index: usize) -> ChangeOutline
         requires there { index < length (changes_of direction self.now.document.history) }
-        ensures outline { IsSomeAnd (slice_get (changes_of direction self.now.document.history) index) (λ change. result ≡ outline_of change) }
+        ensures outline { OfChange direction index self.now (λ change. result ≡ outline_of change) }
     {
         let change = change_at(&self.history, direction, index);
         let count = change.bytes.len();
@@ -164,7 +164,7 @@ impl Document {
     /// Returns the bytes that this change inserts or deletes. A container's step has none.
     pub fn change_bytes(&self, direction: Direction, index: usize) -> &[u8]
         requires there { index < length (changes_of direction self.now.document.history) }
-        ensures bytes { IsSomeAnd (slice_get (changes_of direction self.now.document.history) index) (λ change. result.now ≡ bytes_in change) }
+        ensures bytes { OfChange direction index self.now (λ change. result.now ≡ bytes_in change) }
     {
         change_at(&self.history, direction, index).bytes
     }
@@ -177,8 +177,8 @@ impl Document {
         index: usize,
     ) -> (ChangeOutline, DocumentRoom)
         requires there { index < length (changes_of direction self.now.document.history) }
-        ensures outline { IsSomeAnd (slice_get (changes_of direction self.now.document.history) index) (λ change. result.0 ≡ outline_of change) }
-        ensures need { IsSomeAnd (slice_get (changes_of direction self.now.document.history) index) (λ change. result.1 ≡ room_of_change self.now.document.line_end_types change) }
+        ensures outline { OfChange direction index self.now (λ change. result.0 ≡ outline_of change) }
+        ensures need { OfChange direction index self.now (λ change. result.1 ≡ need_of_change self.now change) }
     {
         let change = change_at(&self.history, direction, index);
         let count = change.bytes.len();
@@ -214,16 +214,16 @@ impl Document {
     /// Makes this change, a step of the text, with the bytes of the history, and returns its effect on the lines.
     /// Everything but the history changes, as by `step`. There must be room for it. Deleted bytes become room again.
     pub fn make_change(&mut self, direction: Direction, index: usize) -> LineChange
-        requires can { IsSomeAnd (slice_get (changes_of direction self.old.document.history) index) (CanMake self.old) }
-        ensures document { (step : Step) → slice_get (changes_of direction self.old.document.history) index ≡ Some (Text step) → self.new.document ≡ document_after step self.old.document }
-        ensures room_left { (step : Step) → slice_get (changes_of direction self.old.document.history) index ≡ Some (Text step) → TakesRoom self.old.room self.new.room (room_of_step self.old.document.line_end_types step) }
-        ensures text_freed { (step : Step) → slice_get (changes_of direction self.old.document.history) index ≡ Some (Text step) → self.old.room.text + bytes_out step ≤ self.new.room.text + (room_of_step self.old.document.line_end_types step).text }
-        ensures none_made { (step : Step) → slice_get (changes_of direction self.old.document.history) index ≡ Some (Text step) → IsAtMost self.new.room (with_freed (bytes_out step) self.old.room) no_room }
-        ensures lines { (step : Step) → slice_get (changes_of direction self.old.document.history) index ≡ Some (Text step) → result ≡ change_of_lines self.old.document.line_end_types step (text_of self.old.document) }
+        requires can { OfChange direction index self.old (CanMake self.old) }
+        ensures document { IfStep direction index self.old (IsDocumentAfter self.old self.new) }
+        ensures room_left { IfStep direction index self.old (TakesRoomOf self.old self.new) }
+        ensures text_freed { IfStep direction index self.old (FreesBytesOf self.old self.new) }
+        ensures none_made { IfStep direction index self.old (λ step. AddsNoRoomBut (bytes_out step) self.old self.new) }
+        ensures lines { IfStep direction index self.old (λ step. result ≡ line_change_of self.old step) }
         ensures small { SmallLines result.old_lines × SmallLines result.new_lines }
         ensures spare { self.new.spare ≡ record self.old.spare { markers = self.new.spare.markers; fill = None } }
         ensures marker_room { self.old.spare.markers ≤ self.new.spare.markers }
-        ensures markers_in_all { self.new.spare.markers + marker_count self.new.document.rows ≡ self.old.spare.markers + marker_count self.old.document.rows }
+        ensures markers_in_all { marker_room_in_all self.new ≡ marker_room_in_all self.old }
     {
         let Some(step) = step_at(&self.history, direction, index) else {
             unreachable!();
@@ -240,7 +240,7 @@ impl Document {
 
     /// Moves the transaction that was undone or redone to the other side of the history. Its changes were made before.
     pub fn finish_history(&mut self, direction: Direction)
-        ensures { self.new ≡ record self.old { document = record self.old.document { history = history_behind direction self.old.document.history } } }
+        ensures { self.new ≡ with_history (history_behind direction self.old.document.history) self.old }
     {
         match direction {
             Direction::Undo => self.history.undo(),
