@@ -6,7 +6,7 @@ ghost use Rattle.line_index.specs.Edits.{with_fresh, with_joined, after_edit, af
 ghost use Rattle.contraction.specs.ViewLines.{contracted_in_all};
 
 use crate::contraction::Contraction;
-use crate::line_set::{put_lines_in, take_lines_out};
+use crate::line_set::{put_lines_in, set_is_sound, take_lines_out};
 use line_index::LineEdit;
 use partitioning::Place;
 
@@ -20,7 +20,7 @@ impl<P: Place> Contraction<P> {
         ensures contracted { self.old.room.contracted ≤ self.new.room.contracted }
         ensures in_all { contracted_in_all self.new ≡ contracted_in_all self.old }
     {
-        let _ = self.contracted.length(); // brings the fact that the starts rise
+        set_is_sound(&self.contracted);
         put_lines_in(&mut self.hidden, line, count);
         put_lines_in(&mut self.contracted, line, count);
     }
@@ -33,7 +33,7 @@ impl<P: Place> Contraction<P> {
         ensures contracted { self.old.room.contracted ≤ self.new.room.contracted }
         ensures in_all { contracted_in_all self.new ≡ contracted_in_all self.old }
     {
-        let _ = self.contracted.length(); // brings the facts that the starts rise and that `line + 1` is a `usize`
+        set_is_sound(&self.contracted);
         take_lines_out(&mut self.hidden, line + 1, count);
         take_lines_out(&mut self.contracted, line + 1, count);
     }

@@ -5,7 +5,7 @@ ghost use Rattle.ed_model.specs.Folding.{lines_shown, lines_hidden, with_expande
 ghost use Rattle.contraction.specs.ViewLines.{contracted_in_all};
 
 use crate::contraction::Contraction;
-use crate::line_set::{insert, insert_range, remove_range};
+use crate::line_set::{insert, insert_range, remove_range, set_is_sound};
 use partitioning::Place;
 
 impl<P: Place> Contraction<P> {
@@ -16,7 +16,6 @@ impl<P: Place> Contraction<P> {
         ensures lines { length self.new.flags ≡ length self.old.flags }
         ensures room { self.new.room ≡ self.old.room }
     {
-        let _ = &self.contracted;
         remove_range(&mut self.hidden, first, past);
     }
 
@@ -29,8 +28,7 @@ impl<P: Place> Contraction<P> {
         ensures lines { length self.new.flags ≡ length self.old.flags }
         ensures room { self.new.room ≡ self.old.room }
     {
-        let _ = &self.contracted;
-        let _ = self.hidden.count(); // brings the fact that there is a start
+        set_is_sound(&self.hidden);
         insert_range(&mut self.hidden, first.max(1), past);
     }
 
@@ -45,8 +43,7 @@ impl<P: Place> Contraction<P> {
         ensures contracted { self.old.room.contracted ≤ self.new.room.contracted + (if on then 0 else 1) }
         ensures in_all { contracted_in_all self.new ≡ contracted_in_all self.old }
     {
-        let _ = &self.hidden;
-        let _ = self.contracted.length(); // brings the fact that `line + 1` is a `usize`
+        set_is_sound(&self.contracted);
         if on {
             remove_range(&mut self.contracted, line, line + 1);
         } else {

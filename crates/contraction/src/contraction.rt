@@ -6,7 +6,7 @@ ghost use Rattle.ed_model.specs.Folding.{is_visible, is_expanded};
 ghost use Rattle.ed_model.specs.DisplayLines.{display_line, line_shown, all_visible};
 ghost use Rattle.contraction.specs.ViewLines.{GainsHiddenRoom, GainsContractedRoom, most_contracted_room};
 
-use crate::line_set::{contains, lines_before, nth_line_outside};
+use crate::line_set::{contains, lines_before, nth_line_outside, set_is_sound};
 use partitioning::{Partitioning, Place};
 use std::alloc::{AllocError, Global};
 use std::marker::Model;
@@ -61,7 +61,6 @@ impl<P: Place> Contraction<P> {
         ensures count { result ≡ length self.now.flags }
         ensures within { length self.now.flags ≤ P.GREATEST }
     {
-        let _ = &self.contracted;
         self.hidden.length()
     }
 
@@ -70,7 +69,6 @@ impl<P: Place> Contraction<P> {
         requires { line < length self.now.flags }
         ensures { result ≡ is_visible self.now.flags line }
     {
-        let _ = &self.contracted;
         !contains(&self.hidden, line)
     }
 
@@ -79,7 +77,6 @@ impl<P: Place> Contraction<P> {
         requires { line < length self.now.flags }
         ensures { result ≡ is_expanded self.now.flags line }
     {
-        let _ = &self.hidden;
         !contains(&self.contracted, line)
     }
 
@@ -87,7 +84,6 @@ impl<P: Place> Contraction<P> {
     pub fn is_all_visible(&self) -> bool
         ensures { result ≡ all_visible self.now.flags }
     {
-        let _ = &self.contracted;
         self.hidden.count() == 1
     }
 
@@ -97,8 +93,7 @@ impl<P: Place> Contraction<P> {
         requires { line < length self.now.flags }
         ensures { result ≡ display_line self.now.flags line }
     {
-        let _ = &self.contracted;
-        let _ = self.hidden.length(); // brings the fact that `line + 1` is a `usize`
+        set_is_sound(&self.hidden);
         let hidden = lines_before(&self.hidden, line + 1);
         (line + 1 - hidden).saturating_sub(1)
     }
@@ -107,7 +102,6 @@ impl<P: Place> Contraction<P> {
     pub fn doc_of(&self, display: usize) -> usize
         ensures { result ≡ line_shown self.now.flags display }
     {
-        let _ = &self.contracted;
         nth_line_outside(&self.hidden, display)
     }
 
@@ -139,8 +133,7 @@ impl<P: Place> Contraction<P> {
         ensures at_most { OnOk result (self.new.room.contracted ≤ most_contracted_room self.old count) }
         ensures err { OnErr result (self.new ≡ self.old) }
     {
-        let _ = &self.hidden;
-        let _ = self.contracted.count(); // brings the fact that the starts rise
+        set_is_sound(&self.contracted);
         self.contracted.reserve(count)
     }
 }

@@ -23,7 +23,7 @@ impl<P: Place> Contraction<P> {
         ensures contracted { self.old.room.contracted ≤ self.new.room.contracted + 1 }
         ensures in_all { contracted_in_all self.new ≡ contracted_in_all self.old }
     {
-        let _ = levels.count(); // brings the fact that the number behind a line is a `usize`
+        levels.lines_fit();
         self.set_expanded(header, false);
         let last = last_child(levels, header);
         self.hide(header + 1, last + 1);
@@ -48,7 +48,7 @@ impl<P: Place> Contraction<P> {
         ensures next { result ≡ behind_closed levels.now line self.old.flags }
         ensures room { self.new.room ≡ self.old.room }
     {
-        let _ = levels.count();
+        levels.lines_fit();
         if !self.is_closed(levels, line) {
             return line + 1;
         }
@@ -69,7 +69,7 @@ impl<P: Place> Contraction<P> {
         ensures contracted { self.old.room.contracted ≤ self.new.room.contracted }
         ensures in_all { contracted_in_all self.new ≡ contracted_in_all self.old }
     {
-        let _ = levels.count();
+        levels.lines_fit();
         self.set_expanded(header, true);
         let last = last_child(levels, header);
         self.show(header + 1, last + 1);
@@ -90,7 +90,7 @@ impl<P: Place> Contraction<P> {
         ensures contracted { self.old.room.contracted ≤ self.new.room.contracted }
         ensures in_all { contracted_in_all self.new ≡ contracted_in_all self.old }
     {
-        let _ = levels.count();
+        levels.lines_fit();
         let expanded = self.expanded(header);
         self.show(header, header + 1);
         if !expanded {
@@ -128,7 +128,7 @@ impl<P: Place> Contraction<P> {
         ensures contracted { self.old.room.contracted ≤ self.new.room.contracted }
         ensures in_all { contracted_in_all self.new ≡ contracted_in_all self.old }
     {
-        let _ = levels.count();
+        levels.lines_fit();
         if self.visible(line) {
             return;
         }

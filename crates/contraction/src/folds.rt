@@ -5,12 +5,7 @@ ghost use Rattle.ed_model.specs.Folding.{number_at as number_of, is_header as is
 ghost use Rattle.contraction.specs.Headings.{heads as heads_by, last_heading};
 
 use crate::levels::Levels;
-
-// `SC_FOLDLEVELNUMBERMASK` of Scintilla
-const NUMBER: u32 = 0xFFF;
-
-// `SC_FOLDLEVELHEADERFLAG` of Scintilla
-const HEADER: u32 = 0x2000;
+use ed_types::fold_level;
 
 // This many levels are tested together, without a branch for each.
 const BLOCK: usize = 32;
@@ -20,7 +15,7 @@ pub fn number_at(levels: &Levels, line: usize) -> u32
     requires { line < length levels.now }
     ensures { result ≡ number_of levels.now line }
 {
-    levels.level(line) & NUMBER
+    levels.level(line) & fold_level::NUMBER
 }
 
 /// Returns whether a line is a fold header.
@@ -28,7 +23,7 @@ pub fn is_header(levels: &Levels, line: usize) -> bool
     requires { line < length levels.now }
     ensures { result ≡ is_header_at levels.now line }
 {
-    levels.level(line) & HEADER != 0
+    levels.level(line) & fold_level::HEADER != 0
 }
 
 /// Returns the line before the next line whose number is at most `number`, or the last line if there is none.
@@ -60,7 +55,7 @@ pub fn last_child(levels: &Levels, line: usize) -> usize
 fn heads(level: u32, number: u32) -> bool
     ensures { result ≡ heads_by number level }
 {
-    level & HEADER != 0 && level & NUMBER < number
+    level & fold_level::HEADER != 0 && level & fold_level::NUMBER < number
 }
 
 // Returns whether one of the levels belongs to such a header. It tests all of them, so that the compiler can vectorize

@@ -1,13 +1,11 @@
 //! The fold levels of all lines, as they are lent.
 
-ghost use Rattle.std.specs.Prelude.{◌≡◌, ◌+◌, ◌≤◌, ◌<◌, ℕ, length, slice_index};
+ghost use Rattle.std.specs.Prelude.{◌≡◌, ◌+◌, ◌^◌, ◌≤◌, ◌<◌, ℕ, length, slice_index};
 ghost use Rattle.contraction.specs.Headings.{HeadFrom};
 ghost use Rattle.contraction.specs.Levels.{all_levels, HavePartAt, AreBaseLevels};
 
+use ed_types::fold_level;
 use std::marker::Model;
-
-// `SC_FOLDLEVELBASE` of Scintilla
-const BASE: u32 = 0x400;
 
 /// The fold levels of all lines of a document: two slices for the first lines, and the base level for all lines behind
 /// them.
@@ -77,6 +75,14 @@ impl<'a> Levels<'a> {
         self.count
     }
 
+    /// A law: the number of lines is a `usize`. Its body asks for that number, whose type says so.
+    #[inline(always)]
+    pub(crate) fn lines_fit(&self)
+        ensures { length self.now < 2 ^ 64 }
+    {
+        let _ = self.count();
+    }
+
     /// Returns the level of a line.
     pub fn level(&self, line: usize) -> u32
         requires { line < length self.now }
@@ -89,7 +95,7 @@ impl<'a> Levels<'a> {
         if line - first < self.after.len() {
             return self.after[line - first];
         }
-        BASE
+        fold_level::BASE
     }
 
     /// Returns the levels of the lines before `line`, as far as they are stored: those of the first lines, and those of

@@ -22,12 +22,22 @@ pub(crate) fn lines_before<P: Place>(starts: &Partitioning<P>, line: usize) -> u
     starts.partition_of(line, &mut probes)
 }
 
+/// A law: the starts of a set rise from 0, and the number of lines is a `usize`. Its body asks for that number, which
+/// tells both.
+#[inline(always)]
+pub(crate) fn set_is_sound<P: Place>(starts: &Partitioning<P>)
+    ensures rise { ArePartitions starts.now.starts starts.now.length }
+    ensures fit { starts.now.length < 2 ^ 64 }
+{
+    let _ = starts.length();
+}
+
 /// Returns whether the line is in the set.
 pub(crate) fn contains<P: Place>(starts: &Partitioning<P>, line: usize) -> bool
     requires { line < starts.now.length }
     ensures { result ≡ holds starts.now.starts line }
 {
-    let _ = starts.length(); // brings the fact that `line + 1` is a `usize`
+    set_is_sound(starts);
     let index = lines_before(starts, line + 1);
     starts.start_of(index) == line + 1
 }
@@ -42,7 +52,7 @@ pub(crate) fn insert<P: Place>(starts: &mut Partitioning<P>, line: usize)
     ensures few { starts.old.room ≤ starts.new.room + 1 }
     ensures sound { ArePartitions starts.new.starts starts.new.length }
 {
-    let _ = starts.length();
+    set_is_sound(starts);
     let index = lines_before(starts, line + 1);
     if starts.start_of(index) == line + 1 {
         return;
@@ -58,7 +68,7 @@ pub(crate) fn insert_range<P: Place>(starts: &mut Partitioning<P>, first: usize,
     ensures length { starts.new.length ≡ starts.old.length }
     ensures room { length starts.new.starts + starts.new.room ≡ length starts.old.starts + starts.old.room }
 {
-    let _ = starts.count(); // brings the fact that the starts rise
+    set_is_sound(starts);
     for line in first..past {
         insert(starts, line);
     }
@@ -73,7 +83,7 @@ pub(crate) fn remove_range<P: Place>(starts: &mut Partitioning<P>, first: usize,
     ensures more { starts.old.room ≤ starts.new.room }
     ensures sound { ArePartitions starts.new.starts starts.new.length }
 {
-    let _ = starts.count(); // brings the fact that the starts rise
+    set_is_sound(starts);
     if past <= first {
         return;
     }
@@ -107,7 +117,7 @@ pub(crate) fn take_lines_out<P: Place>(starts: &mut Partitioning<P>, line: usize
     ensures more { starts.old.room ≤ starts.new.room }
     ensures sound { ArePartitions starts.new.starts starts.new.length }
 {
-    let _ = starts.length(); // brings the fact that the number behind the lines is a `usize`
+    set_is_sound(starts);
     remove_range(starts, line, line + count);
     let index = lines_before(starts, line);
     starts.delete_text(index, count);

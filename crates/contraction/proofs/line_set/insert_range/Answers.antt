@@ -25,7 +25,7 @@ loop-line-init g c =
       whole = refl;
       room = refl;
       empty = λ _. refl;
-      sound = c.count.ensures.sound;
+      sound = c.set_is_sound.ensures.rise;
     }
 
 pub returns-clause-lines : goal.returns-clause-lines

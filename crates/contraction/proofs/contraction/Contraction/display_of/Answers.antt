@@ -4,11 +4,11 @@ use Rattle.contraction.proofs.contraction.Contraction.display_of.Goals as goal
 
 pub overflow_add-line : goal.overflow_add-line
 overflow_add-line g c =
-    omega (arith, c.requires, c.length.type_inv, c.length.ensures.length, lines_of c.self.inside.hidden c.self.inside.contracted c.args.self.now c.self.view_is)
+    omega (arith, c.requires, c.set_is_sound.ensures.fit, lines_of c.self.inside.hidden c.self.inside.contracted c.args.self.now c.self.view_is)
 
 pub overflow_add-line-2 : goal.overflow_add-line-2
 overflow_add-line-2 g c =
-    omega (arith, c.requires, c.length.type_inv, c.length.ensures.length, lines_of c.self.inside.hidden c.self.inside.contracted c.args.self.now c.self.view_is)
+    omega (arith, c.requires, c.set_is_sound.ensures.fit, lines_of c.self.inside.hidden c.self.inside.contracted c.args.self.now c.self.view_is)
 
 pub overflow_sub-line : goal.overflow_sub-line
 overflow_sub-line g c =

@@ -14,7 +14,7 @@ insert_range-requires-clause-room g c =
       c.requires.room,
       lines_of c.self.inside.hidden c.self.inside.contracted c.args.self.now c.self.view_is,
       ap (λ w. w.room.hidden) c.self.view_is,
-      c.count.ensures.sound.some,
+      c.set_is_sound.ensures.rise.some,
     )
 
 pub returns-clause-flags : goal.returns-clause-flags

@@ -5,13 +5,13 @@ use Rattle.contraction.proofs.InAll.{total_kept}
 use Rattle.contraction.proofs.contraction.Contraction.join.Goals as goal
 
 pub overflow_add-line : goal.overflow_add-line
-overflow_add-line g c = omega (arith, c.requires, c.length.type_inv, c.length.ensures.length, c.self.invariant.lines, lines_of c.self.inside.hidden c.self.inside.contracted c.args.self.now c.self.view_is)
+overflow_add-line g c = omega (arith, c.requires, c.set_is_sound.ensures.fit, c.self.invariant.lines, lines_of c.self.inside.hidden c.self.inside.contracted c.args.self.now c.self.view_is)
 
 pub take_lines_out-requires : goal.take_lines_out-requires
 take_lines_out-requires g c = omega (arith, c.requires, lines_of c.self.inside.hidden c.self.inside.contracted c.args.self.now c.self.view_is)
 
 pub overflow_add-line-2 : goal.overflow_add-line-2
-overflow_add-line-2 g c = omega (arith, c.requires, c.length.type_inv, c.length.ensures.length, c.self.invariant.lines, lines_of c.self.inside.hidden c.self.inside.contracted c.args.self.now c.self.view_is)
+overflow_add-line-2 g c = omega (arith, c.requires, c.set_is_sound.ensures.fit, c.self.invariant.lines, lines_of c.self.inside.hidden c.self.inside.contracted c.args.self.now c.self.view_is)
 
 pub take_lines_out-requires-2 : goal.take_lines_out-requires-2
 take_lines_out-requires-2 g c = omega (arith, c.requires, c.self.invariant.lines, lines_of c.self.inside.hidden c.self.inside.contracted c.args.self.now c.self.view_is)
@@ -25,4 +25,4 @@ returns-clause-flags g c =
 pub returns-clause-in_all : goal.returns-clause-in_all
 returns-clause-in_all g c =
     total_kept c.self.inside.hidden c.take_lines_out.new.starts c.self.inside.contracted c.take_lines_out-2.new.starts c.args.self.now c.self.view_is c.self.invariant.lines
-    c.length.ensures.sound (omega (arith, c.take_lines_out.ensures.length, c.take_lines_out-2.ensures.length, c.self.invariant.lines)) c.take_lines_out-2.ensures.sound c.take_lines_out-2.ensures.room
+    c.set_is_sound.ensures.rise (omega (arith, c.take_lines_out.ensures.length, c.take_lines_out-2.ensures.length, c.self.invariant.lines)) c.take_lines_out-2.ensures.sound c.take_lines_out-2.ensures.room

@@ -25,4 +25,4 @@ returns-clause-flags g c =
 pub returns-clause-in_all : goal.returns-clause-in_all
 returns-clause-in_all g c =
     total_kept c.self.inside.hidden c.put_lines_in.new.starts c.self.inside.contracted c.put_lines_in-2.new.starts c.args.self.now c.self.view_is c.self.invariant.lines
-    c.length.ensures.sound (omega (arith, c.put_lines_in.ensures.length, c.put_lines_in-2.ensures.length, c.self.invariant.lines)) c.put_lines_in-2.ensures.sound c.put_lines_in-2.ensures.room
+    c.set_is_sound.ensures.rise (omega (arith, c.put_lines_in.ensures.length, c.put_lines_in-2.ensures.length, c.self.invariant.lines)) c.put_lines_in-2.ensures.sound c.put_lines_in-2.ensures.room

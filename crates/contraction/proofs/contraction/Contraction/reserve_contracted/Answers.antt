@@ -8,4 +8,4 @@ returns-clause-ok g c =
 pub returns-clause-at_most : goal.returns-clause-at_most
 returns-clause-at_most g c =
     contracted_bound c.reserve.result c.self.inside.hidden c.self.inside.contracted c.args.self.now c.reserve.new.self.room c.args.count c.self.view_is c.self.invariant.lines
-    c.count.ensures.sound c.reserve.ensures.at_most
+    c.set_is_sound.ensures.rise c.reserve.ensures.at_most

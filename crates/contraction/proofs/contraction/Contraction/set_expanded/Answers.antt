@@ -10,8 +10,7 @@ overflow_add-line g c =
     omega (
       arith,
       c.requires.line,
-      c.length.type_inv,
-      c.length.ensures.length,
+      c.set_is_sound.ensures.fit,
       c.self.invariant.lines,
       lines_of c.self.inside.hidden c.self.inside.contracted c.args.self.now c.self.view_is,
     )
@@ -55,9 +54,9 @@ returns-else-on-clause-lines g c =
 pub returns-then-on-clause-in_all : goal.returns-then-on-clause-in_all
 returns-then-on-clause-in_all g c =
     total_kept c.self.inside.hidden c.self.inside.hidden c.self.inside.contracted c.remove_range.new.starts c.args.self.now c.self.view_is c.self.invariant.lines
-    c.length.ensures.sound (c.remove_range.ensures.length ∙ c.self.invariant.lines) c.remove_range.ensures.sound c.remove_range.ensures.room
+    c.set_is_sound.ensures.rise (c.remove_range.ensures.length ∙ c.self.invariant.lines) c.remove_range.ensures.sound c.remove_range.ensures.room
 
 pub returns-else-on-clause-in_all : goal.returns-else-on-clause-in_all
 returns-else-on-clause-in_all g c =
     total_kept c.self.inside.hidden c.self.inside.hidden c.self.inside.contracted c.insert.new.starts c.args.self.now c.self.view_is c.self.invariant.lines
-    c.length.ensures.sound (c.insert.ensures.length ∙ c.self.invariant.lines) c.insert.ensures.sound c.insert.ensures.room
+    c.set_is_sound.ensures.rise (c.insert.ensures.length ∙ c.self.invariant.lines) c.insert.ensures.sound c.insert.ensures.room
