@@ -4,18 +4,12 @@ ghost use Rattle.ed_model.specs.Rows.{base_level};
 ghost use Rattle.line_index.specs.Edits.{after_edits, FitLines, fresh_lines};
 ghost use Rattle.line_rows.specs.Values.{valued, first_or, HasRoom, GainsRoom, HasMemory, most_memory, with_value, stored_after};
 
-use crate::rows::BASE_LEVEL;
 use crate::values::LineValues;
 use contraction::Levels;
+use ed_types::fold_level;
 use line_index::LineEdit;
 use std::alloc::{AllocError, Global};
 use std::marker::Model;
-
-// `SC_FOLDLEVELNUMBERMASK` of Scintilla
-const NUMBER: u32 = 0xFFF;
-
-// `SC_FOLDLEVELHEADERFLAG` of Scintilla
-const HEADER: u32 = 0x2000;
 
 /// The fold level of each line, counted from 0. No header has a smaller number than `least`: it is the least number
 /// that a header was given so far, or greater than any number. So a line with at most that number has no parent, and
@@ -44,8 +38,8 @@ impl FoldLevels {
         ensures { result ≡ valued base_level (base_level ∷ []) 0 0 0 0 }
     {
         FoldLevels {
-            values: LineValues::new(alloc, BASE_LEVEL),
-            least: NUMBER + 1,
+            values: LineValues::new(alloc, fold_level::BASE),
+            least: fold_level::NUMBER + 1,
         }
     }
 
@@ -102,8 +96,8 @@ impl FoldLevels {
         requires room { line < self.old.reach }
         ensures { self.new ≡ with_value self.old line level }
     {
-        if level & HEADER != 0 {
-            self.least = self.least.min(level & NUMBER);
+        if level & fold_level::HEADER != 0 {
+            self.least = self.least.min(level & fold_level::NUMBER);
         }
         self.values.set(line, level);
     }

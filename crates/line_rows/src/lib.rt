@@ -10,5 +10,5 @@ mod rows;
 mod values;
 
 pub use laws::parts_carry_rows;
-pub use rows::{BASE_LEVEL, LineRows};
+pub use rows::LineRows;
 pub use values::LineValues;

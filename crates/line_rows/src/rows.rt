@@ -15,9 +15,6 @@ use marker_store::MarkerStore;
 use std::alloc::{AllocError, Global};
 use std::marker::Model;
 
-/// The fold level of a line for which none was set: `SC_FOLDLEVELBASE` of Scintilla.
-pub const BASE_LEVEL: u32 = 0x400;
-
 /// The markers, the fold level and the state of each line, counted from 0.
 #[derive(Drop)]
 pub struct LineRows {

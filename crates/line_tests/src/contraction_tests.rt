@@ -88,7 +88,8 @@ fn join<P: Place>(rt: &impl Abort, view: &mut Contraction<P>, line: usize, count
     view.carry(&[LineEdit::Join { line, count }]);
 }
 
-// In each test one function owns the view and lends it to others, which do the rest: owning one over many calls makes a proof slow.
+// In each test one function owns the view and lends it to others, which do the rest: owning one over many calls makes a
+// proof slow.
 
 fn fold_inside<P: Place>(rt: &impl Abort, view: &mut Contraction<P>, levels: &Levels) {
     assert!(rt; view.is_all_visible());

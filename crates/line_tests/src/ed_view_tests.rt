@@ -1,5 +1,5 @@
-//! A view that is set, folded, moved by steps, and attached to another document. The expected results of folds and steps are
-//! those of the worked examples `folding`, `hidden_lines` and `folding_of_two_views`.
+//! A view that is set, folded, moved by steps, and attached to another document. The expected results of folds and
+//! steps are those of the worked examples `folding`, `hidden_lines` and `folding_of_two_views`.
 
 use contraction::Levels;
 use ed_model::ViewChange;
@@ -67,8 +67,8 @@ fn take_line_end_out(rt: &impl Abort, view: &mut View, place: usize, line: usize
     );
 }
 
-// In each test one function owns the view with a single way out, and lends it to another one, which does the rest: owning a view with many
-// ways out makes a proof slow.
+// In each test one function owns the view with a single way out, and lends it to another one, which does the rest:
+// owning a view with many ways out makes a proof slow.
 
 fn assert_inner_folds(rt: &impl Abort, view: &mut View) {
     let before = [0x2400, 0x2401];

@@ -1,5 +1,5 @@
-//! Each call that allocates, at a large size. `tools/heap.sh` runs each of these tests again with a heap limited to what
-//! the sizes justify, as its table says. A growth that nothing needs fails there, and with it the test.
+//! Each call that allocates, at a large size. `tools/heap.sh` runs each of these tests again with a heap limited to
+//! what the sizes justify, as its table says. A growth that nothing needs fails there, and with it the test.
 ghost use Rattle.std.specs.Prelude.{[]};
 ghost use Rattle.line_index.specs.Index.{IsIndexOf};
 
@@ -38,7 +38,8 @@ fn lines_of_a_large_text(rt: HostRuntime) {
     }
 }
 
-// The look-up of each step starts at the step before: there are so many that each may read a line, but not the whole text.
+// The look-up of each step starts at the step before: there are so many that each may read a line, but not the whole
+// text.
 #[test]
 fn line_ends_turned_and_back(rt: HostRuntime) {
     let text = large_text(rt.alloc()).expect(&rt, "memory");
@@ -100,7 +101,8 @@ fn set_row_by_row(rt: &impl Abort, rows: &mut LineRows) {
     assert_eq!(rt; rows.line_of_handle(100_000), Some(99_999));
 }
 
-// In each test one function owns the rows and lends them to others, which do the rest: owning them over many calls makes a proof slow.
+// In each test one function owns the rows and lends them to others, which do the rest: owning them over many calls
+// makes a proof slow.
 #[test]
 fn rows_line_by_line(rt: HostRuntime) {
     let mut rows = LineRows::new(rt.alloc());

@@ -80,7 +80,8 @@ fn assert_starts<P: Place>(rt: &impl Abort, index: &LineIndex<P>, starts: &[usiz
     assert_eq!(rt; index.length(), length);
 }
 
-// In each test one function owns the index and lends it to others, which do the rest: owning one over many calls makes a proof slow.
+// In each test one function owns the index and lends it to others, which do the rest: owning one over many calls makes
+// a proof slow.
 
 fn edit_in_a_row<P: Place>(rt: &impl Abort, alloc: Global, index: &mut LineIndex<P>)
     requires { IsIndexOf [] index.old }
@@ -281,8 +282,8 @@ fn lines_of_a_long_text(rt: HostRuntime) {
     }
 }
 
-// Eleven bytes with four line ends, repeated: more than two groups of four rows, so that rows and groups begin behind a CR, behind an LF,
-// and between the two.
+// Eleven bytes with four line ends, repeated: more than two groups of four rows, so that rows and groups begin behind a
+// CR, behind an LF, and between the two.
 #[test]
 fn lines_of_many_rows(rt: HostRuntime) {
     let mut text: Vec<u8> = Vec::new(rt.alloc());
@@ -524,7 +525,8 @@ fn change_settings_between(rt: &impl Abort, alloc: Global, index: &mut LineIndex
     assert_starts(rt, index, &[0, 4, 7, 13], 16);
 }
 
-// Line ends of both kinds: the Unicode ones are in the first line, in the third, and in the last at the end of the text.
+// Line ends of both kinds: the Unicode ones are in the first line, in the third, and in the last at the end of the
+// text.
 #[test]
 fn settings_with_line_ends_between(rt: HostRuntime) {
     let alloc = rt.alloc();

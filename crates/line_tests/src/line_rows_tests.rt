@@ -1,7 +1,8 @@
 //! Series of calls of `LineRows`.
 use contraction::folds;
+use ed_types::fold_level;
 use line_index::LineEdit;
-use line_rows::{BASE_LEVEL, LineRows};
+use line_rows::LineRows;
 use std::process::Abort;
 
 // Inserts `count` fresh lines before a line.
@@ -42,7 +43,8 @@ fn has(rt: &impl Abort, rows: &LineRows, line: usize, mask: u32, level: u32, sta
     assert!(rt; rows.mask(line) == mask && rows.level(line) == level && rows.state(line) == state);
 }
 
-// In each test one function owns the rows and lends them to others, which do the rest: owning them over many calls makes a proof slow.
+// In each test one function owns the rows and lends them to others, which do the rest: owning them over many calls
+// makes a proof slow.
 
 fn set_two_of_four(rt: &impl Abort, rows: &mut LineRows) {
     assert!(rt; rows.count() == 1 && rows.next_handle() == 1);
@@ -57,12 +59,13 @@ fn set_two_of_four(rt: &impl Abort, rows: &mut LineRows) {
     has(rt, rows, 2, 1 << 31, 0x401, 9);
 }
 
-// Fresh lines before line 1 move it down, and have no state. Joined lines keep all markers, and the level and state of the first.
+// Fresh lines before line 1 move it down, and have no state. Joined lines keep all markers, and the level and state of
+// the first.
 fn move_and_join(rt: &impl Abort, rows: &mut LineRows) {
     come(rt, rows, 1, 2);
     assert!(rt; rows.count() == 6);
-    has(rt, rows, 1, 0, BASE_LEVEL, 0);
-    has(rt, rows, 2, 0, BASE_LEVEL, 0);
+    has(rt, rows, 1, 0, fold_level::BASE, 0);
+    has(rt, rows, 2, 0, fold_level::BASE, 0);
     has(rt, rows, 3, 1 << 5, 0x2400, -7);
     assert!(rt; rows.line_of_handle(2) == Some(4));
     assert!(rt; rows.next(0, 1 << 31) == Some(4) && rows.previous(5, 1 << 5) == Some(3));
@@ -84,7 +87,7 @@ fn start_again(rt: &impl Abort, rows: &mut LineRows) {
     assert!(rt; rows.count() <= 1000);
     rows.carry(&[LineEdit::Restart]);
     assert!(rt; rows.count() == 1);
-    has(rt, rows, 0, 0, BASE_LEVEL, 0);
+    has(rt, rows, 0, 0, fold_level::BASE, 0);
 }
 
 // Rows move with their lines.
@@ -136,7 +139,7 @@ fn look_for_parents(rt: &impl Abort, rows: &mut LineRows) {
     assert!(rt; parent(rt, rows, 3) == Some(0) && parent(rt, rows, 2) == Some(1));
     join(rt, rows, 0, 1);
     assert!(rt; parent(rt, rows, 1) == Some(0) && parent(rt, rows, 0) == None);
-    set_level(rt, rows, 0, BASE_LEVEL);
+    set_level(rt, rows, 0, fold_level::BASE);
     assert!(rt; parent(rt, rows, 1) == None);
 }
 

@@ -39,7 +39,8 @@ fn assert_masks(rt: &impl Abort, store: &MarkerStore, masks: &[u32]) {
     }
 }
 
-// In each test one function owns the store and lends it to others, which do the rest: owning one over many calls makes a proof slow.
+// In each test one function owns the store and lends it to others, which do the rest: owning one over many calls makes
+// a proof slow.
 
 fn mark_four_lines(rt: &impl Abort, store: &mut MarkerStore) {
     shift(rt, store, 1, 3);

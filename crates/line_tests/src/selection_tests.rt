@@ -1,4 +1,5 @@
-//! Positions around a step, and each key on a text of three lines, split into two halves at each place, for both widths of places.
+//! Positions around a step, and each key on a text of three lines, split into two halves at each place, for both widths
+//! of places.
 ghost use Rattle.std.specs.Prelude.{◌≡◌, ◌++◌};
 ghost use Rattle.line_index.specs.Index.{IsIndexOf};
 
@@ -97,7 +98,8 @@ fn assert_keys<P: Place>(rt: &impl Abort, lines: &LineIndex<P>)
     }
 }
 
-// One function owns the index and lends it to another, which does the rest: owning one over many calls makes a proof slow.
+// One function owns the index and lends it to another, which does the rest: owning one over many calls makes a proof
+// slow.
 fn keys_at<P: Place>(rt: &impl Abort, alloc: Global) {
     let lines = index_of::<P>(rt, alloc, &TEXT);
     assert_keys(rt, &lines);
