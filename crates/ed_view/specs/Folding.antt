@@ -8,6 +8,7 @@ use Rattle.ed_model.specs.Requests.{Request, line_total}
 use Rattle.ed_model.specs.PlansFit.{IsFitViewChange}
 use Rattle.contraction.specs.ViewLines.{FoldRoom}
 use Rattle.ed_view.specs.declared.folding.FoldNeed.{FoldNeed}
+use Rattle.ed_view.specs.Kept.{KeptView}
 
 -- whether it shows and hides no lines, and so requires nothing
 abbrev pub is_setting : ViewChange → Bool
@@ -47,6 +48,18 @@ HasFoldRoom room need = (need.hidden ≤ room.hidden) × (need.contracted ≤ ro
 -- the room that is left after a change with this need
 abbrev pub LeavesFoldRoom : FoldRoom → FoldRoom → FoldNeed → Type 0
 LeavesFoldRoom old new need = (new.hidden ≡ old.hidden) × (old.contracted ≤ new.contracted + need.contracted)
+
+-- the room that is left after this change of a view
+abbrev pub LeavesRoomAfter : ViewChange → KeptView → KeptView → Type 0
+LeavesRoomAfter change old new = LeavesFoldRoom old.room new.room (fold_need old.view.flags change)
+
+-- no room is lost
+abbrev pub KeepsFoldRoom : FoldRoom → FoldRoom → Type 0
+KeepsFoldRoom old new = (old.hidden ≤ new.hidden) × (old.contracted ≤ new.contracted)
+
+-- room that is enough stays as it is
+abbrev pub StaysIfEnough : (need old new : ℕ) → Type 0
+StaysIfEnough need old new = need ≤ old → new ≡ old
 
 -- the lines that a fit change names are lines of its document
 abbrev pub FitChangesAreWithin : Type 0

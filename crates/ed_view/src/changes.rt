@@ -2,8 +2,8 @@
 
 ghost use Rattle.std.specs.Prelude.{◌≡◌, true, ℕ, List, length};
 ghost use Rattle.ed_model.specs.Changes.{changed_view};
-ghost use Rattle.ed_view.specs.Kept.{contracted_in_all};
-ghost use Rattle.ed_view.specs.Folding.{is_setting, IsWithin, fold_need, HasFoldRoom, LeavesFoldRoom};
+ghost use Rattle.ed_view.specs.Kept.{contracted_in_all, with_selection, with_target};
+ghost use Rattle.ed_view.specs.Folding.{is_setting, IsWithin, fold_need, HasFoldRoom, LeavesRoomAfter};
 
 use crate::view::{Target, View};
 use contraction::Levels;
@@ -30,14 +30,14 @@ pub fn is_setting(change: ViewChange) -> bool
 impl View {
     /// Sets anchor and caret, in bytes from 0.
     pub fn select(&mut self, selection: Selection)
-        ensures { self.new ≡ record self.old { view = record self.old.view { anchor = selection.anchor; caret = selection.caret } } }
+        ensures { self.new ≡ with_selection selection self.old }
     {
         self.selection = selection;
     }
 
     /// Sets the target (`SCI_SETTARGETRANGE`).
     pub fn set_target(&mut self, target: Target)
-        ensures { self.new ≡ record self.old { view = record self.old.view { target_start = target.start; target_end = target.end } } }
+        ensures { self.new ≡ with_target target self.old }
     {
         self.target = target;
     }
@@ -109,7 +109,7 @@ impl View {
         requires within { IsWithin (length self.old.view.flags) change }
         requires room { HasFoldRoom self.old.room (fold_need self.old.view.flags change) }
         ensures view { self.new.view ≡ changed_view levels.now change self.old.view }
-        ensures room_left { LeavesFoldRoom self.old.room self.new.room (fold_need self.old.view.flags change) }
+        ensures room_left { LeavesRoomAfter change self.old self.new }
         ensures in_all { contracted_in_all self.new ≡ contracted_in_all self.old }
     {
         if is_setting(change) {

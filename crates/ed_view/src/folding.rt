@@ -1,13 +1,11 @@
 //! Showing and hiding of a view's lines, and contracting and expanding of folds, once there is room.
 
 ghost use Rattle.std.specs.Prelude.{◌≡◌, ◌<◌, ◌≤◌, ◌+◌, ◌*◌, max, length, IsOk, OnOk};
-ghost use Rattle.split_vector.specs.Split.{most_room};
-ghost use Rattle.contraction.specs.ViewLines.{contracted_lines};
 ghost use Rattle.ed_model.specs.declared.plan.ViewChange.TheVariants as change_to;
 ghost use Rattle.ed_model.specs.Folding.{is_visible, lines_shown, lines_hidden, with_expanded};
 ghost use Rattle.ed_model.specs.Changes.{changed_view};
-ghost use Rattle.ed_view.specs.Kept.{contracted_in_all};
-ghost use Rattle.ed_view.specs.Folding.{fold_need as need_of, HasFoldRoom, LeavesFoldRoom};
+ghost use Rattle.ed_view.specs.Kept.{contracted_in_all, most_contracted_room};
+ghost use Rattle.ed_view.specs.Folding.{fold_need as need_of, HasFoldRoom, KeepsFoldRoom, LeavesRoomAfter, StaysIfEnough};
 
 use crate::view::View;
 use contraction::Levels;
@@ -69,11 +67,11 @@ impl View {
         ensures same { self.new.view ≡ self.old.view }
         ensures ok { OnOk result (HasFoldRoom self.new.room need) }
         ensures room_is_there { HasFoldRoom self.old.room need → IsOk result × (self.new ≡ self.old) }
-        ensures room_stays { (self.old.room.hidden ≤ self.new.room.hidden) × (self.old.room.contracted ≤ self.new.room.contracted) }
-        ensures hidden_is_there { need.hidden ≤ self.old.room.hidden → self.new.room.hidden ≡ self.old.room.hidden }
-        ensures contracted_is_there { need.contracted ≤ self.old.room.contracted → self.new.room.contracted ≡ self.old.room.contracted }
+        ensures room_stays { KeepsFoldRoom self.old.room self.new.room }
+        ensures hidden_is_there { StaysIfEnough need.hidden self.old.room.hidden self.new.room.hidden }
+        ensures contracted_is_there { StaysIfEnough need.contracted self.old.room.contracted self.new.room.contracted }
         ensures at_most_hidden { self.new.room.hidden ≤ max need.hidden (2 * self.old.room.hidden + 1) }
-        ensures at_most_contracted { self.new.room.contracted ≤ most_room (contracted_lines self.old.view.flags + 1) self.old.room.contracted need.contracted }
+        ensures at_most_contracted { self.new.room.contracted ≤ most_contracted_room self.old need.contracted }
     {
         let Ok(()) = self.lines.reserve_hidden(need.hidden) else {
             return Err(AllocError);
@@ -110,7 +108,7 @@ impl View {
         requires within { line < length self.old.view.flags }
         requires room { HasFoldRoom self.old.room (need_of self.old.view.flags (change_to.SetExpanded line on)) }
         ensures view { self.new.view ≡ record self.old.view { flags = with_expanded line on self.old.view.flags } }
-        ensures room_left { LeavesFoldRoom self.old.room self.new.room (need_of self.old.view.flags (change_to.SetExpanded line on)) }
+        ensures room_left { LeavesRoomAfter (change_to.SetExpanded line on) self.old self.new }
         ensures in_all { contracted_in_all self.new ≡ contracted_in_all self.old }
     {
         self.lines.set_expanded(line, on);
@@ -123,7 +121,7 @@ impl View {
         requires within { header < length self.old.view.flags }
         requires room { HasFoldRoom self.old.room (need_of self.old.view.flags (change_to.Contract header)) }
         ensures view { self.new.view ≡ changed_view levels.now (change_to.Contract header) self.old.view }
-        ensures room_left { LeavesFoldRoom self.old.room self.new.room (need_of self.old.view.flags (change_to.Contract header)) }
+        ensures room_left { LeavesRoomAfter (change_to.Contract header) self.old self.new }
         ensures in_all { contracted_in_all self.new ≡ contracted_in_all self.old }
     {
         self.lines.contract(levels, header);
@@ -136,7 +134,7 @@ impl View {
         requires within { header < length self.old.view.flags }
         requires room { length self.old.view.flags ≤ self.old.room.hidden }
         ensures view { self.new.view ≡ changed_view levels.now (change_to.Expand header) self.old.view }
-        ensures room_left { LeavesFoldRoom self.old.room self.new.room (need_of self.old.view.flags (change_to.Expand header)) }
+        ensures room_left { LeavesRoomAfter (change_to.Expand header) self.old self.new }
         ensures in_all { contracted_in_all self.new ≡ contracted_in_all self.old }
     {
         self.lines.expand(levels, header);
@@ -149,7 +147,7 @@ impl View {
         requires within { line < length self.old.view.flags }
         requires room { HasFoldRoom self.old.room (need_of self.old.view.flags (change_to.EnsureVisible line)) }
         ensures view { self.new.view ≡ changed_view levels.now (change_to.EnsureVisible line) self.old.view }
-        ensures room_left { LeavesFoldRoom self.old.room self.new.room (need_of self.old.view.flags (change_to.EnsureVisible line)) }
+        ensures room_left { LeavesRoomAfter (change_to.EnsureVisible line) self.old self.new }
         ensures in_all { contracted_in_all self.new ≡ contracted_in_all self.old }
     {
         if self.shows(line) {

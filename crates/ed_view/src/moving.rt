@@ -1,11 +1,10 @@
 //! A view follows its document: a step of the text, another setting of line ends, and another document.
 
 ghost use Rattle.std.specs.Prelude.{◌≡◌, ◌<◌, ◌≤◌, ◌+◌, ◌^◌, length};
-ghost use Rattle.ed_model.specs.Session.{Document, lines_in, attached_to};
 ghost use Rattle.line_index.specs.Edits.{FitLines, fresh_lines};
 ghost use Rattle.selection.specs.Positions.{count_of};
 ghost use Rattle.ed_view.specs.Kept.{contracted_in_all};
-ghost use Rattle.ed_view.specs.Moving.{view_moved, with_edited_lines};
+ghost use Rattle.ed_view.specs.Moving.{IsAttached, view_moved, with_edited_lines};
 
 use crate::view::{Target, View};
 use line_index::LineEdit;
@@ -52,7 +51,7 @@ impl View {
     pub fn attach_to(&mut self, document: u32, lines: usize)
         requires lines { 0 < lines }
         requires few { length self.old.view.flags + lines < 2 ^ 64 }
-        ensures view { (d : Document) → d.id ≡ document → lines_in d ≡ lines → self.new.view ≡ attached_to d self.old.view }
+        ensures view { IsAttached document lines self.old.view self.new.view }
         ensures hidden { self.new.room.hidden ≡ self.old.room.hidden }
         ensures contracted { self.old.room.contracted ≤ self.new.room.contracted }
         ensures in_all { contracted_in_all self.new ≡ contracted_in_all self.old }

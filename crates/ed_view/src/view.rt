@@ -1,15 +1,13 @@
 //! `View`: how it is made and read.
 
 ghost use Rattle.std.specs.Prelude.{◌≡◌, ◌<◌, IfOk};
-ghost use Rattle.ed_model.specs.Session.{Document, lines_in, new_view};
+ghost use Rattle.ed_view.specs.Kept.{IsNewView};
 
 use contraction::Contraction;
+use ed_types::modification;
 use selection::Selection;
 use std::alloc::{AllocError, Global};
 use std::marker::Model;
-
-// All bits that a mask of kinds of change may have.
-const WHOLE_MASK: u32 = 0x7F_FFFF;
 
 /// The range in which searches and replacements work, in bytes from 0. It may end before it starts.
 #[derive(Clone, Copy, Debug, PartialEq, Eq)]
@@ -41,7 +39,24 @@ impl Model for View {
 
     ghost Value = { KeptView };
 
-    ghost view = { λ v. record { view = record { id = v.id; document = v.document; anchor = v.selection.anchor; caret = v.selection.caret; target_start = v.target.start; target_end = v.target.end; search_flags = v.search_flags; mask = v.mask; indicator = v.indicator; indicator_value = v.indicator_value; converts_pastes = v.converts_pastes; records = v.records; flags = v.lines.flags }; room = v.lines.room } };
+    ghost view = { λ v. record {
+      view = record {
+        id = v.id;
+        document = v.document;
+        anchor = v.selection.anchor;
+        caret = v.selection.caret;
+        target_start = v.target.start;
+        target_end = v.target.end;
+        search_flags = v.search_flags;
+        mask = v.mask;
+        indicator = v.indicator;
+        indicator_value = v.indicator_value;
+        converts_pastes = v.converts_pastes;
+        records = v.records;
+        flags = v.lines.flags;
+      };
+      room = v.lines.room;
+    } };
 }
 
 impl View {
@@ -53,7 +68,7 @@ impl View {
     /// `AllocError` if an allocation fails. The view allocates memory for two numbers, however many lines there are.
     pub fn new(alloc: Global, id: u32, document: u32, lines: usize) -> Result<Self, AllocError>
         requires lines { 0 < lines }
-        ensures view { IfOk result (λ v. (d : Document) → d.id ≡ document → lines_in d ≡ lines → v.view ≡ new_view id d) }
+        ensures view { IfOk result (λ v. IsNewView id document lines v.view) }
         ensures room { IfOk result (λ v. v.room ≡ record { hidden = 0; contracted = 0 }) }
     {
         let lines = Contraction::new(alloc, lines)?;
@@ -63,7 +78,7 @@ impl View {
             selection: Selection::at(0),
             target: Target { start: 0, end: 0 },
             search_flags: 0,
-            mask: WHOLE_MASK,
+            mask: modification::ALL,
             indicator: 0,
             indicator_value: 1,
             converts_pastes: true,
