@@ -6,7 +6,8 @@
 //! ```
 //!
 //! A text that several notes have stands in the pool once: it is shared there, and each of these notes refers to it.
-//! Room for all notes and texts of a message is reserved before the message is performed, so that notifying cannot fail.
+//! Room for all notes and texts of a message is reserved before the message is performed, so that notifying cannot
+//! fail.
 //!
 //! Contracts see each note with its own text.
 #![tactic(auto)]

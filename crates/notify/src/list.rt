@@ -3,7 +3,7 @@
 ghost use Rattle.std.specs.Prelude.{◌≡◌, ◌==◌, List, ℕ, ◌+◌, ◌-◌, ◌<◌, ◌≤◌, [], ◌∷◌, ◌++◌, length, max, OnOk, OnErr, IsOk, vec_len, vec_capacity};
 ghost use Rattle.ed_model.specs.Notes.{blank};
 ghost use Rattle.ed_types.specs.Heard.{with_text};
-ghost use Rattle.notify.specs.Gathered.{gathered};
+ghost use Rattle.notify.specs.Gathered.{gathered, with_room, IfRoom, with_shared, with_note, with_own_text, with_own_halves};
 
 use ed_types::{Bytes, Note, Reply};
 use std::alloc::{AllocError, Global};
@@ -30,7 +30,8 @@ impl Model for NoteList {
     ghost use Rattle.ed_types.specs.Heard.{heard_in};
     ghost use Rattle.notify.specs.Ranges.{EndWithin};
 
-    ghost view = { λ l. gathered (heard_in l.pool.items l.notes.items) (drop l.shared_from l.pool.items) l.note_room l.text_room };
+    ghost view = { λ l.
+        gathered (heard_in l.pool.items l.notes.items) (drop l.shared_from l.pool.items) l.note_room l.text_room };
 
     ghost invariant = { λ l. record {
       texts : EndWithin (length l.pool.items) l.notes.items;
@@ -60,8 +61,8 @@ impl NoteList {
     ///
     /// `AllocError` if an allocation fails. Nothing has changed then.
     pub fn reserve(&mut self, notes: usize, bytes: usize) -> Result<(), AllocError>
-        ensures ok { OnOk result (self.new ≡ record self.old { note_room = max self.old.note_room notes; text_room = max self.old.text_room bytes }) }
-        ensures room_is_there { notes ≤ self.old.note_room → bytes ≤ self.old.text_room → IsOk result × (self.new ≡ self.old) }
+        ensures ok { OnOk result (self.new ≡ with_room notes bytes self.old) }
+        ensures room_is_there { IfRoom self.old notes bytes (IsOk result × (self.new ≡ self.old)) }
         ensures room_stays { (self.old.note_room ≤ self.new.note_room) × (self.old.text_room ≤ self.new.text_room) }
         ensures err { OnErr result (self.new ≡ self.old) }
     {
@@ -90,7 +91,7 @@ impl NoteList {
     /// lends it.
     pub fn share(&mut self, first: &[u8], second: &[u8])
         requires { length first.now + length second.now ≤ self.old.text_room }
-        ensures { self.new ≡ record self.old { shared = first.now ++ second.now; text_room = self.old.text_room - (length first.now + length second.now) } }
+        ensures { self.new ≡ with_shared first.now second.now self.old }
     {
         let from = self.pool.len();
         append(&mut self.pool, first);
@@ -102,7 +103,7 @@ impl NoteList {
     /// Appends a note with the shared text. The range in `note` is ignored.
     pub fn put_again(&mut self, mut note: Note)
         requires { 0 < self.old.note_room }
-        ensures { self.new ≡ record self.old { notes = self.old.notes ++ with_text note self.old.shared ∷ []; note_room = self.old.note_room - 1 } }
+        ensures { self.new ≡ with_note (with_text note self.old.shared) self.old }
     {
         note.text = self.shared_from..self.pool.len();
         self.notes.push_reserved(note);
@@ -112,7 +113,7 @@ impl NoteList {
     /// Appends a note without a text. The shared text stays.
     pub fn put_bare(&mut self, mut note: Note)
         requires { 0 < self.old.note_room }
-        ensures { self.new ≡ record self.old { notes = self.old.notes ++ with_text note [] ∷ []; note_room = self.old.note_room - 1 } }
+        ensures { self.new ≡ with_note (with_text note []) self.old }
     {
         note.text = 0..0;
         self.notes.push_reserved(note);
@@ -123,7 +124,7 @@ impl NoteList {
     pub fn put(&mut self, note: Note, text: &[u8])
         requires notes { 0 < self.old.note_room }
         requires text { length text.now ≤ self.old.text_room }
-        ensures { self.new ≡ gathered (self.old.notes ++ with_text note text.now ∷ []) text.now (self.old.note_room - 1) (self.old.text_room - length text.now) }
+        ensures { self.new ≡ with_own_text note text.now self.old }
     {
         self.put_halves(note, text, &[]);
     }
@@ -132,7 +133,7 @@ impl NoteList {
     pub fn put_halves(&mut self, note: Note, first: &[u8], second: &[u8])
         requires notes { 0 < self.old.note_room }
         requires text { length first.now + length second.now ≤ self.old.text_room }
-        ensures { self.new ≡ gathered (self.old.notes ++ with_text note (first.now ++ second.now) ∷ []) (first.now ++ second.now) (self.old.note_room - 1) (self.old.text_room - (length first.now + length second.now)) }
+        ensures { self.new ≡ with_own_halves note first.now second.now self.old }
     {
         self.share(first, second);
         self.put_again(note);
