@@ -1,9 +1,9 @@
 //! The number of steps of a conversion.
 
 ghost use Rattle.std.specs.Prelude.{◌≡◌, ◌==◌, ◌+◌, ◌<◌, ◌≤◌, ◌++◌, false, min, nat_le, nat_lt, length, count_by};
-ghost use Rattle.ed_model.specs.Edits.{has_steps, stays_within};
+ghost use Rattle.ed_model.specs.Edits.{has_steps};
 ghost use Rattle.ed_model.specs.LineEnds.{conversion_steps, missing_from, unwanted_from};
-ghost use Rattle.line_ends.specs.Conversion.{completed};
+ghost use Rattle.line_ends.specs.Conversion.{completed, conversion_stays_within};
 
 use crate::finding::next_lone;
 use ed_model::LineEnd;
@@ -60,8 +60,8 @@ pub fn has_conversion(first: &[u8], second: &[u8], to: LineEnd) -> bool
     missing_up_to(first, second, to, 1) > 0 || count_unwanted(first, second, to) > 0
 }
 
-/// Returns whether a conversion to the line end `to` has more than one step. In a text with many line ends it reads only
-/// the first ones.
+/// Returns whether a conversion to the line end `to` has more than one step. In a text with many line ends it reads
+/// only the first ones.
 pub fn has_several(first: &[u8], second: &[u8], to: LineEnd) -> bool
     ensures { result ≡ nat_lt 1 (length (conversion_steps to (first.now ++ second.now))) }
 {
@@ -80,7 +80,7 @@ fn keeps_limit(size: u64, added: u64, limit: u64) -> bool
 /// Returns whether the text has at most `limit` bytes after each step of a conversion. All insertions come first, so
 /// the text is longest after the last of them.
 pub fn conversion_stays_within(first: &[u8], second: &[u8], to: LineEnd, limit: u64) -> bool
-    ensures { result ≡ stays_within limit (length (first.now ++ second.now)) (conversion_steps to (first.now ++ second.now)) }
+    ensures { result ≡ conversion_stays_within limit to (first.now ++ second.now) }
 {
     let size = (first.len() + second.len()) as u64;
     let missing = count_missing(first, second, to);

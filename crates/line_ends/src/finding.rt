@@ -1,8 +1,8 @@
 //! The search for the next step of a conversion.
 
-ghost use Rattle.std.specs.Prelude.{◌≡◌, ◌+◌, ◌<◌, ◌≤◌, ◌++◌, ◌||◌, [], length, MatchOption};
+ghost use Rattle.std.specs.Prelude.{◌≡◌, ◌+◌, ◌<◌, ◌≤◌, ◌++◌, length};
 ghost use Rattle.ed_model.specs.LineEnds.{is_feed_foreign as feed_foreign, is_feed_unwanted as feed_unwanted, is_return_foreign as return_foreign, is_return_unwanted as return_unwanted};
-ghost use Rattle.line_ends.specs.Conversion.{IsNextLone, IsNextMissing, IsNextUnwanted, follows_return, lone_feed, lone_return, missing_in, spare_feed, spare_return, unwanted_in};
+ghost use Rattle.line_ends.specs.Conversion.{FindsLone, FindsMissing, FindsUnwanted, follows_return, lone_byte, lone_feed, lone_return, spare_byte, spare_feed, spare_return};
 
 use crate::reading::{is_at, next_end};
 use ed_model::LineEnd;
@@ -75,7 +75,7 @@ fn is_lone_return(first: &[u8], second: &[u8], place: usize, to: LineEnd) -> boo
 // Returns whether a lone LF or CR of an unwanted kind stands at `place`.
 fn is_lone(first: &[u8], second: &[u8], place: usize, to: LineEnd) -> bool
     requires { place < length first.now + length second.now }
-    ensures { result ≡ (lone_feed to (first.now ++ second.now) place || lone_return to (first.now ++ second.now) place) }
+    ensures { result ≡ lone_byte to (first.now ++ second.now) place }
 {
     is_lone_feed(first, second, place, to) || is_lone_return(first, second, place, to)
 }
@@ -102,7 +102,7 @@ fn is_spare_feed(first: &[u8], second: &[u8], start: usize, place: usize, to: Li
 // Returns whether an unwanted byte of a CRLF stands at `place`, in the text from `start` on.
 fn is_spare(first: &[u8], second: &[u8], start: usize, place: usize, to: LineEnd) -> bool
     requires { place < length first.now + length second.now }
-    ensures { result ≡ (spare_return to (first.now ++ second.now) place || spare_feed start to (first.now ++ second.now) place) }
+    ensures { result ≡ spare_byte start to (first.now ++ second.now) place }
 {
     is_spare_return(first, second, place, to) || is_spare_feed(first, second, start, place, to)
 }
@@ -110,7 +110,7 @@ fn is_spare(first: &[u8], second: &[u8], start: usize, place: usize, to: LineEnd
 /// Returns the first place from `from` on of an LF or CR that lacks its other byte.
 pub(crate) fn next_lone(first: &[u8], second: &[u8], from: usize, to: LineEnd) -> Option<usize>
     requires { from ≤ length first.now + length second.now }
-    ensures { MatchOption result (missing_in to (first.now ++ second.now) from ≡ []) (λ place. IsNextLone to (first.now ++ second.now) from place) }
+    ensures { FindsLone to (first.now ++ second.now) from result }
 {
     let mut place = next_end(first, second, from);
     'looking: while place < first.len() + second.len() {
@@ -122,11 +122,12 @@ pub(crate) fn next_lone(first: &[u8], second: &[u8], from: usize, to: LineEnd) -
     None
 }
 
-/// Returns the place of the next insertion of a conversion to `to`, from `from` on in bytes, and the byte to insert: a CR
-/// before a lone LF, or an LF behind a lone CR. After the insertion the search continues right behind the inserted byte.
+/// Returns the place of the next insertion of a conversion to `to`, from `from` on in bytes, and the byte to insert: a
+/// CR before a lone LF, or an LF behind a lone CR. After the insertion the search continues right behind the inserted
+/// byte.
 pub fn next_missing(first: &[u8], second: &[u8], from: usize, to: LineEnd) -> Option<(usize, u8)>
     requires { from ≤ length first.now + length second.now }
-    ensures { MatchOption result (missing_in to (first.now ++ second.now) from ≡ []) (λ found. IsNextMissing to (first.now ++ second.now) from found.0 found.1) }
+    ensures { FindsMissing to (first.now ++ second.now) from result }
 {
     let place = next_lone(first, second, from, to)?;
     if is_at(b'\n', first, second, place) {
@@ -136,11 +137,12 @@ pub fn next_missing(first: &[u8], second: &[u8], from: usize, to: LineEnd) -> Op
     }
 }
 
-/// Returns the place of the next deletion of a conversion to `to`, from `from` on in bytes: the LF of a CRLF if `to` is CR,
-/// or its CR if `to` is LF. Bytes before `from` are not read. After the deletion the search continues at the same place.
+/// Returns the place of the next deletion of a conversion to `to`, from `from` on in bytes: the LF of a CRLF if `to` is
+/// CR, or its CR if `to` is LF. Bytes before `from` are not read. After the deletion the search continues at the same
+/// place.
 pub fn next_unwanted(first: &[u8], second: &[u8], from: usize, to: LineEnd) -> Option<usize>
     requires { from ≤ length first.now + length second.now }
-    ensures { MatchOption result (unwanted_in to (first.now ++ second.now) from ≡ []) (λ place. IsNextUnwanted to (first.now ++ second.now) from place) }
+    ensures { FindsUnwanted to (first.now ++ second.now) from result }
 {
     // If CRLF is wanted, neither of its bytes is unwanted.
     if let LineEnd::CrLf = to {

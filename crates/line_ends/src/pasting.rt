@@ -1,8 +1,8 @@
 //! Conversion of the line ends of a text that is pasted.
 
-ghost use Rattle.std.specs.Prelude.{◌≡◌, ◌+◌, ◌*◌, ◌<◌, ◌≤◌, ◌++◌, length, take, drop, vec_len, vec_capacity};
+ghost use Rattle.std.specs.Prelude.{◌≡◌, ◌+◌, ◌*◌, ◌<◌, ◌≤◌, ◌++◌, length, vec_len, vec_capacity};
 ghost use Rattle.ed_model.specs.LineEnds.{converted};
-ghost use Rattle.line_ends.specs.Conversion.{end_bytes};
+ghost use Rattle.line_ends.specs.Conversion.{BeginsWithPiece, end_bytes};
 
 use crate::reading::quiet_bytes;
 use ed_model::LineEnd;
@@ -33,7 +33,7 @@ fn bytes_of_end(count: usize, to: LineEnd) -> &'static [u8]
 fn next_piece(bytes: &[u8]) -> Piece
     ensures within { result.quiet + result.end ≤ length bytes.now }
     ensures on { 0 < length bytes.now → 0 < result.quiet + result.end }
-    ensures pieces { (to : LineEnd) → converted to bytes.now ≡ take result.quiet bytes.now ++ end_bytes result.end to ++ converted to (drop (result.quiet + result.end) bytes.now) }
+    ensures pieces { BeginsWithPiece result.quiet result.end bytes.now }
 {
     let quiet = quiet_bytes(bytes);
     if quiet == bytes.len() {
