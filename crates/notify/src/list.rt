@@ -1,6 +1,6 @@
 //! `NoteList` and its calls.
 
-ghost use Rattle.std.specs.Prelude.{◌≡◌, ◌==◌, List, ℕ, ◌+◌, ◌-◌, ◌<◌, ◌≤◌, [], ◌∷◌, ◌++◌, length, max, OnOk, OnErr, IsOk, vec_len, vec_capacity};
+ghost use Rattle.std.specs.Prelude.{◌≡◌, ◌==◌, List, ℕ, ◌+◌, ◌<◌, ◌≤◌, [], ◌++◌, length, OnOk, OnErr, IsOk, vec_len, vec_capacity};
 ghost use Rattle.ed_model.specs.Notes.{blank};
 ghost use Rattle.ed_types.specs.Heard.{with_text};
 ghost use Rattle.notify.specs.Gathered.{gathered, with_room, IfRoom, with_shared, with_note, with_own_text, with_own_halves};
