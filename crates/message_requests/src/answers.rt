@@ -75,7 +75,8 @@ pub fn answer_flag(on: bool) -> Planned
     answer(flag(on))
 }
 
-/// Returns the bytes from `start` up to `past`, with their number as the value. There are none if `past` is before `start`.
+/// Returns the bytes from `start` up to `past`, with their number as the value. There are none if `past` is before
+/// `start`.
 pub fn bytes_between(start: usize, past: usize) -> HandedOut
     requires { past < 2 ^ 63 }
     ensures { handed_out result ≡ hand_out_plan start past }

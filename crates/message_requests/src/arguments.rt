@@ -56,8 +56,8 @@ pub fn is_on(argument: i64) -> bool
     argument != 0
 }
 
-/// Returns `Some(Some(number))` if the argument is a number from 0 to `high`, and `Some(None)` if it is -1, which stands for all numbers.
-/// Returns `None` for all other arguments.
+/// Returns `Some(Some(number))` if the argument is a number from 0 to `high`, and `Some(None)` if it is -1, which
+/// stands for all numbers. Returns `None` for all other arguments.
 pub fn some_or_all(high: u32, argument: i64) -> Option<Option<u32>>
     ensures { result ≡ some_or_all high argument }
 {

@@ -1,5 +1,5 @@
-//! Edits: the plans of messages that change the text. The functions that plan a replacement are always inlined, so that a plan is made in
-//! its place and not copied from function to function.
+//! Edits: the plans of messages that change the text. The functions that plan a replacement are always inlined, so that
+//! a plan is made in its place and not copied from function to function.
 
 ghost use Rattle.std.specs.Prelude.{◌≡◌, ◌≤◌, ◌+◌, ◌&&◌, ◌||◌, nat_le, nat_lt, length, pos};
 ghost use Rattle.ed_model.specs.Session.{limit_of};
@@ -70,8 +70,8 @@ fn fits(left: usize, added: usize, limit: u64) -> bool
     left as u64 <= limit && added as u64 <= limit - left as u64
 }
 
-/// Returns whether the text is within its limit after each step: a deletion of `count` bytes, and then an insertion of `added` bytes. A
-/// number of 0 makes no step.
+/// Returns whether the text is within its limit after each step: a deletion of `count` bytes, and then an insertion of
+/// `added` bytes. A number of 0 makes no step.
 #[inline(always)]
 fn keeps_limit(r: &Request, count: usize, added: usize) -> bool
     requires range { count ≤ size r.now }
@@ -101,8 +101,8 @@ fn edit_if(kept_out: bool, within: bool, edit: Plan) -> Planned
     }
 }
 
-/// Returns the plan of an edit that replaces bytes, answers `value`, and does `follow` after its steps. If the document is read-only and
-/// the edit has a step, the plan is only an attempt.
+/// Returns the plan of an edit that replaces bytes, answers `value`, and does `follow` after its steps. If the document
+/// is read-only and the edit has a step, the plan is only an attempt.
 ///
 /// # Errors
 ///
@@ -149,7 +149,8 @@ pub fn replace_plan(r: &Request, replacement: Replacement) -> Planned
     edit_plan(r, replacement, 0, Follow::Nothing)
 }
 
-/// Like `edit_plan`, for an edit that answers 0 and then moves the anchor and the caret to the end of the inserted bytes.
+/// Like `edit_plan`, for an edit that answers 0 and then moves the anchor and the caret to the end of the inserted
+/// bytes.
 ///
 /// # Errors
 ///
@@ -163,13 +164,14 @@ pub fn replace_and_go(r: &Request, replacement: Replacement) -> Planned
     prove!(r.limit() <= u64::MAX);
     match replacement.start.checked_add(replacement.added) {
         Some(place) => edit_plan(r, replacement, 0, Follow::Caret { place }),
-        // The sum overflows, so the text would pass every limit: the edit is refused or only attempted, and nothing follows it.
+        // The sum overflows, so the text would pass every limit: the edit is refused or only attempted, and nothing
+        // follows it.
         None => edit_plan(r, replacement, 0, Follow::Nothing),
     }
 }
 
-/// Returns the plan that converts all line ends of the text to `to` and answers 0 (CONVERTEOLS). If the document is read-only and the
-/// conversion has a step, the plan is only an attempt.
+/// Returns the plan that converts all line ends of the text to `to` and answers 0 (CONVERTEOLS). If the document is
+/// read-only and the conversion has a step, the plan is only an attempt.
 ///
 /// # Errors
 ///

@@ -40,8 +40,8 @@ impl<'a> Model for SentMessage<'a> {
     ghost view = { λ m. record { number = m.number; w = m.w; l = m.l; text = m.text.now } };
 }
 
-/// A message, and what it is sent to: the session, the view and the view's document, all borrowed. Contracts see the model's request. The
-/// session keeps each document under its own id.
+/// A message, and what it is sent to: the session, the view and the view's document, all borrowed. Contracts see the
+/// model's request. The session keeps each document under its own id.
 #[derive(Drop)]
 pub struct Request<'a> {
     /// The state of the session.
@@ -62,7 +62,12 @@ impl<'a> Model for Request<'a> {
 
     ghost use Rattle.message_requests.specs.Requested.{DocumentsAreNamed};
 
-    ghost view = { λ r. record { session = session_in r.session.now; view = r.view.now.view; document = r.document.now.document; message = r.message } };
+    ghost view = { λ r. record {
+      session = session_in r.session.now;
+      view = r.view.now.view;
+      document = r.document.now.document;
+      message = r.message;
+    } };
 
     ghost invariant = { λ r. DocumentsAreNamed r.session.now };
 }
@@ -107,8 +112,8 @@ impl<'a> Request<'a> {
         self.document.line_past(line)
     }
 
-    /// Returns where the line end of a line begins (GETLINEENDPOSITION). For the last line and all lines behind it, this is the length of
-    /// the text.
+    /// Returns where the line end of a line begins (GETLINEENDPOSITION). For the last line and all lines behind it,
+    /// this is the length of the text.
     #[inline(always)]
     pub fn line_end(&self, line: usize) -> usize
         ensures end { result ≡ line_end self.now line }
@@ -117,7 +122,8 @@ impl<'a> Request<'a> {
         self.document.line_end(line)
     }
 
-    /// Returns the line that contains a place, counted from 0 (LINEFROMPOSITION). For a place behind the text, this is the last line.
+    /// Returns the line that contains a place, counted from 0 (LINEFROMPOSITION). For a place behind the text, this is
+    /// the last line.
     #[inline(always)]
     pub fn line_at(&self, place: usize) -> usize
         ensures line { result ≡ line_at self.now place }
@@ -148,7 +154,8 @@ impl<'a> Request<'a> {
         char_cut::before(first, second, place)
     }
 
-    /// Returns the next cut between characters behind a place, or the length of the text if there is none (POSITIONAFTER).
+    /// Returns the next cut between characters behind a place, or the length of the text if there is none
+    /// (POSITIONAFTER).
     #[inline(always)]
     #[tactic(auto, using(crate::specs::proved::Standing::length_text))]
     pub fn cut_after(&self, place: usize) -> usize
@@ -237,7 +244,8 @@ impl<'a> Request<'a> {
         start
     }
 
-    /// Returns the end of the view's target, in bytes from 0 (GETTARGETEND). It lies in the text, possibly before the start of the target.
+    /// Returns the end of the view's target, in bytes from 0 (GETTARGETEND). It lies in the text, possibly before the
+    /// start of the target.
     #[inline(always)]
     #[tactic(auto, using(crate::specs::proved::Standing::target_end_in_text))]
     pub fn target_end(&self) -> usize
@@ -304,7 +312,8 @@ impl<'a> Request<'a> {
         documents.get(id as u32)
     }
 
-    /// Returns the greatest length of the document's text, in bytes. It depends on whether the document is for large texts.
+    /// Returns the greatest length of the document's text, in bytes. It depends on whether the document is for large
+    /// texts.
     pub fn limit(&self) -> u64
         ensures { result ≡ limit_of self.now.session.limits self.now.document }
     {
@@ -317,8 +326,8 @@ impl<'a> Request<'a> {
     }
 }
 
-/// Returns where a range that starts at `start` ends, by the message's `l`, in bytes from 0, as in GETTEXTRANGE. `l` = -1 is the end of the
-/// text. Returns `None` if `l` lies before `start` or behind the text.
+/// Returns where a range that starts at `start` ends, by the message's `l`, in bytes from 0, as in GETTEXTRANGE.
+/// `l` = -1 is the end of the text. Returns `None` if `l` lies before `start` or behind the text.
 pub fn past_argument(r: &Request, start: usize) -> Option<usize>
     requires { start ≤ size r.now }
     ensures past { result ≡ within start (size r.now) (end_or_size (size r.now) r.now.message.l) }
