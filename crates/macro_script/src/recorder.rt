@@ -6,12 +6,9 @@ ghost use Rattle.ed_types.specs.Heard.{with_text};
 ghost use Rattle.macro_script.specs.Recorded.{is_recording, recording_note, after_reply, after_note, IsTooLong, IsPlaceOf, RecordsAll};
 
 use crate::script::Script;
-use ed_types::{Bytes, Command, Message, Note, Reply, ScriptFault};
+use ed_types::{Bytes, Command, Message, Note, Reply, ScriptFault, notification};
 use std::alloc::{AllocError, Global};
 use std::marker::Model;
-
-/// `SCN_MACRORECORD` of Scintilla, the notification of a recorded message.
-const MACRO_RECORD: u32 = 2009;
 
 /// Makes a script of what a view records. `feed` takes the replies of a session, and adds the message that each of them
 /// records for the view. A contract sees the view and the commands so far.
@@ -34,7 +31,7 @@ impl Model for Recorder {
 fn tells_recording(view: u32, note: &Note) -> bool
     ensures { (text : List ℕ) → result ≡ is_recording view (with_text note.entry.now text) }
 {
-    note.code == MACRO_RECORD && note.view == view
+    note.code == notification::MACRO_RECORD && note.view == view
 }
 
 /// Returns the place of such a note among those of a reply, if there is one.
