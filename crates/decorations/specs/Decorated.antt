@@ -1,6 +1,8 @@
 -- What a contract sees of `Decorations`.
-use Rattle.std.specs.Prelude.{ℕ, ◌≡◌, ◌≢◌, ◌*◌, ◌<◌, ◌≤◌, ◌^◌, ◌==◌, max, nat_eq, not, List, [], map, filter, replicate, sum, pos, slice_index_or, All, Option}
+use Rattle.std.specs.Prelude.{ℕ, ◌≡◌, ◌≢◌, ◌+◌, ◌*◌, ◌<◌, ◌≤◌, ◌^◌, ◌==◌, max, nat_eq, not, List, [], length, map, filter, replicate, sum, pos, slice_index_or, slice_set, All, Option, Some, None}
 use Rattle.std.specs.List.{range_with_len}
+use Rattle.ed_model.specs.Indicators.{indicators_after, filled, changed_range}
+use Rattle.ed_model.specs.Steps.{Insert, Delete}
 use Rattle.ed_model.specs.TextPlans.{at_place}
 use Rattle.ed_model.specs.StylePlans.{run_start, run_past}
 use Rattle.run_styles.specs.Runs.{Spare, spare, IsSpareFor, IsSameMemory, run_count}
@@ -62,6 +64,10 @@ pub record HaveSlotsOf (old new : Held) : Type 0 where
 abbrev pub IsClear : List ℕ → Type 0
 IsClear values = All (λ v. v ≡ 0) values
 
+-- the indicator is not 0 everywhere
+abbrev pub IsUsed : Decorated → ℕ → Type 0
+IsUsed d indicator = IsClear (values_of d.values indicator) → ⊥
+
 -- there is memory for so many more runs
 pub record IsEnough (count : ℕ) (memory : Spare) : Type 0 where
   pub starts : count ≤ memory.starts
@@ -76,6 +82,52 @@ pub record AreEnough (count : ℕ) (values : List (List ℕ)) (held : Held) : Ty
 pub record IsEnoughFor (count indicator : ℕ) (values : List (List ℕ)) (held : Held) : Type 0 where
   pub used : (IsClear (values_of values indicator) → ⊥) → IsEnough count (spare_of held indicator)
   pub clear : IsClear (values_of values indicator) → IsEnough count held.unused
+
+-- the statement holds if there is memory for so many insertions and a fill
+abbrev pub IfMemory : ℕ → Decorated → Type 0 → Type 0
+IfMemory insertions d P = insertions + 3 < 2 ^ 64 → AreEnough (insertions + 3) d.values d.held → P
+
+-- the statement holds if there is memory for the indicator's slot, and for the insertions and a fill in its runs
+abbrev pub IfMemoryFor : ℕ → Decorated → Type 0 → Type 0
+IfMemoryFor indicator d P =
+    d.room + 3 < 2 ^ 64 → indicator < d.held.capacity → IsEnoughFor (d.room + 3) indicator d.values d.held → P
+
+-- there is room for so many insertions, or the old room if that is more, and nothing else changes
+abbrev pub GainsRoom : ℕ → Decorated → Decorated → Type 0
+GainsRoom insertions old new = new ≡ record old { room = max old.room insertions }
+
+-- the same, but the memory may change as well
+abbrev pub GainsRoomAndMemory : ℕ → Decorated → Decorated → Type 0
+GainsRoomAndMemory insertions old new = new ≡ record old { room = max old.room insertions; held = new.held }
+
+-- there is room for a fill of the indicator, which has a slot, and nothing else changes
+abbrev pub GainsFill : ℕ → Decorated → Decorated → Type 0
+GainsFill indicator old new =
+    new ≡ record old { ready = Some indicator; held = record old.held { slots = max old.held.slots (indicator + 1) } }
+
+-- the indicator has the value at `count` places from the start on, and the room for a fill is used
+abbrev pub IsFilled : (indicator start count value : ℕ) → Decorated → Decorated → Type 0
+IsFilled indicator start count value old new =
+    new ≡ record old {
+      values = slice_set old.values indicator (filled start count value (values_of old.values indicator));
+      ready = None;
+      held = new.held;
+    }
+
+-- the smallest range that holds all places that this fill changes
+abbrev pub filled_range : Decorated → (indicator start count value : ℕ) → Option (ℕ × ℕ)
+filled_range d indicator start count value =
+    changed_range (values_of d.values indicator) (filled start count value (values_of d.values indicator))
+
+-- the values after an insertion of so many bytes, whichever they are
+abbrev pub FollowInsertion : (place count : ℕ) → List (List ℕ) → List (List ℕ) → Type 0
+FollowInsertion place count old new =
+    (bytes : List ℕ) → length bytes ≡ count → new ≡ indicators_after (Insert place bytes) old
+
+-- the values after a deletion of so many bytes, whichever they are
+abbrev pub FollowDeletion : (place count : ℕ) → List (List ℕ) → List (List ℕ) → Type 0
+FollowDeletion place count old new =
+    (bytes : List ℕ) → length bytes ≡ count → new ≡ indicators_after (Delete place bytes) old
 
 -- how many runs of equal values an indicator has
 abbrev pub runs_of : Decorated → ℕ → ℕ

@@ -1,7 +1,7 @@
 -- How the lists are stored: a slot for each indicator, up to the last that ever had a value, with its runs if it has any.
-use Rattle.std.specs.Prelude.{ℕ, ◌≡◌, ◌+◌, ◌<◌, ◌≤◌, ◌==◌, if◌then◌else◌, nat_eq, List, length, map, replicate, slice_index_or, Option, Some, None, IfSome, IfNone, MatchOption}
+use Rattle.std.specs.Prelude.{ℕ, ◌≡◌, ◌+◌, ◌*◌, ◌<◌, ◌≤◌, ◌==◌, if◌then◌else◌, max, nat_eq, List, length, map, replicate, slice_index_or, Option, Some, None, IfSome, IfNone, MatchOption, Vec, vec_capacity}
 use Rattle.run_styles.specs.Runs.{Runs, Spare, spare, IsSpareFor, IsSameMemory, run_count, inserted, deleted, inserted_value}
-use Rattle.decorations.specs.Decorated.{Held, indicators, IsClear}
+use Rattle.decorations.specs.Decorated.{Held, indicators, IsClear, IsEnough}
 
 abbrev pub slot_at : List (Option (Runs ℕ)) → ℕ → Option (Runs ℕ)
 slot_at slots k = slice_index_or slots k None
@@ -48,6 +48,47 @@ pub record AreSpare (room : ℕ) (runs : Runs ℕ) : Type 0 where
 -- there are spare runs with so much room
 abbrev pub HasSpare : ℕ → Option (Runs ℕ) → Type 0
 HasSpare room spare = MatchOption spare ⊥ (AreSpare room)
+
+-- there is room for so many more runs
+abbrev pub HasRoom : ℕ → Runs ℕ → Type 0
+HasRoom room runs = room ≤ runs.room
+
+-- there is memory for so many more runs
+abbrev pub HasMemory : ℕ → Runs ℕ → Type 0
+HasMemory room runs = IsEnough room runs.spare
+
+-- the statement holds of the runs in each slot that has runs
+abbrev pub EachSlot : {A : Type 0} → (Runs ℕ → Type 0) → Vec (Option (Runs ℕ)) A → Type 0
+EachSlot P slots = (k : ℕ) → IfSome (slot_at slots.items k) P
+
+-- there is room for so many more runs in the slot, or in the spare runs if it has none
+abbrev pub HasRoomFor : ℕ → Option (Runs ℕ) → Option (Runs ℕ) → Type 0
+HasRoomFor room slot spare = MatchOption slot (HasSpare room spare) (HasRoom room)
+
+-- the indicator has a slot, and there is room for so many more runs in it, or in the spare runs if it has none
+abbrev pub HasSlotRoom : {A : Type 0} → (room indicator : ℕ) → Vec (Option (Runs ℕ)) A → Option (Runs ℕ) → Type 0
+HasSlotRoom room indicator slots spare =
+    (indicator < length slots.items) × HasRoomFor room (slot_at slots.items indicator) spare
+
+-- there is memory for so many more runs in the slot, or in the spare runs if it has none
+abbrev pub HasMemoryFor : ℕ → Option (Runs ℕ) → Option (Runs ℕ) → Type 0
+HasMemoryFor room slot spare = MatchOption slot (MatchOption spare ⊥ (HasMemory room)) (HasMemory room)
+
+-- there is room for a fill and so many more runs in the slot, or in the spare runs if it has none
+abbrev pub HasFillRoom : ℕ → Option (Runs ℕ) → Option (Runs ℕ) → Type 0
+HasFillRoom room slot spare = MatchOption slot (HasSpare (room + 3) spare) (HasRoom (room + 2))
+
+-- the statement holds if there is memory for the indicator's slot, and for so many more runs in it
+abbrev pub IfSlotMemory : {A : Type 0} → (room indicator : ℕ) → Vec (Option (Runs ℕ)) A → Option (Runs ℕ) → Type 0 → Type 0
+IfSlotMemory room indicator slots spare P =
+    indicator + 1 ≤ vec_capacity slots → HasMemoryFor room (slot_at slots.items indicator) spare → P
+
+-- there are at most `count` slots, or as many as before if these are more, and memory for at most that many, or for
+-- twice as many as before
+abbrev pub GrowForSlots : {A : Type 0} → ℕ → Vec (Option (Runs ℕ)) A → Vec (Option (Runs ℕ)) A → Type 0
+GrowForSlots count old new =
+    (length new.items ≤ max (length old.items) count)
+    × (vec_capacity new ≤ max (vec_capacity old) (max count (2 * length old.items)))
 
 -- an indicator can be filled: its slot is there, and either its runs or spare ones are
 pub record CanFill (room : ℕ) (slots : List (Option (Runs ℕ))) (spare : Option (Runs ℕ)) (indicator : ℕ) : Type 0 where
@@ -113,3 +154,8 @@ WasFilled values slot = MatchOption slot (IsClear values) (λ (runs : Runs ℕ).
 abbrev pub source_spare : Option (Runs ℕ) → Option (Runs ℕ) → Spare
 source_spare None spare = slot_spare spare
 source_spare (Some runs) spare = runs.spare
+
+-- the runs have the memory of those that the slot had, or of the spare runs if it had none
+abbrev pub TookMemory : ℕ → Option (Runs ℕ) → Option (Runs ℕ) → Runs ℕ → Type 0
+TookMemory size slot spare runs =
+    IsSameMemory (run_count nat_eq (shown size slot)) (source_spare slot spare) (run_count nat_eq runs.values) runs.spare

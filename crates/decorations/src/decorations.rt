@@ -1,10 +1,8 @@
 //! `Decorations` and its calls.
-ghost use Rattle.std.specs.Prelude.{◌≡◌, ◌≤◌, ◌<◌, ◌+◌, ◌^◌, ◌≢◌, ◌↔◌, ℕ, List, [], length, max, replicate, pos, slice_set, Option, Some, None, IsTrue, OnOk, OnErr, IsOk};
+ghost use Rattle.std.specs.Prelude.{◌≡◌, ◌≤◌, ◌<◌, ◌+◌, ◌≢◌, ◌↔◌, ℕ, [], length, replicate, pos, Option, Some, None, IsTrue, OnOk, OnErr, IsOk};
 ghost use Rattle.std.specs.List.{AllByRecursion};
-ghost use Rattle.ed_model.specs.Indicators.{indicators_after, filled, changed_range};
-ghost use Rattle.ed_model.specs.Steps.{Insert, Delete};
 ghost use Rattle.ed_model.specs.TextPlans.{at_place};
-ghost use Rattle.decorations.specs.Decorated.{decorated, nothing_held, values_of, spare_of, AreRunsFor, AreSlotsFor, HaveSlotsOf, HaveRunsOf, WereFilledFrom, IsClear, AreEnough, IsEnoughFor, run_about, mask_of};
+ghost use Rattle.decorations.specs.Decorated.{decorated, filled_range, mask_of, nothing_held, run_about, spare_of, values_of, AreRunsFor, AreSlotsFor, FollowDeletion, FollowInsertion, GainsFill, GainsRoom, GainsRoomAndMemory, HaveRunsOf, HaveSlotsOf, IfMemory, IfMemoryFor, IsFilled, IsUsed, WereFilledFrom};
 
 use crate::slots::{
     Slot, delete_from_all, fill_slot, insert_into_all, reserve_all, reserve_one, runs_in,
@@ -73,7 +71,7 @@ impl<P: Place> Decorations<P> {
     /// Returns whether an indicator has a value other than 0 somewhere. Only such indicators have runs.
     pub fn is_used(&self, indicator: usize) -> bool
         requires { indicator < 32 }
-        ensures { IsTrue result ↔ (IsClear (values_of self.now.values indicator) → ⊥) }
+        ensures { IsTrue result ↔ IsUsed self.now indicator }
     {
         runs_in(&self.slots, indicator).is_some()
     }
@@ -124,12 +122,12 @@ impl<P: Place> Decorations<P> {
     /// `AllocError` if an allocation fails. Nothing has changed then, except that there may be memory for more runs.
     #[inline(always)]
     pub fn reserve(&mut self, insertions: usize) -> Result<(), AllocError>
-        ensures ok { OnOk result (self.new ≡ record self.old { room = max self.old.room insertions; held = self.new.held }) }
+        ensures ok { OnOk result (GainsRoomAndMemory insertions self.old self.new) }
         ensures room_is_there { insertions ≤ self.old.room → IsOk result × (self.new ≡ self.old) }
         ensures runs_at_most { AreRunsFor (insertions + 3) self.old.values self.old.held self.new.held }
         ensures slots { HaveSlotsOf self.old.held self.new.held }
-        ensures none { self.old.held.slots ≡ 0 → IsOk result × (self.new ≡ record self.old { room = max self.old.room insertions }) }
-        ensures memory_is_there { insertions + 3 < 2 ^ 64 → AreEnough (insertions + 3) self.old.values self.old.held → IsOk result × (self.new ≡ record self.old { room = max self.old.room insertions }) }
+        ensures none { self.old.held.slots ≡ 0 → IsOk result × GainsRoom insertions self.old self.new }
+        ensures memory_is_there { IfMemory insertions self.old (IsOk result × GainsRoom insertions self.old self.new) }
         ensures err { OnErr result (self.new ≡ record self.old { held = self.new.held }) }
     {
         if insertions <= self.room {
@@ -146,10 +144,10 @@ impl<P: Place> Decorations<P> {
     #[inline(never)]
     fn make_room(&mut self, insertions: usize) -> Result<(), AllocError>
         requires { self.old.room < insertions }
-        ensures ok { OnOk result (self.new ≡ record self.old { room = max self.old.room insertions; held = self.new.held }) }
+        ensures ok { OnOk result (GainsRoomAndMemory insertions self.old self.new) }
         ensures runs_at_most { AreRunsFor (insertions + 3) self.old.values self.old.held self.new.held }
         ensures slots { HaveSlotsOf self.old.held self.new.held }
-        ensures memory_is_there { insertions + 3 < 2 ^ 64 → AreEnough (insertions + 3) self.old.values self.old.held → IsOk result × (self.new ≡ record self.old { room = max self.old.room insertions }) }
+        ensures memory_is_there { IfMemory insertions self.old (IsOk result × GainsRoom insertions self.old self.new) }
         ensures err { OnErr result (self.new ≡ record self.old { held = self.new.held }) }
     {
         // As much as a fill needs besides, should one be reserved.
@@ -179,8 +177,8 @@ impl<P: Place> Decorations<P> {
         ensures runs_at_most { AreRunsFor (self.old.room + 3) self.old.values self.old.held self.new.held }
         ensures others { (k : ℕ) → k < 32 → k ≢ indicator → spare_of self.new.held k ≡ spare_of self.old.held k }
         ensures slots_at_most { AreSlotsFor (indicator + 1) self.old.held self.new.held }
-        ensures unused { (IsClear (values_of self.old.values indicator) → ⊥) → self.new.held.unused ≡ self.old.held.unused }
-        ensures memory_is_there { self.old.room + 3 < 2 ^ 64 → indicator < self.old.held.capacity → IsEnoughFor (self.old.room + 3) indicator self.old.values self.old.held → IsOk result × (self.new ≡ record self.old { ready = Some indicator; held = record self.old.held { slots = max self.old.held.slots (indicator + 1) } }) }
+        ensures unused { IsUsed self.old indicator → self.new.held.unused ≡ self.old.held.unused }
+        ensures memory_is_there { IfMemoryFor indicator self.old (IsOk result × GainsFill indicator self.old self.new) }
         ensures err { OnErr result (self.new ≡ record self.old { held = self.new.held }) }
     {
         if self.ready == Some(indicator) {
@@ -215,10 +213,10 @@ impl<P: Place> Decorations<P> {
         requires indicator { indicator < 32 }
         requires within { start + count ≤ self.old.length }
         requires room { self.old.ready ≡ Some indicator }
-        ensures values { self.new ≡ record self.old { values = slice_set self.old.values indicator (filled start count value (values_of self.old.values indicator)); ready = None; held = self.new.held } }
+        ensures values { IsFilled indicator start count value self.old self.new }
         ensures slots { HaveSlotsOf self.old.held self.new.held }
         ensures runs { WereFilledFrom indicator self.old self.new }
-        ensures changed { result ≡ changed_range (values_of self.old.values indicator) (filled start count value (values_of self.old.values indicator)) }
+        ensures changed { result ≡ filled_range self.old indicator start count value }
     {
         let slot = &mut self.slots[indicator];
         let changed = fill_slot(slot, &mut self.spare, self.size, start, count, value);
@@ -235,7 +233,7 @@ impl<P: Place> Decorations<P> {
         requires fits { self.old.length + count ≤ P.GREATEST }
         requires room { 0 < self.old.room }
         ensures length { self.new.length ≡ self.old.length + count }
-        ensures values { (bytes : List ℕ) → length bytes ≡ count → self.new.values ≡ indicators_after (Insert place bytes) self.old.values }
+        ensures values { FollowInsertion place count self.old.values self.new.values }
         ensures room { self.new.room + 1 ≡ self.old.room }
         ensures ready { self.new.ready ≡ None }
         ensures slots { HaveSlotsOf self.old.held self.new.held }
@@ -252,7 +250,7 @@ impl<P: Place> Decorations<P> {
     pub fn delete(&mut self, place: usize, count: usize)
         requires { place + count ≤ self.old.length }
         ensures length { self.new.length + count ≡ self.old.length }
-        ensures values { (bytes : List ℕ) → length bytes ≡ count → self.new.values ≡ indicators_after (Delete place bytes) self.old.values }
+        ensures values { FollowDeletion place count self.old.values self.new.values }
         ensures room { self.new.room ≡ self.old.room }
         ensures ready { self.new.ready ≡ None }
         ensures slots { HaveSlotsOf self.old.held self.new.held }

@@ -1,11 +1,10 @@
 //! The effect of a step on the runs of all indicators in use. A slot without runs stands for an indicator that is 0
 //! everywhere.
-ghost use Rattle.std.specs.Prelude.{◌≡◌, ◌≤◌, ◌<◌, ◌+◌, ◌≢◌, ◌*◌, ℕ, length, max, Some, None, IfSome, IfNone, MatchOption, OnOk, IsOk, nat_eq, vec_len, vec_capacity};
+ghost use Rattle.std.specs.Prelude.{◌≡◌, ◌≤◌, ◌<◌, ◌+◌, ◌≢◌, ◌*◌, ℕ, length, max, Some, None, IfSome, IfNone, MatchOption, OnOk, IsOk, vec_len, vec_capacity};
 ghost use Rattle.ed_model.specs.Indicators.{filled, changed_range};
 ghost use Rattle.std.specs.Option.{is_some, option_copied};
-ghost use Rattle.run_styles.specs.Runs.{IsSpareFor, IsSameMemory, run_count};
-ghost use Rattle.decorations.specs.Decorated.{IsEnough};
-ghost use Rattle.decorations.specs.Slots.{slot_at, slot_spare, AreSpare, HasSpare, InBoth, InEach, HaveRoomOf, AreKept, CanTakeIn, TookIn, GaveAway, WasFilled, shown, source_spare};
+ghost use Rattle.run_styles.specs.Runs.{IsSpareFor};
+ghost use Rattle.decorations.specs.Slots.{slot_at, slot_spare, shown, AreKept, AreSpare, CanTakeIn, EachSlot, GaveAway, GrowForSlots, HasFillRoom, HasMemory, HasMemoryFor, HasRoom, HasRoomFor, HasSlotRoom, HasSpare, HaveRoomOf, IfSlotMemory, InBoth, InEach, TookIn, TookMemory, WasFilled};
 
 use partitioning::Place;
 use run_styles::RunStyles;
@@ -45,8 +44,8 @@ fn reserve_slots<P: Place>(slots: &mut Vec<Slot<P>>, count: usize) -> Result<(),
 /// Makes room for `room` more runs in a slot, if it has runs.
 fn reserve_in<P: Place>(slot: &mut Slot<P>, room: usize) -> Result<(), AllocError>
     ensures same { InBoth (HaveRoomOf room) slot.old slot.new }
-    ensures ok { OnOk result (IfSome slot.new (λ runs. room ≤ runs.room)) }
-    ensures memory_is_there { IfSome slot.old (λ runs. IsEnough room runs.spare) → IsOk result }
+    ensures ok { OnOk result (IfSome slot.new (HasRoom room)) }
+    ensures memory_is_there { IfSome slot.old (HasMemory room) → IsOk result }
 {
     if let Some(runs) = slot {
         return runs.reserve(room);
@@ -59,8 +58,8 @@ fn reserve_runs<P: Place>(slots: &mut Vec<Slot<P>>, room: usize) -> Result<(), A
     ensures same { InEach (InBoth (HaveRoomOf room)) slots.old.items slots.new.items }
     ensures length { length slots.new.items ≡ length slots.old.items }
     ensures capacity { vec_capacity slots.new ≡ vec_capacity slots.old }
-    ensures ok { OnOk result ((k : ℕ) → IfSome (slot_at slots.new.items k) (λ runs. room ≤ runs.room)) }
-    ensures memory_is_there { ((k : ℕ) → IfSome (slot_at slots.old.items k) (λ runs. IsEnough room runs.spare)) → IsOk result }
+    ensures ok { OnOk result (EachSlot (HasRoom room) slots.new) }
+    ensures memory_is_there { EachSlot (HasMemory room) slots.old → IsOk result }
 {
     for slot in slots.iter_mut() {
         reserve_in(slot, room)?;
@@ -79,7 +78,7 @@ fn reserve_spare<P: Place>(
     ensures unused { IfSome spare.new (AreSpare 0) }
     ensures stays { (less : ℕ) → HasSpare less spare.old → HasSpare less spare.new }
     ensures spare_at_most { IsSpareFor 1 room (slot_spare spare.old) (slot_spare spare.new) }
-    ensures memory_is_there { MatchOption spare.old ⊥ (λ runs. IsEnough room runs.spare) → IsOk result }
+    ensures memory_is_there { MatchOption spare.old ⊥ (HasMemory room) → IsOk result }
 {
     if let Some(runs) = spare {
         return runs.reserve(room);
@@ -175,12 +174,12 @@ fn reserve_slot<P: Place>(
 ) -> Result<(), AllocError>
     requires { IfSome spare.old (AreSpare 0) }
     ensures same { InBoth (HaveRoomOf room) slot.old slot.new }
-    ensures ok { OnOk result (MatchOption slot.new (HasSpare room spare.new) (λ runs. room ≤ runs.room)) }
+    ensures ok { OnOk result (HasRoomFor room slot.new spare.new) }
     ensures unused { IfSome spare.new (AreSpare 0) }
     ensures stays { (less : ℕ) → HasSpare less spare.old → HasSpare less spare.new }
     ensures spare_at_most { IsSpareFor 1 room (slot_spare spare.old) (slot_spare spare.new) }
     ensures spare_stays { IfSome slot.old (λ _. spare.new ≡ spare.old) }
-    ensures memory_is_there { MatchOption slot.old (MatchOption spare.old ⊥ (λ runs. IsEnough room runs.spare)) (λ runs. IsEnough room runs.spare) → IsOk result }
+    ensures memory_is_there { HasMemoryFor room slot.old spare.old → IsOk result }
 {
     if let Some(runs) = slot {
         return runs.reserve(room);
@@ -194,10 +193,10 @@ fn taken<P: Place>(slot: &mut Slot<P>, spare: &mut Slot<P>, size: usize) -> RunS
     requires spare { IfNone slot.old (HasSpare 3 spare.old) }
     ensures values { result.values ≡ shown size slot.old }
     ensures default { IfSome slot.old (λ runs. runs.default ≡ 0) → result.default ≡ 0 }
-    ensures room { (room : ℕ) → MatchOption slot.old (HasSpare (room + 3) spare.old) (λ runs. room + 2 ≤ runs.room) → room + 2 ≤ result.room }
+    ensures room { (room : ℕ) → HasFillRoom room slot.old spare.old → room + 2 ≤ result.room }
     ensures slot { slot.new ≡ None }
     ensures spare { MatchOption slot.old (spare.new ≡ None) (λ _. spare.new ≡ spare.old) }
-    ensures memory { IsSameMemory (run_count nat_eq (shown size slot.old)) (source_spare slot.old spare.old) (run_count nat_eq result.values) result.spare }
+    ensures memory { TookMemory size slot.old spare.old result }
 {
     if let Some(runs) = slot.take() {
         return runs;
@@ -219,11 +218,11 @@ pub(crate) fn reserve_all<P: Place>(
     ensures same { InEach (InBoth (HaveRoomOf room)) slots.old.items slots.new.items }
     ensures length { length slots.new.items ≡ length slots.old.items }
     ensures capacity { vec_capacity slots.new ≡ vec_capacity slots.old }
-    ensures ok { OnOk result (((k : ℕ) → IfSome (slot_at slots.new.items k) (λ runs. room ≤ runs.room)) × IfSome spare.new (AreSpare room)) }
+    ensures ok { OnOk result (EachSlot (HasRoom room) slots.new × IfSome spare.new (AreSpare room)) }
     ensures unused { IfSome spare.new (AreSpare 0) }
     ensures stays { (less : ℕ) → HasSpare less spare.old → HasSpare less spare.new }
     ensures spare_at_most { IsSpareFor 1 room (slot_spare spare.old) (slot_spare spare.new) }
-    ensures memory_is_there { ((k : ℕ) → IfSome (slot_at slots.old.items k) (λ runs. IsEnough room runs.spare)) → IfSome spare.old (λ runs. IsEnough room runs.spare) → IsOk result }
+    ensures memory_is_there { EachSlot (HasMemory room) slots.old → IfSome spare.old (HasMemory room) → IsOk result }
 {
     reserve_runs(slots, room)?;
     if let Some(runs) = spare {
@@ -245,15 +244,15 @@ pub(crate) fn reserve_one<P: Place>(
     requires unused { IfSome spare.old (AreSpare 0) }
     ensures same { InEach (InBoth (HaveRoomOf room)) slots.old.items slots.new.items }
     ensures length { (length slots.old.items ≤ length slots.new.items) × (length slots.new.items ≤ 32) }
-    ensures slots { (length slots.new.items ≤ max (length slots.old.items) (indicator + 1)) × (vec_capacity slots.new ≤ max (vec_capacity slots.old) (max (indicator + 1) (2 * length slots.old.items))) }
+    ensures slots { GrowForSlots (indicator + 1) slots.old slots.new }
     ensures others { (k : ℕ) → k ≢ indicator → slot_at slots.new.items k ≡ slot_at slots.old.items k }
-    ensures ok { OnOk result ((indicator < length slots.new.items) × MatchOption (slot_at slots.new.items indicator) (HasSpare room spare.new) (λ runs. room ≤ runs.room)) }
+    ensures ok { OnOk result (HasSlotRoom room indicator slots.new spare.new) }
     ensures unused { IfSome spare.new (AreSpare 0) }
     ensures stays { (less : ℕ) → HasSpare less spare.old → HasSpare less spare.new }
     ensures spare_at_most { IsSpareFor 1 room (slot_spare spare.old) (slot_spare spare.new) }
     ensures spare_stays { IfSome (slot_at slots.old.items indicator) (λ _. spare.new ≡ spare.old) }
     ensures capacity_stays { indicator + 1 ≤ vec_capacity slots.old → vec_capacity slots.new ≡ vec_capacity slots.old }
-    ensures memory_is_there { indicator + 1 ≤ vec_capacity slots.old → MatchOption (slot_at slots.old.items indicator) (MatchOption spare.old ⊥ (λ runs. IsEnough room runs.spare)) (λ runs. IsEnough room runs.spare) → IsOk result }
+    ensures memory_is_there { IfSlotMemory room indicator slots.old spare.old (IsOk result) }
 {
     reserve_slots(slots, indicator + 1)?;
     reserve_slot(&mut slots[indicator], spare, alloc, room)
@@ -274,11 +273,11 @@ pub(crate) fn fill_slot<P: Place>(
     requires kept { IfSome slot.old (AreKept size 2) }
     requires spare { IfNone slot.old (HasSpare 3 spare.old) }
     ensures filled { WasFilled (filled start count value (shown size slot.old)) slot.new }
-    ensures room { (room : ℕ) → MatchOption slot.old (HasSpare (room + 3) spare.old) (λ runs. room + 2 ≤ runs.room) → IfSome slot.new (λ runs. room ≤ runs.room) }
+    ensures room { (room : ℕ) → HasFillRoom room slot.old spare.old → IfSome slot.new (HasRoom room) }
     ensures changed { result ≡ changed_range (shown size slot.old) (filled start count value (shown size slot.old)) }
     ensures unused { IfSome spare.old (AreSpare 0) → IfSome spare.new (AreSpare 0) }
     ensures spare { MatchOption slot.old (spare.new ≡ None) (λ _. spare.new ≡ spare.old) }
-    ensures memory { IfSome slot.new (λ runs. IsSameMemory (run_count nat_eq (shown size slot.old)) (source_spare slot.old spare.old) (run_count nat_eq runs.values) runs.spare) }
+    ensures memory { IfSome slot.new (TookMemory size slot.old spare.old) }
 {
     let mut runs = taken(slot, spare, size);
     let changed = runs.fill(start, count, value);
