@@ -7,20 +7,15 @@ ghost use Rattle.ed_model.specs.FoldingPlans.{doc_line_from_visible, ensure_visi
 
 use contraction::folds::{fold_header, fold_parent, last_child_at};
 use ed_model::{DocumentChange, Planned, ViewChange};
-use ed_types::Refusal;
+use ed_types::{Refusal, fold_level};
 use message_requests::Request;
 use message_requests::answers::{
     answer, answer_flag, answer_number, change_document, change_view, flag, line_or_none,
 };
 use message_requests::arguments::{clamped, is_on, line_among, some_or_all, within};
 
-// The level of a line for which none was set: `SC_FOLDLEVELBASE`.
-const BASE_LEVEL: i64 = 0x400;
-
-// The bits of a level that are its number: `SC_FOLDLEVELNUMBERMASK`.
-const LEVEL_NUMBER: u32 = 0xFFF;
-
-// The actions of FOLDLINE on a header: `SC_FOLDACTION_CONTRACT`, and `SC_FOLDACTION_TOGGLE`. Any other action expands the header.
+// The actions of FOLDLINE on a header: `SC_FOLDACTION_CONTRACT`, and `SC_FOLDACTION_TOGGLE`. Any other action expands
+// the header.
 const CONTRACT: usize = 0;
 
 const TOGGLE: usize = 2;
@@ -42,8 +37,8 @@ pub fn set_fold_level(r: &Request) -> Planned
     }
 }
 
-/// GETLASTCHILD: returns the last line of the block below line `w`. The block ends before the next line whose level number
-/// is at most that of `l`, or of the line's own level if `l` is -1; without such a line it ends with the text.
+/// GETLASTCHILD: returns the last line of the block below line `w`. The block ends before the next line whose level
+/// number is at most that of `l`, or of the line's own level if `l` is -1; without such a line it ends with the text.
 pub fn get_last_child(r: &Request) -> Planned
     ensures { result ≡ get_last_child r.now }
 {
@@ -54,7 +49,7 @@ pub fn get_last_child(r: &Request) -> Planned
         return answer(-1);
     };
     let level = level.unwrap_or(r.document.rows().level(line));
-    answer_number(last_child_at(&r.levels(), line, level & LEVEL_NUMBER))
+    answer_number(last_child_at(&r.levels(), line, level & fold_level::NUMBER))
 }
 
 /// GETFOLDPARENT: returns the nearest header before line `w` with a smaller level number.
@@ -151,7 +146,8 @@ pub fn doc_line_from_visible(r: &Request) -> i64
     line_shown_at(r, r.message.w) as i64
 }
 
-/// Returns the line at which a range ends, exclusive, whose last line is `argument`, in a document with this many lines.
+/// Returns the line at which a range ends, exclusive, whose last line is `argument`, in a document with this many
+/// lines.
 fn past_line(lines: usize, argument: i64) -> usize
     requires { lines < 2 ^ 63 }
     ensures { result ≡ past_line lines argument }
@@ -215,7 +211,7 @@ pub fn get_fold_level(r: &Request) -> i64
 {
     match line_among(r.line_total(), r.message.w) {
         Some(line) => i64::from(r.document.rows().level(line)),
-        None => BASE_LEVEL,
+        None => i64::from(fold_level::BASE),
     }
 }
 

@@ -1,6 +1,7 @@
 //! Plans of the messages on state beside the text: undo, lines and markers, styles, folding, documents and masks.
 //!
-//! There is one function for each message, in modules named like the sections of `docs/MESSAGES.md`. None of them allocates.
+//! There is one function for each message, in modules named like the sections of `docs/MESSAGES.md`. None of them
+//! allocates.
 #![tactic(auto)]
 
 pub mod folding_plans;

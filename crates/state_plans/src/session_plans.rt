@@ -1,22 +1,22 @@
 //! Plans of the messages on documents, masks and recording.
 
-ghost use Rattle.std.specs.Prelude.{◌≡◌, ℕ, Err, IfOk, IfErr};
+ghost use Rattle.std.specs.Prelude.{◌≡◌, IfOk, IfErr};
 ghost use Rattle.ed_model.specs.PlansFit.{IsSoundRequest};
-ghost use Rattle.ed_model.specs.declared.plan.SessionChange.{SessionChange};
 ghost use Rattle.ed_model.specs.declared.plan.ViewChange.TheVariants.{SetRecording};
-ghost use Rattle.ed_model.specs.Requests.{change_session, change_view};
-ghost use Rattle.ed_model.specs.SessionPlans.{add_ref_document, create_document, document_named, document_options, get_doc_pointer, get_document_options, get_line_end_types, get_mod_event_mask, has_document_ids, release_document, set_doc_pointer, set_line_end_types_allowed, set_mod_event_mask, types_number, with_reference};
+ghost use Rattle.ed_model.specs.Requests.{change_view};
+ghost use Rattle.ed_model.specs.SessionPlans.{add_ref_document, create_document, document_options, get_doc_pointer, get_document_options, get_line_end_types, get_mod_event_mask, has_document_ids, release_document, set_doc_pointer, set_line_end_types_allowed, set_mod_event_mask, types_number};
+ghost use Rattle.state_plans.specs.Referring.{IsReferredTo, IsRefusedReference};
 
 use ed_model::{DocumentChange, LineEndTypes, Plan, Planned, SessionChange, ViewChange};
-use ed_types::Refusal;
+use ed_types::{Refusal, document_option, modification};
 use message_requests::Request;
 use message_requests::answers::{
     answer, answer_number, change_document, change_session, change_view,
 };
 use message_requests::arguments::within;
 
-// All bits of a mask, each for a kind of change: `SC_MODEVENTMASKALL`.
-const WHOLE_MASK: usize = 0x7F_FFFF;
+// All options that a document may have.
+const OPTIONS: u32 = document_option::STYLES_NONE | document_option::TEXT_LARGE;
 
 /// GETDOCPOINTER: returns the id of the view's document.
 pub fn get_doc_pointer(r: &Request) -> Planned
@@ -39,8 +39,8 @@ fn has_document_ids(r: &Request) -> bool
 /// `NoSuchDocument` if there is none, and `TooMany` if it has the greatest number of references.
 fn to_be_referred_to(r: &Request) -> Result<u32, Refusal>
     requires { IsSoundRequest r.now }
-    ensures id { IfOk result (λ id. (change : ℕ → SessionChange) → with_reference r.now (document_named r.now.session r.now.message.l) change ≡ change_session (change id)) }
-    ensures refused { IfErr result (λ refusal. (change : ℕ → SessionChange) → with_reference r.now (document_named r.now.session r.now.message.l) change ≡ Err refusal) }
+    ensures id { IfOk result (IsReferredTo r.now) }
+    ensures refused { IfErr result (IsRefusedReference r.now) }
 {
     let Some(document) = r.document_named(r.message.l) else {
         return Err(Refusal::NoSuchDocument);
@@ -74,16 +74,20 @@ pub fn set_doc_pointer(r: &Request) -> Planned
 fn document_options(argument: i64) -> Option<u32>
     ensures { result ≡ document_options argument }
 {
-    let options = within(0, 0x101, argument)?;
-    if options == 0 || options == 0x1 || options == 0x100 || options == 0x101 {
-        Some(options as u32)
+    let options = within(0, OPTIONS as usize, argument)? as u32;
+    if options == 0
+        || options == document_option::STYLES_NONE
+        || options == document_option::TEXT_LARGE
+        || options == OPTIONS
+    {
+        Some(options)
     } else {
         None
     }
 }
 
-/// CREATEDOCUMENT: makes a document with options `l`, to which the caller holds a reference. `w` is ignored, but must not
-/// be negative. The value is the id of the document.
+/// CREATEDOCUMENT: makes a document with options `l`, to which the caller holds a reference. `w` is ignored, but must
+/// not be negative. The value is the id of the document.
 pub fn create_document(r: &Request) -> Planned
     ensures { result ≡ create_document r.now }
 {
@@ -174,7 +178,7 @@ pub fn get_line_end_types(r: &Request) -> Planned
 pub fn set_mod_event_mask(r: &Request) -> Planned
     ensures { result ≡ set_mod_event_mask r.now }
 {
-    match within(0, WHOLE_MASK, r.message.w) {
+    match within(0, modification::ALL as usize, r.message.w) {
         Some(mask) => change_view(ViewChange::SetMask { mask: mask as u32 }),
         None => Err(Refusal::BadArgument),
     }

@@ -218,8 +218,8 @@ fn value_at(r: &Request, indicator: usize, argument: i64) -> u32
     r.document.indicators().value(indicator, argument as usize)
 }
 
-/// INDICATORVALUEAT: returns the value of indicator `w` at place `l`, and `None` if there is no such indicator, which is
-/// refused.
+/// INDICATORVALUEAT: returns the value of indicator `w` at place `l`, and `None` if there is no such indicator, which
+/// is refused.
 #[inline(always)]
 pub fn indicator_value_at(r: &Request) -> Option<i64>
     ensures { with_argument result answer ≡ indicator_value_at r.now }
@@ -230,8 +230,8 @@ pub fn indicator_value_at(r: &Request) -> Option<i64>
     }
 }
 
-/// Returns the start and the exclusive end of the longest range around a place in which an indicator has one value; both
-/// are 0 if the place is outside the text.
+/// Returns the start and the exclusive end of the longest range around a place in which an indicator has one value;
+/// both are 0 if the place is outside the text.
 #[inline(always)]
 fn run_at(r: &Request, indicator: usize, argument: i64) -> (usize, usize)
     requires { indicator < 32 }

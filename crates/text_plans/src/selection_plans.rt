@@ -122,8 +122,8 @@ pub fn set_selection_end(r: &Request) -> Planned
     select(place.min(r.view.selection().anchor), place)
 }
 
-/// SETSEL: moves the caret to `l`, or to the end of the text if `l` is negative, and the anchor to `w`, or to the caret if
-/// `w` is negative.
+/// SETSEL: moves the caret to `l`, or to the end of the text if `l` is negative, and the anchor to `w`, or to the caret
+/// if `w` is negative.
 pub fn set_sel(r: &Request) -> Planned
     ensures { result ≡ set_sel r.now }
 {

@@ -3,9 +3,9 @@
 ghost use Rattle.std.specs.Prelude.{◌≡◌, ◌≤◌, ◌<◌, ◌+◌, ◌^◌, length, IfSome};
 ghost use Rattle.ed_model.specs.PlansFit.{IsSoundRequest};
 ghost use Rattle.message_requests.specs.HandingOut.{handed_out};
-ghost use Rattle.ed_model.specs.Requests.{answer, text};
-ghost use Rattle.ed_model.specs.Matches.{match_in};
+ghost use Rattle.ed_model.specs.Requests.{answer};
 ghost use Rattle.ed_model.specs.TargetPlans.{found_target, get_search_flags, get_target_end, get_target_start, get_target_text, replace_target, replacement_length, search_flags, search_in_target, set_search_flags, set_target, set_target_end, set_target_range, set_target_start, target_from_selection, target_whole_document};
+ghost use Rattle.text_plans.specs.Finding.{match_in_target};
 
 use ed_model::{Follow, Plan, Planned, Source, ViewChange};
 use ed_types::Refusal;
@@ -115,7 +115,7 @@ pub fn set_search_flags(r: &Request) -> Planned
 #[tactic(auto, using(message_requests::specs::proved::Standing::length_text))]
 fn find_in_target(r: &Request, pattern: &[u8]) -> Option<usize>
     requires { IsSoundRequest r.now }
-    ensures place { result ≡ match_in r.now.view.search_flags (text r.now) pattern.now r.now.view.target_start r.now.view.target_end }
+    ensures place { result ≡ match_in_target r.now pattern.now }
     ensures bounded { IfSome result (λ place. place + length pattern.now < 2 ^ 62) }
 {
     let (first, second) = r.document.halves();
@@ -141,8 +141,8 @@ fn found_target(count: usize, found: Option<usize>) -> Planned
     }
 }
 
-/// SEARCHINTARGET: searches for the first `w` bytes of the message's text in the target, and sets the target to the match.
-/// The value is its start, or -1 if there is none.
+/// SEARCHINTARGET: searches for the first `w` bytes of the message's text in the target, and sets the target to the
+/// match. The value is its start, or -1 if there is none.
 pub fn search_in_target(r: &Request) -> Planned
     requires { IsSoundRequest r.now }
     ensures { result ≡ search_in_target r.now }

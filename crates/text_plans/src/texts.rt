@@ -132,8 +132,8 @@ pub fn get_text(r: &Request) -> HandedOut
     bytes_between(0, r.size())
 }
 
-/// GETTEXTRANGE: returns the bytes from `w` up to `l`, and `None` if there is no such range, which is refused. `l` = -1 is
-/// the end of the text.
+/// GETTEXTRANGE: returns the bytes from `w` up to `l`, and `None` if there is no such range, which is refused. `l` = -1
+/// is the end of the text.
 #[inline(always)]
 pub fn get_text_range(r: &Request) -> Option<HandedOut>
     ensures { with_argument result handed_out ≡ get_text_range r.now }
