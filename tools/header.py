@@ -92,8 +92,8 @@ DEFINED = {
         "UNDO_NONE": "add_undo_action r = argument",
         "UNDO_MAY_COALESCE": "(flags ==",
     },
-    # No definition reads the white flag; the program names it where it shows a level.
-    "crates/script_walk/src/look.rt": {"SC_FOLDLEVELWHITEFLAG": "const LEVEL_WHITE: i64 ="},
+    # No definition reads the white flag; `ed_types` names it, beside the other parts of a level.
+    "crates/ed_types/src/fold_level.rt": {"SC_FOLDLEVELWHITEFLAG": "pub const WHITE: u32 ="},
 }
 # Where the header and the pages speak of threads, all in this sentence.
 ON_THREADS = (

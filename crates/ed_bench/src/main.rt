@@ -1,5 +1,6 @@
-//! Benchmarks of messages to a session, on a text of LINES lines. The sizes are arguments. Checksums go to standard output,
-//! and times to standard error, so that standard output is the same on every machine. `part_bench` measures the parts.
+//! Benchmarks of messages to a session, on a text of LINES lines. The sizes are arguments. Checksums go to standard
+//! output, and times to standard error, so that standard output is the same on every machine. `part_bench` measures the
+//! parts.
 //!
 //!     ed_bench typing|look_ups|undo_steps|undo_group|markers|indicators|searches|hide_lines LINES COUNT
 //!     ed_bench hand_out|load|set_over|levels|styles|replacements|line_ends|fold_headers LINES

@@ -3,7 +3,7 @@
 use crate::sessions::{
     SHORT_LINE, Series, argument, each, measure, measure_ranges, measure_typing, open_on, send,
 };
-use ed_types::Kind;
+use ed_types::{Kind, fold_level};
 use editor_session::Session;
 use std::io;
 
@@ -11,7 +11,7 @@ use std::io;
 fn nest(session: &mut Session, view: u32, lines: usize) {
     for line in 0..lines {
         let line = argument(line);
-        let level = (line % 10).wrapping_add(0x2400);
+        let level = (line % 10).wrapping_add(i64::from(fold_level::BASE | fold_level::HEADER));
         send(session, view, Kind::SetFoldLevel, line, level, &[]);
     }
 }

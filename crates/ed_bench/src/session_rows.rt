@@ -1,7 +1,7 @@
 //! Sessions: markers, lines inserted above them, and fold levels.
 
 use crate::sessions::{SHORT_LINE, Series, argument, each, measure, open_on, send};
-use ed_types::Kind;
+use ed_types::{Kind, fold_level};
 use editor_session::Session;
 use std::io;
 
@@ -47,12 +47,7 @@ pub fn markers(
 /// Sets the same level on each line.
 pub fn levels(rt: &HostRuntime, session: &mut Session, lines: usize) -> io::Result<()> {
     let view = open_on(rt, session, SHORT_LINE, lines)?;
-    measure(
-        rt,
-        session,
-        view,
-        "a fold level set",
-        each(Kind::SetFoldLevel, lines, 0x401),
-        &[],
-    )
+    let below_base = i64::from(fold_level::BASE | 1);
+    let set = each(Kind::SetFoldLevel, lines, below_base);
+    measure(rt, session, view, "a fold level set", set, &[])
 }

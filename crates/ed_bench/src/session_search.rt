@@ -59,7 +59,8 @@ fn find_common(flags: u32, text: &[u8], most: usize) -> usize {
     most
 }
 
-/// Searches for a pattern that is not in the text, and for one in each line, and prints how long it took under these names.
+/// Searches for a pattern that is not in the text, and for one in each line, and prints how long it took under these
+/// names.
 fn search_both(
     rt: &HostRuntime,
     session: &mut Session,

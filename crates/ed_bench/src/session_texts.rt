@@ -5,14 +5,14 @@ use crate::sessions::{
     open, open_on, send,
 };
 use bench_support::{repeated, tell};
-use ed_types::Kind;
+use ed_types::{Kind, modification};
 use editor_session::Session;
 use memchr::memchr_iter;
 use std::io;
 use std::time::Instant;
 
 /// The mask of a view that hears every kind of change.
-pub const WHOLE_MASK: i64 = 0x7F_FFFF;
+pub const WHOLE_MASK: i64 = modification::ALL as i64;
 
 /// Types in the middle of a text, heard by no view, and then by one.
 pub fn typing(

@@ -51,7 +51,8 @@ fn size_of_lines(lines: usize) -> i64 {
     argument(lines.saturating_mul(LINE_SIZE))
 }
 
-/// Returns messages at places far apart in a text of this many lines. The stride is a prime, and no round number of lines.
+/// Returns messages at places far apart in a text of this many lines. The stride is a prime, and no round number of
+/// lines.
 pub fn far_apart(kind: Kind, count: usize, lines: usize) -> Series {
     Series {
         kind,
@@ -89,7 +90,8 @@ fn within_size(series: Series) -> Series {
     }
 }
 
-/// Returns the `w` after this one, in a series with a stride below its size. It avoids a division, which takes as long as some messages.
+/// Returns the `w` after this one, in a series with a stride below its size. It avoids a division, which takes as long
+/// as some messages.
 fn next_place(series: Series, w: i64) -> i64 {
     let next = w.wrapping_add(series.stride);
     if next < series.size {
@@ -124,7 +126,8 @@ pub fn send_ranges(session: &mut Session, view: u32, series: Series) -> i64 {
     sum
 }
 
-/// Reads a series whose `l` grows with `w` into a buffer, and returns the sum of the values: -1 for a message that is not read.
+/// Reads a series whose `l` grows with `w` into a buffer, and returns the sum of the values: -1 for a message that is
+/// not read.
 pub fn read_ranges(session: &Session, view: u32, series: Series, into: &mut Vec<u8>) -> i64 {
     let series = within_size(series);
     let mut sum = 0i64;

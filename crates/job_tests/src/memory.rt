@@ -15,7 +15,8 @@ pub struct MemorySource<'a> {
 }
 
 impl<'a> MemorySource<'a> {
-    /// Returns a source of these bytes, at least one and at most `piece` of them for each call. All calls after the first `good` fail.
+    /// Returns a source of these bytes, at least one and at most `piece` of them for each call. All calls after the
+    /// first `good` fail.
     pub fn new(bytes: &'a [u8], piece: usize, good: usize) -> Self
         ensures { result.failed ≡ false }
     {
@@ -58,8 +59,8 @@ pub struct MemorySink {
 }
 
 impl MemorySink {
-    /// Returns an empty sink that takes at least one and at most `piece` bytes for each call. All calls after the first `good`
-    /// fail, or take no byte if the sink stalls.
+    /// Returns an empty sink that takes at least one and at most `piece` bytes for each call. All calls after the first
+    /// `good` fail, or take no byte if the sink stalls.
     pub fn new(alloc: Global, piece: usize, good: usize, stalls: bool) -> Self
         ensures { result.failed ≡ false }
     {

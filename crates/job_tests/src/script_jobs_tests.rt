@@ -15,8 +15,9 @@ use std::test::Fail;
 const HELLO: &[u8] =
     b"sci 1\nopen\nsend 1 2003 0 0 \"hello\"\nsend 1 2006 0 0 \"\"\nsend 1 2182 0 0 \"\"\n";
 
-const HELLO_PRINTED: &[u8] =
-    b"= 1 \"\"\n= 0 \"\"\n@ 1 2008 1040 0 5 0 0 0 0 0 0 0 0 \"hello\"\n@ 1 2003 0 0 0 0 0 0 0 0 0 0 0 \"\"\n@ 1 2008 8209 0 5 0 0 0 0 0 0 0 0 \"hello\"\n= 5 \"\"\n= 5 \"hello\"\n";
+const HELLO_PRINTED: &[u8] = b"= 1 \"\"\n= 0 \"\"\n@ 1 2008 1040 0 5 0 0 0 0 0 0 0 0 \"hello\"\n\
+    @ 1 2003 0 0 0 0 0 0 0 0 0 0 0 \"\"\n@ 1 2008 8209 0 5 0 0 0 0 0 0 0 0 \"hello\"\n\
+    = 5 \"\"\n= 5 \"hello\"\n";
 
 /// Its listing.
 const HELLO_LISTING: &[u8] =
@@ -181,8 +182,9 @@ fn stops_at_each_failed_write(rt: HostRuntime) -> Result<(), Fail> {
 const NOTES: &[u8] =
     b"sci 1\nopen\nsend 1 2003 0 0 \"ab\\x0a\"\nsend 1 2182 0 0 \"\"\nsend 1 2003 9 0 \"z\"\nsend 1 2007 -1 0 \"\"\n";
 
-const NOTES_PRINTED: &[u8] =
-    b"= 1 \"\"\n= 0 \"\"\n@ 1 2008 1040 0 3 0 0 0 0 0 0 0 0 \"ab\\x0a\"\n@ 1 2003 0 0 0 0 0 0 0 0 0 0 0 \"\"\n@ 1 2008 8209 0 3 1 0 0 0 0 0 0 0 \"ab\\x0a\"\n= 3 \"ab\\x0a\"\n! 6\n= 0 \"\"\n";
+const NOTES_PRINTED: &[u8] = b"= 1 \"\"\n= 0 \"\"\n@ 1 2008 1040 0 3 0 0 0 0 0 0 0 0 \"ab\\x0a\"\n\
+    @ 1 2003 0 0 0 0 0 0 0 0 0 0 0 \"\"\n@ 1 2008 8209 0 3 1 0 0 0 0 0 0 0 \"ab\\x0a\"\n\
+    = 3 \"ab\\x0a\"\n! 6\n= 0 \"\"\n";
 
 /// Runs NOTES with writes of 10 bytes that fail after `good` of them, or take no byte if the sink stalls.
 fn stops_amid_notes(rt: &impl Abort, alloc: Global, good: usize, stalls: bool) {
@@ -284,12 +286,19 @@ fn reads_words(rt: HostRuntime) {
 
 /// Returns whether words ask to step through this script with these files.
 fn is_step(alloc: Global, words: &[&str], wanted: &str, names: &[&str]) -> bool {
-    matches!(&task(alloc, words), Ok(Task::Step { script, files }) if script.as_str() == wanted && are_texts(files, names))
+    matches!(
+        &task(alloc, words),
+        Ok(Task::Step { script, files }) if script.as_str() == wanted && are_texts(files, names)
+    )
 }
 
 /// Returns whether words ask for a run of this script with these files, without notes.
 fn is_quiet_run(alloc: Global, words: &[&str], wanted: &str, names: &[&str]) -> bool {
-    matches!(&task(alloc, words), Ok(Task::RunWithoutNotes { script, files }) if script.as_str() == wanted && are_texts(files, names))
+    matches!(
+        &task(alloc, words),
+        Ok(Task::RunWithoutNotes { script, files })
+            if script.as_str() == wanted && are_texts(files, names)
+    )
 }
 
 /// Returns whether words ask for a check of this script that shows the line at fault.

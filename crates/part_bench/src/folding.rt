@@ -2,6 +2,7 @@
 
 use bench_support::{next_seed, tell};
 use contraction::{Contraction, Levels};
+use ed_types::fold_level;
 use line_index::LineEdit;
 use std::alloc::{AllocError, Global};
 use std::io;
@@ -9,7 +10,11 @@ use std::time::Instant;
 
 /// Returns the levels of blocks of eight lines: a header, and seven lines below it.
 fn block_level(line: usize) -> u32 {
-    if line % 8 == 0 { 0x2400 } else { 0x401 }
+    if line % 8 == 0 {
+        fold_level::BASE | fold_level::HEADER
+    } else {
+        fold_level::BASE | 1
+    }
 }
 
 /// Hides a line.

@@ -1,6 +1,8 @@
-//! Undo history: steps appended, undone one transaction after the other, and redone; and notes appended that share a text.
+//! Undo history: steps appended, undone one transaction after the other, and redone; and notes appended that share a
+//! text.
 
 use bench_support::tell;
+use ed_types::notification;
 use notify::{NoteList, blank};
 use std::alloc::AllocError;
 use std::io;
@@ -41,7 +43,7 @@ fn redo(history: &mut UndoHistory) -> usize {
 fn tell_all(notes: &mut NoteList, count: usize) -> Result<(), AllocError> {
     for _ in 0..count {
         notes.reserve(1, 0)?;
-        notes.put_again(blank(2008));
+        notes.put_again(blank(notification::MODIFIED));
     }
     Ok(())
 }

@@ -1,5 +1,5 @@
-//! Lines: one large insertion into an empty document, beside counting its line ends alone, and typing in the middle of the text, with its
-//! history.
+//! Lines: one large insertion into an empty document, beside counting its line ends alone, and typing in the middle of
+//! the text, with its history.
 
 ghost use Rattle.std.specs.Prelude.{◌≤◌, length};
 
@@ -74,7 +74,8 @@ fn type_in_midst(rt: &HostRuntime, document: &mut Document, typed: usize) -> io:
     tell(rt, "bytes typed", start, typed)
 }
 
-/// Inserts a text into an empty document at once, and types `typed` bytes in its middle. Prints how many lines there are.
+/// Inserts a text into an empty document at once, and types `typed` bytes in its middle. Prints how many lines there
+/// are.
 fn measure(rt: &HostRuntime, document: &mut Document, text: &[u8], typed: usize) -> io::Result<()> {
     let ends = count_ends(rt, text)?;
     load(rt, document, text)?;

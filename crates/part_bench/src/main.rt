@@ -1,5 +1,6 @@
-//! Benchmarks of the containers, of a document and of scripts. The sizes are arguments. Checksums go to standard output, and
-//! times to standard error, so that standard output is the same on every machine. `ed_bench` measures messages to a session.
+//! Benchmarks of the containers, of a document and of scripts. The sizes are arguments. Checksums go to standard
+//! output, and times to standard error, so that standard output is the same on every machine. `ed_bench` measures
+//! messages to a session.
 //!
 //!     part_bench split ITEMS FAR NEAR
 //!     part_bench partitions STARTS LOOK_UPS EDITS

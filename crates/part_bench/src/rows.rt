@@ -1,6 +1,8 @@
-//! Rows of lines: markers added and found, levels set, and lines inserted at the top, with markers on every hundredth line.
+//! Rows of lines: markers added and found, levels set, and lines inserted at the top, with markers on every hundredth
+//! line.
 
 use bench_support::tell;
+use ed_types::fold_level;
 use line_index::LineEdit;
 use line_rows::LineRows;
 use std::alloc::AllocError;
@@ -39,7 +41,7 @@ fn set_levels(rows: &mut LineRows) -> Result<(), AllocError> {
     for line in 0..rows.count() {
         rows.reserve_levels(line.saturating_add(1))?;
         if line < rows.count() {
-            rows.set_level(line, 0x400 + (line % 8) as u32);
+            rows.set_level(line, fold_level::BASE + (line % 8) as u32);
         }
     }
     Ok(())

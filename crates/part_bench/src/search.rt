@@ -1,5 +1,5 @@
-//! Searches: for a rare pattern, with case and without, beside `memchr`'s own search of one slice; and for patterns that
-//! almost match everywhere.
+//! Searches: for a rare pattern, with case and without, beside `memchr`'s own search of one slice; and for patterns
+//! that almost match everywhere.
 
 use bench_support::{next_seed, repeated, tell};
 use memchr::memmem;

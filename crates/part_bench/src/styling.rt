@@ -80,7 +80,8 @@ fn fill_ranges(indicators: &mut Decorations<u32>, ranges: usize) -> Result<(), A
     Ok(())
 }
 
-/// Inserts bytes before and after this many ranges of an indicator are filled, and returns how many bytes there are then.
+/// Inserts bytes before and after this many ranges of an indicator are filled, and returns how many bytes there are
+/// then.
 fn measure_ranges(
     rt: &HostRuntime,
     indicators: &mut Decorations<u32>,

@@ -110,8 +110,8 @@ fn show_fault(task: &Task, answer: &Result<u64, RunFault>, text: &[u8], shown: &
     }
 }
 
-/// Performs a task: reads its files, and then its script, whose file is closed before the script is performed. Sets `shown`
-/// as `show_fault` does.
+/// Performs a task: reads its files, and then its script, whose file is closed before the script is performed. Sets
+/// `shown` as `show_fault` does.
 fn run_task(rt: &HostRuntime, task: &Task, shown: &mut String) -> Result<u64, RunFault> {
     let (script, files) = match task {
         Task::Whole(Job::Run { script, files })
@@ -126,8 +126,8 @@ fn run_task(rt: &HostRuntime, task: &Task, shown: &mut String) -> Result<u64, Ru
     answer
 }
 
-/// Prints the line of a fault on standard error, if there is a fault, and `shown` below it, if that is not empty. Returns
-/// the exit status.
+/// Prints the line of a fault on standard error, if there is a fault, and `shown` below it, if that is not empty.
+/// Returns the exit status.
 fn finish(rt: &HostRuntime, answer: &Result<u64, RunFault>, shown: &str) -> u8
     ensures { result ≡ status answer.now }
 {

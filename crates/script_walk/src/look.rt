@@ -3,19 +3,12 @@
 use crate::orders::Look;
 use crate::say::say_changes;
 use crate::walk::Walk;
-use ed_types::Kind;
+use ed_types::{Kind, fold_level};
 use script_ends::shown::{append_byte, append_bytes, shown_width};
 use std::alloc::AllocError;
 
 /// Blanks as wide as the prefix of a line: its number in six columns, and ` | `.
 const MARGIN: &str = "         ";
-
-/// The bits of a fold level: its number, the white-space flag, the header flag.
-const LEVEL_NUMBER: i64 = 0xFFF;
-
-const LEVEL_WHITE: i64 = 0x1000;
-
-const LEVEL_HEADER: i64 = 0x2000;
 
 /// The caret and the selection of a view, and its last line.
 #[derive(Clone, Copy)]
@@ -155,12 +148,12 @@ fn say_flags(
     line: i64,
 ) -> Result<(), AllocError> {
     let level = walk.value(view, Kind::GetFoldLevel, line)?;
-    let number = level & LEVEL_NUMBER;
+    let number = level & i64::from(fold_level::NUMBER);
     write!(out, "{line:>6} | level {number}")?;
-    if level & LEVEL_HEADER != 0 {
+    if level & i64::from(fold_level::HEADER) != 0 {
         out.push_str(", header")?;
     }
-    if level & LEVEL_WHITE != 0 {
+    if level & i64::from(fold_level::WHITE) != 0 {
         out.push_str(", white")?;
     }
     let mask = walk.value(view, Kind::MarkerGet, line)?;

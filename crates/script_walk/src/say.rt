@@ -1,31 +1,28 @@
 //! Describes commands, replies and notes in words.
 
-use ed_types::{Command, Kind, Message, Note, Outcome, Reply};
+use ed_types::{Command, Kind, Message, Note, Outcome, Reply, modification, notification};
 use script_ends::shown::append_quoted;
 use std::alloc::AllocError;
 
-/// The code of a note of a change: SCN_MODIFIED.
-const MODIFIED: u32 = 2008;
-
 /// The bits of a change's kind, each with its name.
 static BITS: [(u32, &str); 17] = [
-    (0x1, "InsertText"),
-    (0x2, "DeleteText"),
-    (0x4, "ChangeStyle"),
-    (0x8, "ChangeFold"),
-    (0x10, "User"),
-    (0x20, "Undo"),
-    (0x40, "Redo"),
-    (0x80, "MultiStep"),
-    (0x100, "LastStep"),
-    (0x200, "ChangeMarker"),
-    (0x400, "BeforeInsert"),
-    (0x800, "BeforeDelete"),
-    (0x1000, "MultiLine"),
-    (0x2000, "StartAction"),
-    (0x4000, "ChangeIndicator"),
-    (0x8000, "ChangeLineState"),
-    (0x4_0000, "Container"),
+    (modification::INSERT_TEXT, "InsertText"),
+    (modification::DELETE_TEXT, "DeleteText"),
+    (modification::CHANGE_STYLE, "ChangeStyle"),
+    (modification::CHANGE_FOLD, "ChangeFold"),
+    (modification::PERFORMED_USER, "User"),
+    (modification::PERFORMED_UNDO, "Undo"),
+    (modification::PERFORMED_REDO, "Redo"),
+    (modification::MULTI_STEP, "MultiStep"),
+    (modification::LAST_STEP, "LastStep"),
+    (modification::CHANGE_MARKER, "ChangeMarker"),
+    (modification::BEFORE_INSERT, "BeforeInsert"),
+    (modification::BEFORE_DELETE, "BeforeDelete"),
+    (modification::MULTI_LINE, "MultiLine"),
+    (modification::START_ACTION, "StartAction"),
+    (modification::CHANGE_INDICATOR, "ChangeIndicator"),
+    (modification::CHANGE_LINE_STATE, "ChangeLineState"),
+    (modification::CONTAINER, "Container"),
 ];
 
 /// Appends a message's number and name.
@@ -60,12 +57,12 @@ pub fn say_command(out: &mut String, command: &Command) -> Result<(), AllocError
 /// Returns the name of a note.
 fn note_name(code: u32) -> &'static str {
     match code {
-        2000 => "StyleNeeded",
-        2002 => "SavePointReached",
-        2003 => "SavePointLeft",
-        2004 => "ModifyAttemptRO",
-        2008 => "Modified",
-        2009 => "MacroRecord",
+        notification::STYLE_NEEDED => "StyleNeeded",
+        notification::SAVE_POINT_REACHED => "SavePointReached",
+        notification::SAVE_POINT_LEFT => "SavePointLeft",
+        notification::MODIFY_ATTEMPT => "ModifyAttemptRO",
+        notification::MODIFIED => "Modified",
+        notification::MACRO_RECORD => "MacroRecord",
         _ => "a note",
     }
 }
@@ -106,7 +103,7 @@ fn say_note(out: &mut String, note: &Note, text: &[u8]) -> Result<(), AllocError
     let name = note_name(code);
     write!(out, "  note to view {view}: {name} {code}")?;
     say_bits(out, note.kind)?;
-    if code == MODIFIED || note.position != 0 {
+    if code == notification::MODIFIED || note.position != 0 {
         let position = note.position;
         write!(out, ", position {position}")?;
     }
@@ -164,16 +161,16 @@ pub fn say_changes(out: &mut String, reply: &Reply) -> Result<(), AllocError> {
     for index in 0..count {
         let (note, text) = reply.note(index);
         let position = note.position;
-        if note.code != MODIFIED {
+        if note.code != notification::MODIFIED {
             continue;
         }
-        if note.kind & 0x1 != 0 {
+        if note.kind & modification::INSERT_TEXT != 0 {
             write!(out, " puts in at {position} ")?;
             append_quoted(out, text)?;
-        } else if note.kind & 0x2 != 0 {
+        } else if note.kind & modification::DELETE_TEXT != 0 {
             write!(out, " takes out at {position} ")?;
             append_quoted(out, text)?;
-        } else if note.kind & 0x4_0000 != 0 {
+        } else if note.kind & modification::CONTAINER != 0 {
             let token = note.token;
             write!(out, " container's token {token}")?;
         }

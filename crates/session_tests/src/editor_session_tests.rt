@@ -4,7 +4,9 @@ use crate::exchanges::{
     closed, first_unmet, first_unmet_in, first_unmet_within, not_closed, not_opened, opened,
     refused, sent, unknown,
 };
-use ed_types::{Bytes, Command, Kind, Limits, Message, Outcome, Refusal, Reply};
+use ed_types::{
+    Bytes, Command, Kind, Limits, Message, Outcome, Refusal, Reply, modification, notification,
+};
 use editor_session::{Run, Session};
 use std::alloc::{AllocError, Global};
 use std::process::Abort;
@@ -159,7 +161,10 @@ struct Told {
 fn assert_change(rt: &impl Abort, reply: &Reply, index: usize, told: Told) {
     assert!(rt; index < reply.note_count());
     let (note, text) = reply.note(index);
-    assert_eq!(rt; (note.view, note.code, note.kind), (1, 2008, told.kind));
+    assert_eq!(rt;
+        (note.view, note.code, note.kind),
+        (1, notification::MODIFIED, told.kind)
+    );
     assert_eq!(rt;
         (note.position, note.length, note.lines),
         (told.position, told.length, told.lines)
@@ -173,16 +178,16 @@ fn assert_insertion(rt: &impl Abort, session: &mut Session) {
     let reply = reply.expect(rt, "a reply");
     assert_eq!(rt; reply.note_count(), 3);
     let before = Told {
-        kind: 0x410,
+        kind: modification::BEFORE_INSERT | modification::PERFORMED_USER,
         position: 0,
         length: 3,
         lines: 0,
         text: b"a\nb",
     };
     assert_change(rt, &reply, 0, before);
-    assert_eq!(rt; reply.note(1).0.code, 2003);
+    assert_eq!(rt; reply.note(1).0.code, notification::SAVE_POINT_LEFT);
     let after = Told {
-        kind: 0x2011,
+        kind: modification::INSERT_TEXT | modification::PERFORMED_USER | modification::START_ACTION,
         position: 0,
         length: 3,
         lines: 1,
@@ -197,7 +202,7 @@ fn assert_deletion(rt: &impl Abort, session: &mut Session) {
     let reply = reply.expect(rt, "a reply");
     assert_eq!(rt; reply.note_count(), 2);
     let before = Told {
-        kind: 0x810,
+        kind: modification::BEFORE_DELETE | modification::PERFORMED_USER,
         position: 1,
         length: 1,
         lines: 0,
@@ -205,7 +210,7 @@ fn assert_deletion(rt: &impl Abort, session: &mut Session) {
     };
     assert_change(rt, &reply, 0, before);
     let after = Told {
-        kind: 0x2012,
+        kind: modification::DELETE_TEXT | modification::PERFORMED_USER | modification::START_ACTION,
         position: 1,
         length: 1,
         lines: -1,

@@ -1,5 +1,5 @@
-//! Tables of requests to a session, with the expected replies. A session is made by two functions, each of which owns it with
-//! a single way out: owning one with many ways out makes a proof slow.
+//! Tables of requests to a session, with the expected replies. A session is made by two functions, each of which owns
+//! it with a single way out: owning one with many ways out makes a proof slow.
 
 use ed_types::{Kind, Limits, Refusal};
 use editor_session::Session;

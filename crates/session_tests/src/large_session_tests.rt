@@ -1,9 +1,9 @@
-//! Sessions of large sizes: 16 MiB handed out, and the greatest number of open views. `tools/heap.sh` runs each of these
-//! tests again with a heap limited to what the sizes justify, as its table says.
+//! Sessions of large sizes: 16 MiB handed out, and the greatest number of open views. `tools/heap.sh` runs each of
+//! these tests again with a heap limited to what the sizes justify, as its table says.
 
 ghost use Rattle.std.specs.Prelude.{◌<◌, length};
 
-use ed_types::{Kind, Refusal, Reply};
+use ed_types::{Kind, Refusal, Reply, modification, notification};
 use editor_session::Session;
 use std::alloc::{AllocError, Global};
 use std::process::Abort;
@@ -83,7 +83,8 @@ struct Told {
     text: &'static [u8],
 }
 
-/// Asserts that the note at `index` is the expected one, and that its text, if it has any, is that which the reply stores.
+/// Asserts that the note at `index` is the expected one, and that its text, if it has any, is that which the reply
+/// stores.
 fn assert_note(rt: &impl Abort, reply: &Reply, index: usize, told: Told)
     requires { index < length reply.now.notes }
 {
@@ -96,13 +97,18 @@ fn assert_note(rt: &impl Abort, reply: &Reply, index: usize, told: Told)
     assert!(rt; text.is_empty() || (note.text.start == 0 && note.text.end == 1));
 }
 
-/// Asserts that all views from `first` to `last` are notified of a typed `x`, that the save point is left, and of the `x` again.
+/// Asserts that all views from `first` to `last` are notified of a typed `x`, that the save point is left, and of the
+/// `x` again.
 fn assert_told(rt: &impl Abort, reply: &Reply, first: u32, last: u32) {
     let mut index = 0;
+    let before = modification::BEFORE_INSERT | modification::PERFORMED_USER;
+    let after = modification::INSERT_TEXT
+        | modification::PERFORMED_USER
+        | modification::START_ACTION;
     for (code, kind, text) in [
-        (2008, 0x410, b"x".as_slice()),
-        (2003, 0, b""),
-        (2008, 0x2011, b"x"),
+        (notification::MODIFIED, before, b"x".as_slice()),
+        (notification::SAVE_POINT_LEFT, 0, b""),
+        (notification::MODIFIED, after, b"x"),
     ] {
         for view in first..=last {
             let told = Told {

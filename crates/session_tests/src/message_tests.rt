@@ -1,7 +1,7 @@
 //! Messages at the limits of a session, with their replies.
 
 use crate::exchanges::{closed, first_unmet_within, not_opened, opened, refused, sent};
-use ed_types::{Kind, Limits, Refusal};
+use ed_types::{Kind, Limits, Refusal, fold_level};
 use editor_session::Session;
 use std::alloc::Global;
 
@@ -293,6 +293,7 @@ fn limits_are_within_the_greatest(rt: HostRuntime) {
 
 #[test]
 fn changes_of_which_nobody_hears(rt: HostRuntime) {
+    let header = i64::from(fold_level::BASE | fold_level::HEADER);
     let rows = [
         opened(1),
         sent(Kind::SetModEventMask, 0, 0, 0),
@@ -301,8 +302,8 @@ fn changes_of_which_nobody_hears(rt: HostRuntime) {
         sent(Kind::MarkerGet, 1, 0, 8),
         sent(Kind::MarkerAdd, 9, 3, -1),
         refused(Kind::MarkerAdd, 1, 32, Refusal::BadArgument),
-        sent(Kind::SetFoldLevel, 1, 0x2400, 0),
-        sent(Kind::GetFoldLevel, 1, 0, 0x2400),
+        sent(Kind::SetFoldLevel, 1, header, 0),
+        sent(Kind::GetFoldLevel, 1, 0, header),
         refused(Kind::SetFoldLevel, 1, -1, Refusal::BadArgument),
         sent(Kind::SetStyling, 3, 7, 0),
         sent(Kind::GetStyleAt, 2, 0, 7),

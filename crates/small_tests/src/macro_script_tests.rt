@@ -1,6 +1,6 @@
 //! Tests of what no clause states: that memory suffices, and values from outside.
 
-use ed_types::{Bytes, Kind, Message, Note, Outcome, Refusal, Reply};
+use ed_types::{Bytes, Kind, Message, Note, Outcome, Refusal, Reply, modification, notification};
 use macro_script::printing::{append_integer, append_number, append_outcome, append_text};
 use macro_script::{Cause, Command, Script, ScriptFault, assemble, list};
 use std::alloc::{AllocError, Global};
@@ -11,8 +11,8 @@ const INSERTION: &[u8] =
     b"sci 1\nopen\nsend 1 2003 0 0 \"ab\\x0a\"\nsend 1 2182 0 0 \"\"\nsend 1 2003 9 0 \"z\"\nsend 1 2007 -1 0 \"\"\n";
 
 /// Every command and every kind of byte, as version 2 lists them.
-const EVERY_KIND: &[u8] =
-    b"sci 2\nopen\nload 1 4294967295\nsend 1 2282 4 -9223372036854775808 \"\\\"\\\\\\x00\\x80 ~\"\nexpect -1\nclose 1\n";
+const EVERY_KIND: &[u8] = b"sci 2\nopen\nload 1 4294967295\n\
+    send 1 2282 4 -9223372036854775808 \"\\\"\\\\\\x00\\x80 ~\"\nexpect -1\nclose 1\n";
 
 // In each long test one function owns the value under test and lends it to others, which do the rest: owning it over
 // many calls makes a proof slow.
@@ -182,8 +182,8 @@ fn pushes_up_to_the_limits(rt: HostRuntime) {
 fn noted_reply(rt: &impl Abort, alloc: Global) -> Reply {
     let note = Note {
         view: 1,
-        code: 2008,
-        kind: 8209,
+        code: notification::MODIFIED,
+        kind: modification::INSERT_TEXT | modification::PERFORMED_USER | modification::START_ACTION,
         position: 0,
         length: 3,
         lines: 1,

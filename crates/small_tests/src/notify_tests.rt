@@ -1,12 +1,12 @@
 //! The notes of a reply, their texts, and the room for them.
 
-use ed_types::{Bytes, Note, Reply};
+use ed_types::{Bytes, Note, Reply, notification};
 use notify::{NoteList, blank};
 use std::process::Abort;
 
 // Returns a note to a view.
 fn note_to(view: u32) -> Note {
-    let mut note = blank(2008);
+    let mut note = blank(notification::MODIFIED);
     note.view = view;
     note
 }
@@ -16,11 +16,12 @@ fn assert_note(rt: &impl Abort, reply: &Reply, index: usize, view: u32, text: &[
     assert!(rt; index < reply.note_count());
     let (note, its) = reply.note(index);
     assert_eq!(rt; note.view, view);
-    assert_eq!(rt; note.code, 2008);
+    assert_eq!(rt; note.code, notification::MODIFIED);
     assert_eq!(rt; its, text);
 }
 
-// One function owns the notes and lends them to others, which do the rest: owning them over many calls makes a proof slow.
+// One function owns the notes and lends them to others, which do the rest: owning them over many calls makes a proof
+// slow.
 fn put_six(rt: &impl Abort, notes: &mut NoteList) {
     notes.reserve(6, 5).expect(rt, "memory");
     notes.put(note_to(1), b"abc");

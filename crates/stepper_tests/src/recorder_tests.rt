@@ -6,10 +6,12 @@ use macro_script::{Recorder, Script, assemble, list};
 use std::alloc::Global;
 use std::process::Abort;
 
-/// A view that records gets three letters, a question, a move of the caret one character to the left, and a deletion of the character
-/// before it. Messages before and after the recording are not in it.
+/// A view that records gets three letters, a question, a move of the caret one character to the left, and a deletion of
+/// the character before it. Messages before and after the recording are not in it.
 const MACRO: &[u8] =
-    b"sci 1\nopen\nsend 1 2006 0 0 \"\"\nsend 1 3001 0 0 \"\"\nsend 1 2001 3 0 \"abc\"\nsend 1 2006 0 0 \"\"\nsend 1 2304 0 0 \"\"\nsend 1 2326 0 0 \"\"\nsend 1 3002 0 0 \"\"\nsend 1 2318 0 0 \"\"\n";
+    b"sci 1\nopen\nsend 1 2006 0 0 \"\"\nsend 1 3001 0 0 \"\"\nsend 1 2001 3 0 \"abc\"\n\
+    send 1 2006 0 0 \"\"\nsend 1 2304 0 0 \"\"\nsend 1 2326 0 0 \"\"\nsend 1 3002 0 0 \"\"\n\
+    send 1 2318 0 0 \"\"\n";
 
 /// The listing of its recording: ADDTEXT, CHARLEFT and DELETEBACK, as they were sent.
 const MACRO_LISTING: &[u8] =
@@ -17,7 +19,9 @@ const MACRO_LISTING: &[u8] =
 
 /// Two views of a document record, each its own messages, and no refused ones.
 const TWO_VIEWS: &[u8] =
-    b"sci 1\nopen\nopen\nsend 2 2358 0 1 \"\"\nsend 1 3001 0 0 \"\"\nsend 2 3001 0 0 \"\"\nsend 1 2001 1 0 \"ab\"\nsend 1 2001 9 0 \"ab\"\nsend 2 2329 0 0 \"\"\nsend 1 2178 0 0 \"\"\n";
+    b"sci 1\nopen\nopen\nsend 2 2358 0 1 \"\"\nsend 1 3001 0 0 \"\"\nsend 2 3001 0 0 \"\"\n\
+    send 1 2001 1 0 \"ab\"\nsend 1 2001 9 0 \"ab\"\nsend 2 2329 0 0 \"\"\n\
+    send 1 2178 0 0 \"\"\n";
 
 /// The listings of the recordings of both views. The whole text is recorded, although only its first byte is inserted.
 const FIRST_LISTING: &[u8] = b"sci 2\nsend 1 2001 1 0 \"ab\"\nsend 1 2178 0 0 \"\"\n";
@@ -88,7 +92,8 @@ fn assert_text(rt: &impl Abort, alloc: Global, session: &Session, text: &[u8]) {
     assert!(rt; bytes.as_slice() == text);
 }
 
-/// Asserts that the macro leaves `ac`, with the caret behind the a, and two transactions: the letters, and the deletion.
+/// Asserts that the macro leaves `ac`, with the caret behind the a, and two transactions: the letters, and the
+/// deletion.
 fn assert_replayed(rt: &impl Abort, alloc: Global, run: &mut Run, commands: &[Command]) {
     perform(rt, run, &Command::OpenView);
     for command in commands {

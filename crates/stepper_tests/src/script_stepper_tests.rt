@@ -12,7 +12,8 @@ const INSERTION: &[u8] =
 const EVERY_COMMAND: &[u8] =
     b"sci 2\nopen\nexpect 1\nload 1 1\nload 1 2\nsend 1 2006 0 0 \"\"\nexpect 2\nclose 1\nexpect 1\n";
 
-/// Returns the value of the next command, or the negated number of its refusal; `None` at the end, or if an allocation fails.
+/// Returns the value of the next command, or the negated number of its refusal; `None` at the end, or if an allocation
+/// fails.
 fn next_value(stepper: &mut Stepper) -> Option<i64> {
     match stepper.step() {
         Ok(Some(Outcome::Opened(id))) => Some(i64::from(id)),

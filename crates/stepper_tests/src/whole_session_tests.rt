@@ -8,10 +8,14 @@ use script_stepper::Stepper;
 use std::alloc::Global;
 use std::process::Abort;
 
-/// Two views of a document with a selection, a marker, a fold, an indicator, styles and a target; edits, undo and redo; an `expect` that
-/// is not met, a view that is closed, and a message that is refused.
-const TWO_VIEWS: &[u8] =
-    b"sci 2\nopen\nload 1 1\nsend 1 2160 1 4 \"\"\nsend 1 2043 1 3 \"\"\nsend 1 2222 0 9216 \"\"\nsend 1 2222 1 1025 \"\"\nsend 1 2237 0 0 \"\"\nsend 1 2504 2 3 \"\"\nsend 1 2033 4 7 \"\"\nsend 1 2686 1 3 \"\"\nopen\nsend 2 2358 0 1 \"\"\nsend 2 2025 3 0 \"\"\nsend 1 2003 3 0 \"x\\x0ay\"\nsend 1 2092 1 9 \"\"\nsend 1 2176 0 0 \"\"\nsend 1 2011 0 0 \"\"\nsend 2 2645 2 1 \"\"\nexpect 1\nclose 2\nsend 1 2003 99 0 \"z\"\n";
+/// Two views of a document with a selection, a marker, a fold, an indicator, styles and a target; edits, undo and redo;
+/// an `expect` that is not met, a view that is closed, and a message that is refused.
+const TWO_VIEWS: &[u8] = b"sci 2\nopen\nload 1 1\nsend 1 2160 1 4 \"\"\nsend 1 2043 1 3 \"\"\n\
+    send 1 2222 0 9216 \"\"\nsend 1 2222 1 1025 \"\"\nsend 1 2237 0 0 \"\"\n\
+    send 1 2504 2 3 \"\"\nsend 1 2033 4 7 \"\"\nsend 1 2686 1 3 \"\"\nopen\n\
+    send 2 2358 0 1 \"\"\nsend 2 2025 3 0 \"\"\nsend 1 2003 3 0 \"x\\x0ay\"\n\
+    send 1 2092 1 9 \"\"\nsend 1 2176 0 0 \"\"\nsend 1 2011 0 0 \"\"\nsend 2 2645 2 1 \"\"\n\
+    expect 1\nclose 2\nsend 1 2003 99 0 \"z\"\n";
 
 /// The file that the script loads.
 const FILE: &[u8] = b"ab\ncd\nef";
@@ -41,8 +45,8 @@ struct Asked {
     l: i64,
 }
 
-/// Returns the answer of a session to a plain question, or to a text question, whose bytes go to a buffer. Returns `None` for other
-/// messages.
+/// Returns the answer of a session to a plain question, or to a text question, whose bytes go to a buffer. Returns
+/// `None` for other messages.
 fn answer_of(session: &Session, asked: Asked, bytes: &mut Vec<u8>) -> Option<i64> {
     let Asked { view, number, w, l } = asked;
     match session.ask(view, number, w, l) {
@@ -60,7 +64,8 @@ fn is_answered_alike(alloc: Global, one: &Session, other: &Session, asked: Asked
     answer == other_answer && bytes.as_slice() == other_bytes.as_slice()
 }
 
-/// Returns whether two sessions give the same answers to a message to a view, with many arguments around the places and lines that exist.
+/// Returns whether two sessions give the same answers to a message to a view, with many arguments around the places and
+/// lines that exist.
 fn is_alike_everywhere(
     alloc: Global,
     one: &Session,

@@ -3,8 +3,8 @@ use cell_buffer::Cells;
 use std::alloc::Global;
 use std::process::Abort;
 
-// In each long test one function owns the cells and lends them to others, which do the rest: owning cells over many calls makes a proof
-// slow.
+// In each long test one function owns the cells and lends them to others, which do the rest: owning cells over many
+// calls makes a proof slow.
 
 fn put_text_in(rt: &impl Abort, cells: &mut Cells) {
     assert_eq!(rt; cells.room(), 0);

@@ -43,7 +43,8 @@ fn run_about<P: Place>(
     indicators.run(indicator, place)
 }
 
-// In each test one function owns the lists and lends them to others, which do the rest: owning them over many calls makes a proof slow.
+// In each test one function owns the lists and lends them to others, which do the rest: owning them over many calls
+// makes a proof slow.
 
 // Inserts `count` bytes at once, and asserts that the last place is 0 in each list.
 fn insert_once<P: Place>(rt: &impl Abort, indicators: &mut Decorations<P>, count: usize) {
@@ -88,7 +89,8 @@ fn fill_two<P: Place>(rt: &impl Abort, indicators: &mut Decorations<P>) {
     assert!(rt; set(rt, indicators, 4, 1, 4, 7) == None);
 }
 
-// An insertion at the start of an indicator does not lengthen it, one inside does, and one at the end of the text lengthens none.
+// An insertion at the start of an indicator does not lengthen it, one inside does, and one at the end of the text
+// lengthens none.
 fn insert_about_two<P: Place>(rt: &impl Abort, indicators: &mut Decorations<P>) {
     put(rt, indicators, 1, 1);
     assert!(rt; indicators.value(4, 1) == 0 && run_about(rt, indicators, 4, 2) == (2, 6));

@@ -1,5 +1,5 @@
-//! Each call that allocates, at a large size. `tools/heap.sh` runs each of these tests again with a heap limited to what
-//! the sizes justify, as its table says. A growth that nothing needs fails there, and with it the test.
+//! Each call that allocates, at a large size. `tools/heap.sh` runs each of these tests again with a heap limited to
+//! what the sizes justify, as its table says. A growth that nothing needs fails there, and with it the test.
 
 use cell_buffer::Cells;
 use decorations::Decorations;
@@ -192,7 +192,8 @@ fn move_step(rt: &impl Abort, table: &mut Partitioning<u32>, index: usize) {
     assert_eq!(rt; table.step_at(), index);
 }
 
-// Looks up while all starts are stored as they are, while most are stored as distances to the end, and while there are many.
+// Looks up while all starts are stored as they are, while most are stored as distances to the end, and while there are
+// many.
 fn look_up_three_times(rt: &impl Abort, table: &mut Partitioning<u32>) {
     table.reserve(MANY_STARTS).expect(rt, "memory");
     assert_eq!(rt; table.length(), 0);

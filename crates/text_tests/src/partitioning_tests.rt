@@ -47,7 +47,8 @@ fn assert_starts<P: Place>(
     assert_eq!(rt; table.length(), length);
 }
 
-// In each test one function owns the table and lends it to others, which do the rest: owning one over many calls makes a proof slow.
+// In each test one function owns the table and lends it to others, which do the rest: owning one over many calls makes
+// a proof slow.
 
 fn cut_in_three<P: Place>(rt: &impl Abort, table: &mut Partitioning<P>) {
     assert_starts(rt, table, &[0], 0);

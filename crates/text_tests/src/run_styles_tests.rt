@@ -1,4 +1,5 @@
-//! Series of calls, at each width of places and for several types of values. Each helper asserts the postcondition of its call.
+//! Series of calls, at each width of places and for several types of values. Each helper asserts the postcondition of
+//! its call.
 ghost use Rattle.run_styles.specs.Expansion.{IsExact};
 
 use partitioning::Place;
@@ -55,7 +56,8 @@ fn take_out<P: Place, V: Copy + Eq>(
     styles.delete_range(place, count);
 }
 
-// Asserts that the value at each place is the default or the other one, as `others` says, and that the runs end where it changes.
+// Asserts that the value at each place is the default or the other one, as `others` says, and that the runs end where
+// it changes.
 fn assert_values<P: Place, V: Copy + Eq>(
     rt: &impl Abort,
     styles: &RunStyles<P, V>,

@@ -111,7 +111,8 @@ fn moves_are_counted(rt: HostRuntime) {
     assert_eq!(rt; v.len(), 1001);
 }
 
-// In each long test one function owns the list and lends it to others, which do the rest: owning one over many calls makes a proof slow.
+// In each long test one function owns the list and lends it to others, which do the rest: owning one over many calls
+// makes a proof slow.
 
 fn grow_about_the_gap(rt: &impl Abort, v: &mut SplitVector<u32>) {
     v.reserve(4).expect(rt, "memory");

@@ -2,7 +2,8 @@
 use std::process::Abort;
 use undo_history::{ChangeKind, StepKind, UndoHistory};
 
-// In each long test one function owns the history and lends it to others, which do the rest: owning one over many calls makes a proof slow.
+// In each long test one function owns the history and lends it to others, which do the rest: owning one over many calls
+// makes a proof slow.
 
 fn type_three_letters(rt: &impl Abort, history: &mut UndoHistory) {
     assert!(rt; history.is_at_save_point());

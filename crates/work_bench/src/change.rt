@@ -1,4 +1,5 @@
-//! Changes of everything: a word replaced everywhere, all lines indented, line ends converted, and each of these undone and redone.
+//! Changes of everything: a word replaced everywhere, all lines indented, line ends converted, and each of these undone
+//! and redone.
 
 use crate::desk::{Desk, argument};
 use crate::dice::Dice;
@@ -41,7 +42,8 @@ fn replace_backwards(desk: &mut Desk, view: u32, text: &[u8], by: &[u8]) {
     }
 }
 
-/// Inserts a text at the start of each line, from the last line to the first if `upwards`, and otherwise from the first on.
+/// Inserts a text at the start of each line, from the last line to the first if `upwards`, and otherwise from the first
+/// on.
 fn indent(desk: &mut Desk, view: u32, text: &[u8], upwards: bool) {
     let lines = desk.lines(view);
     for turn in 0..lines {

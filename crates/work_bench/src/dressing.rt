@@ -2,17 +2,17 @@
 
 use crate::desk::{Desk, argument, place_of};
 use crate::dice::Dice;
-use ed_types::Kind;
+use ed_types::{Kind, fold_level, modification};
 use std::alloc::{AllocError, Global};
 
-/// The fold level of a line without indentation: `SC_FOLDLEVELBASE`.
-const LEVEL_BASE: i64 = 0x400;
+/// The fold level of a line without indentation.
+const BASE: i64 = fold_level::BASE as i64;
 
-/// The flag of a line under which others are folded: `SC_FOLDLEVELHEADERFLAG`.
-const HEADER: i64 = 0x2000;
+/// The flag of a line under which others are folded.
+pub const HEADER: i64 = fold_level::HEADER as i64;
 
 /// The mask of a view that hears all kinds of changes.
-pub const ALL: i64 = 0x7F_FFFF;
+const ALL: i64 = modification::ALL as i64;
 
 /// Returns the style of a byte of a word: a letter, a digit, or another byte.
 fn style_of(byte: u8) -> u8 {
@@ -94,10 +94,10 @@ pub fn set_levels(desk: &mut Desk, view: u32, text: &[u8]) {
         let depth = indentation(line, before);
         if depth > before {
             let header = number.wrapping_sub(1);
-            let level = LEVEL_BASE.wrapping_add(before) | HEADER;
+            let level = BASE.wrapping_add(before) | HEADER;
             desk.send(view, Kind::SetFoldLevel, header, level, &[]);
         }
-        let level = LEVEL_BASE.wrapping_add(depth);
+        let level = BASE.wrapping_add(depth);
         desk.send(view, Kind::SetFoldLevel, number, level, &[]);
         before = depth;
         number = number.wrapping_add(1);
@@ -152,7 +152,8 @@ pub struct Dress {
     pub ranges: usize,
 }
 
-/// Dresses a document while no view hears it: styles, levels, markers and two indicators. Then its view hears everything.
+/// Dresses a document while no view hears it: styles, levels, markers and two indicators. Then its view hears
+/// everything.
 pub fn dress_up(
     desk: &mut Desk,
     alloc: Global,

@@ -1,5 +1,5 @@
-//! Typing and editing as people do it: runs of bytes with caret moves between them, deletions, undo and redo, the clipboard, a changed
-//! line styled again, and sometimes a window drawn.
+//! Typing and editing as people do it: runs of bytes with caret moves between them, deletions, undo and redo, the
+//! clipboard, a changed line styled again, and sometimes a window drawn.
 
 use crate::desk::{Desk, argument, place_of};
 use crate::dice::Dice;

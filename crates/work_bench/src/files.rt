@@ -1,4 +1,5 @@
-//! Files opened, searched, replaced and saved: source code, logs with CRLF, one long line, lines of one byte, and Unicode line ends.
+//! Files opened, searched, replaced and saved: source code, logs with CRLF, one long line, lines of one byte, and
+//! Unicode line ends.
 
 use crate::desk::{Desk, argument};
 use crate::dice::Dice;

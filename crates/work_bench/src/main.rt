@@ -1,6 +1,6 @@
-//! Jobs for which a user of an editor waits. Each has many messages, to documents as editors have them: styled, with fold levels,
-//! markers and indicators, and with notes, which are read. The program prints a digest of all replies and no time, so that its output is
-//! the same on every machine. `bench/run` times it.
+//! Jobs for which a user of an editor waits. Each has many messages, to documents as editors have them: styled, with
+//! fold levels, markers and indicators, and with notes, which are read. The program prints a digest of all replies and
+//! no time, so that its output is the same on every machine. `bench/run` times it.
 //!
 //!     work_bench edit|change|apart|paint|files|scripts SEED SIZE
 //!     work_bench all SEED SIZE                      (each of them)

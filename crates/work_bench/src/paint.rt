@@ -2,7 +2,7 @@
 
 use crate::desk::{Desk, argument};
 use crate::dice::Dice;
-use crate::dressing::{draw, set_levels, style_by_runs};
+use crate::dressing::{HEADER, draw, set_levels, style_by_runs};
 use crate::source::{Ends, source_lines};
 use ed_types::Kind;
 use std::alloc::{AllocError, Global};
@@ -41,12 +41,12 @@ fn fold_all(desk: &mut Desk, view: u32) {
     let lines = desk.lines(view);
     for turn in 0..lines {
         let line = argument(lines.wrapping_sub(turn).wrapping_sub(1));
-        if desk.ask(view, Kind::GetFoldLevel, line, 0) & 0x2000 != 0 {
+        if desk.ask(view, Kind::GetFoldLevel, line, 0) & HEADER != 0 {
             desk.send(view, Kind::FoldLine, line, 0, &[]);
         }
     }
     for line in 0..lines {
-        if desk.ask(view, Kind::GetFoldLevel, argument(line), 0) & 0x2000 != 0 {
+        if desk.ask(view, Kind::GetFoldLevel, argument(line), 0) & HEADER != 0 {
             desk.send(view, Kind::FoldLine, argument(line), 1, &[]);
         }
     }
