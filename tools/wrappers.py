@@ -1,6 +1,6 @@
 #!/usr/bin/env python3
 """Writes the methods of all messages, the constants, the names of notes, Rust's declarations of the calls and the version into the wrappers for C++, Rust and Python,
-and the questions into a list for tests of the library for C.
+and what tests of the library for C go through: the questions, and what is drawn of each message beside Scintilla (drawn.py).
 
 A message's name and number come from the definitions (crates/ed_types), its arguments, its answer and its sentence from its row of docs/MESSAGES.md.
 Run it at the top of the repository after a message, a row or a constant has changed. With --check it writes nothing, and fails where a wrapper is not
@@ -12,6 +12,7 @@ import sys
 import textwrap
 from dataclasses import dataclass
 
+import drawn
 import header
 
 BEGIN = "Written by tools/wrappers.py: begin"
@@ -24,6 +25,7 @@ RUST_CALLS = "bindings/rust/hongpilas-sys/src/calls.rs"
 PYTHON = "bindings/python/src/hongpilas/_messages.py"
 PYTHON_CONSTANTS = "bindings/python/src/hongpilas/constants.py"
 QUESTIONS = "embedding/questions.h"
+BESIDE = "embedding/beside/messages.c"
 # The column "w, l, T" of the table: for each of its forms the arguments of a method, as (place, name). A length in front of a text is
 # the text's own, so that no method takes it.
 ARGUMENTS = {
@@ -90,6 +92,7 @@ class Message:
     spelled: str  # in capitals, as in SCI_GETLENGTH
     number: int
     changes: bool  # whether it can change something
+    edits: bool  # whether it edits the text: the mark E
     arguments: list  # (place, name): w, l or T, and what it is called
     answers: str  # "nothing", "number", "flag" or "text"
     sentence: str
@@ -169,7 +172,8 @@ def messages():
         places = arguments(column)
         told = SENTENCES.get(spelled, does)
         words = sentence(told, places)
-        found.append(Message(name, spelled, known, "Q" not in marks.split(), places, answer(told), words, column.startswith("w length, T")))
+        takes_length = column.startswith("w length, T")
+        found.append(Message(name, spelled, known, "Q" not in marks.split(), "E" in marks.split(), places, answer(told), words, takes_length))
     if kinds:
         sys.exit(f"no row of docs/MESSAGES.md: {', '.join(kinds)}")
     return sorted(found, key=lambda it: it.number)
@@ -385,6 +389,7 @@ def files(found):
     yield PYTHON, {"": python(found)}
     yield PYTHON_CONSTANTS, {"": constants(python_constant)}
     yield QUESTIONS, {"": questions(found)}
+    yield BESIDE, {"": drawn.rows(found)}
     yield "bindings/cpp/calls.cpp", {"": "".join(f"  view.{call(it, it.name, 'true')};\n" for it in found)}
     yield "bindings/rust/hongpilas/examples/calls.rs", {"": "".join(f"    view.{call(it, it.snake, 'true')}?;\n" for it in found)}
     yield "bindings/python/calls.py", {"": "".join(f"    view.{call(it, it.snake, 'True')}\n" for it in found)}

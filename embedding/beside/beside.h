@@ -49,6 +49,7 @@ typedef struct message {
   unsigned int number;
   place w, l;
   int weight; /* how often it is drawn */
+  bool edits; /* whether it is an edit, marked E in docs/MESSAGES.md */
 } message;
 
 extern const message messages[];

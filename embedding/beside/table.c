@@ -87,18 +87,16 @@ static bool all_hold(const trial *t, const char *when) {
   }
 }
 
-/* Whether a row is of a message: `*` is of all, and `edits` of those that change the text. */
-static bool is_of(const row *r, const char *name) {
-  static const char edits[] =
-      "ADDTEXT INSERTTEXT CLEARALL SETTEXT APPENDTEXT DELETERANGE REPLACESEL CUT PASTE CLEAR DELETEBACK NEWLINE CONVERTEOLS REPLACETARGET UNDO REDO";
-  return strcmp(r->messages, "*") == 0 || has_word(r->messages, name) || (has_word(r->messages, "edits") && has_word(edits, name));
+/* Whether a row is of a message: `*` is of all, and `edits` of those that edit the text. */
+static bool is_of(const row *r, const message *of) {
+  return strcmp(r->messages, "*") == 0 || has_word(r->messages, of->name) || (has_word(r->messages, "edits") && of->edits);
 }
 
 static row *row_of(const trial *t, const char *what) {
   for (int i = 0; i < row_count; i++) {
     row *r = &rows[i];
     bool is_what = has_word(r->what, what) || (is_part(what) && has_word(r->what, "state"));
-    if (is_what && is_of(r, t->call->of->name) && all_hold(t, r->when)) return r;
+    if (is_what && is_of(r, t->call->of) && all_hold(t, r->when)) return r;
   }
   return NULL;
 }
