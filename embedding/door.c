@@ -1,6 +1,6 @@
-/* Each message of the profile in Scintilla's manner, as a program sends it that knows Scintilla: prints what comes of it. `door --sent` lists the
- * messages. Then null texts, views and doors, what is refused, what is sent while notes are told, and each growth refused in turn, for which it is
- * linked as counted_heap.h says. */
+/* Messages of the profile in Scintilla's manner, as a program sends them that knows Scintilla: prints what comes of them. `door --sent` lists their
+ * numbers; door_examples.c sends those of the worked examples. Then null texts, views and doors, what is refused, what is sent while notes are told,
+ * and each growth refused in turn, for which it is linked as counted_heap.h says. */
 #include "counted_heap.h"
 
 #include <hongpilas_scintilla.h>
@@ -339,7 +339,7 @@ static void try_growths(void) {
 
 int main(int count, char **words) {
   if (count > 1 && strcmp(words[1], "--sent") == 0) {
-    for (size_t i = 0; i < sizeof steps / sizeof *steps; i++) printf("%s\n", steps[i].name);
+    for (size_t i = 0; i < sizeof steps / sizeof *steps; i++) printf("%u\n", steps[i].number);
     return 0;
   }
   try_each_message();

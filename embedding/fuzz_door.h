@@ -1,49 +1,10 @@
-/* The way in by the door with Scintilla's manners (hongpilas_scintilla.h), for fuzz.c. What w, l and the answer are there is written down below from
+/* The way in by the door with Scintilla's manners (hongpilas_scintilla.h), for fuzz.c. What w, l and the answer are there stands in manners.h, from
  * Scintilla's documentation: of a message that is drawn it makes one for the door and one for the model, and of the model's answer, text and notes it
  * makes the answer, the bytes and the notifications that the door has to give. */
 #ifndef FUZZ_DOOR_H
 #define FUZZ_DOOR_H
 
-/* Three letters: what w, l and the answer are in Scintilla's documentation.
- * w, l: i an int, m an int whose bits count, - another number, or nothing.
- * l: n a text of w bytes, N the same, of which a null one is none, Z a text up to its NUL, of which a null one is none, e either (up to its NUL where w
- * is -1); a buffer: r for all bytes, s for all and a NUL, b for as many as w and a NUL; a Sci_TextRange whose bytes are closed: t by one NUL, u by two.
- * The answer: i an int, c a char, 1 always 1, f -1 where it is refused, F an int that is -1 where it is refused, - another number. */
-typedef struct manners {
-  uint32_t number;
-  const char *letters;
-} manners;
-
-static const manners documented[] = {
-    {SCI_ADDTEXT, "-N-"},          {SCI_INSERTTEXT, "-Z-"},      {SCI_GETCHARAT, "--c"},     {SCI_GETSTYLEAT, "--c"},          {SCI_GETSTYLEDTEXT, "-u-"},
-    {SCI_SETREADONLY, "--1"},      {SCI_GETCURLINE, "-b-"},      {SCI_GETLINE, "-r-"},       {SCI_GETTEXTRANGE, "-t-"},        {SCI_SETTEXT, "-Z1"},
-    {SCI_GETTEXT, "-b-"},          {SCI_APPENDTEXT, "-n-"},      {SCI_GETSELTEXT, "-s-"},    {SCI_REPLACESEL, "-Z-"},          {SCI_COPYTEXT, "-n-"},
-    {SCI_ADDUNDOACTION, "ii-"},    {SCI_SETEOLMODE, "i--"},      {SCI_CONVERTEOLS, "i--"},   {SCI_MARKERADD, "-iF"},           {SCI_MARKERADDSET, "-m-"},
-    {SCI_MARKERDELETE, "-i-"},     {SCI_MARKERDELETEALL, "i--"}, {SCI_MARKERGET, "--i"},     {SCI_MARKERDELETEHANDLE, "i--"},  {SCI_MARKERNEXT, "-if"},
-    {SCI_MARKERPREVIOUS, "-if"},   {SCI_SETLINESTATE, "-i-"},    {SCI_GETLINESTATE, "--i"},  {SCI_MARKERLINEFROMHANDLE, "i-f"}, {SCI_SETSTYLING, "-i-"},
-    {SCI_SETSTYLINGEX, "-N-"},     {SCI_INDICATORSTART, "i--"},  {SCI_INDICATOREND, "i--"},  {SCI_SETINDICATORCURRENT, "i--"}, {SCI_SETINDICATORVALUE, "i--"},
-    {SCI_INDICATORALLONFOR, "--i"}, {SCI_INDICATORVALUEAT, "i-i"}, {SCI_GETTARGETTEXT, "-r-"}, {SCI_SETSEARCHFLAGS, "i--"},    {SCI_SEARCHINTARGET, "-nf"},
-    {SCI_REPLACETARGET, "-e-"},    {SCI_SETFOLDLEVEL, "-i-"},    {SCI_GETFOLDLEVEL, "--i"},  {SCI_GETFOLDPARENT, "--f"},       {SCI_GETLASTCHILD, "-i-"},
-    {SCI_FOLDLINE, "-i-"},         {SCI_CREATEDOCUMENT, "-i-"},   {SCI_SETLINEENDTYPESALLOWED, "i--"}, {SCI_SETMODEVENTMASK, "i--"}};
-
-static const char *manners_of(uint32_t number) {
-  for (size_t i = 0; i < sizeof documented / sizeof *documented; i++)
-    if (documented[i].number == number) return documented[i].letters;
-  return "---";
-}
-
-/* What is answered where a message is refused, and of a value of the model. */
-static sptr_t refused_value(uint32_t number) { return manners_of(number)[2] == 'f' || manners_of(number)[2] == 'F' ? -1 : 0; }
-
-static sptr_t answered_value(uint32_t number, int64_t value) {
-  switch (manners_of(number)[2]) {
-    case 'c': return (char)value;
-    case 'i':
-    case 'F': return (int)value;
-    case '1': return 1;
-    default: return value;
-  }
-}
+#include "manners.h"
 
 static ear *ear_of(side *s, uint32_t id) {
   for (size_t i = 0; i < VIEWS && id != 0; i++)
@@ -284,8 +245,6 @@ static sptr_t make_call(side *s, const door_call *c, int *status) {
   return value;
 }
 
-static bool is_question(char kind) { return strchr("rsbtu", kind) != NULL; }
-
 /* What w and l are cut down to for the model, where they are ints. */
 static message as_ints(const message *m) {
   const char *letters = manners_of(m->number);
@@ -298,7 +257,7 @@ static message as_ints(const message *m) {
 
 /* A refused growth changes nothing, tells nothing and writes nothing. A text that is asked for takes no memory, but with its styles. */
 static hongpilas_answer see_refused_growth(side *s, const door_call *c, sptr_t value) {
-  must(!is_question(c->kind) || (c->plain.number == SCI_GETSTYLEDTEXT && c->buffer != NULL), "a text is given without memory");
+  must(!takes_buffer(c->kind) || (c->plain.number == SCI_GETSTYLEDTEXT && c->buffer != NULL), "a text is given without memory");
   look_at_refused_growth(s, &c->plain);
   c->by->status = SC_STATUS_BADALLOC;
   c->by->refusal = answer_names[HONGPILAS_OUT_OF_MEMORY];
@@ -328,7 +287,7 @@ static void prepare_call(side *s, door_call *c, const message *m, hongpilas_answ
   c->buffer = NULL;
   c->room = c->wanted = 0;
   if (strchr("nNZe", c->kind) != NULL) give_text(c, m, is_null);
-  if (!is_question(c->kind)) return;
+  if (!takes_buffer(c->kind)) return;
   *answer = answer_of_model(s, c);
   give_buffer(s, c, m, *answer, is_null);
 }
@@ -350,7 +309,7 @@ static hongpilas_answer send_by_door(side *s, const message *m) {
   uint64_t requests = counts.requests;
   sptr_t value = make_call(s, &c, &status);
   if (was_refused && status == SC_STATUS_BADALLOC) return see_refused_growth(s, &c, value);
-  if (!is_question(c.kind)) answer = answer_of_model(s, &c);
+  if (!takes_buffer(c.kind)) answer = answer_of_model(s, &c);
   else if (m->number != SCI_GETSTYLEDTEXT) must(requests == counts.requests, "a text is given without memory");
   counts.answers[answer & 7]++;
   bool is_done = answer == HONGPILAS_DONE, is_unknown = answer == HONGPILAS_UNKNOWN_MESSAGE;
@@ -361,8 +320,8 @@ static hongpilas_answer send_by_door(side *s, const message *m) {
   must_stand(c.by, status);
   if (!is_done) must_be(value, is_unknown ? 0 : refused_value(m->number), "what is answered where a message is refused");
   else if (c.is_nothing) must_be(value, 0, "what is answered where nothing is done");
-  else must_be(value, is_question(c.kind) ? value_of_question(s, &c) : answered_value(m->number, model_value(s->plain)), "the value");
-  if (is_done && !is_question(c.kind) && !c.is_nothing) compare_heard(s, &c);
+  else must_be(value, takes_buffer(c.kind) ? value_of_question(s, &c) : answered_value(m->number, model_value(s->plain)), "the value");
+  if (is_done && !takes_buffer(c.kind) && !c.is_nothing) compare_heard(s, &c);
   else must_be((int64_t)heard.count, 0, "what is not done tells nothing");
   must_be_written(&c, is_done);
   return answer;
