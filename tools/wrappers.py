@@ -1,6 +1,7 @@
 #!/usr/bin/env python3
 """Writes the methods of all messages, the constants, the names of notes, Rust's declarations of the calls and the version into the wrappers for C++, Rust and Python,
-and what tests of the library for C go through: the questions, and what is drawn of each message beside Scintilla (drawn.py).
+what tests of the library for C go through (the questions, and what is drawn of each message beside Scintilla, by drawn.py), and the list of plain questions
+into the definitions (message_plans).
 
 A message's name and number come from the definitions (crates/ed_types), its arguments, its answer and its sentence from its row of docs/MESSAGES.md.
 Run it at the top of the repository after a message, a row or a constant has changed. With --check it writes nothing, and fails where a wrapper is not
@@ -26,6 +27,7 @@ PYTHON = "bindings/python/src/hongpilas/_messages.py"
 PYTHON_CONSTANTS = "bindings/python/src/hongpilas/constants.py"
 QUESTIONS = "embedding/questions.h"
 BESIDE = "embedding/beside/messages.c"
+ASKING = "crates/message_plans/specs/Asking.antt"
 # The column "w, l, T" of the table: for each of its forms the arguments of a method, as (place, name). A length in front of a text is
 # the text's own, so that no method takes it.
 ARGUMENTS = {
@@ -412,6 +414,17 @@ def versions():
         yield path, re.sub(r'^version = "[\d.]+"$', f'version = "{version}"', header.read(path), flags=re.M)
 
 
+def definitions(found):
+    """The definitions of the plain questions, with those that docs/MESSAGES.md names, by their numbers."""
+    listed = re.search(r"^The plain questions are [^:]*: ([A-Z,\s]*)\.$", header.read("docs/MESSAGES.md"), re.M)[1]
+    named = set(re.split(r",\s+", listed))
+    unknown = named - {it.spelled for it in found}
+    if unknown:
+        sys.exit(f"docs/MESSAGES.md names plain questions that are no messages: {', '.join(sorted(unknown))}")
+    kinds = "".join(f"kinds.{it.name.replace('EOL', 'Eol')} ∷ " for it in found if it.spelled in named)
+    yield ASKING, re.sub(r"^questions = .*$", f"questions = {kinds}[]", header.read(ASKING), flags=re.M)
+
+
 def faults():
     """Where a hand-written part is not that of the crates: refusals without a place in a wrapper."""
     named = re.findall(r"^    (\w+) = (\d+),", header.read("crates/ed_types/src/refusal.rt"), re.M)
@@ -430,7 +443,7 @@ def main():
         return
     found = messages()
     wrong = []
-    for path, new in [*((path, written(path, texts)) for path, texts in files(found)), *versions()]:
+    for path, new in [*((path, written(path, texts)) for path, texts in files(found)), *versions(), *definitions(found)]:
         if "--check" not in sys.argv[1:]:
             with open(os.path.join(header.TOP, path), "w", encoding="utf-8") as file:
                 file.write(new)
