@@ -4,6 +4,7 @@ use Rattle.std.specs.Prelude.{IfSome}
 use Rattle.std.specs.List.{AllByRecursion}
 use Rattle.std.proofs.lemmas.Bool.{eqb-true}
 use Rattle.ed_types.specs.declared.kind.Kind.{Kind}
+use Rattle.ed_types.specs.declared.kind.Kind.TheVariants as kinds
 use Rattle.ed_types.specs.declared.message.Message.{Message}
 use Rattle.ed_types.specs.Messages.{number_of, kind_of, kind_among, marks_of}
 use Rattle.ed_types.specs.MessagesLaws.{EachKindIsFound}
@@ -41,8 +42,18 @@ shown_of_any_text r text (negsuc n) = refl
 pub plain : {kind : Kind} → (marks_of kind).r ≡ false → ((r : Request) (text : List ℕ) → plan_of kind (record r { message = record r.message { text = text } }) ≡ plan_of kind r) → IsPlain kind
 plain u t = record { unrecorded = u; any_text = t }
 
+end_is_plain : IsPlain kinds.GetLineEndPosition
+end_is_plain = plain refl (λ r text. ap answer (end_of_any_text r text r.message.w))
+
+start_is_plain : IsPlain kinds.PositionFromLine
+start_is_plain = plain refl (λ r text. ap answer (start_of_any_text r text r.message.w))
+
+shown_is_plain : IsPlain kinds.DocLineFromVisible
+shown_is_plain = plain refl (λ r text. ap answer_number (shown_of_any_text r text r.message.w))
+
+-- Each plain question is plain: these by their lemmas, and all others because their plans compute without the text.
 all_plain : AllByRecursion IsPlain questions
-all_plain = (plain refl (λ r text. refl), (plain refl (λ r text. refl), (plain refl (λ r text. refl), (plain refl (λ r text. refl), (plain refl (λ r text. refl), (plain refl (λ r text. refl), (plain refl (λ r text. refl), (plain refl (λ r text. refl), (plain refl (λ r text. refl), (plain refl (λ r text. refl), (plain refl (λ r text. refl), (plain refl (λ r text. ap answer (end_of_any_text r text r.message.w)), (plain refl (λ r text. refl), (plain refl (λ r text. refl), (plain refl (λ r text. refl), (plain refl (λ r text. refl), (plain refl (λ r text. refl), (plain refl (λ r text. refl), (plain refl (λ r text. ap answer (start_of_any_text r text r.message.w)), (plain refl (λ r text. refl), (plain refl (λ r text. refl), (plain refl (λ r text. refl), (plain refl (λ r text. refl), (plain refl (λ r text. refl), (plain refl (λ r text. ap answer_number (shown_of_any_text r text r.message.w)), (plain refl (λ r text. refl), (plain refl (λ r text. refl), (plain refl (λ r text. refl), (plain refl (λ r text. refl), (plain refl (λ r text. refl), (plain refl (λ r text. refl), (plain refl (λ r text. refl), (plain refl (λ r text. refl), (plain refl (λ r text. refl), (plain refl (λ r text. refl), (plain refl (λ r text. refl), tt))))))))))))))))))))))))))))))))))))
+all_plain = assumption (end_is_plain, start_is_plain, shown_is_plain)
 
 pub found_plain : (number : ℕ) (kinds : List Kind) (kind : Kind) → AllByRecursion IsPlain kinds → kind_among kinds number ≡ Some kind → IsPlain kind × ((number_of kind == number) ≡ true)
 found_plain number [] kind all e = absurd (cc)
