@@ -14,10 +14,13 @@ use Rattle.ed_model.specs.InverseLaws.{Fits, FitInTurn, text_of_scene, history_o
 use Rattle.ed_model.specs.HistoryLaws.{SameButForSeals}
 use Rattle.ed_model.specs.UndoLaws.{undone_text}
 use Rattle.ed_model.specs.EarlierTextLaws.{KeepsEarlierTexts, EditsKeepEarlierTexts, UndoKeepsTheTextsBefore, RedoKeepsTheTextsBefore, DocumentChangesKeepEarlierTexts, latest_with, GoesBackAtFirst, GoesBackAfterwards}
-use Rattle.ed_model.specs.proved.Steps.{bytes_of_edited_cells, bytes_behind_restyled}
-use Rattle.ed_model.proofs.HistoryLemmas.{both_hold, where_true, where_false, where_collecting, apart, itself, joined_last, joined_open, append_begins, append_leaves_the_save_point, not_collecting_appends_nothing, seals_change_no_change, group_begun_changes_no_change, group_ended_changes_no_change, undo_moves_to_the_future, redo_moves_to_the_past}
+use Rattle.ed_model.specs.proved.Steps.{bytes_of_edited_cells}
+use Rattle.ed_model.specs.proved.Changes.{text_of_styled}
+use Rattle.ed_model.specs.proved.Histories.{same_length}
+use Rattle.ed_model.proofs.HistoryLemmas.{both_hold, where_collecting, apart, itself, joined_last, joined_open, append_begins, append_leaves_the_save_point, not_collecting_appends_nothing, seals_change_no_change, group_begun_changes_no_change, group_ended_changes_no_change, undo_moves_to_the_future, redo_moves_to_the_past}
 use Rattle.ed_model.proofs.TransactionLemmas.{undo_makes_its_steps, redo_makes_its_steps}
 use Rattle.ed_model.proofs.UndoLemmas.{undo_keeps_earlier_texts, redo_is_one_transaction_more, seals_keep_earlier_texts, begun_step_is_one_transaction_more, joined_step_keeps_earlier_texts, begun_container_step_is_one_transaction_more, joined_container_step_keeps_earlier_texts}
+use Rattle.std.proofs.lemmas.Bool.{cond-true, cond-false}
 
 -- `KeepsEarlierTexts` for a history and its text, in place of a document.
 abbrev pub Keeps : History → List ℕ → History → List ℕ → Type 0
@@ -69,9 +72,6 @@ keeps_then_same h g g' text changed changed' e same keeps (suc k) some within =
     (omega (arith, kept.0), same k ∙ kept.1 ∙ ap (λ n. undone_text (length h.past + suc k - n) h.past text) (sym e))
 
 -- Seals.
-
-pub same_length : (h g : History) → SameButForSeals h g → length g.past ≡ length h.past
-same_length h g s = sym (length-map g.past (λ (t : Transaction). t.changes)) ∙ ap length s.past ∙ length-map h.past (λ (t : Transaction). t.changes)
 
 pub keeps_then_sealed : (h g g' : History) (text changed : List ℕ) → SameButForSeals g g' → Keeps h text g changed → Keeps h text g' changed
 keeps_then_sealed h g g' text changed s keeps =
@@ -278,12 +278,6 @@ redo_keeps_the_texts_before scene fits = redo_keeps scene (history_of scene).fut
 
 -- Changes that are no edit.
 
--- styling changes no byte
-pub text_of_styled : (styles : List ℕ) (d : Document) → text_of (styled styles d) ≡ text_of d
-text_of_styled styles d =
-    both_hold (λ (cells : List Cell). bytes_of cells ≡ bytes_of d.cells) (keeps_no_styles d) d.cells (take d.end_styled d.cells ++ restyled styles (drop d.end_styled d.cells))
-    (λ e. refl) (λ e. bytes_behind_restyled d.end_styled styles d.cells)
-
 styled_keeps : (styles : List ℕ) (d : Document) → KeepsEarlierTexts d (styled styles d)
 styled_keeps styles d = subst (Keeps d.history (text_of d) d.history) (sym (text_of_styled styles d)) (keeps_same d.history (text_of d))
 
@@ -322,7 +316,7 @@ document_changes_keep_earlier_texts bytes (change.FillIndicator indicator start 
 -- the latest state is the latest with its number of transactions
 latest_itself : (d : Document) (states : List Document) → latest_with (length d.history.past - 0) (d ∷ states) ≡ Some (text_of d)
 latest_itself d states =
-    where_true (length d.history.past == length d.history.past - 0) (Some (text_of d)) (latest_with (length d.history.past - 0) states)
+    cond-true (length d.history.past == length d.history.past - 0) (Some (text_of d)) (latest_with (length d.history.past - 0) states)
     (ap (λ n. length d.history.past == n) (less_none (length d.history.past)) ∙ itself (length d.history.past))
   where
     less_none : (n : ℕ) → n - 0 ≡ n
@@ -334,7 +328,7 @@ goes_back_at_first d states none (suc k) within = absurd (omega (arith, ap lengt
 
 -- an earlier state is the latest with n transactions, if the latest state has another number
 latest_earlier : (n : ℕ) (d : Document) (states : List Document) → (length d.history.past ≡ n → ⊥) → latest_with n (d ∷ states) ≡ latest_with n states
-latest_earlier n d states other = where_false (length d.history.past == n) (Some (text_of d)) (latest_with n states) (apart (length d.history.past) n other)
+latest_earlier n d states other = cond-false (length d.history.past == n) (Some (text_of d)) (latest_with n states) (apart (length d.history.past) n other)
 
 pub goes_back_afterwards : GoesBackAfterwards
 goes_back_afterwards old new states back keeps zero within = latest_itself new states

@@ -10,7 +10,8 @@ use Rattle.ed_model.specs.Changes.{new_markers, with_new_markers, without_marker
 use Rattle.ed_model.specs.LinePlans.{numbers_in}
 use Rattle.ed_model.specs.SoundLaws.{occurrences, handles_in}
 use Rattle.ed_model.specs.HandleLaws.{StepsGiveNoHandle, ChangesGiveNoOldHandle, NextHandlesNeverFall}
-use Rattle.ed_model.proofs.SoundCarry.{handles_carried, handles_carried_by, occurrences_append}
+use Rattle.ed_model.specs.proved.Finding.{occurrences_append}
+use Rattle.ed_model.proofs.SoundCarry.{handles_carried, handles_carried_by}
 use Rattle.ed_model.proofs.SoundMarkers.{set_occurrences, with_markers_occurrences, new_below, without_marker_occurrences, without_markers_occurrences}
 
 pub steps_give_no_handle : StepsGiveNoHandle

@@ -1,10 +1,11 @@
 -- The undo history. First facts on lists of transactions and on save points, then facts on histories by cases of their tests.
 use Rattle.std.proofs.Common.{◌≡◌, ℕ, suc, ◌+◌, ◌-◌, ◌<◌, ◌≤◌, ◌==◌, nat_le, not, ◌&&◌, ◌||◌, cond, if◌then◌else◌, Bool, true, false, ℤ, List, [], ◌∷◌, length, map, refl, ap, ◌∙◌, sym, subst, arith, Option, Some, None}
-use Rattle.std.proofs.lemmas.Bool.{eqb-true, eq-eqb, leb-true}
+use Rattle.std.proofs.lemmas.Bool.{eqb-true, eq-eqb, leb-true, cond-true, cond-false}
 use Rattle.std.proofs.lemmas.List.{length-map}
 use Rattle.ed_model.specs.Numbers.{is_number}
 use Rattle.ed_model.specs.History.{History, Transaction, Change, at_save_point, joins, joins_last, appended, reachable, with_change, first_changes, seal_first, sealed_outside_groups, with_last_sealed, group_ended, with_container_step, ContainerStep, undone, undone_to, redone, redone_from}
 use Rattle.ed_model.specs.HistoryLaws.{NotCollectingAppendsNothing, KeepsAllButThePast, AppendKeepsAllButThePast, AppendJoins, NothingJoinsNone, AppendBegins, AppendCounts, AppendLeavesTheSavePoint, SavedIsAtTheSavePoint, EmptiedIsAtTheSavePoint, CollectingKeepsModified, SealsKeepModified, GroupBegunKeepsModified, GroupEndedKeepsModified, SealsOnce, NothingJoinsASealedOne, SameButForSeals, SealsChangeNoChange, GroupBegunChangesNoChange, GroupEndedChangesNoChange, GroupBegunIsDeeper, GroupEndedIsLessDeep, OthersKeepTheDepth, MovesToTheFuture, UndoMovesToTheFuture, MovesToThePast, RedoMovesToThePast, UndoThenRedoGivesBackTheHistory, UndoThenRedoKeepsModified}
+use Rattle.ed_model.specs.proved.Histories.{sealed_length, lower_save_point, other_save_point}
 
 -- Tests.
 
@@ -12,14 +13,6 @@ use Rattle.ed_model.specs.HistoryLaws.{NotCollectingAppendsNothing, KeepsAllButT
 pub both_hold : {A : Type 0} (P : A → Type 0) (b : Bool) (x y : A) → (b ≡ true → P x) → (b ≡ false → P y) → P (cond b x y)
 both_hold P true x y h k = h refl
 both_hold P false x y h k = k refl
-
-pub where_true : {A : Type 0} (b : Bool) (x y : A) → b ≡ true → cond b x y ≡ x
-where_true true x y e = refl
-where_true false x y e = cc
-
-pub where_false : {A : Type 0} (b : Bool) (x y : A) → b ≡ false → cond b x y ≡ y
-where_false true x y e = cc
-where_false false x y e = refl
 
 pub itself : (n : ℕ) → (n == n) ≡ true
 itself n = eq-eqb n n refl
@@ -33,10 +26,6 @@ pub apart : (a b : ℕ) → (a ≡ b → ⊥) → (a == b) ≡ false
 apart a b h = unequal a b (a == b) refl h
 
 -- Seals.
-
-pub sealed_length : (ts : List Transaction) → length (seal_first ts) ≡ length ts
-sealed_length [] = refl
-sealed_length (t ∷ ts) = refl
 
 pub sealed_changes : (ts : List Transaction) → map (λ (t : Transaction). t.changes) (seal_first ts) ≡ map (λ (t : Transaction). t.changes) ts
 sealed_changes [] = refl
@@ -71,8 +60,8 @@ seals_change_no_change h = outside_groups (SameButForSeals h) h (λ e. sealed_ch
 pub seals_once : SealsOnce
 seals_once h =
     both_hold (λ g. sealed_outside_groups g ≡ g) (h.depth == 0) (with_last_sealed h) h
-    (λ e. where_true (h.depth == 0) _ _ e ∙ ap (λ ts. record h { past = ts }) (sealed_twice h.past))
-    (λ e. where_false (h.depth == 0) _ _ e)
+    (λ e. cond-true (h.depth == 0) _ _ e ∙ ap (λ ts. record h { past = ts }) (sealed_twice h.past))
+    (λ e. cond-false (h.depth == 0) _ _ e)
 
 nothing_joins_sealed : (later : Bool) (c : Change) (h : History) (ts : List Transaction) → joins_last later c h (seal_first ts) ≡ false
 nothing_joins_sealed later c h [] = refl
@@ -80,7 +69,7 @@ nothing_joins_sealed later c h (t ∷ ts) = refl
 
 pub nothing_joins_a_sealed_one : NothingJoinsASealedOne
 nothing_joins_a_sealed_one later c h e =
-    subst (λ g. joins later c g ≡ false) (sym (where_true (h.depth == 0) (with_last_sealed h) h (eq-eqb h.depth 0 e)))
+    subst (λ g. joins later c g ≡ false) (sym (cond-true (h.depth == 0) (with_last_sealed h) h (eq-eqb h.depth 0 e)))
     (nothing_joins_sealed later c (with_last_sealed h) h.past)
 
 -- Groups.
@@ -124,10 +113,10 @@ abbrev pub collected : Bool → Change → History → History
 collected joined c h = record h { past = with_change joined c h.past; future = []; save_point = reachable (length h.past) h.save_point }
 
 pub where_collecting : (later : Bool) (c : Change) (h : History) → h.collecting ≡ true → appended later c h ≡ collected (joins later c h) c h
-where_collecting later c h e = where_true h.collecting (collected (joins later c h) c h) h e
+where_collecting later c h e = cond-true h.collecting (collected (joins later c h) c h) h e
 
 pub not_collecting_appends_nothing : NotCollectingAppendsNothing
-not_collecting_appends_nothing later c h e = where_false h.collecting (collected (joins later c h) c h) h e
+not_collecting_appends_nothing later c h e = cond-false h.collecting (collected (joins later c h) c h) h e
 
 pub append_keeps_all_but_the_past : AppendKeepsAllButThePast
 append_keeps_all_but_the_past later c h e =
@@ -200,23 +189,6 @@ count_of later c h false j e = refl
 
 pub append_counts : AppendCounts
 append_counts later c h = count_of later c h h.collecting (joins later c h) refl
-
--- a save point that can be reached from a past of n transactions is at most n
-reached_is_lower : (n k m : ℕ) (b : Bool) → (b ≡ true → k ≤ n) → n < m → is_number m (cond b (Some k) None) ≡ false
-reached_is_lower n k m true within lower = apart k m (λ e. omega (arith, within refl))
-reached_is_lower n k m false within lower = refl
-
-pub lower_save_point : (n m : ℕ) (save_point : Option ℕ) → n < m → is_number m (reachable n save_point) ≡ false
-lower_save_point n m None lower = refl
-lower_save_point n m (Some k) lower = reached_is_lower n k m (nat_le k n) (λ e. leb-true k n e) lower
-
-still_elsewhere : (n k : ℕ) (b : Bool) → (k == n) ≡ false → is_number n (cond b (Some k) None) ≡ false
-still_elsewhere n k true e = e
-still_elsewhere n k false e = refl
-
-pub other_save_point : (n : ℕ) (save_point : Option ℕ) → is_number n save_point ≡ false → is_number n (reachable n save_point) ≡ false
-other_save_point n None e = refl
-other_save_point n (Some k) e = still_elsewhere n k (nat_le k n) e
 
 modified_by : (later : Bool) (c : Change) (h : History) (b : Bool) → joins later c h ≡ b → at_save_point (collected b c h) ≡ false
 modified_by later c h true j =

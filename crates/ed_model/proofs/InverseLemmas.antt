@@ -9,23 +9,13 @@ use Rattle.ed_model.specs.Steps.{Step, Insert, Delete, edited, edited_cells, inv
 use Rattle.ed_model.specs.LineEnds.{after_steps}
 use Rattle.ed_model.specs.InverseLaws.{FitInTurn, inverses, InverseOfInverse, InverseGivesBackTheText, InverseFits, InverseGivesBackTheBytesOfCells, InsertionTakenBackGivesBackTheCells, InversesGiveBackTheText, InversesFitInTurn}
 use Rattle.ed_model.specs.proved.Steps.{bytes_of_edited_cells}
+use Rattle.ed_model.specs.proved.Lists.{front_kept, behind_kept}
 
 pub inverse_of_inverse : InverseOfInverse
 inverse_of_inverse (Insert p bytes) = refl
 inverse_of_inverse (Delete p bytes) = refl
 
 -- the bytes before a place, those of a range, and those after it
-
--- the bytes before a place p of the text are the first p bytes, whatever follows them
-pub front_kept : {A : Type 0} (p : ℕ) (text rest : List A) → p ≤ length text → take p (take p text ++ rest) ≡ take p text
-front_kept p text rest h =
-    let n = length-take-le p text h in
-    subst (λ (k : ℕ). take k (take p text ++ rest) ≡ take p text) n (take-append_seam (take p text) rest)
-
-pub behind_kept : {A : Type 0} (p : ℕ) (text rest : List A) → p ≤ length text → drop p (take p text ++ rest) ≡ rest
-behind_kept p text rest h =
-    let n = length-take-le p text h in
-    subst (λ (k : ℕ). drop k (take p text ++ rest) ≡ rest) n (drop-append_seam (take p text) rest)
 
 -- after the inserted bytes come the bytes that were there before
 pub behind_put_in : {A : Type 0} (p : ℕ) (text put rest : List A) → p ≤ length text → drop (p + length put) (take p text ++ (put ++ rest)) ≡ rest

@@ -7,8 +7,8 @@ use Rattle.std.proofs.lemmas.Bool.{cases_order, eq-eqb, ne_eqb, lt-ltb, le-ltb, 
 use Rattle.std.proofs.lemmas.List.{length-drop, take_at, drop_at, take-append-le, drop-append-le}
 use Rattle.std.proofs.lemmas.List.Sums.{prefix_len-le-length}
 use Rattle.ed_model.specs.MergeLaws.{lines_before, merged}
-use Rattle.ed_model.specs.proved.Lists.{each_weaker}
 use Rattle.ed_model.specs.proved.Rising.{Rises, Climbs, Climbs_weaker, Rises_weaker, count-cons}
+use Rattle.ed_model.specs.proved.Elements.{all_weaker}
 
 -- facts on each element
 
@@ -55,13 +55,13 @@ prefix_all p (x ∷ xs) h = rw (h.0, prefix_all p xs h.1) (one-add (length xs))
 pub merged-append : {R : Type 0} (together : List R → R) (moved : ℕ → ℕ) (old other : List ℕ) (s : ℕ) (new : List ℕ) (t : ℕ) (news : List ℕ) (rows others : List R) → length old ≡ length rows → AllByRecursion (λ u. u < t) new → AllByRecursion (λ o. moved o < t) old → AllByRecursion (λ o. t ≤ moved o) other → merged together moved (old ++ other) (s ∷ new ++ (t ∷ news)) (rows ++ others) ≡ merged together moved old (s ∷ new) rows ++ merged together moved other (t ∷ news) others
 merged-append together moved old other s [] t news rows others h b f l =
     let k : lines_before moved t (old ++ other) ≡ length old =
-    prefix_append (λ o. ltb (moved o) t) old other (each_weaker (λ o. t ≤ moved o) (λ o. ltb (moved o) t ≡ false) other (λ o m. le-ltb (moved o) t m) l)
-    ∙ prefix_all (λ o. ltb (moved o) t) old (each_weaker (λ o. moved o < t) (λ o. ltb (moved o) t ≡ true) old (λ o m. lt-ltb (moved o) t m) f) in
+    prefix_append (λ o. ltb (moved o) t) old other (all_weaker (λ o. t ≤ moved o) (λ o. ltb (moved o) t ≡ false) (λ o m. le-ltb (moved o) t m) other l)
+    ∙ prefix_all (λ o. ltb (moved o) t) old (all_weaker (λ o. moved o < t) (λ o. ltb (moved o) t ≡ true) (λ o m. lt-ltb (moved o) t m) old f) in
     rw (k, take_at rows others (length old) (sym h), drop_at old other (length old) refl, drop_at rows others (length old) (sym h)) refl
 merged-append {R} together moved old other s (u ∷ new) t news rows others h b f l =
     let count : ℕ = lines_before moved u old in
     let k : lines_before moved u (old ++ other) ≡ count =
-    prefix_append (λ o. ltb (moved o) u) old other (each_weaker (λ o. t ≤ moved o) (λ o. ltb (moved o) u ≡ false) other (λ o m. le-ltb (moved o) u (omega (arith, b.0))) l) in
+    prefix_append (λ o. ltb (moved o) u) old other (all_weaker (λ o. t ≤ moved o) (λ o. ltb (moved o) u ≡ false) (λ o m. le-ltb (moved o) u (omega (arith, b.0))) other l) in
     let within : count ≤ length old = prefix_len-le-length (λ o. ltb (moved o) u) old in
     let within_rows : count ≤ length rows = omega arith in
     rw (k, take-append-le count rows others within_rows, drop-append-le count old other within, drop-append-le count rows others within_rows)
@@ -157,5 +157,5 @@ block_of_rows {R} key low line (o ∷ old) (r ∷ rows) c h =
             none_under key (key o) line old c.1 (omega arith),
             none_upto key (key o) line old c.1 behind,
           )
-          (ap (map (λ (e : ℕ × R). e.1)) (none_on key line old rows (each_weaker (λ x. key o ≤ key x) (λ x. key x ≢ line) old (λ x m. λ e. omega arith) (climbs_each (key o) key old c.1))))
+          (ap (map (λ (e : ℕ × R). e.1)) (none_on key line old rows (all_weaker (λ x. key o ≤ key x) (λ x. key x ≢ line) (λ x m. λ e. omega arith) old (climbs_each (key o) key old c.1))))
     ]

@@ -12,10 +12,10 @@ use Rattle.ed_model.specs.Steps.{Step, Insert, Delete, place_of, edited, moved_s
 use Rattle.ed_model.specs.Carry.{carried, carried_by, carried_unless_empty, regrouped}
 use Rattle.ed_model.specs.NeighbourLaws.{starts_before, starts_from, starts_about, count_before}
 use Rattle.ed_model.specs.MergeLaws.{merged, JoinsRows, end_of, put_in, first_line_about, first_line_behind, new_starts_about}
-use Rattle.ed_model.specs.proved.Lists.{each_weaker}
 use Rattle.ed_model.specs.proved.Rising.{Rises, Climbs, Climbs_weaker, Climbs_from_rises}
 use Rattle.ed_model.specs.proved.Lines.{line_starts_rise, first_line_start, some_line}
 use Rattle.ed_model.specs.proved.Neighbours.{starts_after_insertion, starts_after_deletion, starts_about_is, starts_before_first, starts_from_others, count_before_monotone, some_before}
+use Rattle.ed_model.specs.proved.Elements.{all_weaker, map_where}
 use Rattle.ed_model.proofs.StepLemmas.{start_keeps_order}
 use Rattle.ed_model.proofs.MergeLemmas.{carried_is_merged}
 use Rattle.ed_model.proofs.JoinLemmas.{each_drop, rises_front, rises_before, rises_rest, climbs_each, climbs_of_keys, merged-append, merged_same}
@@ -38,18 +38,14 @@ pub start_behind_stays_behind : (step : Step) (o t : ℕ) → o < end_of step + 
 start_behind_stays_behind (Insert p bytes) o t h l = moved_on_below p (length bytes) o t h l
 start_behind_stays_behind (Delete p bytes) o t h l = moved_back_below p (length bytes) o t h l
 
-map_where : (f g : ℕ → ℕ) (xs : List ℕ) → AllByRecursion (λ x. f x ≡ g x) xs → map f xs ≡ map g xs
-map_where f g [] h = refl
-map_where f g (x ∷ xs) h = ap₂ (λ y l. y ∷ l) h.0 (map_where f g xs h.1)
-
 each_before : (place : ℕ) (starts : List ℕ) → AllByRecursion (λ s. s < place) (starts_before place starts)
 each_before place starts =
-    each_weaker (λ s. ltb s place ≡ true) (λ s. s < place) (starts_before place starts) (λ s e. ltb-true s place e)
+    all_weaker (λ s. ltb s place ≡ true) (λ s. s < place) (λ s e. ltb-true s place e) (starts_before place starts)
     (recursion_from_All (λ s. ltb s place ≡ true) (starts_before place starts) (filter_passes (λ s. ltb s place) starts))
 
 each_from : (place : ℕ) (starts : List ℕ) → AllByRecursion (λ s. place ≤ s) (starts_from place starts)
 each_from place starts =
-    each_weaker (λ s. leb place s ≡ true) (λ s. place ≤ s) (starts_from place starts) (λ s e. leb-true place s e)
+    all_weaker (λ s. leb place s ≡ true) (λ s. place ≤ s) (λ s e. leb-true place s e) (starts_from place starts)
     (recursion_from_All (λ s. leb place s ≡ true) (starts_from place starts) (filter_passes (λ s. leb place s) starts))
 
 moved_on_is : (p n s : ℕ) → p + 3 ≤ s → s + n ≡ cond (ltb s p) s (s + n)
@@ -65,13 +61,13 @@ starts_after_step types (Insert p bytes) text h =
     starts_after_insertion types p bytes text h
     ∙ ap (λ l. starts_before p (line_starts types text) ++ starts_about types p p bytes text ++ l)
     (map_where (λ s. s + length bytes) (moved_start (Insert p bytes)) behind
-    (each_weaker (λ s. p + 3 ≤ s) (λ s. s + length bytes ≡ moved_start (Insert p bytes) s) behind (λ s m. moved_on_is p (length bytes) s m) (each_from (p + 3) (line_starts types text))))
+    (all_weaker (λ s. p + 3 ≤ s) (λ s. s + length bytes ≡ moved_start (Insert p bytes) s) (λ s m. moved_on_is p (length bytes) s m) behind (each_from (p + 3) (line_starts types text))))
 starts_after_step types (Delete p bytes) text h =
     let behind : List ℕ = starts_from (p + length bytes + 3) (line_starts types text) in
     starts_after_deletion types p bytes text h
     ∙ ap (λ l. starts_before p (line_starts types text) ++ starts_about types p (p + length bytes) [] text ++ l)
     (map_where (λ s. s - length bytes) (moved_start (Delete p bytes)) behind
-    (each_weaker (λ s. p + length bytes + 3 ≤ s) (λ s. s - length bytes ≡ moved_start (Delete p bytes) s) behind (λ s m. moved_back_is p (length bytes) s m) (each_from (p + length bytes + 3) (line_starts types text))))
+    (all_weaker (λ s. p + length bytes + 3 ≤ s) (λ s. s - length bytes ≡ moved_start (Delete p bytes) s) (λ s m. moved_back_is p (length bytes) s m) behind (each_from (p + length bytes + 3) (line_starts types text))))
 
 -- the walk over three parts, of which the lines of the first and the last stay
 
@@ -133,7 +129,7 @@ each_true P (x ∷ xs) f = (f x, each_true P xs f)
 
 each_of_each : (P : ℕ → ℕ → Type 0) (A B : ℕ → Type 0) (xs ys : List ℕ) → ((x y : ℕ) → A x → B y → P x y) → AllByRecursion A xs → AllByRecursion B ys → AllByRecursion (λ y. AllByRecursion (λ x. P x y) xs) ys
 each_of_each P A B xs [] f a b = tt
-each_of_each P A B xs (y ∷ ys) f a b = (each_weaker A (λ x. P x y) xs (λ x ax. f x y ax b.0) a, each_of_each P A B xs ys f a b.1)
+each_of_each P A B xs (y ∷ ys) f a b = (all_weaker A (λ x. P x y) (λ x ax. f x y ax b.0) xs a, each_of_each P A B xs ys f a b.1)
 
 climbs_on : (low k : ℕ) (xs : List ℕ) → Climbs low xs → k < length xs → Climbs (get_or xs k 0) (drop k xs)
 climbs_on low k [] c l = absurd (omega arith)
@@ -289,7 +285,7 @@ step_carries_nearby {R} together j types step text rows h fits some =
     let same : AllByRecursion (λ o. moved o ≡ o) front =
     subst (AllByRecursion (λ o. moved o ≡ o)) (front_is types step text)
     (each_take (λ o. moved o ≡ o) first (starts_before (place_of step) starts)
-    (each_weaker (λ o. o < place_of step) (λ o. moved o ≡ o) (starts_before (place_of step) starts) (λ o l. start_before_stays step o l) (each_before (place_of step) starts))) in
+    (all_weaker (λ o. o < place_of step) (λ o. moved o ≡ o) (λ o l. start_before_stays step o l) (starts_before (place_of step) starts) (each_before (place_of step) starts))) in
     let rises : Rises 0 (front ++ (news ++ map moved back)) = subst (Rises 0) new (line_starts_rise types (edited step text)) in
     let near : AllByRecursion (λ o. get_or news 0 0 ≤ moved o) (mid ++ back) = subst (AllByRecursion (λ o. get_or news 0 0 ≤ moved o)) rest (head_of_new types step text).1 in
     let upto : AllByRecursion (λ o. o < end_of step + 3) mid =

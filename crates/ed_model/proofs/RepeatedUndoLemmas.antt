@@ -11,20 +11,17 @@ use Rattle.ed_model.specs.InverseLaws.{after_undo, after_redo}
 use Rattle.ed_model.specs.UndoLaws.{undone_text, redone_text, undos, redos}
 use Rattle.ed_model.specs.UndoMessageLaws.{IsUndone, IsRedone}
 use Rattle.ed_model.specs.RepeatedUndoLaws.{LeavesAlone, AreAnswered, UndosGoBackThenRedosGoOn, UndoMessagesGoBack}
+use Rattle.ed_model.specs.proved.Finding.{document_sound, same_document}
+use Rattle.ed_model.specs.proved.Histories.{sealed_length}
 use Rattle.ed_model.proofs.UndoLemmas.{undos_go_back}
 use Rattle.ed_model.proofs.UndoMessageLemmas.{undone_document, redone_document, undo_undoes, redo_redoes}
 use Rattle.ed_model.proofs.SoundHistory.{undone_then_redone_is_the_same}
-use Rattle.ed_model.proofs.SoundFinding.{document_sound}
 
 -- The numbers of transactions after undo and redo.
 
-length_sealed : (ts : List Transaction) → length (seal_first ts) ≡ length ts
-length_sealed [] = refl
-length_sealed (t ∷ ts) = refl
-
 undone_from : (h : History) (ts : List Transaction) → 0 < length ts → ((undone_to h ts).depth ≡ h.depth) × (suc (length (undone_to h ts).past) ≡ length ts) × (length (undone_to h ts).future ≡ suc (length h.future))
 undone_from h [] some = absurd (omega arith)
-undone_from h (t ∷ ts) some = (refl, ap suc (length_sealed ts), refl)
+undone_from h (t ∷ ts) some = (refl, ap suc (sealed_length ts), refl)
 
 redone_to : (h : History) (ts : List Transaction) → 0 < length ts → ((redone_from h ts).depth ≡ h.depth) × (suc (length (redone_from h ts).future) ≡ length ts)
 redone_to h [] some = absurd (omega arith)
@@ -42,9 +39,6 @@ record StandsAt (scene : Scene) (d : Document) : Type 0 where
 -- the document with this id exists, and is in that state
 abbrev IsThere : ℕ → Scene → Session → Type 0
 IsThere id scene s = (d : Document) × (document_at s.documents id ≡ Some d) × StandsAt scene d
-
-same_document : (o : Option Document) (d e : Document) → o ≡ Some d → o ≡ Some e → d ≡ e
-same_document o d e p q = cc
 
 left_there : (id : ℕ) (scene : Scene) (s t : Session) → IsThere id scene s → LeavesAlone id s t → IsThere id scene t
 left_there id scene s t there left =

@@ -38,14 +38,15 @@ use Rattle.ed_model.specs.RepeatedUndoLaws.{IsLeftAlone, LeavesOthersAlone, Mess
 use Rattle.ed_model.specs.RunUndoLaws.{GoesOn, DocumentsGoOn, MessagesLetDocumentsGoOn, CommandsLetDocumentsGoOn, sessions_of, states_of, UndoGoesBackInEveryRun}
 use Rattle.ed_model.specs.SoundLaws.{IsSound, Rise}
 use Rattle.ed_model.specs.PlansFit.{IsSoundRequest, IsFitPlan, IsFitPlanned}
+use Rattle.ed_model.specs.proved.Finding.{document_id, view_id, replaced_found, replaced_other, same_document, living_from, mapped_found, mapped_ids, documents_added}
+use Rattle.ed_model.specs.proved.Changes.{changed_id}
+use Rattle.ed_model.specs.proved.Scenes.{edit_made_id}
+use Rattle.ed_model.specs.proved.Requests.{own_document, request_document}
 use Rattle.ed_model.proofs.HistoryLemmas.{both_hold}
 use Rattle.ed_model.proofs.EarlierTextLemmas.{keeps_same, edits_keep_earlier_texts, undo_keeps_the_texts_before, redo_keeps_the_texts_before, document_changes_keep_earlier_texts, goes_back_at_first, goes_back_afterwards}
 use Rattle.ed_model.proofs.SoundHistory.{fit_in_turn}
 use Rattle.ed_model.proofs.SoundScenes.{changes_keep}
-use Rattle.ed_model.proofs.SoundFinding.{document_id, view_id, replaced_found, replaced_other}
-use Rattle.ed_model.proofs.SoundChanges.{changed_id}
-use Rattle.ed_model.proofs.SoundReferences.{documents_push}
-use Rattle.ed_model.proofs.SoundPlans.{request_document, plan_fits}
+use Rattle.ed_model.proofs.SoundPlans.{plan_fits}
 use Rattle.ed_model.proofs.SoundRuns.{edit_steps_fit, redo_steps_fit, command_sound, new_session_sound}
 
 -- Lists of documents.
@@ -66,9 +67,6 @@ left_alone Own (Some old) d e other f h = let same : old ≡ d = cc in subst (λ
 abbrev ListsGoOn : (ℕ → Type 0) → List Document → List Document → Type 0
 ListsGoOn Own ds es = (id : ℕ) (d : Document) → document_at es id ≡ Some d → GoesOnBut Own (document_at ds id) d
 
-same_found : (o : Option Document) (d e : Document) → o ≡ Some d → o ≡ Some e → d ≡ e
-same_found o d e p q = cc
-
 goes_on_same : (Own : ℕ → Type 0) (d : Document) → GoesOnBut Own (Some d) d
 goes_on_same Own d = (keeps_same d.history (text_of d), λ other. record { text = refl; history = refl; read_only = refl })
 
@@ -82,8 +80,8 @@ lists_go_on_replaced ds old new found keeps id d e = go (id == new.id) refl
     go : (b : Bool) → (id == new.id) ≡ b → GoesOnBut (λ id. id ≡ new.id) (document_at ds id) d
     go true t =
         let same = eqb-true id new.id t in
-        let there : document_at (with_document new ds) id ≡ Some new = ap (document_at (with_document new ds)) same ∙ replaced_found ds old new found in
-        let is_new : new ≡ d = same_found (document_at (with_document new ds) id) new d there e in
+        let there : document_at (with_document new ds) id ≡ Some new = ap (document_at (with_document new ds)) same ∙ replaced_found ds new.id old new refl found in
+        let is_new : new ≡ d = same_document (document_at (with_document new ds) id) new d there e in
         let was : Some old ≡ document_at ds id = sym (ap (document_at ds) same ∙ found) in
         subst (λ (o : Option Document). GoesOnBut (λ id. id ≡ new.id) o d) was
         (subst (λ (x : Document). KeepsEarlierTexts old x) is_new keeps, λ other. absurd (other (ap (λ (x : Document). x.id) (sym is_new))))
@@ -101,15 +99,6 @@ pub record IsRelisted (d e : Document) : Type 0 where
   pub cells : e.cells ≡ d.cells
   pub read_only : e.read_only ≡ d.read_only
 
-mapped_at : (g : Document → Document) → ((d : Document) → IsRelisted d (g d)) → (ds : List Document) (id : ℕ) → document_at (map g ds) id ≡ option_map g (document_at ds id)
-mapped_at g r [] id = refl
-mapped_at g r (d ∷ ds) id =
-    ap (λ n. cond (n == id) (Some (g d)) (document_at (map g ds) id)) (r d).id ∙ go (d.id == id) (mapped_at g r ds id)
-  where
-    go : (b : Bool) → document_at (map g ds) id ≡ option_map g (document_at ds id) → cond b (Some (g d)) (document_at (map g ds) id) ≡ option_map g (cond b (Some d) (document_at ds id))
-    go true rest = refl
-    go false rest = rest
-
 goes_on_relisted : (Own : ℕ → Type 0) (o : Option Document) (d e : Document) → IsRelisted d e → GoesOnBut Own o d → GoesOnBut Own o e
 goes_on_relisted Own None d e r h = ap (λ (x : History). x.past) r.history ∙ h
 goes_on_relisted Own (Some old) d e r h = (
@@ -120,7 +109,7 @@ goes_on_relisted Own (Some old) d e r h = (
 )
 
 lists_go_on_mapped : (Own : ℕ → Type 0) (ds es : List Document) (g : Document → Document) → ((d : Document) → IsRelisted d (g d)) → ListsGoOn Own ds es → ListsGoOn Own ds (map g es)
-lists_go_on_mapped Own ds es g r h id d e = go (document_at es id) refl (sym (mapped_at g r es id) ∙ e)
+lists_go_on_mapped Own ds es g r h id d e = go (document_at es id) refl (sym (mapped_found (λ (x : Document). x.id) g (λ x. (r x).id) es id) ∙ e)
   where
     go : (o : Option Document) → document_at es id ≡ o → option_map g o ≡ Some d → GoesOnBut Own (document_at ds id) d
     go None found f = cc
@@ -128,44 +117,14 @@ lists_go_on_mapped Own ds es g r h id d e = go (document_at es id) refl (sym (ma
         let is : g x ≡ d = cc in
         subst (GoesOnBut Own (document_at ds id)) is (goes_on_relisted Own (document_at ds id) x (g x) (r x) (h id x found))
 
--- the id of a document in a rising list is at least the list's bound
-rise_found : (low high : ℕ) (ds : List Document) (id : ℕ) (d : Document) → Rise low high (map (λ (x : Document). x.id) ds) → document_at ds id ≡ Some d → low ≤ id
-rise_found low high [] id d rise e = cc
-rise_found low high (x ∷ xs) id d rise e = go (x.id == id) refl e (λ f. rise_found (x.id + 1) high xs id d rise.2 f)
-  where
-    go : (b : Bool) → (x.id == id) ≡ b → cond b (Some x) (document_at xs id) ≡ Some d → (document_at xs id ≡ Some d → x.id + 1 ≤ id) → low ≤ id
-    go true t f rest = let same = eqb-true x.id id t in let first : low ≤ x.id = rise.0 in omega arith
-    go false t f rest = let first : low ≤ x.id = rise.0 in let later : x.id + 1 ≤ id = rest f in omega arith
-
--- a document that still has a reference was in the list before, unchanged
-living_from : (low high : ℕ) (ds : List Document) (id : ℕ) (d : Document) → Rise low high (map (λ (x : Document). x.id) ds) → document_at (living ds) id ≡ Some d → document_at ds id ≡ Some d
-living_from low high [] id d rise e = e
-living_from low high (x ∷ xs) id d rise e = go (nat_lt 0 (references x)) e (λ f. living_from (x.id + 1) high xs id d rise.2 f)
-  where
-    first : (b : Bool) → (document_at (living xs) id ≡ Some d → document_at xs id ≡ Some d) → cond b (Some x) (document_at (living xs) id) ≡ Some d → cond b (Some x) (document_at xs id) ≡ Some d
-    first true rest f = f
-    first false rest f = rest f
-
-    later : (b : Bool) → (x.id == id) ≡ b → x.id + 1 ≤ id → document_at xs id ≡ Some d → cond b (Some x) (document_at xs id) ≡ Some d
-    later true t above f = let same = eqb-true x.id id t in absurd (omega arith)
-    later false t above f = f
-
-    go : (b : Bool) → document_at (cond b (x ∷ living xs) (living xs)) id ≡ Some d → (document_at (living xs) id ≡ Some d → document_at xs id ≡ Some d) → cond (x.id == id) (Some x) (document_at xs id) ≡ Some d
-    go true f rest = first (x.id == id) rest f
-    go false f rest = later (x.id == id) refl (rise_found (x.id + 1) high xs id d rise.2 (rest f)) (rest f)
-
 lists_go_on_living : (Own : ℕ → Type 0) (ds es : List Document) (low high : ℕ) → Rise low high (map (λ (x : Document). x.id) es) → ListsGoOn Own ds es → ListsGoOn Own ds (living es)
 lists_go_on_living Own ds es low high rise h id d e = h id d (living_from low high es id d rise e)
-
-mapped_ids : (g : Document → Document) → ((d : Document) → IsRelisted d (g d)) → (ds : List Document) → map (λ (x : Document). x.id) (map g ds) ≡ map (λ (x : Document). x.id) ds
-mapped_ids g r [] = refl
-mapped_ids g r (d ∷ ds) = ap (λ n. n ∷ map (λ (x : Document). x.id) (map g ds)) (r d).id ∙ ap (λ ids. d.id ∷ ids) (mapped_ids g r ds)
 
 -- documents whose views and references change, and of which some are dropped
 lists_go_on_relisted : (Own : ℕ → Type 0) (ds es : List Document) (g : Document → Document) (low high : ℕ) → ((d : Document) → IsRelisted d (g d)) →
     Rise low high (map (λ (x : Document). x.id) es) → ListsGoOn Own ds es → ListsGoOn Own ds (living (map g es))
 lists_go_on_relisted Own ds es g low high r rise h =
-    lists_go_on_living Own ds (map g es) low high (subst (Rise low high) (sym (mapped_ids g r es)) rise) (lists_go_on_mapped Own ds es g r h)
+    lists_go_on_living Own ds (map g es) low high (subst (Rise low high) (sym (mapped_ids (λ (x : Document). x.id) g (λ x. (r x).id) es)) rise) (lists_go_on_mapped Own ds es g r h)
 
 -- a new document has no past
 lists_go_on_pushed : (Own : ℕ → Type 0) (ds : List Document) (new : Document) → new.history.past ≡ [] → ListsGoOn Own ds (ds ++ new ∷ [])
@@ -216,7 +175,7 @@ session_change_goes_on Own r session_change.AttachNew h =
     let s = r.session in
     let with = with_new_document (new_document s.next_document 0) s in
     attached_go_on Own s.documents with (document_at with.documents s.next_document) r.view (s.next_document + 1)
-    (documents_push s.next_document s.documents (new_document s.next_document 0) refl h.document_ids)
+    (documents_added s.next_document s.documents (new_document s.next_document 0) refl h.document_ids)
     (lists_go_on_pushed Own s.documents (new_document s.next_document 0) refl)
 session_change_goes_on Own r (session_change.Create options) h =
     let d = new_document r.session.next_document options in
@@ -225,18 +184,6 @@ session_change_goes_on Own r (session_change.AddReference id) h =
     lists_go_on_mapped Own r.session.documents r.session.documents (held_more id) (held_more_relisted id) (lists_go_on_same Own r.session.documents)
 session_change_goes_on Own r (session_change.Release id) h =
     lists_go_on_relisted Own r.session.documents r.session.documents (held_less id) 0 r.session.next_document (held_less_relisted id) h.document_ids (lists_go_on_same Own r.session.documents)
-
-steps_made_id : (later : Bool) (steps : List Step) (scene : Scene) → (steps_made later steps scene).document.id ≡ scene.document.id
-steps_made_id later [] scene = refl
-steps_made_id later (step ∷ steps) scene = steps_made_id true steps (step_made later step scene)
-
-edit_made_id : (steps : List Step) (scene : Scene) → (edit_made steps scene).document.id ≡ scene.document.id
-edit_made_id steps scene =
-    both_hold (λ (x : Scene). x.document.id ≡ scene.document.id) (nat_lt 1 (length steps)) (sealed_scene (steps_made false steps (sealed_scene scene))) (steps_made false steps scene)
-    (λ e. steps_made_id false steps (sealed_scene scene)) (λ e. steps_made_id false steps scene)
-
-own_document : (r : Request) → IsSoundRequest r → document_at r.session.documents r.document.id ≡ Some r.document
-own_document r h = ap (document_at r.session.documents) (document_id r.session.documents r.view.document r.document h.document) ∙ h.document
 
 -- the request's document replaced by one that keeps its earlier texts
 own_replaced : (r : Request) (new : Document) → IsSoundRequest r → new.id ≡ r.document.id → KeepsEarlierTexts r.document new → ListsGoOn (λ id. id ≡ r.view.document) r.session.documents (with_document new r.session.documents)

@@ -12,8 +12,8 @@ use Rattle.ed_model.specs.declared.plan.LineEndTypes.{LineEndTypes}
 use Rattle.ed_model.specs.Requests.{Request, Planned, text, size, line_total, with_argument, argument, text_length, text_range, counted_range, with_line, line_argument, end_or_size}
 use Rattle.ed_model.specs.SoundLaws.{Rise}
 use Rattle.ed_model.specs.PlansFit.{IsFitPlanned}
+use Rattle.ed_model.specs.proved.Elements.{found_all, found_test, all_reverse}
 use Rattle.ed_model.proofs.SoundLists.{starts_rise}
-use Rattle.ed_model.proofs.SoundFinding.{found_all, found_test, all_append}
 
 -- Numbers.
 
@@ -91,11 +91,6 @@ start_bound types text line = let a = rise_get 0 (length text + 1) (line_starts 
 pub past_bound : (types : LineEndTypes) (text : List ℕ) (line : ℕ) → start_after_line types text line ≤ length text
 past_bound types text line = rise_slice 0 (length text) (line_starts types text) (line + 1) (starts_rise types text)
 
-pub end_bound : (types : LineEndTypes) (text : List ℕ) (line : ℕ) → end_of_line types text line ≤ length text
-end_bound types text line =
-    cond_both (nat_lt (line + 1) (line_count types text)) (start_after_line types text line - line_end_length text (start_after_line types text line)) (length text) (λ p. p ≤ length text)
-    (λ _. let a = past_bound types text line in omega arith) (λ _. omega arith)
-
 -- Cuts.
 
 cuts_bound : (n p left : ℕ) (text : List ℕ) → p + length text ≤ n → AllByRecursion (λ c. c ≤ n) (cuts_from p left text)
@@ -108,7 +103,7 @@ cut_after_bound text p = go (find (nat_lt p) (cuts text)) refl
   where
     go : (o : Option ℕ) → find (nat_lt p) (cuts text) ≡ o → unwrap_or o (length text) ≤ length text
     go None e = omega arith
-    go (Some c) e = (found_all (λ c. c ≤ length text) (nat_lt p) (cuts text) c (cuts_bound (length text) 0 0 text (omega arith)) e).0
+    go (Some c) e = found_all (λ c. c ≤ length text) (nat_lt p) (cuts text) c (cuts_bound (length text) 0 0 text (omega arith)) e
 
 pub cut_before_bound : (text : List ℕ) (p : ℕ) → cut_before text p ≤ p
 cut_before_bound text p = go (find (λ cut. nat_lt cut p) (reverse (cuts text))) refl
@@ -126,10 +121,6 @@ all_range a n = go a n a (a + n) (omega arith) (omega arith)
     go low zero b top h g = tt
     go low (suc m) b top h g = ((omega arith, omega arith), go low m (b + 1) top (omega arith) (omega arith))
 
-pub all_reverse : {X : Type 0} (P : X → Type 0) (xs : List X) → AllByRecursion P xs → AllByRecursion P (reverse xs)
-all_reverse P [] a = tt
-all_reverse P (x ∷ xs) a = subst (AllByRecursion P) (sym (reverse-append (x ∷ []) xs)) (all_append P (reverse xs) (x ∷ []) (all_reverse P xs a.1) (a.0, tt))
-
 -- a match is within the text
 pub match_bound : (flags : ℕ) (text pattern : List ℕ) (from to n place : ℕ) → from ≤ n → to ≤ n → match_in flags text pattern from to ≡ Some place → place + length pattern ≤ n
 match_bound flags text [] from to n place f t e = let same : min from to ≡ place = cc in omega arith
@@ -143,7 +134,7 @@ match_bound flags text (b ∷ bs) from to n place f t e = go (nat_le from to) re
         → place + length (b ∷ bs) ≤ n
     go true c e = inside from to t
         (found_all (λ k. (from ≤ k) × (k < from + ((to + 1) - (from + length (b ∷ bs))))) (is_match flags text (b ∷ bs)) (starts_within from to (length (b ∷ bs))) place
-        (all_range from ((to + 1) - (from + length (b ∷ bs)))) e).0
+        (all_range from ((to + 1) - (from + length (b ∷ bs)))) e)
     go false c e = inside to from f
         (found_all (λ k. (to ≤ k) × (k < to + ((from + 1) - (to + length (b ∷ bs))))) (is_match flags text (b ∷ bs)) (reverse (starts_within to from (length (b ∷ bs)))) place
-        (all_reverse (λ k. (to ≤ k) × (k < to + ((from + 1) - (to + length (b ∷ bs))))) (starts_within to from (length (b ∷ bs))) (all_range to ((from + 1) - (to + length (b ∷ bs))))) e).0
+        (all_reverse (λ k. (to ≤ k) × (k < to + ((from + 1) - (to + length (b ∷ bs))))) (starts_within to from (length (b ∷ bs))) (all_range to ((from + 1) - (to + length (b ∷ bs))))) e)

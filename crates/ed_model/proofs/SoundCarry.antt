@@ -13,6 +13,7 @@ use Rattle.ed_model.specs.Rows.{Row, Marker, Flags, flags_together, rows_togethe
 use Rattle.ed_model.specs.Folding.{is_visible}
 use Rattle.ed_model.specs.SoundLaws.{Rise, occurrences, handles_in}
 use Rattle.ed_model.specs.proved.Lines.{line_of_monotone}
+use Rattle.ed_model.specs.proved.Finding.{occurrences_append}
 use Rattle.ed_model.proofs.StepLemmas.{start_keeps_order}
 use Rattle.ed_model.proofs.SoundLists.{rise_range, starts_rise}
 
@@ -69,9 +70,6 @@ first_regrouped old new text flags v =
     first_carried (λ start. start) (λ p q h. h) (length text + 1) (line_starts old text) (line_starts new text) flags (starts_rise old text) v
 
 -- Handles.
-
-pub occurrences_append : (n : ℕ) (xs ys : List ℕ) → occurrences n (xs ++ ys) ≡ occurrences n xs + occurrences n ys
-occurrences_append n xs ys = simp (filter-append, length-append)
 
 abbrev pub handles_of : Row → List ℕ
 handles_of row = map (λ (m : Marker). m.handle) row.markers

@@ -18,9 +18,12 @@ use Rattle.ed_model.specs.Session.{Document, View, text_of, lines_in, limit_of, 
 use Rattle.ed_model.specs.LinePlans.{numbers_in}
 use Rattle.ed_model.specs.Changes.{changed_document, changed_lines, with_markers, with_new_markers, new_markers, without_marker, without_markers, is_of_number, restyled, styled}
 use Rattle.ed_model.specs.SoundLaws.{FitsText, IsSoundDocument, StandsOn, occurrences, handles_in}
+use Rattle.ed_model.specs.proved.Changes.{text_of_styled}
+use Rattle.ed_model.specs.proved.Finding.{occurrences_append}
+use Rattle.ed_model.specs.proved.Indicators.{length_filled}
 use Rattle.ed_model.proofs.CarryLemmas.{length-carried}
 use Rattle.ed_model.proofs.SoundLists.{are_line_starts}
-use Rattle.ed_model.proofs.SoundCarry.{handles_carried, first_regrouped, occurrences_append}
+use Rattle.ed_model.proofs.SoundCarry.{handles_carried, first_regrouped}
 use Rattle.ed_model.proofs.SoundHistory.{saved_fits, group_begun_fits, group_ended_fits, emptied_fits, collecting_set_fits, container_step_fits}
 use Rattle.ed_model.proofs.SoundMarkers.{set_occurrences, with_markers_occurrences, length_with_markers, new_below, new_above, new_once, without_marker_occurrences, without_markers_occurrences}
 
@@ -141,26 +144,12 @@ row_sound limits d line row was same =
 
 -- Styles.
 
-restyled_bytes : (styles : List ℕ) (cells : List Cell) → bytes_of (restyled styles cells) ≡ bytes_of cells
-restyled_bytes [] cells = refl
-restyled_bytes (s ∷ ss) [] = refl
-restyled_bytes (s ∷ ss) (c ∷ cells) = ap (λ t. c.byte ∷ t) (restyled_bytes ss cells)
-
-styled_bytes : (new : List ℕ) (d : Document) → text_of (styled new d) ≡ text_of d
-styled_bytes new d =
-    cond_both (keeps_no_styles d) d.cells (take d.end_styled d.cells ++ restyled new (drop d.end_styled d.cells)) (λ cells. bytes_of cells ≡ bytes_of d.cells)
-    (λ _. refl)
-    (λ _. map-append (λ (c : Cell). c.byte) (take d.end_styled d.cells) (restyled new (drop d.end_styled d.cells))
-    ∙ ap (λ t. bytes_of (take d.end_styled d.cells) ++ t) (restyled_bytes new (drop d.end_styled d.cells))
-    ∙ sym (map-append (λ (c : Cell). c.byte) (take d.end_styled d.cells) (drop d.end_styled d.cells))
-    ∙ ap bytes_of (take-append-drop d.end_styled d.cells))
-
 length_from_bytes : (xs ys : List Cell) → bytes_of xs ≡ bytes_of ys → length xs ≡ length ys
 length_from_bytes xs ys e = sym (length-map xs (λ (c : Cell). c.byte)) ∙ ap length e ∙ length-map ys (λ (c : Cell). c.byte)
 
 styled_sound : (limits : Limits) (d : Document) (new : List ℕ) → IsSoundDocument limits d → d.end_styled + length new ≤ length d.cells → IsSoundDocument limits (styled new d)
 styled_sound limits d new was le =
-    let bytes = styled_bytes new d in
+    let bytes = text_of_styled new d in
     let n : length (styled new d).cells ≡ length d.cells = length_from_bytes (styled new d).cells d.cells bytes in
     record {
       line_starts = are_line_starts d.line_end_types (text_of (styled new d));
@@ -186,9 +175,6 @@ pub all_get_or : {X : Type 0} (P : X → Type 0) (xs : List X) (i : ℕ) (d : X)
 all_get_or P [] i d all l = absurd (omega arith)
 all_get_or P (x ∷ xs) zero d all l = all.0
 all_get_or P (x ∷ xs) (suc i) d all l = all_get_or P xs i d all.1 (let m : suc i < suc (length xs) = l in omega arith)
-
-length_filled : (start count value : ℕ) (values : List ℕ) → start + count ≤ length values → length (filled start count value values) ≡ length values
-length_filled start count value values h = simp (length-append, length-take, length-drop, length-replicate) (omega arith)
 
 filled_sound : (limits : Limits) (d : Document) (indicator start count value : ℕ) → IsSoundDocument limits d → start + count ≤ length d.cells
     → IsSoundDocument limits (record d { indicators = slice_set d.indicators indicator (filled start count value (slice_index_or d.indicators indicator [])) })
@@ -292,16 +278,7 @@ regrouped_stands d to rows v on = record {
 
 styled_stands : (new : List ℕ) (d : Document) (v : View) → StandsOn d v → StandsOn (styled new d) v
 styled_stands new d v on =
-    stands_kept d (styled new d) v (length_from_bytes (styled new d).cells d.cells (styled_bytes new d)) (ap (line_count d.line_end_types) (styled_bytes new d)) refl on
-
--- a change keeps the document's id, and a view that fits the document still fits it
-pub changed_id : (bytes : List ℕ) (what : DocumentChange) (d : Document) → (changed_document bytes what d).id ≡ d.id
-changed_id bytes (change.SetReadOnly on) d = refl
-changed_id bytes _ d = refl
-
-pub changed_views : (bytes : List ℕ) (what : DocumentChange) (d : Document) → (changed_document bytes what d).views ≡ d.views
-changed_views bytes (change.SetReadOnly on) d = refl
-changed_views bytes _ d = refl
+    stands_kept d (styled new d) v (length_from_bytes (styled new d).cells d.cells (text_of_styled new d)) (ap (line_count d.line_end_types) (text_of_styled new d)) refl on
 
 pub changed_stands : (bytes : List ℕ) (what : DocumentChange) (d : Document) (v : View) → v.document ≡ d.id → StandsOn d v → StandsOn (changed_document bytes what d) (changed_lines what d v)
 changed_stands bytes (change.SetLineEndTypes to) d v e on =
@@ -310,22 +287,6 @@ changed_stands bytes (change.SetLineEndTypes to) d v e on =
 changed_stands bytes (change.StyleRun count style) d v e on = styled_stands (replicate count style) d v on
 changed_stands bytes (change.StyleBytes count) d v e on = styled_stands (take count bytes) d v on
 changed_stands bytes _ d v e on = stands_kept d _ v refl refl refl on
-
-by_test_id : (d : Document) (to : LineEndTypes) (v : View) (b : Bool) → (cond b (record v { flags = regrouped flags_together d.line_end_types to (text_of d) v.flags }) v).id ≡ v.id
-by_test_id d to v true = refl
-by_test_id d to v false = refl
-
-by_test_document : (d : Document) (to : LineEndTypes) (v : View) (b : Bool) → (cond b (record v { flags = regrouped flags_together d.line_end_types to (text_of d) v.flags }) v).document ≡ v.document
-by_test_document d to v true = refl
-by_test_document d to v false = refl
-
-pub changed_lines_id : (what : DocumentChange) (d : Document) (v : View) → (changed_lines what d v).id ≡ v.id
-changed_lines_id (change.SetLineEndTypes to) d v = by_test_id d to v (v.document == d.id)
-changed_lines_id _ d v = refl
-
-pub changed_lines_document : (what : DocumentChange) (d : Document) (v : View) → (changed_lines what d v).document ≡ v.document
-changed_lines_document (change.SetLineEndTypes to) d v = by_test_document d to v (v.document == d.id)
-changed_lines_document _ d v = refl
 
 pub changed_lines_others : (what : DocumentChange) (d : Document) (v : View) → (v.document ≡ d.id → ⊥) → changed_lines what d v ≡ v
 changed_lines_others (change.SetLineEndTypes to) d v ne =

@@ -6,7 +6,7 @@ use Rattle.ed_model.specs.declared.plan.LineEnd.{LineEnd}
 use Rattle.ed_model.specs.Text.{line_feed, carriage_return}
 use Rattle.ed_model.specs.LineEnds.{after_steps, conversion_steps, lacks_return, lacks_feed, missing_at, missing_from, is_unwanted, unwanted_at, place_after, unwanted_from}
 use Rattle.ed_model.specs.SoundLaws.{IsStepOf, AreStepsOf}
-use Rattle.ed_model.specs.proved.Lists.{inserted_between}
+use Rattle.ed_model.specs.proved.Lists.{inserted_between, deleted_between}
 use Rattle.ed_model.proofs.SoundSteps.{fit_append}
 
 missing_fits : (to : LineEnd) (rest : List ℕ) (after : Bool) (p : ℕ) (front : List ℕ) → length front ≡ p → AreStepsOf (front ++ rest) (missing_from p after to rest)
@@ -35,14 +35,6 @@ missing_fits to (b ∷ bs) after p front e = go (lacks_return after to b) (lacks
     go false false rest =
         subst (λ t. AreStepsOf t (missing_from (p + 1 + 0) (b == carriage_return) to bs)) (append_assoc front (b ∷ []) bs)
         (rest (b == carriage_return) (p + 1 + 0) (front ++ b ∷ []) (simp length-append (omega arith)))
-
-deleted_between : (p : ℕ) (front : List ℕ) (b : ℕ) (rest : List ℕ) → length front ≡ p → take p (front ++ b ∷ rest) ++ drop (p + 1) (front ++ b ∷ rest) ≡ front ++ rest
-deleted_between p front b rest e =
-    let a = take_at front (b ∷ rest) p e in
-    let n : length (front ++ b ∷ []) ≡ p + 1 = simp length-append (omega arith) in
-    let d : drop (p + 1) (front ++ b ∷ rest) ≡ rest =
-    subst (λ t. drop (p + 1) t ≡ rest) (append_assoc front (b ∷ []) rest) (drop_at (front ++ b ∷ []) rest (p + 1) n) in
-    rw (a, d) refl
 
 one_stands : (p : ℕ) (front : List ℕ) (b c : ℕ) (rest : List ℕ) → length front ≡ p → b ≡ c
     → (p ≤ length (front ++ b ∷ rest)) × (slice_range (front ++ b ∷ rest) p (p + 1) ≡ c ∷ [])

@@ -14,14 +14,12 @@ use Rattle.ed_model.specs.Session.{Document, View, text_of, limit_of}
 use Rattle.ed_model.specs.Performing.{document_after, moved_view}
 use Rattle.ed_model.specs.SoundLaws.{IsStepOf, FitsText, IsSoundDocument, StandsOn}
 use Rattle.ed_model.specs.proved.Steps.{bytes_of_edited_cells}
+use Rattle.ed_model.specs.proved.Changes.{length_text}
 use Rattle.ed_model.proofs.StepLemmas.{position_stays_in_range}
 use Rattle.ed_model.proofs.CarryLemmas.{length-carried_by}
 use Rattle.ed_model.proofs.SoundLists.{are_line_starts}
 use Rattle.ed_model.proofs.SoundSteps.{InRange, fits_range, length_edited, length_deleted}
 use Rattle.ed_model.proofs.SoundCarry.{first_carried_by, handles_carried_by}
-
-pub length_text : (d : Document) → length (text_of d) ≡ length d.cells
-length_text d = length-map d.cells (λ (c : Cell). c.byte)
 
 pub length_cells_after : (step : Step) (cells : List Cell) → InRange (length cells) step → length (edited_cells step cells) ≡ size_after (length cells) step
 length_cells_after (Insert p bytes) cells h = length_edited (length bytes) p cells (plain_cells bytes) (length-map bytes plain_cell) h

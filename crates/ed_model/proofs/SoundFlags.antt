@@ -109,11 +109,3 @@ changed_view_stands levels (view_change.Expand line) d v on fit = with_flags d v
 changed_view_stands levels (view_change.EnsureVisible line) d v on fit = with_flags d v (revealed levels line v.flags) on (revealed_flags _ levels line v.flags)
 changed_view_stands levels _ d v on fit =
     record { anchor = on.anchor; caret = on.caret; target_start = on.target_start; target_end = on.target_end; lines = on.lines; first_line = on.first_line; indicator = on.indicator; listed = on.listed }
-
-pub changed_view_document : (levels : List ℕ) (what : ViewChange) (v : View) → (changed_view levels what v).document ≡ v.document
-changed_view_document levels (view_change.Select anchor caret) v = refl
-changed_view_document levels _ v = refl
-
-pub changed_view_id : (levels : List ℕ) (what : ViewChange) (v : View) → (changed_view levels what v).id ≡ v.id
-changed_view_id levels (view_change.Select anchor caret) v = refl
-changed_view_id levels _ v = refl

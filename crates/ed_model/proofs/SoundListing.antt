@@ -6,7 +6,8 @@ use Rattle.std.proofs.lemmas.Bool.{eqb-true, eqb-false, eq-eqb, ne_eqb}
 use Rattle.ed_model.specs.Session.{Document, View, view_at, with_view, in_place_of_view, without, left_by, attached_to, living, references}
 use Rattle.ed_model.specs.Changes.{attached_last, held_more, held_less}
 use Rattle.ed_model.specs.SoundLaws.{Rise, IsViewOn, ListsItsViews}
-use Rattle.ed_model.proofs.SoundFinding.{all_map, all_weaker, all_append, all_filter, view_id}
+use Rattle.ed_model.specs.proved.Elements.{all_map, all_weaker, all_append, all_filter}
+use Rattle.ed_model.specs.proved.Finding.{view_id}
 
 -- Views that change.
 

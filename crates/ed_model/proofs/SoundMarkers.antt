@@ -6,7 +6,8 @@ use Rattle.std.proofs.lemmas.Bool.{eqb-true, ne_eqb}
 use Rattle.ed_model.specs.Rows.{Row, Marker, fresh_row}
 use Rattle.ed_model.specs.Changes.{with_markers, new_markers, without_first, without_marker, without_markers}
 use Rattle.ed_model.specs.SoundLaws.{occurrences, handles_in}
-use Rattle.ed_model.proofs.SoundCarry.{occurrences_append, handles_of}
+use Rattle.ed_model.specs.proved.Finding.{occurrences_append}
+use Rattle.ed_model.proofs.SoundCarry.{handles_of}
 
 abbrev pub one_if : Bool → ℕ
 one_if true = 1

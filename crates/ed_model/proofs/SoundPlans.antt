@@ -43,24 +43,15 @@ use Rattle.ed_model.specs.FoldingPlans.{past_line, fold_by, fold_at, levels}
 use Rattle.ed_model.specs.SessionPlans.{document_named, has_document_ids, with_reference, release_of, is_zero, document_options}
 use Rattle.ed_model.specs.SoundLaws.{occurrences, handles_in, IsSoundDocument, IsSoundView, StandsOn}
 use Rattle.ed_model.specs.PlansFit.{IsSoundRequest, IsMarkerNumber, IsLineState, IsFitSource, IsFitEdit, IsFitFollow, IsFitPlan, IsFitPlanned, IsRoomFor, IsFitSessionChange, PlansFit}
-use Rattle.ed_model.proofs.SoundCarry.{occurrences_append}
+use Rattle.ed_model.specs.proved.Elements.{found_all, found_test, all_reverse}
+use Rattle.ed_model.specs.proved.Finding.{document_id, occurrences_append}
+use Rattle.ed_model.specs.proved.Changes.{length_text}
+use Rattle.ed_model.specs.proved.Requests.{request_document, request_stands}
+use Rattle.ed_model.specs.proved.Lines.{end_in_range}
 use Rattle.ed_model.proofs.SoundSteps.{length_replacement}
-use Rattle.ed_model.proofs.SoundDocuments.{length_text}
-use Rattle.ed_model.proofs.SoundFinding.{found_all, found_test, document_sound, document_id}
-use Rattle.ed_model.proofs.SoundArguments.{with_argument_fits, argument_fits, text_length_fits, text_range_fits, counted_range_fits, line_fits, if_fits, within_bounds, clamped_bound, start_bound, past_bound, end_bound, cut_after_bound, cut_before_bound, match_bound, all_range, all_reverse}
+use Rattle.ed_model.proofs.SoundArguments.{with_argument_fits, argument_fits, text_length_fits, text_range_fits, counted_range_fits, line_fits, if_fits, within_bounds, clamped_bound, start_bound, past_bound, cut_after_bound, cut_before_bound, match_bound, all_range}
 
 -- The request's own document and view.
-
-pub request_document : (r : Request) → IsSoundRequest r → IsSoundDocument r.session.limits r.document
-request_document r h = document_sound r.session.limits r.session.documents r.view.document r.document h.sound.documents h.document
-
-pub request_stands : (r : Request) → IsSoundRequest r → StandsOn r.document r.view
-request_stands r h =
-    let v = (found_all (IsSoundView r.session.documents) (λ (v : View). v.id == r.view.id) r.session.views r.view h.sound.views h.view).0 in
-    let f : document_at r.session.documents r.view.document ≡ Some v.document = v.found in
-    let g : document_at r.session.documents r.view.document ≡ Some r.document = h.document in
-    let same : v.document ≡ r.document = cc in
-    subst (λ d. StandsOn d r.view) same v.stands
 
 -- Edits.
 
@@ -109,7 +100,7 @@ line_past_bound : (r : Request) (line : ℕ) → line_past r line ≤ size r
 line_past_bound r line = size_of_text r (line_past r line) (past_bound r.document.line_end_types (text r) line)
 
 line_end_bound : (r : Request) (line : ℕ) → line_end r line ≤ size r
-line_end_bound r line = size_of_text r (line_end r line) (end_bound r.document.line_end_types (text r) line)
+line_end_bound r line = size_of_text r (line_end r line) (end_in_range r.document.line_end_types (text r) line)
 
 place_right_bound : (r : Request) → place_right r ≤ size r
 place_right_bound r = size_of_text r (place_right r) (cut_after_bound (text r) r.view.caret)
@@ -213,8 +204,8 @@ header_bound levels line header e = go (is_header levels line) e
     go : (b : Bool) → cond b (Some line) (fold_parent levels line) ≡ Some header → header ≤ line
     go true e = let same : line ≡ header = cc in omega arith
     go false e =
-        let a = (found_all (λ k. (0 ≤ k) × (k < 0 + line)) (is_parent_of levels line) (reverse (range_with_len 0 line)) header
-        (all_reverse (λ k. (0 ≤ k) × (k < 0 + line)) (range_with_len 0 line) (all_range 0 line)) e).0 in
+        let a = found_all (λ k. (0 ≤ k) × (k < 0 + line)) (is_parent_of levels line) (reverse (range_with_len 0 line)) header
+        (all_reverse (λ k. (0 ≤ k) × (k < 0 + line)) (range_with_len 0 line) (all_range 0 line)) e in
         let l : header < 0 + line = a.1 in omega arith
 
 fold_by_fits : (r : Request) (action : ℕ) (o : Option ℕ) → ((header : ℕ) → o ≡ Some header → header < line_total r) → IsFitPlanned r (fold_by r action o)

@@ -12,12 +12,12 @@ use Rattle.ed_model.specs.Session.{Session, Document, View, document_at, view_at
 use Rattle.ed_model.specs.Changes.{attached_last, with_attached, attached, with_new_document, held_more, held_less}
 use Rattle.ed_model.specs.Table.{opened, closed, closed_view}
 use Rattle.ed_model.specs.SoundLaws.{Rise, occurrences, IsSound, IsSoundDocument, IsSoundView, StandsOn, ListsItsViews}
+use Rattle.ed_model.specs.proved.Elements.{all_map, all_weaker, all_append}
+use Rattle.ed_model.specs.proved.Finding.{document_id, same_ids, documents_added, views_added, occurrences_append}
 use Rattle.ed_model.proofs.SoundLists.{rise_from, are_line_starts}
-use Rattle.ed_model.proofs.SoundCarry.{occurrences_append}
 use Rattle.ed_model.proofs.SoundHistory.{fresh_fits}
 use Rattle.ed_model.proofs.SoundMarkers.{one_if, occurrences_cons}
 use Rattle.ed_model.proofs.SoundListing.{lists_attached, lists_before, lists_left, lists_less, lists_more, view_last}
-use Rattle.ed_model.proofs.SoundFinding.{all_map, all_weaker, all_append, document_id}
 
 -- A document with other views and references.
 
@@ -218,10 +218,6 @@ fresh_stands d v listed a b c e l i = record {
 
 -- Attaching.
 
-same_view_ids : (f : View → View) → ((v : View) → (f v).id ≡ v.id) → (views : List View) → map (λ (v : View). v.id) (map f views) ≡ map (λ (v : View). v.id) views
-same_view_ids f h [] = refl
-same_view_ids f h (v ∷ vs) = let a = h v in let b = same_view_ids f h vs in cc
-
 -- a session whose documents are sound if they have a reference
 pub record IsSoundIfAllHeld (s : Session) : Type 0 where
   pub document_ids : Rise 0 s.next_document (map (λ (d : Document). d.id) s.documents)
@@ -243,7 +239,7 @@ pub attached_sound : (s : Session) (id : ℕ) (d : Document) (v : View) → IsSo
 unfolding attached_relists
 attached_sound s id d v h there indicator found = record {
   document_ids = living_ids (attached_last v.id d.id) (attached_relists v.id d.id) 0 s.next_document s.documents h.document_ids;
-  view_ids = subst (λ ids. Rise 0 s.next_view ids) (sym (same_view_ids (in_place_of_view (attached_to d v)) (λ w. ids w (w.id == v.id) refl) s.views)) h.view_ids;
+  view_ids = subst (λ ids. Rise 0 s.next_view ids) (sym (same_ids (in_place_of_view (attached_to d v)) (λ w. ids w (w.id == v.id) refl) s.views)) h.view_ids;
   documents = living_sound s.limits (attached_last v.id d.id) (attached_relists v.id d.id) s.documents h.documents;
   views = all_map (IsSoundView s.documents) (IsSoundView (living (map (attached_last v.id d.id) s.documents))) (in_place_of_view (attached_to d v))
       (λ w k. go w k (w.id == v.id) refl) s.views h.views;
@@ -274,23 +270,6 @@ attached_sound s id d v h there indicator found = record {
         ∙ (let same : k.document ≡ e = (let f : document_at s.documents w.document ≡ Some k.document = k.found in cc) in subst (λ (x : Document). occurrences w.id x.views ≡ 1) same k.stands.listed))
 
 -- A new document.
-
-rise_push : (low high : ℕ) (xs : List ℕ) → low ≤ high → Rise low high xs → Rise low (high + 1) (xs ++ high ∷ [])
-rise_push low high [] le r = (le, (let a : high < high + 1 = omega arith in a), tt)
-rise_push low high (x ∷ xs) le r =
-    let lt : x < high = r.1 in (r.0, (let a : x < high + 1 = omega arith in a), rise_push (x + 1) high xs (omega arith) r.2)
-
-pub documents_push : (high : ℕ) (ds : List Document) (d : Document) → d.id ≡ high → Rise 0 high (map (λ (d : Document). d.id) ds)
-    → Rise 0 (high + 1) (map (λ (d : Document). d.id) (ds ++ d ∷ []))
-documents_push high ds d e r =
-    subst (λ ids. Rise 0 (high + 1) ids) (sym (map-append (λ (d : Document). d.id) ds (d ∷ []) ∙ ap (λ n. map (λ (d : Document). d.id) ds ++ n ∷ []) e))
-    (rise_push 0 high (map (λ (d : Document). d.id) ds) (omega arith) r)
-
-pub views_push : (high : ℕ) (vs : List View) (v : View) → v.id ≡ high → Rise 0 high (map (λ (v : View). v.id) vs)
-    → Rise 0 (high + 1) (map (λ (v : View). v.id) (vs ++ v ∷ []))
-views_push high vs v e r =
-    subst (λ ids. Rise 0 (high + 1) ids) (sym (map-append (λ (v : View). v.id) vs (v ∷ []) ∙ ap (λ n. map (λ (v : View). v.id) vs ++ n ∷ []) e))
-    (rise_push 0 high (map (λ (v : View). v.id) vs) (omega arith) r)
 
 pub found_before : (ds es : List Document) (id : ℕ) (d : Document) → document_at ds id ≡ Some d → document_at (ds ++ es) id ≡ Some d
 found_before [] es id d e = absurd (cc)
@@ -332,7 +311,7 @@ new_document_sound limits id options views held_by_callers some = record {
 -- a session with one more document, held once by a caller
 pub created_sound : (s : Session) (options : ℕ) → IsSound s → IsSound (with_new_document (with_references [] 1 (new_document s.next_document options)) s)
 created_sound s options h = record {
-  document_ids = documents_push s.next_document s.documents (with_references [] 1 (new_document s.next_document options)) refl h.document_ids;
+  document_ids = documents_added s.next_document s.documents (with_references [] 1 (new_document s.next_document options)) refl h.document_ids;
   view_ids = h.view_ids;
   documents = all_append (IsSoundDocument s.limits) s.documents (with_references [] 1 (new_document s.next_document options) ∷ []) h.documents
       (new_document_sound s.limits s.next_document options [] 1 (omega arith), tt);
@@ -344,7 +323,7 @@ created_sound s options h = record {
 -- a session with one more document that has no reference yet
 pub with_unheld : (s : Session) → IsSound s → IsSoundIfAllHeld (with_new_document (new_document s.next_document 0) s)
 with_unheld s h = record {
-  document_ids = documents_push s.next_document s.documents (new_document s.next_document 0) refl h.document_ids;
+  document_ids = documents_added s.next_document s.documents (new_document s.next_document 0) refl h.document_ids;
   view_ids = h.view_ids;
   documents = all_append (IsSoundIfHeld s.limits) s.documents (new_document s.next_document 0 ∷ []) (if_all_held s h).documents
       (new_document_sound s.limits s.next_document 0 [] 1 (omega arith), tt);
@@ -430,8 +409,8 @@ pub opened_session_sound : (s : Session) → IsSound s
       next_view = s.next_view + 1;
     })
 opened_session_sound s h = record {
-  document_ids = documents_push s.next_document s.documents (with_references (s.next_view ∷ []) 0 (new_document s.next_document 0)) refl h.document_ids;
-  view_ids = views_push s.next_view s.views (new_view s.next_view (with_references (s.next_view ∷ []) 0 (new_document s.next_document 0))) refl h.view_ids;
+  document_ids = documents_added s.next_document s.documents (with_references (s.next_view ∷ []) 0 (new_document s.next_document 0)) refl h.document_ids;
+  view_ids = views_added s.next_view s.views (new_view s.next_view (with_references (s.next_view ∷ []) 0 (new_document s.next_document 0))) refl h.view_ids;
   documents = all_append (IsSoundDocument s.limits) s.documents (with_references (s.next_view ∷ []) 0 (new_document s.next_document 0) ∷ []) h.documents
       (new_document_sound s.limits s.next_document 0 (s.next_view ∷ []) 0 (omega arith), tt);
   views = all_append (IsSoundView (s.documents ++ with_references (s.next_view ∷ []) 0 (new_document s.next_document 0) ∷ [])) s.views (new_view s.next_view (with_references (s.next_view ∷ []) 0 (new_document s.next_document 0)) ∷ [])

@@ -35,23 +35,23 @@ use Rattle.ed_model.specs.Table.{plan_of, answered, request, table_from_document
 use Rattle.ed_model.specs.Run.{starting, after_opening, after_closing, after_message, loaded, file_at, set_text_message, after_command}
 use Rattle.ed_model.specs.SoundLaws.{AreStepsOf, FitsText, IsSound, StandsOn, NewSessionIsSound, MessageKeepsSound, OpeningKeepsSound, ClosingKeepsSound, CommandKeepsSound, IsSoundInEveryStateFrom, IsSoundInEveryState}
 use Rattle.ed_model.specs.PlansFit.{IsSoundRequest, IsFitFollow, IsFitDocumentChange, IsFitViewChange, IsFitPlan, IsFitPlanned, IsRoomFor, EditStepsFit, UndoStepsFit, RedoStepsFit, PlansKeepSound}
+use Rattle.ed_model.specs.proved.Elements.{all_weaker}
+use Rattle.ed_model.specs.proved.Finding.{document_id, view_id, replaced_found, found_once}
+use Rattle.ed_model.specs.proved.Changes.{changed_id, changed_views, changed_lines_id, changed_lines_document, changed_view_id, changed_view_document, length_text}
+use Rattle.ed_model.specs.proved.Requests.{own_document, request_document, request_stands}
+use Rattle.ed_model.specs.proved.Scenes.{edit_made_text}
 use Rattle.ed_model.proofs.TransactionLemmas.{text_after_changes}
 use Rattle.ed_model.proofs.SoundSteps.{replacement_fits, within_fits}
 use Rattle.ed_model.proofs.SoundConversion.{conversion_fits}
 use Rattle.ed_model.proofs.SoundHistory.{fresh_fits, undo_fits, undone_fits, redo_fits, redone_fits, BehindWithin, last_behind, latest_is_last}
-use Rattle.ed_model.proofs.SoundDocuments.{length_text}
-use Rattle.ed_model.proofs.SoundFinding.{document_id, view_id, replaced_found, found_once, all_weaker}
 use Rattle.ed_model.proofs.SoundSessions.{document_replaced, view_replaced, sender_changed}
-use Rattle.ed_model.proofs.SoundScenes.{IsSoundScene, text_bounded, limit_kept, scene_history, scene_told, edit_made_sound, text_edited, without_history, changes_performed_sound}
-use Rattle.ed_model.proofs.SoundChanges.{IsFitOn, changed_sound, changed_id, changed_views, changed_stands, changed_lines_id, changed_lines_document, changed_lines_others}
-use Rattle.ed_model.proofs.SoundFlags.{IsFitHere, changed_view_stands, changed_view_document, changed_view_id}
+use Rattle.ed_model.proofs.SoundScenes.{IsSoundScene, text_bounded, limit_kept, scene_history, scene_told, edit_made_sound, without_history, changes_performed_sound}
+use Rattle.ed_model.proofs.SoundChanges.{IsFitOn, changed_sound, changed_stands, changed_lines_others}
+use Rattle.ed_model.proofs.SoundFlags.{IsFitHere, changed_view_stands}
 use Rattle.ed_model.proofs.SoundReferences.{created_sound, attached_new_sound, attached_any_sound, held_more_sound, released_sound, opened_sound, closed_sound}
-use Rattle.ed_model.proofs.SoundPlans.{request_document, request_stands, plan_fits}
+use Rattle.ed_model.proofs.SoundPlans.{plan_fits}
 
 -- The scene of a request.
-
-own_document : (r : Request) → IsSoundRequest r → document_at r.session.documents r.document.id ≡ Some r.document
-own_document r h = ap (document_at r.session.documents) (document_id r.session.documents r.view.document r.document h.document) ∙ h.document
 
 pub scene_of_sound : (r : Request) → IsSoundRequest r → IsSoundScene r.view.id r.session (scene_of r)
 scene_of_sound r h =
@@ -60,10 +60,10 @@ scene_of_sound r h =
     record {
       sound = subst (λ vs. IsSound (record s { documents = with_document r.document s.documents; views = vs })) (map-id s.views)
           (document_replaced r.session r.document r.document (λ (v : View). v) h.sound (own_document r h) refl refl (request_document r h) (λ v. refl) (λ v. refl) (λ v e on. on) (λ v ne. refl));
-      found = replaced_found s.documents r.document r.document (own_document r h);
+      found = replaced_found s.documents r.document.id r.document r.document refl (own_document r h);
       owner = all_weaker (λ (v : View). v.id ≡ r.view.id → v ≡ r.view) (λ (v : View). v.id ≡ r.view.id → v.document ≡ r.document.id)
           (λ v is e. ap (λ (w : View). w.document) (is e) ∙ sym (document_id s.documents r.view.document r.document h.document)) s.views
-          (found_once 0 s.next_view s.views r.view.id r.view h.sound.view_ids h.view);
+          (found_once (λ (v : View). v.id) 0 s.next_view s.views r.view.id r.view h.sound.view_ids h.view);
     }
 
 -- the session with another clipboard
@@ -110,7 +110,7 @@ edit_sound : (r : Request) (change : Edit) (value : ℤ) (after : Follow) → Is
 edit_sound r change value after h fit =
     followed_sound r (text r) after (edit_made (steps_of r change) (scene_of r)) (length (after_steps (steps_of r change) (text r)))
     (edit_made_sound r.view.id r.session (steps_of r change) (scene_of r) (scene_of_sound r h) (record { fits = edit_steps_fit r change fit.0; within = fit.2 }))
-    fit.1 (ap length (text_edited (steps_of r change) (scene_of r)))
+    fit.1 (ap length (edit_made_text (steps_of r change) (scene_of r)))
 
 -- Undo and redo.
 

@@ -15,10 +15,12 @@ use Rattle.ed_model.specs.UndoPlans.{text_steps}
 use Rattle.ed_model.specs.Session.{Session, Document, View, document_at, with_document, text_of, limit_of}
 use Rattle.ed_model.specs.Performing.{Scene, document_after, moved_view, view_after, with_history, step_made, steps_made, sealed_scene, edit_made, change_performed, changes_performed, session_of, changes_lines, is_last}
 use Rattle.ed_model.specs.SoundLaws.{IsStepOf, AreStepsOf, FitsText, IsSound, IsSoundDocument, StandsOn}
+use Rattle.ed_model.specs.proved.Elements.{all_map}
+use Rattle.ed_model.specs.proved.Finding.{document_sound, replaced_found, replaced_twice, IsOwner}
+use Rattle.ed_model.specs.proved.Changes.{length_text, view_after_id, view_after_document}
 use Rattle.ed_model.proofs.SoundHistory.{appended_fits, sealed_fits, fresh_fits}
-use Rattle.ed_model.proofs.SoundDocuments.{document_made, view_made, text_after, length_text, length_cells_after, cells_range}
-use Rattle.ed_model.proofs.SoundFinding.{document_sound, replaced_found, replaced_twice, all_map}
-use Rattle.ed_model.proofs.SoundSessions.{document_replaced, IsOwner}
+use Rattle.ed_model.proofs.SoundDocuments.{document_made, view_made, text_after, length_cells_after, cells_range}
+use Rattle.ed_model.proofs.SoundSessions.{document_replaced}
 
 -- the session of the scene is sound, and the sender is a view on the scene's document
 pub record IsSoundScene (sender : ℕ) (s : Session) (scene : Scene) : Type 0 where
@@ -39,7 +41,7 @@ scene_changed sender s scene d' f notes h same alike made keeps_id keeps_documen
   sound = subst (λ ds. IsSound (record s { documents = ds; views = map f scene.views })) (replaced_twice scene.document d' s.documents (sym same))
       (document_replaced (session_of s scene) scene.document d' f h.sound h.found same alike made keeps_id keeps_document moves others);
   found = subst (λ ds. document_at ds d'.id ≡ Some d') (replaced_twice scene.document d' s.documents (sym same))
-      (replaced_found (with_document scene.document s.documents) scene.document d' (ap (document_at (with_document scene.document s.documents)) same ∙ h.found));
+      (replaced_found (with_document scene.document s.documents) d'.id scene.document d' refl (ap (document_at (with_document scene.document s.documents)) same ∙ h.found));
   owner = all_map (λ (v : View). v.id ≡ sender → v.document ≡ scene.document.id) (λ (v : View). v.id ≡ sender → v.document ≡ d'.id) f
       (λ v o e. keeps_document v ∙ o (sym (keeps_id v) ∙ e) ∙ sym same) scene.views h.owner;
 }
@@ -79,14 +81,6 @@ scene_history sender s scene h sound fits =
 
 -- A step.
 
-after_id : (step : Step) (d : Document) (v : View) (b : Bool) → (cond b (moved_view step d v) v).id ≡ v.id
-after_id step d v true = refl
-after_id step d v false = refl
-
-after_document : (step : Step) (d : Document) (v : View) (b : Bool) → (cond b (moved_view step d v) v).document ≡ v.document
-after_document step d v true = refl
-after_document step d v false = refl
-
 -- a step that can be performed, with a history that fits the new text
 pub scene_step : (sender : ℕ) (s : Session) (scene : Scene) (step : Step) (h : History) (notes : List Notice) → IsSoundScene sender s scene
     → IsStepOf (text_of scene.document) step → size_after (length scene.document.cells) step ≤ limit_of s.limits scene.document
@@ -99,8 +93,8 @@ pub scene_step : (sender : ℕ) (s : Session) (scene : Scene) (step : Step) (h :
 scene_step sender s scene step h notes sound fits room history =
     scene_changed sender s scene (record (document_after step scene.document) { history = h }) (view_after step scene.document) notes sound refl refl
     (document_made s.limits scene.document step h (scene_document_sound sender s scene sound) fits room history)
-    (λ v. after_id step scene.document v (v.document == scene.document.id))
-    (λ v. after_document step scene.document v (v.document == scene.document.id))
+    (view_after_id step scene.document)
+    (view_after_document step scene.document)
     (λ v e on. let t : (v.document == scene.document.id) ≡ true = eq-eqb v.document scene.document.id e in rw t (view_made scene.document step h v on))
     (λ v ne. let t : (v.document == scene.document.id) ≡ false = ne_eqb v.document scene.document.id ne in rw t refl)
 
@@ -160,17 +154,6 @@ edit_made_sound sender s steps scene sound room =
     (λ _. sealed_scene_sound sender s (steps_made false steps (sealed_scene scene))
     (steps_made_sound sender s false steps (sealed_scene scene) (sealed_scene_sound sender s scene sound) (record { fits = room.fits; within = room.within })))
     (λ _. steps_made_sound sender s false steps scene sound room)
-
-pub text_made : (later : Bool) (steps : List Step) (scene : Scene) → text_of (steps_made later steps scene).document ≡ after_steps steps (text_of scene.document)
-text_made later [] scene = refl
-text_made later (step ∷ steps) scene = text_made true steps (step_made later step scene) ∙ ap (after_steps steps) (text_after scene.document step)
-
--- the text after an edit
-pub text_edited : (steps : List Step) (scene : Scene) → text_of (edit_made steps scene).document ≡ after_steps steps (text_of scene.document)
-text_edited steps scene =
-    cond_both (nat_lt 1 (length steps)) (sealed_scene (steps_made false steps (sealed_scene scene))) (steps_made false steps scene)
-    (λ x. text_of x.document ≡ after_steps steps (text_of scene.document))
-    (λ _. text_made false steps (sealed_scene scene)) (λ _. text_made false steps scene)
 
 -- What undo and redo keep of a document.
 

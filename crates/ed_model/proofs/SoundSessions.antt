@@ -5,7 +5,8 @@ use Rattle.std.specs.List.{AllByRecursion}
 use Rattle.std.proofs.lemmas.Bool.{cond_both, eqb-true, cases_eq}
 use Rattle.ed_model.specs.Session.{Session, Document, View, document_at, view_at, with_document, with_view, in_place_of_view}
 use Rattle.ed_model.specs.SoundLaws.{Rise, IsSound, IsSoundDocument, IsSoundView, StandsOn, ListsItsViews}
-use Rattle.ed_model.proofs.SoundFinding.{all_map, all_both, found_all, replaced_found, replaced_other, replaced_all, replaced_ids, same_ids}
+use Rattle.ed_model.specs.proved.Elements.{all_map, all_both, found_all}
+use Rattle.ed_model.specs.proved.Finding.{replaced_found, replaced_other, replaced_all, replaced_ids, same_ids, IsOwner}
 use Rattle.ed_model.proofs.SoundListing.{lists_mapped, lists_alike}
 
 -- replacing a document, and changing the views on it with it
@@ -20,7 +21,7 @@ document_replaced s d d' f sound found same alike made keeps_id keeps_document m
   documents = replaced_all (IsSoundDocument s.limits) d' s.documents made sound.documents;
   views = all_map (IsSoundView s.documents) (IsSoundView (with_document d' s.documents)) f (λ v h. go v h (cases_eq v.document d.id)) s.views sound.views;
   lists = replaced_all (ListsItsViews (map f s.views)) d' s.documents
-      (lists_alike (map f s.views) d d' same alike (found_all (ListsItsViews (map f s.views)) (λ (e : Document). e.id == d.id) s.documents d lists found).0) lists;
+      (lists_alike (map f s.views) d d' same alike (found_all (ListsItsViews (map f s.views)) (λ (e : Document). e.id == d.id) s.documents d lists found)) lists;
 }
   where
     lists : AllByRecursion (ListsItsViews (map f s.views)) s.documents
@@ -35,7 +36,7 @@ document_replaced s d d' f sound found same alike made keeps_id keeps_document m
         let there : document_at s.documents d'.id ≡ Some d = ap (document_at s.documents) same ∙ found in
         record {
           document = d';
-          found = ap (document_at (with_document d' s.documents)) (keeps_document v ∙ e ∙ sym same) ∙ replaced_found s.documents d d' there;
+          found = ap (document_at (with_document d' s.documents)) (keeps_document v ∙ e ∙ sym same) ∙ replaced_found s.documents d'.id d d' refl there;
           stands = moves v e on;
         }
     go v h (inr ne) = subst (λ w. IsSoundView (with_document d' s.documents) w) (sym (others v ne)) (record {
@@ -67,10 +68,6 @@ view_replaced s d new sound found keeps stands = record {
 
     ids : (v : View) → (in_place_of_view new v).id ≡ v.id
     ids v = by_test v (v.id == new.id) refl
-
--- all views with the id are on the document
-abbrev pub IsOwner : ℕ → ℕ → List View → Type 0
-IsOwner sender document views = AllByRecursion (λ (v : View). v.id ≡ sender → v.document ≡ document) views
 
 -- changing the views with the sender's id
 pub sender_changed : (s : Session) (d : Document) (sender : ℕ) (change : View → View) → IsSound s → document_at s.documents d.id ≡ Some d

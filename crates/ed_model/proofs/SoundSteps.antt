@@ -6,6 +6,7 @@ use Rattle.ed_model.specs.Steps.{Step, Insert, Delete, edited, inverse_of, repla
 use Rattle.ed_model.specs.LineEnds.{after_steps}
 use Rattle.ed_model.specs.Edits.{size_after}
 use Rattle.ed_model.specs.SoundLaws.{IsStepOf, IsStepWithin, InTurn, AreStepsOf, AreStepsWithin}
+use Rattle.ed_model.specs.proved.Lists.{length_slice}
 use Rattle.ed_model.proofs.InverseLemmas.{inverse_fits, inverse_gives_back_the_text, steps_after_steps}
 
 -- a step whose place, and the range that it deletes, is within n bytes
@@ -105,9 +106,6 @@ deletion_fits p count (b ∷ bs) text h s e =
       ((((let le : p ≤ length text = omega arith in le), subst (λ k. slice_range text p (p + k) ≡ b ∷ bs) n s), (let g : 0 < suc (length bs) = omega arith in g)), tt),
       rw n (length_deleted (length (b ∷ bs)) p text (subst (λ k. p + k ≤ length text) n h)),
     )
-
-pub length_slice : (text : List ℕ) (p count : ℕ) → p + count ≤ length text → length (slice_range text p (p + count)) ≡ count
-length_slice text p count h = simp (length-take, length-drop) (omega arith)
 
 pub replacement_fits : (start count : ℕ) (bytes text : List ℕ) → start + count ≤ length text → AreStepsOf text (replacement start count bytes text)
 replacement_fits start count bytes text h =

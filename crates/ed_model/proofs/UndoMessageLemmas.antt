@@ -16,10 +16,10 @@ use Rattle.ed_model.specs.InverseLaws.{after_undo, after_redo}
 use Rattle.ed_model.specs.TableLaws.{Answered}
 use Rattle.ed_model.specs.UndoLaws.{undone_text, redone_text}
 use Rattle.ed_model.specs.UndoMessageLaws.{IsUndone, IsRedone, UndoUndoes, RedoRedoes}
+use Rattle.ed_model.specs.proved.Finding.{document_id, replaced_found}
 use Rattle.ed_model.proofs.TableLemmas.{at_table}
 use Rattle.ed_model.proofs.TransactionLemmas.{undo_makes_its_steps, redo_makes_its_steps}
 use Rattle.ed_model.proofs.UndoLemmas.{undo_keeps_earlier_texts, one_redone}
-use Rattle.ed_model.proofs.SoundFinding.{document_id, replaced_found}
 use Rattle.ed_model.proofs.SoundScenes.{changes_keep}
 
 -- undo and redo that are not refused act, if there is a transaction and the document is not read-only
@@ -55,7 +55,7 @@ redone_document scene =
 found_again : (ds : List Document) (id : ℕ) (d e : Document) → document_at ds id ≡ Some d → e.id ≡ d.id → document_at (with_document e ds) id ≡ Some e
 found_again ds id d e found same =
     let here : id ≡ e.id = sym (same ∙ document_id ds id d found) in
-    ap (document_at (with_document e ds)) here ∙ replaced_found ds d e (ap (document_at ds) (sym here) ∙ found)
+    ap (document_at (with_document e ds)) here ∙ replaced_found ds e.id d e refl (ap (document_at ds) (sym here) ∙ found)
 
 -- a fact of the session of a reply
 abbrev Afterwards : (Session → Type 0) → Answered → Type 0

@@ -19,11 +19,11 @@ use Rattle.ed_model.specs.TableLaws.{Answered}
 use Rattle.ed_model.specs.SoundLaws.{IsSound, AreStepsWithin}
 use Rattle.ed_model.specs.PlansFit.{IsSoundRequest, IsRoomFor}
 use Rattle.ed_model.specs.UndoMessageLaws.{UndoIsNeverTooLong, RedoIsNeverTooLong}
+use Rattle.ed_model.specs.proved.Finding.{view_id}
+use Rattle.ed_model.specs.proved.Changes.{length_text}
+use Rattle.ed_model.specs.proved.Requests.{request_document}
 use Rattle.ed_model.proofs.SoundSteps.{fits_range, length_after}
 use Rattle.ed_model.proofs.SoundHistory.{undo_fits, redo_fits}
-use Rattle.ed_model.proofs.SoundDocuments.{length_text}
-use Rattle.ed_model.proofs.SoundFinding.{view_id}
-use Rattle.ed_model.proofs.SoundPlans.{request_document}
 use Rattle.ed_model.proofs.TableLemmas.{of_table}
 
 -- the test of `stays_within`, from the lengths of the texts

@@ -1,8 +1,18 @@
 -- Statements on the definitions for the proofs of higher crates. Each has its own proof, so nothing here is trusted.
 pub mod Lists
+pub mod Elements
 pub mod Rising
+pub mod Bytes
 pub mod Lines
 pub mod Steps
+pub mod Indicators
+pub mod Finding
+pub mod Changes
+pub mod Scenes
+pub mod Histories
+pub mod Requests
+pub mod Limits
+pub mod Conversions
 pub mod Neighbours
 pub mod Spelling
 pub mod Texts

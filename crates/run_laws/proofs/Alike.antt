@@ -127,23 +127,3 @@ watching_alike id vs ws [] h all = refl
 watching_alike id vs ws (k ∷ ks) h all =
     let here = own_found (λ n. n ≡ id) vs ws k all.0.0 h all.0.1 all.0.2 in
     ap (λ (o : Option View). cons_option o (filter_map (view_at ws) ks)) (here ∙ sym all.0.1) ∙ ap (cons_option (view_at vs k)) (watching_alike id vs ws ks h all.1)
-
--- Each id is given once.
-
-none_above : (P : View → Type 0) (id low high : ℕ) (views : List View) → Rise low high (map (λ (v : View). v.id) views) → id < low → AllByRecursion (λ (v : View). v.id ≡ id → P v) views
-none_above P id low high [] r l = tt
-none_above P id low high (v ∷ vs) r l =
-    let ge : low ≤ v.id = r.0 in ((λ e. absurd (omega arith)), none_above P id (v.id + 1) high vs r.2 (omega arith))
-
-pub found_once : (low high : ℕ) (views : List View) (id : ℕ) (w : View) → Rise low high (map (λ (v : View). v.id) views) → view_at views id ≡ Some w → AllByRecursion (λ (v : View). v.id ≡ id → v ≡ w) views
-found_once low high [] id w r e = tt
-found_once low high (v ∷ vs) id w r e = go (v.id == id) refl e (λ e. found_once (v.id + 1) high vs id w r.2 e)
-  where
-    go : (b : Bool) → (v.id == id) ≡ b → cond b (Some v) (view_at vs id) ≡ Some w
-        → (view_at vs id ≡ Some w → AllByRecursion (λ (v : View). v.id ≡ id → v ≡ w) vs)
-        → (v.id ≡ id → v ≡ w) × AllByRecursion (λ (v : View). v.id ≡ id → v ≡ w) vs
-    go true t e rest =
-        let same = eqb-true v.id id t in
-        let is : v ≡ w = cc in
-        ((λ _. is), none_above (λ v. v ≡ w) id (v.id + 1) high vs r.2 (omega arith))
-    go false t e rest = ((λ same. absurd (eqb-false v.id id t same)), rest e)

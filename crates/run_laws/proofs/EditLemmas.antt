@@ -16,17 +16,17 @@ use Rattle.ed_model.specs.Changes.{changed_document}
 use Rattle.ed_model.specs.Table.{answered, performed, plan_of, request, record_note}
 use Rattle.ed_model.specs.TableLaws.{Answered}
 use Rattle.ed_model.specs.PlansFit.{PlansFit}
+use Rattle.ed_model.specs.proved.Changes.{text_of_styled}
 use Rattle.run_laws.specs.EditLaws.{text_if_there, TextsStay, TellsNoAttempt, OnlyEditsChangeTexts, OnlyEditsTellOfAttempts}
 use Rattle.run_laws.proofs.TableWays.{of_table}
 use Rattle.run_laws.proofs.PlanShapes.{Leave, may_follow, KeepsTo, IsShaped, leave_of, plan_is_shaped}
 use Rattle.run_laws.proofs.NoteLemmas.{plans_have_codes}
 use Rattle.run_laws.proofs.Going.{own_after, AllFrom, From, AnsweredFrom, table_from}
-use Rattle.run_laws.proofs.SavePointLemmas.{text_styled}
 
 -- a change of a document that is no edit keeps its text
 pub text_kept : (bytes : List ℕ) (change : DocumentChange) (d : Document) → text_of (changed_document bytes change d) ≡ text_of d
-text_kept bytes (document_change.StyleRun count style) d = text_styled (replicate count style) d
-text_kept bytes (document_change.StyleBytes count) d = text_styled (take count bytes) d
+text_kept bytes (document_change.StyleRun count style) d = text_of_styled (replicate count style) d
+text_kept bytes (document_change.StyleBytes count) d = text_of_styled (take count bytes) d
 text_kept bytes _ d = refl
 
 -- so does a plan whose leave does not include edits

@@ -10,15 +10,10 @@ use Rattle.ed_model.specs.Rows.{Flags, fresh_flags}
 use Rattle.ed_model.specs.Folding.{number_at, is_header, is_parent_of, parents_among, is_visible}
 use Rattle.ed_model.specs.DisplayLines.{visible_before, visible_lines, line_shown}
 use Rattle.ed_model.specs.proved.Lists.{slice_get_append_right}
-use Rattle.ed_model.specs.proved.Rising.{range-append}
+use Rattle.ed_model.specs.proved.Rising.{range-append, reverse_next}
 use Rattle.run_laws.specs.FoldLaws.{parents_from, FoldParentsAreAChain, FoldParentIsTheNearestHeader, LinesWithoutParent, DisplayLinesCountVisibleLines, VisibleLinesAreShown, HiddenLinesHaveThatBefore}
 
 -- The search for a fold parent goes back from the line.
-
-reverse_next : (m : ℕ) → reverse (range_with_len 0 (suc m)) ≡ m ∷ reverse (range_with_len 0 m)
-reverse_next m =
-    let next : suc m ≡ m + 1 = omega arith in
-    ap (λ n. reverse (range_with_len 0 n)) next ∙ ap reverse (range-append 0 m 1) ∙ reverse-append (range_with_len 0 m) (range_with_len (0 + m) 1) ∙ rw (zero-add m) refl
 
 abbrev parent_before : List ℕ → ℕ → ℕ → Option ℕ
 parent_before levels line m = find (is_parent_of levels line) (reverse (range_with_len 0 m))

@@ -32,7 +32,10 @@ use Rattle.ed_model.specs.TableLaws.{Answered}
 use Rattle.ed_model.specs.SoundLaws.{IsSound, Rise}
 use Rattle.ed_model.specs.PlansFit.{IsSoundRequest, IsFitPlan, IsFitPlanned, PlansFit}
 use Rattle.ed_model.specs.Run.{Running, after_command, set_text_message}
-use Rattle.run_laws.proofs.Finding.{either, document_id, view_id, replaced_found, replaced_other, mapped_found, mapped_ids, living_from, rise_pushed, pushed_at}
+use Rattle.ed_model.specs.proved.Finding.{document_id, view_id, replaced_found, replaced_other, mapped_found, mapped_ids, living_from, documents_added, added_at}
+use Rattle.ed_model.specs.proved.Scenes.{edit_made_id}
+use Rattle.ed_model.specs.proved.Changes.{changed_id}
+use Rattle.run_laws.proofs.Choices.{either}
 use Rattle.run_laws.proofs.Walks.{edit_views, changes_views, followed_same}
 use Rattle.run_laws.proofs.TableWays.{of_table, OfMessages, of_each_message, of_command}
 
@@ -46,17 +49,10 @@ own_after r other = r.document
 
 -- A plan keeps the document's id.
 
-pub edit_made_id : (steps : List Step) (scene : Scene) → (edit_made steps scene).document.id ≡ scene.document.id
-edit_made_id steps scene = (edit_views scene.document.id (λ views. Unit {0}) (λ step d views e h. tt) steps scene (refl, tt)).0
-
 changes_performed_id : (who : ℕ) (cs : List Change) (scene : Scene)
     → (changes_performed who (notes.bit_if (nat_lt 1 (length cs)) notes.multi_step) false cs scene).document.id ≡ scene.document.id
 changes_performed_id who cs scene =
     (changes_views scene.document.id (λ views. Unit {0}) (λ step d views e h. tt) who (notes.bit_if (nat_lt 1 (length cs)) notes.multi_step) false cs scene (refl, tt)).0
-
-pub changed_id : (bytes : List ℕ) (change : DocumentChange) (d : Document) → (changed_document bytes change d).id ≡ d.id
-changed_id bytes (document_change.SetReadOnly on) d = refl
-changed_id bytes _ d = refl
 
 pub own_id : (r : Request) (p : Plan) → (own_after r p).id ≡ r.document.id
 own_id r (plan.Edit change value after) = edit_made_id (steps_of r change) (scene_of r)
@@ -123,7 +119,7 @@ module _ (Goes : Document → Document → Type 0) (same : (d : Document) → Go
 
   -- a new document is added last
   pub all_pushed : (next : ℕ) (ds : List Document) (new : Document) → next ≤ new.id → IsMadeNew new → AllFrom next ds (ds ++ new ∷ [])
-  all_pushed next ds new le made id e f = go (document_at ds id) (sym (pushed_at ds new id) ∙ f)
+  all_pushed next ds new le made id e f = go (document_at ds id) (sym (added_at ds new id) ∙ f)
     where
       alone : (b : Bool) → cond b (Some new) None ≡ Some e → From next None e
       alone true g = let is : new ≡ e = cc in subst (λ (x : Document). From next None x) is (le, made)
@@ -168,7 +164,7 @@ module _ (Goes : Document → Document → Type 0) (same : (d : Document) → Go
       let s = r.session in
       let with = with_new_document (new_document s.next_document 0) s in
       with_attached_from s.next_document s.documents with (document_at with.documents s.next_document) r.view (s.next_document + 1)
-      (rise_pushed 0 s.next_document s.documents (new_document s.next_document 0) (omega arith) refl h.document_ids)
+      (documents_added s.next_document s.documents (new_document s.next_document 0) refl h.document_ids)
       (all_pushed s.next_document s.documents (new_document s.next_document 0) (omega arith) (0, refl))
   session_change_from r (session_change.Create options) h =
       let s = r.session in

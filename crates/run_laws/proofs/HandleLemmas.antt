@@ -8,9 +8,9 @@ use Rattle.ed_model.specs.Changes.{changed_document}
 use Rattle.ed_model.specs.SoundLaws.{CommandKeepsSound}
 use Rattle.ed_model.specs.PlansFit.{PlansFit}
 use Rattle.ed_model.specs.HandleLaws.{StepsGiveNoHandle, ChangesGiveNoOldHandle, NextHandlesNeverFall}
+use Rattle.ed_model.specs.proved.Finding.{document_id, found_below}
+use Rattle.ed_model.specs.proved.Changes.{changed_id}
 use Rattle.run_laws.specs.HandleRunLaws.{IsGone, HandlesNeverComeBack}
-use Rattle.run_laws.proofs.Finding.{document_id, found_below}
-use Rattle.run_laws.proofs.Going.{changed_id}
 use Rattle.run_laws.proofs.Invariants.{run_holds}
 
 -- no marker of the document with this id has the handle

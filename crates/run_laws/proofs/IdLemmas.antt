@@ -28,8 +28,10 @@ use Rattle.ed_model.specs.TableLaws.{Answered}
 use Rattle.ed_model.specs.Run.{Running, after_command, run_to, outcomes}
 use Rattle.ed_model.specs.SoundLaws.{IsSound, Rise, CommandKeepsSound}
 use Rattle.ed_model.specs.PlansFit.{PlansFit}
+use Rattle.ed_model.specs.proved.Finding.{document_id, ids_of, same_ids}
+use Rattle.ed_model.specs.proved.Changes.{view_after_id, changed_lines_id}
 use Rattle.run_laws.specs.IdLaws.{DocumentIdsNeverComeBack, ViewIdsNeverComeBack, NextIdsNeverFall, OpenedIdsRise, opened_ids}
-use Rattle.run_laws.proofs.Finding.{either, document_id, mapped_ids}
+use Rattle.run_laws.proofs.Choices.{either}
 use Rattle.run_laws.proofs.Walks.{step_keeps, sender_keeps, lines_keep, followed_same, performed_views}
 use Rattle.run_laws.proofs.TableWays.{of_table, of_any_command}
 use Rattle.run_laws.proofs.Going.{AllFrom, From, any_command_from}
@@ -58,40 +60,24 @@ none_again s t id on below none = go (document_at t.documents id) refl
 
 -- Views: a message keeps their ids.
 
-abbrev ids : List View → List ℕ
-ids views = map (λ (v : View). v.id) views
-
-same_ids : (f : View → View) → ((v : View) → (f v).id ≡ v.id) → (views : List View) → ids (map f views) ≡ ids views
-same_ids f h views = mapped_ids (λ (v : View). v.id) f h views
-
-pub after_id : (step : Step) (d : Document) (v : View) → (view_after step d v).id ≡ v.id
-after_id step d v = step_keeps (λ (w : View). w.id) (λ step d w. refl) step d v
-
-pub lines_id : (change : DocumentChange) (d : Document) (v : View) → (changed_lines change d v).id ≡ v.id
-lines_id change d v = lines_keep (λ (w : View). w.id) (λ w flags. refl) change d v
-
-pub view_change_ids : (levels : List ℕ) (what : ViewChange) (v : View) → (changed_view levels what v).id ≡ v.id
-view_change_ids levels (view_change.Select anchor caret) v = refl
-view_change_ids levels _ v = refl
-
 -- the sender alone is changed
-sender_ids : (f : View → View) → ((v : View) → (f v).id ≡ v.id) → (sender : ℕ) (views : List View) → ids (map (λ (v : View). cond (v.id == sender) (f v) v) views) ≡ ids views
+sender_ids : (f : View → View) → ((v : View) → (f v).id ≡ v.id) → (sender : ℕ) (views : List View) → ids_of (map (λ (v : View). cond (v.id == sender) (f v) v) views) ≡ ids_of views
 sender_ids f same sender views = same_ids (λ (v : View). cond (v.id == sender) (f v) v) (sender_keeps (λ (w : View). w.id) f same sender) views
 
-with_view_ids : (new : View) (views : List View) → ids (with_view new views) ≡ ids views
+with_view_ids : (new : View) (views : List View) → ids_of (with_view new views) ≡ ids_of views
 with_view_ids new views = same_ids (λ (v : View). cond (v.id == new.id) new v) (λ v. go v (v.id == new.id) refl) views
   where
     go : (v : View) (b : Bool) → (v.id == new.id) ≡ b → (cond b new v).id ≡ v.id
     go v true t = sym (eqb-true v.id new.id t)
     go v false t = refl
 
-performed_ids : (r : Request) (p : Plan) → ids (performed r p).0.views ≡ ids r.session.views
+performed_ids : (r : Request) (p : Plan) → ids_of (performed r p).0.views ≡ ids_of r.session.views
 performed_ids r p =
-    performed_views r (λ (vs : List View). ids vs ≡ ids r.session.views)
-    (λ step d vs is h. same_ids (view_after step d) (after_id step d) vs ∙ h)
+    performed_views r (λ (vs : List View). ids_of vs ≡ ids_of r.session.views)
+    (λ step d vs is h. same_ids (view_after step d) (view_after_id step d) vs ∙ h)
     (λ place vs h. sender_ids (λ (v : View). record v { anchor = place; caret = place }) (λ v. refl) r.view.id vs ∙ h)
     (λ start past vs h. sender_ids (λ (v : View). record v { target_start = start; target_end = past }) (λ v. refl) r.view.id vs ∙ h)
-    (λ change h. same_ids (changed_lines change r.document) (lines_id change r.document) r.session.views ∙ h)
+    (λ change h. same_ids (changed_lines change r.document) (changed_lines_id change r.document) r.session.views ∙ h)
     p
     (λ what value is h. with_view_ids (changed_view (levels r) what r.view) r.session.views ∙ h)
     (λ what value d is attaches h. with_view_ids (attached_to d r.view) r.session.views ∙ h)
@@ -101,7 +87,7 @@ performed_ids r p =
 record Keeps (s t : Session) : Type 0 where
   documents : s.next_document ≤ t.next_document
   views : t.next_view ≡ s.next_view
-  ids_stay : ids t.views ≡ ids s.views
+  ids_stay : ids_of t.views ≡ ids_of s.views
 
 keeps_same : (s : Session) → Keeps s s
 keeps_same s = record { documents = omega arith; views = refl; ids_stay = refl }
@@ -139,12 +125,12 @@ message_keeps s view m = of_table (AnsweredKeeps s) tt tt tt s m view (λ v sees
 
 -- Whether a view with an id exists depends only on the ids of the views.
 
-found_among : (views : List View) (id : ℕ) → option_map (λ (v : View). v.id) (view_at views id) ≡ find (λ n. n == id) (ids views)
+found_among : (views : List View) (id : ℕ) → option_map (λ (v : View). v.id) (view_at views id) ≡ find (λ n. n == id) (ids_of views)
 found_among [] id = refl
 found_among (v ∷ vs) id = go (v.id == id) (found_among vs id)
   where
-    go : (b : Bool) → option_map (λ (v : View). v.id) (view_at vs id) ≡ find (λ n. n == id) (ids vs)
-        → option_map (λ (v : View). v.id) (cond b (Some v) (view_at vs id)) ≡ cond b (Some v.id) (find (λ n. n == id) (ids vs))
+    go : (b : Bool) → option_map (λ (v : View). v.id) (view_at vs id) ≡ find (λ n. n == id) (ids_of vs)
+        → option_map (λ (v : View). v.id) (cond b (Some v) (view_at vs id)) ≡ cond b (Some v.id) (find (λ n. n == id) (ids_of vs))
     go true h = refl
     go false h = h
 
@@ -152,7 +138,7 @@ none_mapped : (o : Option View) → option_map (λ (v : View). v.id) o ≡ None 
 none_mapped None e = refl
 none_mapped (Some v) e = absurd (cc)
 
-none_by_ids : (vs ws : List View) (id : ℕ) → ids ws ≡ ids vs → view_at vs id ≡ None → view_at ws id ≡ None
+none_by_ids : (vs ws : List View) (id : ℕ) → ids_of ws ≡ ids_of vs → view_at vs id ≡ None → view_at ws id ≡ None
 none_by_ids vs ws id same none =
     none_mapped (view_at ws id) (found_among ws id ∙ ap (find (λ n. n == id)) same ∙ sym (found_among vs id) ∙ ap (option_map (λ (v : View). v.id)) none)
 

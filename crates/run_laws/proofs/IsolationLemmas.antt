@@ -34,16 +34,17 @@ use Rattle.ed_model.specs.Table.{table, answered, with_recording, plan_of, perfo
 use Rattle.ed_model.specs.TableLaws.{Answered}
 use Rattle.ed_model.specs.SoundLaws.{IsSound, IsViewOn, ListsItsViews, CommandKeepsSound}
 use Rattle.ed_model.specs.Run.{Running, starting, after_command, after_message, outcomes, run_to}
+use Rattle.ed_model.specs.proved.Elements.{found_all}
+use Rattle.ed_model.specs.proved.Finding.{document_id, view_id, replaced_found, mapped_found, found_once, IsOwner}
+use Rattle.ed_model.specs.proved.Changes.{view_after_id, changed_lines_id, view_after_document}
 use Rattle.run_laws.specs.MessageKinds.{is_copying, is_about_documents}
 use Rattle.run_laws.specs.IsolationLaws.{Sending, sent, shows_other, goes_elsewhere, unless, without_others, own_outcomes, KeepsApart, DocumentsAreApart}
-use Rattle.run_laws.proofs.Finding.{document_id, view_id, found_all, replaced_found, mapped_found}
 use Rattle.run_laws.proofs.Walks.{step_keeps, sender_keeps, lines_keep, edit_related, changes_related}
-use Rattle.run_laws.proofs.IdLemmas.{after_id, lines_id}
 use Rattle.run_laws.proofs.TableWays.{of_table}
 use Rattle.run_laws.proofs.Going.{own_id}
 use Rattle.run_laws.proofs.PlanShapes.{Leave, KeepsTo, IsShaped, leave_of, plan_is_shaped, same_plan, same_converted}
-use Rattle.run_laws.proofs.Alike.{IsAlike, AreAlike, alike_same, all_alike, alike_turned, alike_through, alike_both, alike_kept, FoundAlike, found_alike, own_found, none_found, watching_alike, found_once, views_on_alike}
-use Rattle.run_laws.proofs.LeavingLemmas.{Once, performed_leaves_views, performed_leaves_document, performed_leaves_clipboard, performed_leaves_limits}
+use Rattle.run_laws.proofs.Alike.{IsAlike, AreAlike, alike_same, all_alike, alike_turned, alike_through, alike_both, alike_kept, FoundAlike, found_alike, own_found, none_found, watching_alike, views_on_alike}
+use Rattle.run_laws.proofs.LeavingLemmas.{performed_leaves_views, performed_leaves_document, performed_leaves_clipboard, performed_leaves_limits}
 
 abbrev Alike : ℕ → List View → List View → Type 0
 Alike id vs ws = AreAlike (λ n. n ≡ id) vs ws
@@ -61,9 +62,6 @@ as_first id a b h =
     ap (λ (d : Document). record { document = d; views = b.views; notes = b.notes }) h.document
     ∙ ap (λ (ns : List Notice). record { document = a.document; views = b.views; notes = ns }) h.notes
 
-step_document : (step : Step) (d : Document) (v : View) → (view_after step d v).document ≡ v.document
-step_document step d v = step_keeps (λ (w : View). w.document) (λ step d w. refl) step d v
-
 listed_after : (id : ℕ) (f : View → View) → ((v : View) → (f v).id ≡ v.id) → ((v : View) → (f v).document ≡ v.document) → (views : List View) (ids : List ℕ)
     → AllByRecursion (IsViewOn views id) ids → AllByRecursion (IsViewOn (map f views) id) ids
 listed_after id f same on views [] all = tt
@@ -71,7 +69,7 @@ listed_after id f same on views (k ∷ ks) all =
     ((f all.0.0, mapped_found (λ (v : View). v.id) f same views k ∙ ap (option_map f) all.0.1, on all.0.0 ∙ all.0.2), listed_after id f same on views ks all.1)
 
 step_alike : (id : ℕ) (step : Step) (d : Document) (vs ws : List View) → Alike id vs ws → Alike id (map (view_after step d) vs) (map (view_after step d) ws)
-step_alike id step d vs ws h = alike_both (λ n. n ≡ id) (view_after step d) (alike_kept (λ n. n ≡ id) (view_after step d) (after_id step d) (step_document step d)) vs ws h
+step_alike id step d vs ws h = alike_both (λ n. n ≡ id) (view_after step d) (alike_kept (λ n. n ≡ id) (view_after step d) (view_after_id step d) (view_after_document step d)) vs ws h
 
 -- the notes of a step to these views
 abbrev step_told : ℕ → ℕ → List Notice → Step → Document → List Notice → List View → List Notice
@@ -88,7 +86,7 @@ moved_same id step a b new told same h = record {
   notes = ap told (watching_alike id a.views b.views a.document.views h.views h.listed);
   views = step_alike id step a.document a.views b.views h.views;
   listed = subst (AllByRecursion (IsViewOn (map (view_after step a.document) a.views) id)) (sym same)
-      (listed_after id (view_after step a.document) (after_id step a.document) (step_document step a.document) a.views a.document.views h.listed);
+      (listed_after id (view_after step a.document) (view_after_id step a.document) (view_after_document step a.document) a.views a.document.views h.listed);
 }
 
 step_same : (id : ℕ) (later : Bool) (step : Step) (a b : Scene) → SameScenes id a b → SameScenes id (step_made later step a) (step_made later step b)
@@ -280,7 +278,7 @@ performed_done id r t (plan.ChangeDocument change value) l barred keeps own h =
       reply = ap (λ (w : List View). response value [] (change_told r.view w r.document new change)) (heard_same id r t own h);
       sessions = record {
         document = replaced_agree id r.session t r.document new new own.found (h.document ∙ own.found) (own_id r (plan.ChangeDocument change value) ∙ own.is) refl;
-        views = alike_both (λ n. n ≡ id) (changed_lines change r.document) (alike_kept (λ n. n ≡ id) (changed_lines change r.document) (lines_id change r.document) (lines_keep (λ (w : View). w.document) (λ w flags. refl) change r.document)) r.session.views t.views h.views;
+        views = alike_both (λ n. n ≡ id) (changed_lines change r.document) (alike_kept (λ n. n ≡ id) (changed_lines change r.document) (changed_lines_id change r.document) (lines_keep (λ (w : View). w.document) (λ w flags. refl) change r.document)) r.session.views t.views h.views;
         clipboard = h.clipboard;
         limits = h.limits;
       };
@@ -358,12 +356,12 @@ own_message id s t view m barred sound on h = go (view_at s.views view) refl
 
 -- Messages to views of other documents.
 
-once_of : (s : Session) (view : ℕ) (v : View) → IsSound s → view_at s.views view ≡ Some v → Once v.id v.document s.views
+once_of : (s : Session) (view : ℕ) (v : View) → IsSound s → view_at s.views view ≡ Some v → IsOwner v.id v.document s.views
 once_of s view v sound sees =
     let is = view_id s.views view v sees in
-    turn s.views (found_once 0 s.next_view s.views view v sound.view_ids sees)
+    turn s.views (found_once (λ (v : View). v.id) 0 s.next_view s.views view v sound.view_ids sees)
   where
-    turn : (vs : List View) → AllByRecursion (λ (w : View). w.id ≡ view → w ≡ v) vs → Once v.id v.document vs
+    turn : (vs : List View) → AllByRecursion (λ (w : View). w.id ≡ view → w ≡ v) vs → IsOwner v.id v.document vs
     turn [] all = tt
     turn (w ∷ ws) all = ((λ e. ap (λ (x : View). x.document) (all.0 (e ∙ view_id s.views view v sees))), turn ws all.1)
 

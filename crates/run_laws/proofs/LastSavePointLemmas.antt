@@ -20,11 +20,11 @@ use Rattle.ed_model.specs.TableLaws.{Answered}
 use Rattle.ed_model.specs.SoundLaws.{IsSound, CommandKeepsSound, NewSessionIsSound}
 use Rattle.ed_model.specs.PlansFit.{PlansFit}
 use Rattle.ed_model.specs.Run.{Running, starting, after_command, after_message, run_to}
+use Rattle.ed_model.specs.proved.Finding.{document_id, replaced_found}
 use Rattle.run_laws.specs.MessageKinds.{is_saving}
 use Rattle.run_laws.specs.SavePointLaws.{SetsNoSavePoint, KeepsTheSavePoint, UnmodifiedIsTheSavedText, GetModifyTells}
 use Rattle.run_laws.specs.EditLaws.{text_if_there, text_at}
 use Rattle.run_laws.specs.LastSavePointLaws.{is_view_of, is_saving_message, sets_save_point, is_created, gives_save_point, SavePoint, save_point_if, last_save_point, AllIsCollected, HasTextOf, SavedIsUnmodified, UnmodifiedIsTold, UnmodifiedIsTheLastSavedText, ToldUnmodifiedIsTheLastSavedText}
-use Rattle.run_laws.proofs.Finding.{document_id, replaced_found}
 use Rattle.run_laws.proofs.TableWays.{table_at}
 use Rattle.run_laws.proofs.Going.{From}
 use Rattle.run_laws.proofs.IdLemmas.{Any, command_goes_on}

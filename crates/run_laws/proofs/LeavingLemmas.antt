@@ -23,21 +23,12 @@ use Rattle.ed_model.specs.FoldingPlans.{levels}
 use Rattle.ed_model.specs.Performing.{scene_of, session_of, moved_view, view_after, edit_made, followed}
 use Rattle.ed_model.specs.Changes.{changed_lines, changed_view, session_changed}
 use Rattle.ed_model.specs.Table.{performed}
-use Rattle.run_laws.proofs.Finding.{replaced_other}
+use Rattle.ed_model.specs.proved.Finding.{replaced_other, IsOwner}
+use Rattle.ed_model.specs.proved.Changes.{changed_view_id, changed_view_document}
 use Rattle.run_laws.proofs.Walks.{attaches, followed_same, performed_views}
 use Rattle.run_laws.proofs.Going.{own_after, own_id}
-use Rattle.run_laws.proofs.IdLemmas.{view_change_ids}
 use Rattle.run_laws.proofs.PlanShapes.{Leave, may_follow, KeepsTo}
 use Rattle.run_laws.proofs.Alike.{IsAlike, AreAlike, alike_same, all_alike, alike_through, alike_changed, kept_on}
-
--- a change of a view keeps its document
-pub view_change_document : (levels : List ℕ) (what : ViewChange) (v : View) → (changed_view levels what v).document ≡ v.document
-view_change_document levels (view_change.Select anchor caret) v = refl
-view_change_document levels _ v = refl
-
--- the views with the sender's id are attached to its document
-abbrev pub Once : ℕ → ℕ → List View → Type 0
-Once sender document views = AllByRecursion (λ (v : View). v.id ≡ sender → v.document ≡ document) views
 
 -- a plan that is not about documents attaches no view
 attaches_none : (l : Leave) (what : SessionChange) (value : ℤ) → l.documents ≡ false → KeepsTo l (plan.ChangeSession what value) → attaches what ≡ true → ⊥
@@ -50,7 +41,7 @@ module _ (Own : ℕ → Type 0) (sender document : ℕ) (apart : Own document �
   IsOnce v = v.id ≡ sender → v.document ≡ document
 
   -- views of which one changes only if it is alike afterwards
-  changed_leave : (test : View → Bool) (f : View → View) → ((v : View) → IsOnce v → test v ≡ true → IsAlike Own v (f v)) → (views : List View) → Once sender document views
+  changed_leave : (test : View → Bool) (f : View → View) → ((v : View) → IsOnce v → test v ≡ true → IsAlike Own v (f v)) → (views : List View) → IsOwner sender document views
       → AreAlike Own views (map (λ (v : View). cond (test v) (f v) v) views)
   changed_leave test f h views once = alike_changed Own IsOnce (λ (v : View). cond (test v) (f v) v) (λ v p. go v (test v) refl p) views once
     where
@@ -62,16 +53,16 @@ module _ (Own : ℕ → Type 0) (sender document : ℕ) (apart : Own document �
   own_alike : (v w : View) → v.document ≡ document → w.id ≡ v.id → w.document ≡ v.document → IsAlike Own v w
   own_alike v w at id on = record { id = id; document = on; own = λ o. absurd (apart (subst Own at o)) }
 
-  step_leaves : (step : Step) (d : Document) → d.id ≡ document → (views : List View) → Once sender document views → AreAlike Own views (map (view_after step d) views)
+  step_leaves : (step : Step) (d : Document) → d.id ≡ document → (views : List View) → IsOwner sender document views → AreAlike Own views (map (view_after step d) views)
   step_leaves step d e views once =
       changed_leave (λ (v : View). v.document == d.id) (moved_view step d) (λ v p t. own_alike v (moved_view step d v) (eqb-true v.document d.id t ∙ e) refl refl) views once
 
   -- only the sender changes, and keeps its id and document
-  sender_leaves : (f : View → View) → ((v : View) → (f v).id ≡ v.id) → ((v : View) → (f v).document ≡ v.document) → (views : List View) → Once sender document views
+  sender_leaves : (f : View → View) → ((v : View) → (f v).id ≡ v.id) → ((v : View) → (f v).document ≡ v.document) → (views : List View) → IsOwner sender document views
       → AreAlike Own views (map (λ (v : View). cond (v.id == sender) (f v) v) views)
   sender_leaves f id on views once = changed_leave (λ (v : View). v.id == sender) f (λ v p t. own_alike v (f v) (p (eqb-true v.id sender t)) (id v) (on v)) views once
 
-  with_view_leaves : (new : View) (views : List View) → new.id ≡ sender → new.document ≡ document → Once sender document views → AreAlike Own views (with_view new views)
+  with_view_leaves : (new : View) (views : List View) → new.id ≡ sender → new.document ≡ document → IsOwner sender document views → AreAlike Own views (with_view new views)
   with_view_leaves new views id on once =
       changed_leave (λ (v : View). v.id == new.id) (λ v. new)
       (λ v p t.
@@ -80,7 +71,7 @@ module _ (Own : ℕ → Type 0) (sender document : ℕ) (apart : Own document �
       own_alike v new at (sym same) (on ∙ sym at))
       views once
 
-  lines_leave : (change : DocumentChange) (d : Document) → d.id ≡ document → (views : List View) → Once sender document views → AreAlike Own views (map (changed_lines change d) views)
+  lines_leave : (change : DocumentChange) (d : Document) → d.id ≡ document → (views : List View) → IsOwner sender document views → AreAlike Own views (map (changed_lines change d) views)
   lines_leave (document_change.SetLineEndTypes to) d e views once =
       changed_leave (λ (v : View). v.document == d.id) (λ (v : View). record v { flags = regrouped flags_together d.line_end_types to (text_of d) v.flags })
       (λ v p t. own_alike v (record v { flags = regrouped flags_together d.line_end_types to (text_of d) v.flags }) (eqb-true v.document d.id t ∙ e) refl refl) views once
@@ -88,7 +79,7 @@ module _ (Own : ℕ → Type 0) (sender document : ℕ) (apart : Own document �
 
 -- the views after a plan that is not about documents
 pub performed_leaves_views : (Own : ℕ → Type 0) (r : Request) (p : Plan) (l : Leave) → (Own r.view.document → ⊥) → l.documents ≡ false → KeepsTo l p → r.document.id ≡ r.view.document
-    → Once r.view.id r.view.document r.session.views → AreAlike Own r.session.views (performed r p).0.views
+    → IsOwner r.view.id r.view.document r.session.views → AreAlike Own r.session.views (performed r p).0.views
 performed_leaves_views Own r p l apart barred keeps e once =
     performed_views r (AreAlike Own r.session.views)
     (λ step d vs is h. further vs _ h (step_leaves Own r.view.id r.view.document apart step d (is ∙ e) vs))
@@ -99,12 +90,12 @@ performed_leaves_views Own r p l apart barred keeps e once =
     (λ change h. lines_leave Own r.view.id r.view.document apart change r.document e r.session.views once)
     p
     (λ what value is h.
-    with_view_leaves Own r.view.id r.view.document apart (changed_view (levels r) what r.view) r.session.views (view_change_ids (levels r) what r.view)
-    (view_change_document (levels r) what r.view) once)
+    with_view_leaves Own r.view.id r.view.document apart (changed_view (levels r) what r.view) r.session.views (changed_view_id (levels r) what r.view)
+    (changed_view_document (levels r) what r.view) once)
     (λ what value d is yes h. absurd (attaches_none l what value barred (subst (KeepsTo l) is keeps) yes))
     (all_alike Own r.session.views)
   where
-    further : (vs ws : List View) → AreAlike Own r.session.views vs → (Once r.view.id r.view.document vs → AreAlike Own vs ws) → AreAlike Own r.session.views ws
+    further : (vs ws : List View) → AreAlike Own r.session.views vs → (IsOwner r.view.id r.view.document vs → AreAlike Own vs ws) → AreAlike Own r.session.views ws
     further vs ws h k =
         alike_through Own r.session.views vs ws h (k (kept_on Own (λ n m. n ≡ r.view.id → m ≡ r.view.document) r.session.views vs h once))
 

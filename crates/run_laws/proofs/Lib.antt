@@ -1,7 +1,7 @@
 -- Lemmas on whole runs.
 pub mod PlanShapes
 pub mod TableWays
-pub mod Finding
+pub mod Choices
 pub mod Walks
 pub mod Going
 pub mod SmallLemmas

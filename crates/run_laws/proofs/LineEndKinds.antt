@@ -13,6 +13,7 @@ use Rattle.ed_model.specs.Lines.{is_line_start, line_starts, line_count, start_a
 use Rattle.ed_model.specs.LineEnds.{line_end_bytes, begins_with_line_feed, converted_after, converted}
 use Rattle.ed_model.specs.proved.Rising.{increasing_at}
 use Rattle.ed_model.specs.proved.Lines.{line_starts_rise, start_from_contains}
+use Rattle.ed_model.specs.proved.Conversions.{behind_return}
 use Rattle.run_laws.proofs.LineEndLemmas.{other_converted}
 use Rattle.run_laws.specs.LineEndLaws.{HasOnly, ConvertedHaveOnlyThese, ConvertedLinesEndSo, OtherBytesStay, TextsOfTheKindStay, LastKindCounts, bytes_of_end, ends_in_unicode, is_other}
 
@@ -181,11 +182,6 @@ pub other_bytes_stay : OtherBytesStay
 other_bytes_stay to text = others_stay to text false
 
 -- Texts that are converted twice.
-
--- after a CR the conversion is the same as elsewhere, unless an LF follows
-behind_return : (to : LineEnd) (bs : List ℕ) → begins_with_line_feed bs ≡ false → (f : Bool) → converted_after f to bs ≡ converted_after false to bs
-behind_return to [] none f = refl
-behind_return to (b ∷ bs) none f = rw none refl
 
 pub first_byte : (bs : List ℕ) → begins_with_line_feed bs ≡ stands 10 bs 0
 first_byte [] = refl

@@ -8,42 +8,11 @@ use Rattle.ed_model.specs.declared.plan.LineEnd.{LineEnd}
 use Rattle.ed_model.specs.declared.plan.LineEnd.TheVariants.{CrLf, Cr, Lf}
 use Rattle.ed_model.specs.Steps.{Step, edited}
 use Rattle.ed_model.specs.LineEnds.{begins_with_line_feed, converted_after, converted, lacks_return, lacks_feed, missing_at, missing_from, is_unwanted, unwanted_at, place_after, unwanted_from, after_steps}
-use Rattle.ed_model.specs.proved.Lists.{inserted_between}
+use Rattle.ed_model.specs.proved.Lists.{deleted_between}
+use Rattle.ed_model.specs.proved.Conversions.{put, filled, fills, still_feed}
 use Rattle.run_laws.specs.LineEndLaws.{StepsConvert}
 
 -- The insertions: the text with the missing bytes, byte by byte.
-
-abbrev put : Bool → Bool → ℕ → List ℕ → List ℕ
-put true y b rest = 13 ∷ b ∷ rest
-put false true b rest = b ∷ 10 ∷ rest
-put false false b rest = b ∷ rest
-
-abbrev filled : Bool → LineEnd → List ℕ → List ℕ
-filled f to [] = []
-filled f to (b ∷ bs) = put (lacks_return f to b) (lacks_feed to b bs) b (filled (b == 13) to bs)
-
-fills : (to : LineEnd) (rest : List ℕ) (f : Bool) (p : ℕ) (front : List ℕ) → length front ≡ p
-    → after_steps (missing_from p f to rest) (front ++ rest) ≡ front ++ filled f to rest
-fills to [] f p front e = refl
-fills to (b ∷ bs) f p front e = go (lacks_return f to b) (lacks_feed to b bs) (λ q start h. fills to bs (b == 13) q start h)
-  where
-    go : (x y : Bool) → ((q : ℕ) (start : List ℕ) → length start ≡ q → after_steps (missing_from q (b == 13) to bs) (start ++ bs) ≡ start ++ filled (b == 13) to bs)
-        → after_steps (missing_at p x y ++ missing_from (p + 1 + length (missing_at p x y)) (b == 13) to bs) (front ++ b ∷ bs) ≡ front ++ put x y b (filled (b == 13) to bs)
-    go true y rest =
-        ap (after_steps (missing_from (p + 1 + 1) (b == 13) to bs)) (inserted_between p front (13 ∷ []) (b ∷ bs) e ∙ sym (append_assoc front (13 ∷ b ∷ []) bs))
-        ∙ rest (p + 1 + 1) (front ++ 13 ∷ b ∷ []) (simp length-append (omega arith))
-        ∙ append_assoc front (13 ∷ b ∷ []) (filled (b == 13) to bs)
-    go false true rest =
-        ap (after_steps (missing_from (p + 1 + 1) (b == 13) to bs))
-        (ap (λ t. take (p + 1) t ++ (10 ∷ []) ++ drop (p + 1) t) (sym (append_assoc front (b ∷ []) bs))
-        ∙ inserted_between (p + 1) (front ++ b ∷ []) (10 ∷ []) bs (simp length-append (omega arith))
-        ∙ append_assoc front (b ∷ []) (10 ∷ bs) ∙ sym (append_assoc front (b ∷ 10 ∷ []) bs))
-        ∙ rest (p + 1 + 1) (front ++ b ∷ 10 ∷ []) (simp length-append (omega arith))
-        ∙ append_assoc front (b ∷ 10 ∷ []) (filled (b == 13) to bs)
-    go false false rest =
-        ap (after_steps (missing_from (p + 1 + 0) (b == 13) to bs)) (sym (append_assoc front (b ∷ []) bs))
-        ∙ rest (p + 1 + 0) (front ++ b ∷ []) (simp length-append (omega arith))
-        ∙ append_assoc front (b ∷ []) (filled (b == 13) to bs)
 
 -- The deletions: the text without the unwanted bytes, byte by byte.
 
@@ -54,14 +23,6 @@ left false b rest = b ∷ rest
 abbrev kept : Bool → LineEnd → List ℕ → List ℕ
 kept f to [] = []
 kept f to (b ∷ bs) = left (is_unwanted f to b bs) b (kept (b == 13) to bs)
-
--- deleting a byte after a front
-deleted_between : (p : ℕ) (front : List ℕ) (b : ℕ) (rest : List ℕ) → length front ≡ p → take p (front ++ b ∷ rest) ++ drop (p + 1) (front ++ b ∷ rest) ≡ front ++ rest
-deleted_between p front b rest e =
-    let before : take p (front ++ b ∷ rest) ≡ front = take_at front (b ∷ rest) p e in
-    let behind : drop (p + 1) (front ++ b ∷ rest) ≡ rest =
-    ap (drop (p + 1)) (sym (append_assoc front (b ∷ []) rest)) ∙ drop_at (front ++ b ∷ []) rest (p + 1) (simp length-append (omega arith)) in
-    ap (λ l. l ++ drop (p + 1) (front ++ b ∷ rest)) before ∙ ap (λ l. front ++ l) behind
 
 keeps : (to : LineEnd) (rest : List ℕ) (f : Bool) (p : ℕ) (front : List ℕ) → length front ≡ p
     → after_steps (unwanted_from p f to rest) (front ++ rest) ≡ front ++ kept f to rest
@@ -146,16 +107,6 @@ to_both (b ∷ bs) f = by_byte (λ c. FilledTo (c ∷ bs) f) b (feed f (to_both 
         ∙ sym (ap (λ l. l ++ converted_after f CrLf (b ∷ bs)) (none_pending f (b == 10) e) ∙ other_converted f CrLf b bs e n)
 
 -- LF: each CR is deleted.
-
--- a text that begins with an LF still does after the insertions
-still_feed : (bs : List ℕ) (f : Bool) → begins_with_line_feed bs ≡ true → begins_with_line_feed (filled f Lf bs) ≡ true
-still_feed [] f e = absurd (true≢false (sym e))
-still_feed (b ∷ bs) f e =
-    let ten : b ≡ 10 = eqb-true b 10 e in
-    let no_return : lacks_return f Lf b ≡ false = and_right ((b == 10) && not f) false refl in
-    let no_feed : lacks_feed Lf b bs ≡ false = ap (λ c. (c == 13) && not (begins_with_line_feed bs) && true) ten in
-    ap (λ x. begins_with_line_feed (put x (lacks_feed Lf b bs) b (filled (b == 13) Lf bs))) no_return
-    ∙ ap (λ y. begins_with_line_feed (put false y b (filled (b == 13) Lf bs))) no_feed ∙ e
 
 abbrev TurnedToFeeds : List ℕ → Bool → Bool → Type 0
 TurnedToFeeds bs f g = kept g Lf (filled f Lf bs) ≡ pending f (begins_with_line_feed bs) ++ converted_after f Lf bs

@@ -19,25 +19,14 @@ use Rattle.ed_model.specs.Requests.{Request, Planned, text, size, with_argument,
 use Rattle.ed_model.specs.Edits.{has_steps, stays_within, edit_plan}
 use Rattle.ed_model.specs.Performing.{Scene, scene_of, step_made, steps_made, sealed_scene, edit_made}
 use Rattle.ed_model.specs.Table.{table, answered, plan_of, performed, with_recording, request}
-use Rattle.ed_model.specs.proved.Steps.{bytes_of_edited_cells}
+use Rattle.ed_model.specs.proved.Finding.{document_id, replaced_found}
+use Rattle.ed_model.specs.proved.Scenes.{edit_made_id, edit_made_text}
 use Rattle.run_laws.specs.LineEndLaws.{ConvertEolsConverts}
-use Rattle.run_laws.proofs.Finding.{either, document_id, replaced_found}
-use Rattle.run_laws.proofs.Going.{edit_made_id}
+use Rattle.run_laws.proofs.Choices.{either}
 use Rattle.run_laws.proofs.LineEndLemmas.{steps_convert}
 use Rattle.run_laws.proofs.TableWays.{table_at}
 
 -- Steps lead to their text, whatever the notes and the history are.
-
-steps_text : (later : Bool) (steps : List Step) (scene : Scene) → text_of (steps_made later steps scene).document ≡ after_steps steps (text_of scene.document)
-steps_text later [] scene = refl
-steps_text later (step ∷ steps) scene =
-    steps_text true steps (step_made later step scene) ∙ ap (after_steps steps) (bytes_of_edited_cells step scene.document.cells)
-
-edit_text : (steps : List Step) (scene : Scene) → text_of (edit_made steps scene).document ≡ after_steps steps (text_of scene.document)
-edit_text steps scene =
-    either (λ (x : Scene). text_of x.document ≡ after_steps steps (text_of scene.document)) (nat_lt 1 (length steps))
-    (sealed_scene (steps_made false steps (sealed_scene scene))) (steps_made false steps scene)
-    (steps_text false steps (sealed_scene scene)) (steps_text false steps scene)
 
 -- if there is a plan, the request's document has this text after it
 abbrev Leaves : Request → List ℕ → Planned → Type 0
@@ -55,7 +44,7 @@ edit_leaves r to found =
     let own : r.document.id ≡ r.view.document = document_id r.session.documents r.view.document r.document found in
     let id : new.id ≡ r.view.document = edit_made_id steps (scene_of r) ∙ own in
     let there : document_at (with_document new r.session.documents) r.view.document ≡ Some new = replaced_found r.session.documents r.view.document r.document new id found in
-    ap (option_map text_of) there ∙ ap Some (edit_text steps (scene_of r) ∙ steps_convert to (text r))
+    ap (option_map text_of) there ∙ ap Some (edit_made_text steps (scene_of r) ∙ steps_convert to (text r))
 
 mode_leaves : (r : Request) (to : LineEnd) → IsFound r → r.document.read_only ≡ false
     → Leaves r (converted to (text r)) (edit_plan r (edit.ConvertLineEnds to) (pos 0) follow.Nothing)

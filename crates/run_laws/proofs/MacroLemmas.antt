@@ -32,14 +32,13 @@ use Rattle.ed_model.specs.Table.{record_note}
 use Rattle.ed_model.specs.TableLaws.{LeavesSession, QueriesLeaveTheSession}
 use Rattle.ed_model.specs.Run.{Running, starting, after_command, after_message, outcomes, run_to}
 use Rattle.ed_model.specs.SoundLaws.{MessageKeepsSound, IsSoundInEveryStateFrom}
+use Rattle.ed_model.specs.proved.Finding.{view_id, put_found, mapped_found, found_once}
+use Rattle.ed_model.specs.proved.Changes.{view_after_id, changed_lines_id, changed_view_id}
 use Rattle.run_laws.specs.IsolationLaws.{Sending, sent}
 use Rattle.run_laws.specs.MacroLaws.{not_recording, without_recording, sent_to, CanStandBetween, RecordingsCanBeReplayed, RecordsOneAtMost, RepliesRecordOneMessage, RunsRecordOneMessageAReply}
-use Rattle.run_laws.proofs.Finding.{view_id, put_found, mapped_found}
 use Rattle.run_laws.proofs.Walks.{step_keeps, sender_keeps, lines_keep, performed_views}
 use Rattle.run_laws.proofs.TableWays.{of_table, table_at, of_any_command}
 use Rattle.run_laws.proofs.PlanShapes.{Leave, KeepsTo, IsShaped, leave_of, plan_is_shaped, recorded_is_not_about_recording}
-use Rattle.run_laws.proofs.Alike.{found_once}
-use Rattle.run_laws.proofs.IdLemmas.{after_id, lines_id, view_change_ids}
 use Rattle.run_laws.proofs.NoteLemmas.{NoRecords, plans_tell_no_record}
 use Rattle.run_laws.proofs.RecordingLemmas.{Same, Like, table_after_both}
 
@@ -66,14 +65,14 @@ view_change_records levels _ v l answer barred keeps = refl
 performed_records : (r : Request) (p : Plan) (l : Leave) → l.recording ≡ false → KeepsTo l p → r.view.records ≡ true → Records r.view.id r.session.views → Records r.view.id (performed r p).0.views
 performed_records r p l barred keeps e h =
     performed_views r (Records r.view.id)
-    (λ step d vs is k. changed_records (view_after step d) (after_id step d) (step_keeps (λ (w : View). w.records) (λ step d w. refl) step d) vs r.view.id k)
+    (λ step d vs is k. changed_records (view_after step d) (view_after_id step d) (step_keeps (λ (w : View). w.records) (λ step d w. refl) step d) vs r.view.id k)
     (λ place vs k. sender_records (λ (v : View). record v { anchor = place; caret = place }) (λ v. refl) (λ v. refl) r.view.id vs r.view.id k)
     (λ start past vs k. sender_records (λ (v : View). record v { target_start = start; target_end = past }) (λ v. refl) (λ v. refl) r.view.id vs r.view.id k)
     (λ change k.
-    changed_records (changed_lines change r.document) (lines_id change r.document) (lines_keep (λ (w : View). w.records) (λ w flags. refl) change r.document) r.session.views r.view.id k)
+    changed_records (changed_lines change r.document) (changed_lines_id change r.document) (lines_keep (λ (w : View). w.records) (λ w flags. refl) change r.document) r.session.views r.view.id k)
     p
     (λ what value is k.
-    put_records (changed_view (levels r) what r.view) r.session.views r.view.id (view_change_ids (levels r) what r.view)
+    put_records (changed_view (levels r) what r.view) r.session.views r.view.id (changed_view_id (levels r) what r.view)
     (view_change_records (levels r) what r.view l value barred (subst (KeepsTo l) is keeps) ∙ e) k)
     (λ what value d is attaches k. put_records (attached_to d r.view) r.session.views r.view.id refl e k)
     h
@@ -254,13 +253,13 @@ begun_same s t view sound h =
     subst (λ (x : Session). Same view x s) (sym h.same)
     (record {
       same = refl;
-      views = set_like view h.sender true s.views (view_id s.views view h.sender h.found) (found_once 0 s.next_view s.views view h.sender sound.view_ids h.found);
+      views = set_like view h.sender true s.views (view_id s.views view h.sender h.found) (found_once (λ (v : View). v.id) 0 s.next_view s.views view h.sender sound.view_ids h.found);
     })
 
 ended_same : (s t u : Session) (view : ℕ) → IsSound s → IsSet s view false t → Same view s u → without_recording view u ≡ t
 ended_same s t u view sound h k =
     ap (without_recording view) k.same
-    ∙ ap (λ vs. record s { views = vs }) (sym k.views ∙ stopped_is view h.sender s.views (view_id s.views view h.sender h.found) (found_once 0 s.next_view s.views view h.sender sound.view_ids h.found))
+    ∙ ap (λ vs. record s { views = vs }) (sym k.views ∙ stopped_is view h.sender s.views (view_id s.views view h.sender h.found) (found_once (λ (v : View). v.id) 0 s.next_view s.views view h.sender sound.view_ids h.found))
     ∙ sym h.same
 
 done_sets : (s : Session) (view : ℕ) (on : Bool) (x : Answered) (done : Session × Response) → x ≡ Ok done → SetBy s view on x → IsSet s view on done.0

@@ -23,7 +23,8 @@ use Rattle.ed_model.specs.Text.{styles_of}
 use Rattle.ed_model.specs.Indicators.{changed_range}
 use Rattle.ed_model.specs.Performing.{last_bits, container_note}
 use Rattle.ed_model.specs.Changes.{line_note, marker_note, range_notes, line_with_handle, document_row, marker_count, is_same}
-use Rattle.run_laws.proofs.Finding.{either, all_joined}
+use Rattle.ed_model.specs.proved.Elements.{all_append}
+use Rattle.run_laws.proofs.Choices.{either}
 use Rattle.run_laws.proofs.Walks.{edit_kept, changes_kept}
 
 -- If the codes that plans use have the property, and the code of an attempt has
@@ -55,8 +56,8 @@ module _ (Code : ℕ → Type 0) (needed : Code notes.style_needed) (reached : C
       let views = watching scene.views scene.document in
       let b = notes.before_note before step in
       let a = notes.after_note after (growth (lines_in scene.document) (lines_in (document_after step scene.document))) step in
-      all_joined HasCode (scene.notes ++ notes.heard views b ++ between) (notes.heard views a)
-      (all_joined HasCode (scene.notes ++ notes.heard views b) between (all_joined HasCode scene.notes (notes.heard views b) h (codes_heard views b (before_has_code before step))) k)
+      all_append HasCode (scene.notes ++ notes.heard views b ++ between) (notes.heard views a)
+      (all_append HasCode (scene.notes ++ notes.heard views b) between (all_append HasCode scene.notes (notes.heard views b) h (codes_heard views b (before_has_code before step))) k)
       (codes_heard views a (after_has_code after (growth (lines_in scene.document) (lines_in (document_after step scene.document))) step))
 
   codes_leaving : (views : List View) (h : History) → HaveCodes (leaving views h)
@@ -74,7 +75,7 @@ module _ (Code : ℕ → Type 0) (needed : Code notes.style_needed) (reached : C
   codes_performed who several last lines_changed (TextStep step) scene h = codes_step who (bit_or (bit_or who several) (last_bits last lines_changed)) [] step scene h tt
   codes_performed who several last lines_changed (ContainerStep token coalesce) scene h =
       let n = container_note (bit_or (bit_or who several) (last_bits last lines_changed)) token in
-      all_joined HasCode scene.notes (notes.heard (watching scene.views scene.document) n) h (codes_heard (watching scene.views scene.document) n modified)
+      all_append HasCode scene.notes (notes.heard (watching scene.views scene.document) n) h (codes_heard (watching scene.views scene.document) n modified)
 
   codes_save_point : (views : List View) (a b : Bool) → HaveCodes (save_point_change views a b)
   codes_save_point views true true = tt
@@ -85,7 +86,7 @@ module _ (Code : ℕ → Type 0) (needed : Code notes.style_needed) (reached : C
   codes_history : (r : Request) (who : ℕ) (cs : List Change) (new : History) → HaveCodes (history_performed r who cs new).1.notes
   codes_history r who cs new =
       let done = changes_performed who (notes.bit_if (nat_lt 1 (length cs)) notes.multi_step) false cs (scene_of r) in
-      all_joined HasCode done.notes (save_point_change (watching done.views done.document) (at_save_point r.document.history) (at_save_point new))
+      all_append HasCode done.notes (save_point_change (watching done.views done.document) (at_save_point r.document.history) (at_save_point new))
       (changes_kept (λ (x : Scene). HaveCodes x.notes) codes_performed who (notes.bit_if (nat_lt 1 (length cs)) notes.multi_step) false cs (scene_of r) tt)
       (codes_save_point (watching done.views done.document) (at_save_point r.document.history) (at_save_point new))
 

@@ -36,11 +36,11 @@ use Rattle.ed_model.specs.Steps.{replacement}
 use Rattle.ed_model.specs.History.{appended}
 use Rattle.ed_model.specs.Changes.{with_attached, with_new_document, session_changed}
 use Rattle.ed_model.specs.Run.{after_message}
+use Rattle.ed_model.specs.proved.Finding.{view_id, mapped_found}
+use Rattle.ed_model.specs.proved.Changes.{changed_view_id}
 use Rattle.run_laws.specs.MacroLaws.{not_recording}
-use Rattle.run_laws.proofs.Finding.{view_id, mapped_found}
 use Rattle.run_laws.proofs.Walks.{edit_related, changes_related}
 use Rattle.run_laws.proofs.PlanShapes.{same_converted, same_plan_recording}
-use Rattle.run_laws.proofs.IdLemmas.{view_change_ids}
 
 module _ (view : ℕ) where
   abbrev quiet : View → View
@@ -213,7 +213,7 @@ module _ (view : ℕ) where
       record {
         same = refl;
         views = put_like (changed_view (levels r) change r.view) (changed_view (levels r) change (record v { records = b })) r.session.views ws (changed_quiet (levels r) change r.view b at)
-            (view_change_ids (levels r) change (record v { records = b }) ∙ sym (view_change_ids (levels r) change r.view)) e;
+            (changed_view_id (levels r) change (record v { records = b }) ∙ sym (changed_view_id (levels r) change r.view)) e;
       }
   performed_same r ws b (plan.ChangeSession change value) at e = session_same r ws b change at e
   performed_same r ws b _ at e = record { same = refl; views = e }

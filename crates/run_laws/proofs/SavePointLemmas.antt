@@ -32,11 +32,14 @@ use Rattle.ed_model.specs.UndoLaws.{undone_text, redone_text, BegunStepIsOneTran
 use Rattle.ed_model.specs.Table.{table, request, with_recording, record_note}
 use Rattle.ed_model.specs.SoundLaws.{IsSound, IsSoundDocument, AreStepsOf, CommandKeepsSound}
 use Rattle.ed_model.specs.PlansFit.{IsSoundRequest, IsFitPlan, PlansFit, EditStepsFit, UndoStepsFit, RedoStepsFit}
-use Rattle.ed_model.specs.proved.Steps.{bytes_behind_restyled}
 use Rattle.ed_model.specs.Run.{Running, after_command, set_text_message, run_to}
+use Rattle.ed_model.specs.proved.Elements.{found_all}
+use Rattle.ed_model.specs.proved.Finding.{document_id, found_below}
+use Rattle.ed_model.specs.proved.Changes.{text_of_styled}
+use Rattle.ed_model.specs.proved.Histories.{same_length}
 use Rattle.run_laws.specs.MessageKinds.{is_saving}
 use Rattle.run_laws.specs.SavePointLaws.{SetsNoSavePoint, IsCollected, KeepsTheSavePoint, UnmodifiedIsTheSavedText, GetModifyTells}
-use Rattle.run_laws.proofs.Finding.{either, document_id, found_all, found_below}
+use Rattle.run_laws.proofs.Choices.{either}
 use Rattle.run_laws.proofs.TableWays.{table_at, OfMessages}
 use Rattle.run_laws.proofs.PlanShapes.{Leave, KeepsTo, IsShaped, leave_of, plan_is_shaped}
 use Rattle.run_laws.proofs.Going.{own_after, AllFrom, From, MayGo, command_from}
@@ -101,18 +104,7 @@ saved_first now h at k e =
     let zero_left : length h.past - k ≡ 0 = omega arith in
     ((λ le. ap (λ (j : ℕ). undone_text j h.past now) zero_left), (λ lt. absurd (omega arith)))
 
--- a change of styles changes no byte
-pub text_styled : (new : List ℕ) (d : Document) → text_of (styled new d) ≡ text_of d
-text_styled new d =
-    either (λ (cells : List Cell). bytes_of cells ≡ bytes_of d.cells) (keeps_no_styles d) d.cells (take d.end_styled d.cells ++ restyled new (drop d.end_styled d.cells)) refl
-    (bytes_behind_restyled d.end_styled new d.cells)
-
 -- Seals.
-
-same_length : (h g : History) → SameButForSeals h g → length g.past ≡ length h.past
-same_length h g same =
-    let changes : Transaction → List Change = λ (t : Transaction). t.changes in
-    sym (length-map g.past changes) ∙ ap length same.past ∙ length-map h.past changes
 
 module _ (c : Cited) (saved : List ℕ) where
   seals_saved : (h g : History) (now : List ℕ) → SameButForSeals h g → Saved saved now h → Saved saved now g
@@ -337,8 +329,8 @@ module _ (c : Cited) (saved : List ℕ) where
   changed_saved bytes document_change.EndGroup d l answer barred keeps s = seals_saved d.history (changed_document bytes document_change.EndGroup d).history (text_of d) (c.group_ended d.history) s
   changed_saved bytes (document_change.CollectUndo on) d l answer barred keeps s = collecting_saved on d.history (text_of d) s
   changed_saved bytes (document_change.AppendContainer token coalesce) d l answer barred keeps s = container_saved token coalesce d.history (text_of d) s
-  changed_saved bytes (document_change.StyleRun count style) d l answer barred keeps s = subst (λ (now : List ℕ). Saved saved now d.history) (sym (text_styled (replicate count style) d)) s
-  changed_saved bytes (document_change.StyleBytes count) d l answer barred keeps s = subst (λ (now : List ℕ). Saved saved now d.history) (sym (text_styled (take count bytes) d)) s
+  changed_saved bytes (document_change.StyleRun count style) d l answer barred keeps s = subst (λ (now : List ℕ). Saved saved now d.history) (sym (text_of_styled (replicate count style) d)) s
+  changed_saved bytes (document_change.StyleBytes count) d l answer barred keeps s = subst (λ (now : List ℕ). Saved saved now d.history) (sym (text_of_styled (take count bytes) d)) s
   changed_saved bytes _ d l answer barred keeps s = s
 
   in_turn : (steps : List Step) (now : List ℕ) → AreStepsOf now steps → FitInTurn steps now

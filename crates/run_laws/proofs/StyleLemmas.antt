@@ -10,8 +10,8 @@ use Rattle.ed_model.specs.Changes.{changed_document, styled}
 use Rattle.ed_model.specs.Run.{starting}
 use Rattle.ed_model.specs.SoundLaws.{CommandKeepsSound, NewSessionIsSound}
 use Rattle.ed_model.specs.PlansFit.{PlansFit}
+use Rattle.ed_model.specs.proved.Elements.{all_append}
 use Rattle.run_laws.specs.StyleLaws.{HasNoStyles, DocumentsWithoutStylesHaveNone}
-use Rattle.run_laws.proofs.Finding.{all_joined}
 use Rattle.run_laws.proofs.Invariants.{run_holds}
 
 abbrev IsPlain : Cell → Type 0
@@ -36,8 +36,8 @@ plain_fresh (b ∷ bs) = (refl, plain_fresh bs)
 
 plain_edited : (step : Step) (cells : List Cell) → Plain cells → Plain (edited_cells step cells)
 plain_edited (Insert p bytes) cells all =
-    all_joined IsPlain (take p cells ++ plain_cells bytes) (drop p cells) (all_joined IsPlain (take p cells) (plain_cells bytes) (plain_taken p cells all) (plain_fresh bytes)) (plain_dropped p cells all)
-plain_edited (Delete p bytes) cells all = all_joined IsPlain (take p cells) _ (plain_taken p cells all) (plain_dropped _ cells all)
+    all_append IsPlain (take p cells ++ plain_cells bytes) (drop p cells) (all_append IsPlain (take p cells) (plain_cells bytes) (plain_taken p cells all) (plain_fresh bytes)) (plain_dropped p cells all)
+plain_edited (Delete p bytes) cells all = all_append IsPlain (take p cells) _ (plain_taken p cells all) (plain_dropped _ cells all)
 
 -- styling such a document changes no style
 plain_styled : (new : List ℕ) (d : Document) → HasNoStyles d → HasNoStyles (styled new d)

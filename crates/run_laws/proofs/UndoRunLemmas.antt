@@ -25,8 +25,8 @@ use Rattle.ed_model.specs.UndoMessageLaws.{IsNeverTooLong, UndoIsNeverTooLong, R
 use Rattle.ed_model.specs.RepeatedUndoLaws.{IsLeftAlone, LeavesAlone, MessagesLeaveOtherDocumentsAlone, OpeningLeavesDocumentsAlone, ClosingLeavesDocumentsAlone, AreAnswered, HasText, UndosGoBackThenRedosGoOn, UndoMessagesGoBack}
 use Rattle.ed_model.specs.PlansFit.{PlansFit}
 use Rattle.ed_model.specs.Run.{Running, starting, after_command, after_message, set_text_message, run_to}
+use Rattle.ed_model.specs.proved.Finding.{found_below, same_document}
 use Rattle.run_laws.specs.UndoRunLaws.{Acts, GoesToOthers, GoesAside, Act, UndoGoesBackOverCommands}
-use Rattle.run_laws.proofs.Finding.{found_below}
 use Rattle.run_laws.proofs.TableWays.{of_table, table_at, OfMessages, of_command}
 use Rattle.run_laws.proofs.IdLemmas.{document_ids_never_come_back, next_document_rises}
 
@@ -188,10 +188,7 @@ module _ (laws : Cited) (files : List (List ℕ)) (kind : Kind) (answers : IsAlw
       chained cs (suc k) origin (after_command files c s).0 e (laws.keeps files c s sound) (aside_next c cs origin s e sound alone act.0 end) act.1 end
 
 text_there : (id : ℕ) (s : Session) (e : Document) (text : List ℕ) → document_at s.documents id ≡ Some e → HasText id s text → text_of e ≡ text
-text_there id s e text found has = let same : has.0 ≡ e = same_found (document_at s.documents id) has.0 e has.1 found in ap text_of (sym same) ∙ has.2
-  where
-    same_found : (o : Option Document) (a b : Document) → o ≡ Some a → o ≡ Some b → a ≡ b
-    same_found o a b p q = cc
+text_there id s e text found has = let same : has.0 ≡ e = same_document (document_at s.documents id) has.0 e has.1 found in ap text_of (sym same) ∙ has.2
 
 pub undo_goes_back_over_commands : Cited → UndoGoesBackOverCommands
 undo_goes_back_over_commands laws files limits before undos redos id k d found written depth enough act =

@@ -22,7 +22,7 @@ use Rattle.ed_model.specs.FoldingPlans.{levels}
 use Rattle.ed_model.specs.Performing.{Scene, scene_of, session_of, moved_view, view_after, step_made, steps_made, sealed_scene, edit_made, followed, with_caret, with_target, caret_behind, change_performed, changes_performed, changes_lines, is_last, history_performed, place_behind}
 use Rattle.ed_model.specs.Changes.{changed_lines, changed_view, with_attached, with_new_document}
 use Rattle.ed_model.specs.Table.{performed}
-use Rattle.run_laws.proofs.Finding.{either}
+use Rattle.run_laws.proofs.Choices.{either}
 
 -- Scenes.
 

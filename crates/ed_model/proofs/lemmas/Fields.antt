@@ -8,6 +8,7 @@ use Rattle.ed_types.specs.declared.script.Cause.{Cause}
 use Rattle.ed_types.specs.declared.script.Cause.TheVariants.{BadShape, BadNumber}
 use Rattle.ed_model.specs.Spelling.{space}
 use Rattle.ed_model.specs.Reading.{◌>>=◌, behind, word_of, behind_word, not_empty, word_field, number_field}
+use Rattle.ed_model.specs.proved.Reading.{not_empty-some}
 use Rattle.ed_model.proofs.lemmas.Spelling.{AreWordBytes}
 
 -- nothing, or a space first, so that a word ends here
@@ -61,10 +62,6 @@ behind-is c (b ∷ bs) rest h =
     let parts = behind-is_at (b == c) bs rest h in
     let first = eqb-true b c parts.0 in
     cc
-
-pub not_empty-some : (word : List ℕ) → 0 < length word → not_empty word ≡ Ok word
-not_empty-some [] h = absurd (omega arith)
-not_empty-some (b ∷ bs) h = refl
 
 pub not_empty-is : (word field : List ℕ) → not_empty word ≡ Ok field → word ≡ field
 not_empty-is [] field h = cc

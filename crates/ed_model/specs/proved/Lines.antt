@@ -1,36 +1,28 @@
 -- Line starts: the first is 0, they rise, and they are in the text. The line that contains a position.
-use Rattle.std.proofs.Common.{ℕ, zero, suc, ◌≡◌, ◌+◌, ◌-◌, ◌<◌, ◌≤◌, Bool, true, false, ◌&&◌, List, ◌∷◌, length, get_or, filter, All, Contains, eqb, append-nil, slice_get, leb, sym, refl, ap, ◌∙◌, ◌↔◌, inl, inr, arith}
+use Rattle.std.proofs.Common.{ℕ, zero, suc, ◌≡◌, ◌+◌, ◌-◌, ◌<◌, ◌≤◌, Bool, true, false, cond, ◌&&◌, nat_lt, List, [], ◌∷◌, length, get_or, filter, All, Contains, eqb, append-nil, slice_get, leb, sym, refl, ap, ◌∙◌, ◌↔◌, inl, inr, arith}
+use Rattle.std.specs.Prelude.{unwrap_or}
 use Rattle.std.specs.List.{range_with_len}
 use Rattle.std.specs.List.Sorted.{IsStrictlyIncreasing}
+use Rattle.std.proofs.Math.Bool.{and-false}
 use Rattle.std.proofs.lemmas.Bool.{cases_lt, ne_eqb, false≢true}
-use Rattle.std.proofs.lemmas.Option.{slice_get_past}
 use Rattle.std.proofs.lemmas.List.Elements.{All-contains, All-filter, All-from_get_or, filter_passes, filter-append}
 use Rattle.std.proofs.lemmas.List.FromFn.{length-range_with_len, get_or-range_with_len}
 use Rattle.std.proofs.lemmas.List.Sums.{count_by-le-length, length-filter}
 use Rattle.ed_model.specs.declared.plan.LineEndTypes.{LineEndTypes}
-use Rattle.ed_model.specs.Numbers.{is_number}
-use Rattle.ed_model.specs.Text.{stands}
-use Rattle.ed_model.specs.Lines.{is_line_start, unicode_end_before, line_starts, line_of, line_count, start_of_line, knows_unicode}
+use Rattle.ed_model.specs.Lines.{is_line_start, unicode_end_before, line_starts, line_of, line_count, start_of_line, start_after_line, line_end_length, end_of_line, knows_unicode}
+use Rattle.ed_model.specs.proved.Bytes.{stands_past}
 use Rattle.ed_model.specs.proved.Rising.{Rises, Climbs, Climbs_from_rises, Rises-filter_range, increasing_from_rises, Contains-filter, Contains-range, range-append, filter_range_none, count_front, count_back, count_at, count_monotone}
-
--- past the end of the text there is no byte
-stands_past : (byte : ℕ) (text : List ℕ) (i : ℕ) → length text ≤ i → stands byte text i ≡ false
-stands_past byte text i h = ap (is_number byte) (slice_get_past text i h)
 
 no_unicode_end_past : (text : List ℕ) (p : ℕ) → length text ≤ p - 1 → unicode_end_before text p ≡ false
 no_unicode_end_past text p h =
     rw (stands_past 0x85 text (p - 1) h, stands_past 0xA8 text (p - 1) h, stands_past 0xA9 text (p - 1) h) refl
-
-and_false : (b : Bool) → (b && false) ≡ false
-and_false true = refl
-and_false false = refl
 
 -- no line starts past the end of the text
 pub no_start_past : (types : LineEndTypes) (text : List ℕ) (p : ℕ) → length text < p → is_line_start types text p ≡ false
 no_start_past types text p h =
     let l : length text ≤ p - 1 = omega arith in
     let z : eqb p 0 ≡ false = ne_eqb p 0 (λ e. omega arith) in
-    rw (z, stands_past 10 text (p - 1) l, stands_past 13 text (p - 1) l, no_unicode_end_past text p l) (and_false (knows_unicode types))
+    rw (z, stands_past 10 text (p - 1) l, stands_past 13 text (p - 1) l, no_unicode_end_past text p l) (and-false (knows_unicode types))
 
 -- the line starts are the places that pass the test, in any range that goes past the end of the text
 pub starts_in_range : (types : LineEndTypes) (text : List ℕ) (n : ℕ) → filter (is_line_start types text) (range_with_len 0 (length text + 1 + n)) ≡ line_starts types text
@@ -75,6 +67,22 @@ line_starts_in_range types text =
     All-filter (is_line_start types text) (λ s. s ≤ length text) (range_with_len 0 (length text + 1))
     (All-from_get_or (λ s. s ≤ length text) (range_with_len 0 (length text + 1)) 0
     (λ i h. omega (arith, get_or-range_with_len 0 (length text + 1) i 0 (omega (arith, length-range_with_len 0 (length text + 1))), length-range_with_len 0 (length text + 1))))
+
+start_or_end : (starts : List ℕ) (end : ℕ) → All (λ s. s ≤ end) starts → (k : ℕ) → unwrap_or (slice_get starts k) end ≤ end
+start_or_end [] end a k = omega arith
+start_or_end (s ∷ ss) end a zero = a 0 0 (omega arith)
+start_or_end (s ∷ ss) end a (suc k) = start_or_end ss end (λ i d h. a (suc i) d (omega arith)) k
+
+before_or_at : (b : Bool) (next back end : ℕ) → next ≤ end → cond b (next - back) end ≤ end
+before_or_at true next back end h = omega arith
+before_or_at false next back end h = omega arith
+
+-- no line ends past the end of the text
+pub end_in_range : (types : LineEndTypes) (text : List ℕ) (line : ℕ) → end_of_line types text line ≤ length text
+end_in_range types text line =
+    let next : ℕ = start_after_line types text line in
+    before_or_at (nat_lt (line + 1) (line_count types text)) next (line_end_length text next) (length text)
+    (start_or_end (line_starts types text) (length text) (line_starts_in_range types text) (line + 1))
 
 -- each line start passes the test
 pub start_from_contains : (types : LineEndTypes) (text : List ℕ) (p : ℕ) → Contains (line_starts types text) p → is_line_start types text p ≡ true

@@ -1,5 +1,5 @@
 -- Scripts are read line by line.
-use Rattle.std.proofs.Common.{◌≡◌, ℕ, ◌+◌, ◌⊎◌, inl, inr, true, List, [], ◌∷◌, refl, sym, ◌∙◌, subst, Result, Ok, Err}
+use Rattle.std.proofs.Common.{◌≡◌, ℕ, ◌+◌, ◌<◌, ◌⊎◌, inl, inr, true, List, [], ◌∷◌, length, refl, sym, ◌∙◌, subst, arith, Result, Ok, Err}
 use Rattle.std.specs.Prelude.{◌==◌, ◌&&◌, not}
 use Rattle.std.specs.List.{list_all, slice_split, onto_first}
 use Rattle.std.proofs.lemmas.Bool.{and_parts, eqb-true, or_cases, cases_Bool, cond-true, cond-false}
@@ -8,7 +8,7 @@ use Rattle.ed_types.specs.declared.script.ScriptFault.{ScriptFault}
 use Rattle.ed_types.specs.declared.script.ScriptFault.TheVariants.{TooLong}
 use Rattle.ed_model.specs.Text.{line_feed}
 use Rattle.ed_model.specs.Listing.{is_expect, speaks, fits_script}
-use Rattle.ed_model.specs.Reading.{◌>>=◌, read_command, read_version, at_line, read_lines, read_script, reading}
+use Rattle.ed_model.specs.Reading.{◌>>=◌, not_empty, read_command, read_version, at_line, read_lines, read_script, reading}
 
 -- adding a byte to the first part leaves a first part
 onto_first-some : (b : ℕ) (parts : List (List ℕ)) → (first : List ℕ) × (rest : List (List ℕ)) × (onto_first b parts ≡ first ∷ rest)
@@ -58,3 +58,8 @@ versions version commands h =
       | inl second ↦ inl (eqb-true version 2 second)
       | inr first ↦ inr (eqb-true version 1 (and_parts (version == 1) (list_all (λ c. not (is_expect c)) commands) first).0)
     ]
+
+-- a word that has a byte is a field
+pub not_empty-some : (word : List ℕ) → 0 < length word → not_empty word ≡ Ok word
+not_empty-some [] h = absurd (omega arith)
+not_empty-some (b ∷ bs) h = refl

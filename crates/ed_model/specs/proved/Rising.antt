@@ -1,8 +1,10 @@
 -- Lists of rising numbers, such as a filter of a range gives, and how many of them are at most a given number.
-use Rattle.std.proofs.Common.{ℕ, zero, suc, ◌≡◌, ◌+◌, ◌-◌, ◌<◌, ◌≤◌, Bool, true, false, cond, List, [], ◌∷◌, ◌++◌, map, length, get_or, filter, count_by, Contains, leb, refl, ap, ◌∙◌, inl, inr, arith, le_refl, add-one, add_assoc, map-id, add-zero, zero-add}
+use Rattle.std.proofs.Common.{ℕ, zero, suc, ◌≡◌, ◌+◌, ◌-◌, ◌<◌, ◌≤◌, Bool, true, false, cond, List, [], ◌∷◌, ◌++◌, map, length, get_or, filter, count_by, Contains, leb, refl, ap, ap₂, ◌∙◌, inl, inr, arith, le_refl, add-one, add_assoc, map-id, add-zero, zero-add}
+use Rattle.std.specs.Prelude.{reverse}
 use Rattle.std.specs.List.{range_with_len}
 use Rattle.std.specs.List.Sorted.{IsStrictlyIncreasing}
 use Rattle.std.proofs.lemmas.Bool.{cond_both, le-leb, lt-leb, cases_lt, cases_order}
+use Rattle.std.proofs.lemmas.List.{reverse-append}
 use Rattle.std.proofs.lemmas.List.Elements.{Contains-get_or}
 use Rattle.std.proofs.lemmas.List.FromFn.{length-range_with_len, get_or-range_with_len}
 use Rattle.std.proofs.lemmas.List.Sums.{sum_by-cons, sum_by-le-sum_by, count_by-le-length}
@@ -94,6 +96,17 @@ range-append a (suc m) n =
     let e : suc m + n ≡ suc (m + n) = omega arith in
     let f : a + suc m ≡ (a + 1) + m = omega arith in
     rw (e, f) (ap (λ l. a ∷ l) (range-append (a + 1) m n))
+
+-- the numbers below `n + 1`, the greatest first
+pub reverse_next : (n : ℕ) → reverse (range_with_len 0 (suc n)) ≡ n ∷ reverse (range_with_len 0 n)
+reverse_next n =
+    let next : suc n ≡ n + 1 = omega arith in
+    ap (λ k. reverse (range_with_len 0 k)) next ∙ ap reverse (range-append 0 n 1) ∙ reverse-append (range_with_len 0 n) (range_with_len (0 + n) 1) ∙ rw (zero-add n) refl
+
+-- functions that agree on the numbers of a range
+pub map_range_agree : {Y : Type 0} (f g : ℕ → Y) (a n : ℕ) → ((k : ℕ) → a ≤ k → k < a + n → f k ≡ g k) → map f (range_with_len a n) ≡ map g (range_with_len a n)
+map_range_agree f g a zero h = refl
+map_range_agree f g a (suc n) h = ap₂ (λ y l. y ∷ l) (h a (omega arith) (omega arith)) (map_range_agree f g (a + 1) n (λ k l m. h k (omega arith) (omega arith)))
 
 -- if a test passes no number of a range, the filter is empty
 pub filter_range_none : (p : ℕ → Bool) (a n : ℕ) → ((k : ℕ) → a ≤ k → k < a + n → p k ≡ false) → filter p (range_with_len a n) ≡ []

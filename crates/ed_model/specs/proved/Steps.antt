@@ -1,9 +1,10 @@
 -- The length of the text after a step; the bytes of edited cells; a change of styles changes no byte.
-use Rattle.std.proofs.Common.{ℕ, ◌≡◌, ◌+◌, ◌-◌, ◌≤◌, min, List, [], ◌∷◌, ◌++◌, length, take, drop, refl, sym, ap, ◌∙◌, arith}
-use Rattle.std.proofs.lemmas.List.{length-append, length-take, length-drop, map-append, take-map, drop-map, take-append-drop}
+use Rattle.std.proofs.Common.{ℕ, ◌≡◌, ◌+◌, ◌-◌, ◌≤◌, min, List, [], ◌∷◌, ◌++◌, length, take, drop, slice_range, refl, sym, ap, ◌∙◌, arith}
+use Rattle.std.proofs.lemmas.List.{length-append, length-map, length-take, length-drop, map-append, take-map, drop-map, take-append-drop}
 use Rattle.ed_model.specs.Text.{Cell, bytes_of, plain_cells}
 use Rattle.ed_model.specs.Changes.{restyled}
 use Rattle.ed_model.specs.Steps.{Step, Insert, Delete, edited, edited_cells}
+use Rattle.ed_model.specs.proved.Lists.{length_slice}
 
 -- an insertion lengthens the text by the inserted bytes
 pub length-inserted : (p : ℕ) (bytes text : List ℕ) → length (edited (Insert p bytes) text) ≡ length text + length bytes
@@ -17,7 +18,8 @@ length-deleted p bytes text = simp (length-append, length-take, length-drop)
 pub length-deleted_within : (p : ℕ) (bytes text : List ℕ) → p + length bytes ≤ length text → length (edited (Delete p bytes) text) ≡ length text - length bytes
 length-deleted_within p bytes text h = omega (arith, length-deleted p bytes text)
 
-bytes_of_plain : (bytes : List ℕ) → bytes_of (plain_cells bytes) ≡ bytes
+-- the bytes of cells that have no style yet
+pub bytes_of_plain : (bytes : List ℕ) → bytes_of (plain_cells bytes) ≡ bytes
 bytes_of_plain [] = refl
 bytes_of_plain (b ∷ bs) = ap (λ l. b ∷ l) (bytes_of_plain bs)
 
@@ -27,7 +29,7 @@ bytes_of_edited_cells (Insert p bytes) cells = simp (map-append, take-map, drop-
 bytes_of_edited_cells (Delete p bytes) cells = simp (map-append, take-map, drop-map)
 
 -- cells that get new styles keep their bytes
-bytes_of_restyled : (styles : List ℕ) (cells : List Cell) → bytes_of (restyled styles cells) ≡ bytes_of cells
+pub bytes_of_restyled : (styles : List ℕ) (cells : List Cell) → bytes_of (restyled styles cells) ≡ bytes_of cells
 bytes_of_restyled [] cells = refl
 bytes_of_restyled (s ∷ ss) [] = refl
 bytes_of_restyled (s ∷ ss) (c ∷ cells) = ap (λ rest. c.byte ∷ rest) (bytes_of_restyled ss cells)
@@ -39,3 +41,10 @@ bytes_behind_restyled n styles cells =
     ∙ ap (λ rest. bytes_of (take n cells) ++ rest) (bytes_of_restyled styles (drop n cells))
     ∙ sym (map-append (λ (c : Cell). c.byte) (take n cells) (drop n cells))
     ∙ ap bytes_of (take-append-drop n cells)
+
+-- each cell has one byte
+pub length_of_bytes : (cells : List Cell) → length (bytes_of cells) ≡ length cells
+length_of_bytes cells = length-map cells (λ (c : Cell). c.byte)
+
+pub length_of_range : (cells : List Cell) (start count : ℕ) → start + count ≤ length cells → length (slice_range (bytes_of cells) start (start + count)) ≡ count
+length_of_range cells start count h = length_slice (bytes_of cells) start count (omega (arith, length_of_bytes cells))
