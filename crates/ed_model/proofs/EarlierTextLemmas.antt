@@ -1,15 +1,13 @@
 -- The texts to which undo goes back, over the changes of a document.
-use Rattle.std.proofs.Common.{◌≡◌, ℕ, zero, suc, ◌+◌, ◌-◌, ◌<◌, ◌≤◌, ◌==◌, nat_lt, not, ◌&&◌, ◌||◌, Bool, true, false, ℤ, List, [], ◌∷◌, ◌++◌, length, take, drop, map, replicate, refl, ap, ◌∙◌, sym, subst, arith, Some}
-use Rattle.std.proofs.lemmas.List.{length-map}
+use Rattle.std.proofs.Common.{◌≡◌, ℕ, zero, suc, ◌+◌, ◌-◌, ◌<◌, ◌≤◌, ◌==◌, nat_lt, not, ◌&&◌, ◌||◌, Bool, true, false, ℤ, List, [], ◌∷◌, length, take, map, replicate, refl, ap, ◌∙◌, sym, subst, arith, Some}
 use Rattle.ed_model.specs.declared.plan.DocumentChange.TheVariants as change
-use Rattle.ed_model.specs.Text.{Cell, bytes_of}
 use Rattle.ed_model.specs.Steps.{Step, edited}
 use Rattle.ed_model.specs.LineEnds.{after_steps}
 use Rattle.ed_model.specs.History.{History, Transaction, Change, TextStep, ContainerStep, at_save_point, joins, joins_last, belongs, with_change, appended, begins_transaction, sealed_outside_groups, group_begun, group_ended, with_container_step, redo_changes, undone, undone_to, redone, redone_from, emptied, collecting_set, saved}
 use Rattle.ed_model.specs.UndoPlans.{text_steps}
-use Rattle.ed_model.specs.Session.{Document, text_of, keeps_no_styles}
+use Rattle.ed_model.specs.Session.{Document, text_of}
 use Rattle.ed_model.specs.Performing.{Scene, step_made, steps_made, sealed_scene}
-use Rattle.ed_model.specs.Changes.{restyled, styled}
+use Rattle.ed_model.specs.Changes.{styled}
 use Rattle.ed_model.specs.InverseLaws.{Fits, FitInTurn, text_of_scene, history_of, after_undo, after_redo}
 use Rattle.ed_model.specs.HistoryLaws.{SameButForSeals}
 use Rattle.ed_model.specs.UndoLaws.{undone_text}
@@ -17,10 +15,10 @@ use Rattle.ed_model.specs.EarlierTextLaws.{KeepsEarlierTexts, EditsKeepEarlierTe
 use Rattle.ed_model.specs.proved.Steps.{bytes_of_edited_cells}
 use Rattle.ed_model.specs.proved.Changes.{text_of_styled}
 use Rattle.ed_model.specs.proved.Histories.{same_length}
-use Rattle.ed_model.proofs.HistoryLemmas.{both_hold, where_collecting, apart, itself, joined_last, joined_open, append_begins, append_leaves_the_save_point, not_collecting_appends_nothing, seals_change_no_change, group_begun_changes_no_change, group_ended_changes_no_change, undo_moves_to_the_future, redo_moves_to_the_past}
+use Rattle.ed_model.proofs.HistoryLemmas.{where_collecting, itself, joined_last, joined_open, append_begins, append_leaves_the_save_point, not_collecting_appends_nothing, seals_change_no_change, group_begun_changes_no_change, group_ended_changes_no_change, undo_moves_to_the_future, redo_moves_to_the_past}
 use Rattle.ed_model.proofs.TransactionLemmas.{undo_makes_its_steps, redo_makes_its_steps}
 use Rattle.ed_model.proofs.UndoLemmas.{undo_keeps_earlier_texts, redo_is_one_transaction_more, seals_keep_earlier_texts, begun_step_is_one_transaction_more, joined_step_keeps_earlier_texts, begun_container_step_is_one_transaction_more, joined_container_step_keeps_earlier_texts}
-use Rattle.std.proofs.lemmas.Bool.{cond-true, cond-false}
+use Rattle.std.proofs.lemmas.Bool.{cond-true, cond-false, ne_eqb, cond_both}
 
 -- `KeepsEarlierTexts` for a history and its text, in place of a document.
 abbrev pub Keeps : History → List ℕ → History → List ℕ → Type 0
@@ -137,7 +135,7 @@ pub container_step_keeps : (token : ℤ) (coalesce : Bool) (h : History) (text :
 container_step_keeps token coalesce h text =
     let a = appended false (ContainerStep token coalesce) h in
     let kept = container_keeps token coalesce h text h.collecting refl in
-    both_hold (λ (g : History). Keeps h text g text) (coalesce || not h.collecting) a (sealed_outside_groups a)
+    cond_both (coalesce || not h.collecting) a (sealed_outside_groups a) (λ (g : History). Keeps h text g text)
     (λ e. kept) (λ e. keeps_then_sealed h a (sealed_outside_groups a) text text (seals_change_no_change a) kept)
 
 -- The steps of a message: each step after the first joins.
@@ -238,7 +236,7 @@ sealed_steps_keep steps scene fits none =
 
 pub edits_keep_earlier_texts : EditsKeepEarlierTexts
 edits_keep_earlier_texts steps scene fits none =
-    both_hold (λ (after : Scene). KeepsInScene scene after) (nat_lt 1 (length steps)) (sealed_scene (steps_made false steps (sealed_scene scene))) (steps_made false steps scene)
+    cond_both (nat_lt 1 (length steps)) (sealed_scene (steps_made false steps (sealed_scene scene))) (steps_made false steps scene) (λ (after : Scene). KeepsInScene scene after)
     (λ e. sealed_steps_keep steps scene fits none) (λ e. steps_keep steps scene (history_of scene).collecting fits refl none)
 
 -- Undo and redo.
@@ -328,7 +326,7 @@ goes_back_at_first d states none (suc k) within = absurd (omega (arith, ap lengt
 
 -- an earlier state is the latest with n transactions, if the latest state has another number
 latest_earlier : (n : ℕ) (d : Document) (states : List Document) → (length d.history.past ≡ n → ⊥) → latest_with n (d ∷ states) ≡ latest_with n states
-latest_earlier n d states other = cond-false (length d.history.past == n) (Some (text_of d)) (latest_with n states) (apart (length d.history.past) n other)
+latest_earlier n d states other = cond-false (length d.history.past == n) (Some (text_of d)) (latest_with n states) (ne_eqb (length d.history.past) n other)
 
 pub goes_back_afterwards : GoesBackAfterwards
 goes_back_afterwards old new states back keeps zero within = latest_itself new states

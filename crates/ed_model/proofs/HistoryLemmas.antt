@@ -1,6 +1,6 @@
 -- The undo history. First facts on lists of transactions and on save points, then facts on histories by cases of their tests.
-use Rattle.std.proofs.Common.{◌≡◌, ℕ, suc, ◌+◌, ◌-◌, ◌<◌, ◌≤◌, ◌==◌, nat_le, not, ◌&&◌, ◌||◌, cond, if◌then◌else◌, Bool, true, false, ℤ, List, [], ◌∷◌, length, map, refl, ap, ◌∙◌, sym, subst, arith, Option, Some, None}
-use Rattle.std.proofs.lemmas.Bool.{eqb-true, eq-eqb, leb-true, cond-true, cond-false}
+use Rattle.std.proofs.Common.{◌≡◌, ℕ, suc, ◌+◌, ◌-◌, ◌<◌, ◌==◌, not, ◌&&◌, ◌||◌, cond, if◌then◌else◌, Bool, true, false, ℤ, List, [], ◌∷◌, length, map, refl, ap, ◌∙◌, sym, subst, arith, Option, Some, None}
+use Rattle.std.proofs.lemmas.Bool.{eqb-true, eq-eqb, cond-true, cond-false, cond_both}
 use Rattle.std.proofs.lemmas.List.{length-map}
 use Rattle.ed_model.specs.Numbers.{is_number}
 use Rattle.ed_model.specs.History.{History, Transaction, Change, at_save_point, joins, joins_last, appended, reachable, with_change, first_changes, seal_first, sealed_outside_groups, with_last_sealed, group_ended, with_container_step, ContainerStep, undone, undone_to, redone, redone_from}
@@ -9,21 +9,8 @@ use Rattle.ed_model.specs.proved.Histories.{sealed_length, lower_save_point, oth
 
 -- Tests.
 
--- if both branches of a test have P, the choice has P
-pub both_hold : {A : Type 0} (P : A → Type 0) (b : Bool) (x y : A) → (b ≡ true → P x) → (b ≡ false → P y) → P (cond b x y)
-both_hold P true x y h k = h refl
-both_hold P false x y h k = k refl
-
 pub itself : (n : ℕ) → (n == n) ≡ true
 itself n = eq-eqb n n refl
-
-unequal : (a b : ℕ) (same : Bool) → (a == b) ≡ same → (a ≡ b → ⊥) → (a == b) ≡ false
-unequal a b true e h = absurd (h (eqb-true a b e))
-unequal a b false e h = e
-
--- two numbers that are not equal do not pass the test
-pub apart : (a b : ℕ) → (a ≡ b → ⊥) → (a == b) ≡ false
-apart a b h = unequal a b (a == b) refl h
 
 -- Seals.
 
@@ -37,7 +24,7 @@ sealed_twice (t ∷ ts) = refl
 
 -- outside groups the last transaction is sealed, and in a group the history does not change
 pub outside_groups : (P : History → Type 0) (h : History) → (h.depth ≡ 0 → P (with_last_sealed h)) → P h → P (sealed_outside_groups h)
-outside_groups P h outside inside = both_hold P (h.depth == 0) (with_last_sealed h) h (λ e. outside (eqb-true h.depth 0 e)) (λ e. inside)
+outside_groups P h outside inside = cond_both (h.depth == 0) (with_last_sealed h) h P (λ e. outside (eqb-true h.depth 0 e)) (λ e. inside)
 
 sealed_keeps_modified : (h : History) → at_save_point (with_last_sealed h) ≡ at_save_point h
 sealed_keeps_modified h = ap (λ n. is_number n h.save_point) (sealed_length h.past)
@@ -59,7 +46,7 @@ seals_change_no_change h = outside_groups (SameButForSeals h) h (λ e. sealed_ch
 
 pub seals_once : SealsOnce
 seals_once h =
-    both_hold (λ g. sealed_outside_groups g ≡ g) (h.depth == 0) (with_last_sealed h) h
+    cond_both (h.depth == 0) (with_last_sealed h) h (λ g. sealed_outside_groups g ≡ g)
     (λ e. cond-true (h.depth == 0) _ _ e ∙ ap (λ ts. record h { past = ts }) (sealed_twice h.past))
     (λ e. cond-false (h.depth == 0) _ _ e)
 
@@ -87,7 +74,7 @@ group_begun_is_deeper h = refl
 
 -- ending a group: nothing changes without a group; otherwise there is one group fewer, and the end of the outermost seals
 pub group_end : (P : History → Type 0) (h : History) → P h → P (sealed_outside_groups (record h { depth = h.depth - 1 })) → P (group_ended h)
-group_end P h none some = both_hold P (h.depth == 0) h (sealed_outside_groups (record h { depth = h.depth - 1 })) (λ e. none) (λ e. some)
+group_end P h none some = cond_both (h.depth == 0) h (sealed_outside_groups (record h { depth = h.depth - 1 })) P (λ e. none) (λ e. some)
 
 pub group_ended_keeps_modified : GroupEndedKeepsModified
 group_ended_keeps_modified h =
@@ -103,7 +90,7 @@ none_less n e = let z = eqb-true n 0 e in omega arith
 
 pub group_ended_is_less_deep : GroupEndedIsLessDeep
 group_ended_is_less_deep h =
-    both_hold (λ g. g.depth ≡ h.depth - 1) (h.depth == 0) h (sealed_outside_groups (record h { depth = h.depth - 1 }))
+    cond_both (h.depth == 0) h (sealed_outside_groups (record h { depth = h.depth - 1 })) (λ g. g.depth ≡ h.depth - 1)
     (λ e. none_less h.depth e) (λ e. sealing_keeps_depth (record h { depth = h.depth - 1 }))
 
 -- Append.
@@ -221,12 +208,12 @@ collecting_keeps_modified false h = kept_modified (at_save_point h)
 -- Depth.
 
 append_keeps_depth : (later : Bool) (c : Change) (h : History) → (appended later c h).depth ≡ h.depth
-append_keeps_depth later c h = both_hold (λ (g : History). g.depth ≡ h.depth) h.collecting (collected (joins later c h) c h) h (λ e. refl) (λ e. refl)
+append_keeps_depth later c h = cond_both h.collecting (collected (joins later c h) c h) h (λ (g : History). g.depth ≡ h.depth) (λ e. refl) (λ e. refl)
 
 container_keeps_depth : (token : ℤ) (coalesce : Bool) (h : History) → (with_container_step token coalesce h).depth ≡ h.depth
 container_keeps_depth token coalesce h =
     let a = appended false (ContainerStep token coalesce) h in
-    both_hold (λ (g : History). g.depth ≡ h.depth) (coalesce || not h.collecting) a (sealed_outside_groups a)
+    cond_both (coalesce || not h.collecting) a (sealed_outside_groups a) (λ (g : History). g.depth ≡ h.depth)
     (λ e. append_keeps_depth false (ContainerStep token coalesce) h)
     (λ e. sealing_keeps_depth a ∙ append_keeps_depth false (ContainerStep token coalesce) h)
 

@@ -15,8 +15,6 @@ pub inverse_of_inverse : InverseOfInverse
 inverse_of_inverse (Insert p bytes) = refl
 inverse_of_inverse (Delete p bytes) = refl
 
--- the bytes before a place, those of a range, and those after it
-
 -- after the inserted bytes come the bytes that were there before
 pub behind_put_in : {A : Type 0} (p : ℕ) (text put rest : List A) → p ≤ length text → drop (p + length put) (take p text ++ (put ++ rest)) ≡ rest
 behind_put_in p text put rest h =

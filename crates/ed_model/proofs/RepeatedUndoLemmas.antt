@@ -1,10 +1,10 @@
 -- Repeated UNDO and REDO messages.
-use Rattle.std.proofs.Common.{◌≡◌, ℕ, zero, suc, ◌+◌, ◌<◌, ◌≤◌, true, false, nat_lt, ◌&&◌, List, [], ◌∷◌, length, refl, ap, ◌∙◌, sym, arith, Option, Some}
+use Rattle.std.proofs.Common.{◌≡◌, ℕ, zero, suc, ◌+◌, ◌<◌, ◌≤◌, true, false, nat_lt, ◌&&◌, List, [], ◌∷◌, length, refl, ap, ◌∙◌, sym, arith, Some}
 use Rattle.std.specs.Prelude.{◌==◌}
 use Rattle.std.proofs.lemmas.Bool.{lt-ltb}
 use Rattle.ed_types.specs.declared.kind.Kind.TheVariants.{Undo, Redo}
 use Rattle.ed_types.specs.declared.message.Message.{Message}
-use Rattle.ed_model.specs.History.{History, Transaction, seal_first, undone, undone_to, redone, redone_from, can_undo, can_redo}
+use Rattle.ed_model.specs.History.{History, Transaction, undone, undone_to, redone, redone_from, can_undo, can_redo}
 use Rattle.ed_model.specs.Session.{Session, Document, document_at, text_of}
 use Rattle.ed_model.specs.Performing.{Scene}
 use Rattle.ed_model.specs.InverseLaws.{after_undo, after_redo}

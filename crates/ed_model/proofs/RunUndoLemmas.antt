@@ -1,9 +1,9 @@
 -- Documents keep their earlier texts, message by message, so undo goes back to earlier states of every run.
-use Rattle.std.proofs.Common.{◌≡◌, ℕ, ◌+◌, ◌-◌, ◌≤◌, ◌==◌, nat_lt, cond, Bool, true, false, List, [], ◌∷◌, ◌++◌, length, map, refl, ap, ◌∙◌, sym, subst, arith, Option, Some, None, Result, Ok, Err}
+use Rattle.std.proofs.Common.{◌≡◌, ℕ, ◌+◌, ◌-◌, ◌==◌, nat_lt, cond, Bool, true, false, List, [], ◌∷◌, ◌++◌, length, map, refl, ap, ◌∙◌, sym, subst, Option, Some, None, Result, Ok, Err}
 use Rattle.std.specs.Prelude.{option_map, ◌||◌, nat_le}
 use Rattle.std.specs.Option.{option_or}
 use Rattle.std.specs.List.{cons_option}
-use Rattle.std.proofs.lemmas.Bool.{eqb-true, eq-eqb}
+use Rattle.std.proofs.lemmas.Bool.{eqb-true, eq-eqb, cond_both}
 use Rattle.std.proofs.lemmas.List.Folds.{find-append}
 use Rattle.ed_types.specs.declared.kind.Kind.{Kind}
 use Rattle.ed_types.specs.declared.limits.Limits.{Limits}
@@ -21,14 +21,13 @@ use Rattle.ed_model.specs.declared.plan.SessionChange.TheVariants as session_cha
 use Rattle.ed_model.specs.declared.plan.Plan.{Plan}
 use Rattle.ed_model.specs.declared.plan.Plan.TheVariants as plan
 use Rattle.ed_model.specs.Text.{Cell, bytes_of}
-use Rattle.ed_model.specs.Steps.{Step}
 use Rattle.ed_model.specs.History.{History, undo_changes, redo_changes}
-use Rattle.ed_model.specs.Session.{Session, Document, View, document_at, view_at, with_document, living, references, left_by, new_session, new_document, new_view, text_of}
+use Rattle.ed_model.specs.Session.{Session, Document, View, document_at, view_at, with_document, living, left_by, new_session, new_document, new_view, text_of}
 use Rattle.ed_model.specs.Notes as notes
 use Rattle.ed_model.specs.Requests.{Request, Planned, text}
 use Rattle.ed_model.specs.Edits.{steps_of}
 use Rattle.ed_model.specs.UndoPlans.{text_steps}
-use Rattle.ed_model.specs.Performing.{Scene, scene_of, session_of, step_made, steps_made, sealed_scene, edit_made, followed}
+use Rattle.ed_model.specs.Performing.{scene_of, session_of, edit_made, followed}
 use Rattle.ed_model.specs.Changes.{changed_document, session_changed, with_attached, attached_last, with_new_document, held_more, held_less}
 use Rattle.ed_model.specs.Table.{table, table_from_view, table_from_kind, table_from_document, answered, plan_of, performed, request, opened, closed_view}
 use Rattle.ed_model.specs.Run.{Running, after_command, after_opening, after_closing, after_message, loaded, file_at, run_to, starting, set_text_message}
@@ -42,7 +41,6 @@ use Rattle.ed_model.specs.proved.Finding.{document_id, view_id, replaced_found, 
 use Rattle.ed_model.specs.proved.Changes.{changed_id}
 use Rattle.ed_model.specs.proved.Scenes.{edit_made_id}
 use Rattle.ed_model.specs.proved.Requests.{own_document, request_document}
-use Rattle.ed_model.proofs.HistoryLemmas.{both_hold}
 use Rattle.ed_model.proofs.EarlierTextLemmas.{keeps_same, edits_keep_earlier_texts, undo_keeps_the_texts_before, redo_keeps_the_texts_before, document_changes_keep_earlier_texts, goes_back_at_first, goes_back_afterwards}
 use Rattle.ed_model.proofs.SoundHistory.{fit_in_turn}
 use Rattle.ed_model.proofs.SoundScenes.{changes_keep}
@@ -150,14 +148,14 @@ left_relisted view d = record { id = refl; history = refl; cells = refl; read_on
 attached_relisted : (view id : ℕ) (d : Document) → IsRelisted d (attached_last view id d)
 attached_relisted view id d =
     let left = left_by view d in
-    both_hold (IsRelisted d) (d.id == id) (record left { views = left.views ++ view ∷ [] }) left
+    cond_both (d.id == id) (record left { views = left.views ++ view ∷ [] }) left (IsRelisted d)
     (λ e. record { id = refl; history = refl; cells = refl; read_only = refl }) (λ e. record { id = refl; history = refl; cells = refl; read_only = refl })
 
 held_more_relisted : (id : ℕ) (d : Document) → IsRelisted d (held_more id d)
-held_more_relisted id d = both_hold (IsRelisted d) (d.id == id) (record d { held_by_callers = d.held_by_callers + 1 }) d (λ e. record { id = refl; history = refl; cells = refl; read_only = refl }) (λ e. same_listed d)
+held_more_relisted id d = cond_both (d.id == id) (record d { held_by_callers = d.held_by_callers + 1 }) d (IsRelisted d) (λ e. record { id = refl; history = refl; cells = refl; read_only = refl }) (λ e. same_listed d)
 
 held_less_relisted : (id : ℕ) (d : Document) → IsRelisted d (held_less id d)
-held_less_relisted id d = both_hold (IsRelisted d) (d.id == id) (record d { held_by_callers = d.held_by_callers - 1 }) d (λ e. record { id = refl; history = refl; cells = refl; read_only = refl }) (λ e. same_listed d)
+held_less_relisted id d = cond_both (d.id == id) (record d { held_by_callers = d.held_by_callers - 1 }) d (IsRelisted d) (λ e. record { id = refl; history = refl; cells = refl; read_only = refl }) (λ e. same_listed d)
 
 -- The documents after a plan.
 
@@ -292,8 +290,8 @@ opening_goes_on : (s : Session) → OpeningGoesOn s (opened s)
 opening_goes_on s =
     let d = new_document s.next_document 0 in
     let with = with_new_document (record d { views = s.next_view ∷ [] }) s in
-    both_hold (OpeningGoesOn s) (nat_le s.limits.views (length s.views) || nat_lt s.limits.ids s.next_view || nat_lt s.limits.ids s.next_document) (Err TooMany)
-    (Ok (record with { views = s.views ++ new_view s.next_view d ∷ []; next_view = s.next_view + 1 }, s.next_view))
+    cond_both (nat_le s.limits.views (length s.views) || nat_lt s.limits.ids s.next_view || nat_lt s.limits.ids s.next_document) (Err TooMany)
+    (Ok (record with { views = s.views ++ new_view s.next_view d ∷ []; next_view = s.next_view + 1 }, s.next_view)) (OpeningGoesOn s)
     (λ e. lists_go_on_same Nobodys s.documents) (λ e. lists_go_on_pushed Nobodys s.documents (record d { views = s.next_view ∷ [] }) refl)
 
 pub opening_leaves_documents_alone : OpeningLeavesDocumentsAlone

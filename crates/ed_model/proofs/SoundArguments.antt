@@ -1,11 +1,10 @@
 -- The arguments of messages: the numbers that they give are in range for the request.
-use Rattle.std.proofs.Common.{◌≡◌, ℕ, zero, suc, ◌+◌, ◌-◌, ◌<◌, ◌≤◌, min, Bool, true, false, cond, List, [], ◌∷◌, length, get_or, reverse, refl, sym, subst, arith}
+use Rattle.std.proofs.Common.{◌≡◌, ℕ, zero, suc, ◌+◌, ◌-◌, ◌<◌, ◌≤◌, min, Bool, true, false, cond, List, [], ◌∷◌, length, get_or, reverse, refl, arith}
 use Rattle.std.specs.Prelude.{ℤ, pos, negsuc, ◌&&◌, nat_lt, nat_le, Option, Some, None, if◌then◌else◌, find, slice_get, unwrap_or}
 use Rattle.std.specs.List.{range_with_len, AllByRecursion}
-use Rattle.std.proofs.lemmas.List.{reverse-append}
 use Rattle.std.proofs.lemmas.Bool.{cond_both, leb-true, ltb-true, and_parts}
 use Rattle.ed_model.specs.Numbers.{within, clamped, line_among}
-use Rattle.ed_model.specs.Lines.{line_starts, start_of_line, start_after_line, end_of_line, line_end_length, line_count}
+use Rattle.ed_model.specs.Lines.{line_starts, start_of_line, start_after_line}
 use Rattle.ed_model.specs.Characters.{cuts, cuts_from, cut_before, cut_after, character_length}
 use Rattle.ed_model.specs.Matches.{match_in, is_match, starts_within}
 use Rattle.ed_model.specs.declared.plan.LineEndTypes.{LineEndTypes}

@@ -24,7 +24,7 @@ use Rattle.ed_model.specs.History.{Change, can_undo, can_redo, undo_changes, red
 use Rattle.ed_model.specs.Matches.{match_in}
 use Rattle.ed_model.specs.Characters.{cut_after}
 use Rattle.ed_model.specs.Folding.{fold_header, fold_parent, is_header, is_parent_of, is_expanded}
-use Rattle.ed_model.specs.Session.{Document, View, document_at, references, limit_of}
+use Rattle.ed_model.specs.Session.{Document, document_at, references, limit_of}
 use Rattle.ed_model.specs.Requests.{Request, answer, answer_number, text, size, line_total, selection_start, selection_end, target_least, target_greatest}
 use Rattle.ed_model.specs.Edits.{edit_plan, steps_of, source_bytes, replace_plan, replace_and_go, stays_within, has_steps}
 use Rattle.ed_model.specs.KeyPlans
@@ -41,7 +41,7 @@ use Rattle.ed_model.specs.StylePlans.{unstyled}
 use Rattle.ed_model.specs.TargetPlans.{found_target, replacement_length, search_flags}
 use Rattle.ed_model.specs.FoldingPlans.{past_line, fold_by, fold_at, levels}
 use Rattle.ed_model.specs.SessionPlans.{document_named, has_document_ids, with_reference, release_of, is_zero, document_options}
-use Rattle.ed_model.specs.SoundLaws.{occurrences, handles_in, IsSoundDocument, IsSoundView, StandsOn}
+use Rattle.ed_model.specs.SoundLaws.{occurrences, handles_in}
 use Rattle.ed_model.specs.PlansFit.{IsSoundRequest, IsMarkerNumber, IsLineState, IsFitSource, IsFitEdit, IsFitFollow, IsFitPlan, IsFitPlanned, IsRoomFor, IsFitSessionChange, PlansFit}
 use Rattle.ed_model.specs.proved.Elements.{found_all, found_test, all_reverse}
 use Rattle.ed_model.specs.proved.Finding.{document_id, occurrences_append}
@@ -50,8 +50,6 @@ use Rattle.ed_model.specs.proved.Requests.{request_document, request_stands}
 use Rattle.ed_model.specs.proved.Lines.{end_in_range}
 use Rattle.ed_model.proofs.SoundSteps.{length_replacement}
 use Rattle.ed_model.proofs.SoundArguments.{with_argument_fits, argument_fits, text_length_fits, text_range_fits, counted_range_fits, line_fits, if_fits, within_bounds, clamped_bound, start_bound, past_bound, cut_after_bound, cut_before_bound, match_bound, all_range}
-
--- The request's own document and view.
 
 -- Edits.
 
