@@ -13,13 +13,10 @@ use Rattle.ed_types.specs.declared.script.Command.TheVariants.{LoadFile, SendMes
 use Rattle.ed_types.specs.declared.script.Outcome.{Outcome}
 use Rattle.ed_types.specs.Notices.{Response}
 use Rattle.ed_types.specs.Messages.{kind_of}
-use Rattle.ed_model.specs.declared.plan.DocumentChange.{DocumentChange}
-use Rattle.ed_model.specs.declared.plan.DocumentChange.TheVariants as document_change
 use Rattle.ed_model.specs.declared.plan.SessionChange.{SessionChange}
 use Rattle.ed_model.specs.declared.plan.SessionChange.TheVariants as session_change
 use Rattle.ed_model.specs.declared.plan.Plan.{Plan}
 use Rattle.ed_model.specs.declared.plan.Plan.TheVariants as plan
-use Rattle.ed_model.specs.Steps.{Step}
 use Rattle.ed_model.specs.History.{Change, undo_changes, redo_changes, undone, redone}
 use Rattle.ed_model.specs.Session.{Session, Document, View, document_at, view_at, with_document, living, left_by, new_document, new_view}
 use Rattle.ed_model.specs.Notes as notes
@@ -36,7 +33,7 @@ use Rattle.ed_model.specs.proved.Finding.{document_id, view_id, replaced_found, 
 use Rattle.ed_model.specs.proved.Scenes.{edit_made_id}
 use Rattle.ed_model.specs.proved.Changes.{changed_id}
 use Rattle.run_laws.proofs.Choices.{either}
-use Rattle.run_laws.proofs.Walks.{edit_views, changes_views, followed_same}
+use Rattle.run_laws.proofs.Walks.{changes_views, followed_same}
 use Rattle.run_laws.proofs.TableWays.{of_table, OfMessages, of_each_message, of_command}
 
 -- the request's document after its plan

@@ -10,13 +10,9 @@ use Rattle.ed_types.specs.declared.refusal.Refusal.{Refusal}
 use Rattle.ed_types.specs.declared.refusal.Refusal.TheVariants.{TooMany}
 use Rattle.ed_types.specs.declared.script.Command.{Command}
 use Rattle.ed_types.specs.declared.script.Outcome.{Outcome}
-use Rattle.ed_model.specs.declared.plan.DocumentChange.{DocumentChange}
-use Rattle.ed_model.specs.declared.plan.ViewChange.{ViewChange}
-use Rattle.ed_model.specs.declared.plan.ViewChange.TheVariants as view_change
 use Rattle.ed_model.specs.declared.plan.SessionChange.TheVariants as session_change
 use Rattle.ed_model.specs.declared.plan.Plan.{Plan}
 use Rattle.ed_model.specs.declared.plan.Plan.TheVariants as plan
-use Rattle.ed_model.specs.Steps.{Step}
 use Rattle.ed_model.specs.Session.{Session, Document, View, document_at, view_at, with_view, new_document, new_view, attached_to}
 use Rattle.ed_model.specs.Requests.{Request, Planned, text}
 use Rattle.ed_model.specs.Edits.{steps_of}
@@ -32,7 +28,7 @@ use Rattle.ed_model.specs.proved.Finding.{document_id, ids_of, same_ids}
 use Rattle.ed_model.specs.proved.Changes.{view_after_id, changed_lines_id}
 use Rattle.run_laws.specs.IdLaws.{DocumentIdsNeverComeBack, ViewIdsNeverComeBack, NextIdsNeverFall, OpenedIdsRise, opened_ids}
 use Rattle.run_laws.proofs.Choices.{either}
-use Rattle.run_laws.proofs.Walks.{step_keeps, sender_keeps, lines_keep, followed_same, performed_views}
+use Rattle.run_laws.proofs.Walks.{sender_keeps, followed_same, performed_views}
 use Rattle.run_laws.proofs.TableWays.{of_table, of_any_command}
 use Rattle.run_laws.proofs.Going.{AllFrom, From, any_command_from}
 

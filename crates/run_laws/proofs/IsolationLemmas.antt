@@ -39,7 +39,7 @@ use Rattle.ed_model.specs.proved.Finding.{document_id, view_id, replaced_found, 
 use Rattle.ed_model.specs.proved.Changes.{view_after_id, changed_lines_id, view_after_document}
 use Rattle.run_laws.specs.MessageKinds.{is_copying, is_about_documents}
 use Rattle.run_laws.specs.IsolationLaws.{Sending, sent, shows_other, goes_elsewhere, unless, without_others, own_outcomes, KeepsApart, DocumentsAreApart}
-use Rattle.run_laws.proofs.Walks.{step_keeps, sender_keeps, lines_keep, edit_related, changes_related}
+use Rattle.run_laws.proofs.Walks.{sender_keeps, lines_keep, edit_related, changes_related}
 use Rattle.run_laws.proofs.TableWays.{of_table}
 use Rattle.run_laws.proofs.Going.{own_id}
 use Rattle.run_laws.proofs.PlanShapes.{Leave, KeepsTo, IsShaped, leave_of, plan_is_shaped, same_plan, same_converted}

@@ -1,14 +1,11 @@
 -- A message that is not about documents leaves the other views, other documents and the clipboard unchanged.
 use Rattle.std.proofs.Common.{◌≡◌, ℕ, ◌==◌, cond, Bool, true, false, List, map, refl, ap, ◌∙◌, sym, subst}
 use Rattle.std.specs.Prelude.{ℤ}
-use Rattle.std.specs.List.{AllByRecursion}
 use Rattle.std.proofs.lemmas.Bool.{eqb-true, and_parts}
 use Rattle.ed_model.specs.declared.plan.Follow.{Follow}
 use Rattle.ed_model.specs.declared.plan.Follow.TheVariants as follow
 use Rattle.ed_model.specs.declared.plan.DocumentChange.{DocumentChange}
 use Rattle.ed_model.specs.declared.plan.DocumentChange.TheVariants as document_change
-use Rattle.ed_model.specs.declared.plan.ViewChange.{ViewChange}
-use Rattle.ed_model.specs.declared.plan.ViewChange.TheVariants as view_change
 use Rattle.ed_model.specs.declared.plan.SessionChange.{SessionChange}
 use Rattle.ed_model.specs.declared.plan.SessionChange.TheVariants as session_change
 use Rattle.ed_model.specs.declared.plan.Plan.{Plan}

@@ -1,6 +1,6 @@
 -- The document after CONVERTEOLS.
-use Rattle.std.proofs.Common.{◌≡◌, ℕ, Bool, true, false, cond, ◌&&◌, List, [], ◌∷◌, nat_lt, refl, ap, subst, ◌∙◌, sym, ℤ, pos, Option, Some, None, Ok, Err}
-use Rattle.std.specs.Prelude.{option_map, nat_le, length}
+use Rattle.std.proofs.Common.{◌≡◌, ℕ, false, cond, ◌&&◌, List, ap, subst, ◌∙◌, sym, ℤ, pos, Option, Some, None, Ok, Err}
+use Rattle.std.specs.Prelude.{option_map, nat_le}
 use Rattle.std.proofs.lemmas.Bool.{true≢false, and_parts, cond_both}
 use Rattle.ed_types.specs.declared.kind.Kind.{Kind}
 use Rattle.ed_types.specs.declared.kind.Kind.TheVariants.{ConvertEols}
@@ -11,13 +11,12 @@ use Rattle.ed_model.specs.declared.plan.Edit.TheVariants as edit
 use Rattle.ed_model.specs.declared.plan.Follow.TheVariants as follow
 use Rattle.ed_model.specs.declared.plan.Plan.{Plan}
 use Rattle.ed_model.specs.declared.plan.Plan.TheVariants as plan
-use Rattle.ed_model.specs.Steps.{Step}
-use Rattle.ed_model.specs.LineEnds.{converted, conversion_steps, after_steps}
+use Rattle.ed_model.specs.LineEnds.{converted, conversion_steps}
 use Rattle.ed_model.specs.LinePlans.{line_end_kind, convert_eols}
 use Rattle.ed_model.specs.Session.{Session, Document, document_at, with_document, text_of, limit_of}
 use Rattle.ed_model.specs.Requests.{Request, Planned, text, size, with_argument, argument}
 use Rattle.ed_model.specs.Edits.{has_steps, stays_within, edit_plan}
-use Rattle.ed_model.specs.Performing.{Scene, scene_of, step_made, steps_made, sealed_scene, edit_made}
+use Rattle.ed_model.specs.Performing.{scene_of, edit_made}
 use Rattle.ed_model.specs.Table.{table, answered, plan_of, performed, with_recording, request}
 use Rattle.ed_model.specs.proved.Finding.{document_id, replaced_found}
 use Rattle.ed_model.specs.proved.Scenes.{edit_made_id, edit_made_text}
@@ -25,8 +24,6 @@ use Rattle.run_laws.specs.LineEndLaws.{ConvertEolsConverts}
 use Rattle.run_laws.proofs.Choices.{either}
 use Rattle.run_laws.proofs.LineEndLemmas.{steps_convert}
 use Rattle.run_laws.proofs.TableWays.{table_at}
-
--- Steps lead to their text, whatever the notes and the history are.
 
 -- if there is a plan, the request's document has this text after it
 abbrev Leaves : Request → List ℕ → Planned → Type 0

@@ -1,8 +1,7 @@
 -- Undo and redo lead back to the text of the save point, whatever changes come between.
-use Rattle.std.proofs.Common.{◌≡◌, ℕ, suc, ◌+◌, ◌-◌, ◌≤◌, ◌<◌, nat_lt, cond, Bool, true, false, List, [], ◌∷◌, ◌++◌, length, take, drop, replicate, refl, ap, ◌∙◌, sym, subst, arith, inl, inr, Option, Some, None, Ok}
+use Rattle.std.proofs.Common.{◌≡◌, ℕ, suc, ◌+◌, ◌-◌, ◌≤◌, ◌<◌, nat_lt, cond, Bool, true, false, List, [], ◌∷◌, length, take, replicate, refl, ap, ◌∙◌, sym, subst, arith, inl, inr, Option, Some, None, Ok}
 use Rattle.std.specs.Prelude.{◌⊎◌, ℤ, pos, ◌==◌, ◌&&◌, ◌||◌, not, nat_le, reverse}
 use Rattle.std.proofs.lemmas.Bool.{cases_lt, eqb-true, eqb-false, leb-true, and_parts, ltb-true}
-use Rattle.std.proofs.lemmas.List.{length-map}
 use Rattle.ed_types.specs.declared.kind.Kind.{Kind}
 use Rattle.ed_types.specs.declared.kind.Kind.TheVariants.{GetModify, SetText}
 use Rattle.ed_types.specs.declared.message.Message.{Message}
@@ -15,18 +14,17 @@ use Rattle.ed_model.specs.declared.plan.DocumentChange.TheVariants as document_c
 use Rattle.ed_model.specs.declared.plan.Plan.{Plan}
 use Rattle.ed_model.specs.declared.plan.Plan.TheVariants as plan
 use Rattle.ed_model.specs.Numbers.{is_number, flag}
-use Rattle.ed_model.specs.Text.{Cell, bytes_of}
 use Rattle.ed_model.specs.Steps.{Step, edited}
 use Rattle.ed_model.specs.StepLaws.{CellsFollowBytes}
 use Rattle.ed_model.specs.LineEnds.{after_steps}
 use Rattle.ed_model.specs.History.{History, Change, Transaction, TextStep, ContainerStep, at_save_point, joins, appended, begins_transaction, reachable, seal_first, sealed_outside_groups, with_container_step, undo_changes, redo_changes, undone, undone_to, redone, redone_from, collecting_set, first_changes}
 use Rattle.ed_model.specs.HistoryLaws.{SameButForSeals, SealsChangeNoChange, GroupBegunChangesNoChange, GroupEndedChangesNoChange, AppendKeepsAllButThePast, AppendJoins, NothingJoinsNone, AppendCounts, NotCollectingAppendsNothing}
 use Rattle.ed_model.specs.UndoPlans.{text_steps}
-use Rattle.ed_model.specs.Session.{Session, Document, View, document_at, view_at, text_of, keeps_no_styles}
+use Rattle.ed_model.specs.Session.{Session, Document, View, document_at, view_at, text_of}
 use Rattle.ed_model.specs.Requests.{Request, text}
 use Rattle.ed_model.specs.Edits.{steps_of}
 use Rattle.ed_model.specs.Performing.{Scene, scene_of, document_after, step_made, steps_made, sealed_scene, edit_made, quiet}
-use Rattle.ed_model.specs.Changes.{changed_document, restyled, styled}
+use Rattle.ed_model.specs.Changes.{changed_document}
 use Rattle.ed_model.specs.InverseLaws.{Fits, FitInTurn, after_undo, after_redo, UndoMakesItsSteps, RedoMakesItsSteps, UndoThenRedoGivesBackTheText}
 use Rattle.ed_model.specs.UndoLaws.{undone_text, redone_text, BegunStepIsOneTransactionMore, JoinedStepKeepsEarlierTexts, BegunContainerStepIsOneTransactionMore, JoinedContainerStepKeepsEarlierTexts, UndoKeepsEarlierTexts, RedoIsOneTransactionMore, SealsKeepEarlierTexts}
 use Rattle.ed_model.specs.Table.{table, request, with_recording, record_note}
