@@ -1,19 +1,15 @@
 -- Reads of a text in two halves.
 use Rattle.std.proofs.Common.{◌≡◌, ℕ, zero, suc, ◌+◌, ◌-◌, ◌<◌, ◌≤◌, Bool, true, false, ◌&&◌, drop, List, [], ◌∷◌, ◌++◌, length, slice_get, Some, None, refl, sym, ap, ◌∙◌, arith, length-append, add-one}
 use Rattle.std.proofs.lemmas.List.{length-replicate}
-use Rattle.std.proofs.lemmas.Option.{none-some, same_Some}
+use Rattle.std.proofs.lemmas.Option.{none-some}
 use Rattle.ed_model.specs.Characters.{begins_with, character_length, cut_before, cut_after}
+use Rattle.ed_model.specs.proved.Lists.{drop_at_index}
 use Rattle.char_cut.specs.Following.{following_of, so_many, is_some_from_to, follows_at}
 use Rattle.char_cut.specs.Places.{start_of, end_of}
 use Rattle.char_cut.proofs.Followers.{sized, by_first_byte}
 use Rattle.char_cut.proofs.Walk.{end_within, end_behind_place, cut_after_is, cut_after_end, cut_before_is, cut_before_start}
 
 -- Bytes that must follow.
-
-rest_at : (text : List ℕ) (p b : ℕ) → slice_get text p ≡ Some b → drop p text ≡ b ∷ drop (suc p) text
-rest_at [] p b h = absurd (none-some b h)
-rest_at (x ∷ xs) zero b h = ap (λ y. y ∷ xs) (same_Some x b h)
-rest_at (x ∷ xs) (suc p) b h = rest_at xs p b h
 
 rest_nowhere : (text : List ℕ) (p : ℕ) → slice_get text p ≡ None → drop p text ≡ []
 rest_nowhere [] zero h = refl
@@ -61,7 +57,7 @@ pub length_nowhere : (text : List ℕ) (p : ℕ) → slice_get text p ≡ None �
 length_nowhere text p h = rw (rest_nowhere text p h) refl
 
 length_read : (text : List ℕ) (p b : ℕ) (rs : List (ℕ × ℕ)) → slice_get text p ≡ Some b → rs ≡ following_of b → character_length (drop p text) ≡ sized rs (drop (p + 1) text)
-length_read text p b rs h e = rw (rest_at text p b h, add-one, by_first_byte b (drop (suc p) text), e) refl
+length_read text p b rs h e = rw (drop_at_index p text b h, add-one, by_first_byte b (drop (suc p) text), e) refl
 
 pub length_alone : (text : List ℕ) (p b : ℕ) (rs : List (ℕ × ℕ)) → slice_get text p ≡ Some b → rs ≡ following_of b → begins_with (drop (p + 1) text) rs ≡ false → character_length (drop p text) ≡ 1
 length_alone text p b rs h e none = length_read text p b rs h e ∙ rw none refl
