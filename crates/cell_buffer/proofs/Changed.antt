@@ -1,6 +1,6 @@
 -- The smallest range with all changed styles, when one style after another is written.
 use Rattle.std.proofs.Common.{◌≡◌, ◌<◌, ◌+◌, ◌-◌, ℕ, zero, suc, List, [], ◌∷◌, ◌++◌, length, take, drop, get_or, Bool, true, false, refl, eq-eqb, ap, ap₂, sym, ◌∙◌, arith, append_assoc}
-use Rattle.std.specs.Prelude.{Option, Some, None, if◌then◌else◌, not, ◌==◌, slice_index, unwrap_or, filter}
+use Rattle.std.specs.Prelude.{Option, Some, if◌then◌else◌, not, ◌==◌, slice_index, unwrap_or, filter}
 use Rattle.std.specs.List.{range_with_len, last_or}
 use Rattle.std.proofs.lemmas.List.{length-append, length-take-le, drop_more, take-append-drop, append-nil}
 use Rattle.ed_model.specs.Indicators.{changed_places, changed_range, extent}
@@ -108,10 +108,6 @@ range_more xs done start i a h l =
     let so_far : changed_range xs (overwritten xs start done) ≡ extent (differing 0 front written) =
     ap₂ changed_range before now ∙ range_before x k front written back written_length front_length in
     rw (was, so_far) (ap₂ changed_range before then_ ∙ range_at x a k front written back written_length front_length)
-
--- nothing written yet
-pub range_of_none : (xs : List ℕ) → changed_range xs xs ≡ None
-range_of_none xs = ap extent (places xs xs refl ∙ same_differs_nowhere xs 0)
 
 -- what stands behind both lists alike plays no part
 pub range_in_front : (xs ys zs : List ℕ) → length ys ≡ length xs → changed_range (xs ++ zs) (ys ++ zs) ≡ changed_range xs ys

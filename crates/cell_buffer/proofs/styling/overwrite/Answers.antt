@@ -1,15 +1,16 @@
 use Rattle.std.proofs.Common.{◌≡◌, [], ◌∷◌, ◌++◌, ◌+◌, ◌∙◌, ap, sym, arith, set, take, get_or, length}
 use Rattle.std.proofs.lemmas.List.{take_more, length-take-le}
 use Rattle.ed_model.specs.Indicators.{changed_range}
+use Rattle.ed_model.specs.proved.Indicators.{nothing_changed}
 use Rattle.cell_buffer.specs.Buffer.{overwritten, range_between}
 use Rattle.cell_buffer.proofs.Pairs.{overwritten_push, overwritten_none}
-use Rattle.cell_buffer.proofs.Changed.{range_put, range_of_none}
+use Rattle.cell_buffer.proofs.Changed.{range_put}
 use Rattle.cell_buffer.proofs.styling.overwrite.Goals as goal
 
 pub loop-i-init : goal.loop-i-init
 loop-i-init c = record {
   items = sym (overwritten_none c.args.styles.now.items c.args.start);
-  changed = sym (range_of_none c.args.styles.now.items);
+  changed = sym (nothing_changed c.args.styles.now.items);
   spare = cc;
   gap = cc;
   moved = cc;
