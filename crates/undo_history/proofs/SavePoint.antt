@@ -4,19 +4,16 @@ use Rattle.std.specs.Prelude.{Option}
 use Rattle.std.proofs.lemmas.List.{length-drop, length-reverse, drop_all}
 use Rattle.ed_model.specs.Numbers.{is_number}
 use Rattle.ed_model.specs.History.{Transaction, History, seal_first, undone, undone_to, redone, redone_from, at_save_point}
+use Rattle.ed_model.specs.proved.Histories.{sealed_length}
 use Rattle.undo_history.specs.declared.records.StepRecord.{StepRecord}
 use Rattle.undo_history.specs.Records.{transactions, history_of, entries_in, IsInOrder}
 use Rattle.undo_history.proofs.Transactions.{transactions_some}
 use Rattle.undo_history.proofs.Sealing.{entries_length}
 
-length_sealed : (ts : List Transaction) → length (seal_first ts) ≡ length ts
-length_sealed [] = refl
-length_sealed (t ∷ ts) = refl
-
 undone_by : (h : History) (ts : List Transaction) → h.past ≡ ts → at_save_point (undone_to h ts) ≡ is_number (length ts - 1) h.save_point
 undone_by h [] e = ap (λ ps. is_number (length ps) h.save_point) e
 undone_by h (t ∷ ts) e =
-    let s = length_sealed ts in
+    let s = sealed_length ts in
     let n : length (seal_first ts) ≡ length (t ∷ ts) - 1 = omega arith in
     ap (λ k. is_number k h.save_point) n
 

@@ -4,6 +4,7 @@ use Rattle.std.specs.Prelude.{Option, nat_lt, slice_range, if◌then◌else◌}
 use Rattle.std.proofs.lemmas.List.{length-reverse, length-drop}
 use Rattle.std.proofs.lemmas.Bool.Decides.{nat_tests}
 use Rattle.ed_model.specs.History.{Transaction, can_redo, seal_first, with_last_sealed, sealed_outside_groups, undone, redone}
+use Rattle.ed_model.specs.proved.Histories.{sealed_length}
 use Rattle.undo_history.specs.declared.records.StepRecord.{StepRecord}
 use Rattle.undo_history.specs.Records.{Entry, entry, entry_in, entries_in, alone, joined, pushed, transactions, history_of, read_parts, bytes_end, changed_at, sealed_record, with_sealed, BeginsOne, EndsInOrder, IsInOrder}
 use Rattle.undo_history.proofs.Parts.{parts_length}
@@ -107,10 +108,6 @@ sealed_history rs bytes (suc i) depth save_point collecting h =
     (sealed_past i es (first_of rs bytes (omega arith)) there)
     (changed_back sealed_entry i es)
 
-seal_first_length : (ts : List Transaction) → length (seal_first ts) ≡ length ts
-seal_first_length [] = refl
-seal_first_length (t ∷ ts) = refl
-
 pub sealed_in_order : (rs : List StepRecord) (bytes : List ℕ) (past count : ℕ) → IsInOrder rs bytes past count → IsInOrder (with_sealed past rs) bytes past count
 sealed_in_order rs bytes zero count h = h
 sealed_in_order rs bytes (suc i) count h =
@@ -124,7 +121,7 @@ sealed_in_order rs bytes (suc i) count h =
       begins = rw same (sealed_begins i es h.begins);
       boundary = rw (same, changed_back sealed_entry i es) h.boundary;
       there = omega (arith, changed_length sealed_record i rs, h.there);
-      counted = h.counted ∙ sym (seal_first_length (transactions (reverse (take (suc i) es)))) ∙ ap length (sym past_is) ∙ ap (λ t. length (transactions (reverse (take (suc i) t)))) (sym same);
+      counted = h.counted ∙ sym (sealed_length (transactions (reverse (take (suc i) es)))) ∙ ap length (sym past_is) ∙ ap (λ t. length (transactions (reverse (take (suc i) t)))) (sym same);
     }
 
 pub with_sealed_length : (n : ℕ) (rs : List StepRecord) → length (with_sealed n rs) ≡ length rs
