@@ -1,5 +1,5 @@
 -- The smallest range that holds all changes is that of the model.
-use Rattle.std.proofs.Common.{◌≡◌, ◌≢◌, ℕ, zero, suc, ◌+◌, ◌-◌, ◌<◌, ◌≤◌, ◌==◌, not, Bool, true, false, List, ◌∷◌, length, get_or, filter, Option, Some, None, IfNone, IfSome, refl, sym, ap, ◌∙◌, arith, eq-eqb, add-zero, zero-add, append-nil}
+use Rattle.std.proofs.Common.{◌≡◌, ◌≢◌, ℕ, zero, suc, ◌+◌, ◌-◌, ◌<◌, ◌≤◌, ◌==◌, not, Bool, true, false, List, ◌∷◌, length, get_or, filter, Option, Some, None, IfNone, IfSome, sym, ap, ◌∙◌, arith, eq-eqb, add-zero, zero-add, append-nil}
 use Rattle.std.specs.List.{range_with_len, last_or, slice_get}
 use Rattle.std.proofs.lemmas.Option.{slice_get-get_or}
 use Rattle.std.proofs.lemmas.List.{get_or-take, get_or-drop}
@@ -7,6 +7,7 @@ use Rattle.std.proofs.lemmas.List.Elements.{filter-append}
 use Rattle.std.proofs.lemmas.Bool.{ne_eqb, cond_both}
 use Rattle.ed_model.specs.Indicators.{changed_range, extent}
 use Rattle.ed_model.specs.proved.Rising.{range-append, filter_range_none}
+use Rattle.ed_model.specs.proved.Indicators.{nothing_changed}
 use Rattle.run_styles.specs.Runs.{IsChangedRange}
 
 -- the last number of a range passes, so it is the last that does
@@ -42,10 +43,6 @@ other_place : (old new : List ℕ) (k : ℕ) → k < length old → length new �
 other_place old new k h e apart =
     ap not (ne_eqb (get_or old k 0) (get_or new k 0) (λ same. apart (slice_get-get_or new k 0 (omega arith) ∙ ap Some (sym same) ∙ sym (slice_get-get_or old k 0 h))))
 
--- nothing changed
-pub unchanged : (values : List ℕ) → changed_range values values ≡ None
-unchanged values = ap extent (filter_range_none (λ k. not (get_or values k 0 == get_or values k 0)) 0 (length values) (λ k l m. same_place values values k refl))
-
 pub changed_is : (old new : List ℕ) (range : ℕ × ℕ) → length new ≡ length old → IsChangedRange old new range → changed_range old new ≡ Some range
 changed_is old new (a, zero) e range = absurd (omega (arith, range.some))
 changed_is old new (a, suc n) e range =
@@ -62,5 +59,5 @@ changed_is old new (a, suc n) e range =
 
 -- what a fill of runs returns
 pub answer_is : (answer : Option (ℕ × ℕ)) (old new : List ℕ) → length new ≡ length old → IfNone answer (new ≡ old) → IfSome answer (IsChangedRange old new) → answer ≡ changed_range old new
-answer_is None old new e none some = sym (ap (changed_range old) none ∙ unchanged old)
+answer_is None old new e none some = sym (ap (changed_range old) none ∙ nothing_changed old)
 answer_is (Some range) old new e none some = sym (changed_is old new range e some)

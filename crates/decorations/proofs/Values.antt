@@ -106,9 +106,6 @@ tells_used size room (Some runs) values b kept e f = let Q : List ℕ → Type 0
 pub filled_same : (values : List ℕ) (start count value : ℕ) → runs_filled values start count value ≡ filled start count value values
 filled_same values start count value = sym (append_assoc (take start values) (replicate count value) (drop (start + count) values))
 
-pub filled_length : (values : List ℕ) (start count value : ℕ) → start + count ≤ length values → length (filled start count value values) ≡ length values
-filled_length values start count value h = simp (length-append, length-take, length-drop, length-replicate) (omega arith)
-
 pub room_for_fill : (size : ℕ) (slot spare : Option (Runs ℕ)) → IfSome slot (AreKept size 2) → IfNone slot (HasSpare 3 spare) → MatchOption slot (HasSpare (0 + 3) spare) (λ (runs : Runs ℕ). 0 + 2 ≤ runs.room)
 room_for_fill size None spare kept has = has
 room_for_fill size (Some runs) spare kept has = kept.has_room

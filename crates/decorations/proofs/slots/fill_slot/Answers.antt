@@ -1,9 +1,10 @@
 use Rattle.std.proofs.Common.{◌≡◌, ◌+◌, ◌≤◌, ℕ, List, length, Option, ap, sym, ◌∙◌, subst, arith, true≢false}
 use Rattle.ed_model.specs.Indicators.{filled, changed_range}
+use Rattle.ed_model.specs.proved.Indicators.{length_filled}
 use Rattle.run_styles.specs.Runs.{Runs, filled as runs_filled}
 use Rattle.decorations.specs.Decorated.{IsClear}
 use Rattle.decorations.specs.Slots.{shown, WasFilled}
-use Rattle.decorations.proofs.Values.{room_for_fill, filled_same, filled_length, shown_full, default_of}
+use Rattle.decorations.proofs.Values.{room_for_fill, filled_same, shown_full, default_of}
 use Rattle.decorations.proofs.Changed.{answer_is}
 use Rattle.decorations.proofs.slots.fill_slot.Goals as goal
 
@@ -30,7 +31,7 @@ returns-then-not-is_clear-clause-changed g c =
     let full : length before ≡ c.args.size = shown_full c.args.size c.args.slot.now c.requires.kept in
     let inside : c.args.start + c.args.count ≤ length before = omega arith in
     let long : length c.fill-changed.new.self.values ≡ length c.taken-runs.result.values =
-    ap length values ∙ filled_length before c.args.start c.args.count c.args.value inside ∙ ap length (sym c.taken-runs.ensures.values) in
+    ap length values ∙ length_filled c.args.start c.args.count c.args.value before inside ∙ ap length (sym c.taken-runs.ensures.values) in
     answer_is c.fill-changed.result c.taken-runs.result.values c.fill-changed.new.self.values long c.fill-changed.ensures.none c.fill-changed.ensures.changed
     ∙ ap (λ vs. changed_range vs c.fill-changed.new.self.values) c.taken-runs.ensures.values ∙ ap (changed_range before) values
 
@@ -51,6 +52,6 @@ returns-else-not-is_clear-clause-changed g c =
     let full : length before ≡ c.args.size = shown_full c.args.size c.args.slot.now c.requires.kept in
     let inside : c.args.start + c.args.count ≤ length before = omega arith in
     let long : length c.fill-changed.new.self.values ≡ length c.taken-runs.result.values =
-    ap length values ∙ filled_length before c.args.start c.args.count c.args.value inside ∙ ap length (sym c.taken-runs.ensures.values) in
+    ap length values ∙ length_filled c.args.start c.args.count c.args.value before inside ∙ ap length (sym c.taken-runs.ensures.values) in
     answer_is c.fill-changed.result c.taken-runs.result.values c.fill-changed.new.self.values long c.fill-changed.ensures.none c.fill-changed.ensures.changed
     ∙ ap (λ vs. changed_range vs c.fill-changed.new.self.values) c.taken-runs.ensures.values ∙ ap (changed_range before) values

@@ -1,11 +1,12 @@
 use Rattle.std.proofs.Common.{◌≡◌, ◌+◌, ◌≤◌, ℕ, length, Option, Some, None, MatchOption, set, vec_capacity, ap, sym, ◌∙◌, subst, arith}
 use Rattle.ed_model.specs.Indicators.{filled, changed_range}
+use Rattle.ed_model.specs.proved.Indicators.{length_filled}
 use Rattle.run_styles.specs.Runs.{Runs}
 use Rattle.decorations.specs.Decorated.{Decorated, decorated, values_of}
 use Rattle.decorations.specs.Slots.{slot_at, shown, all_shown, held_by, AreSlots, HasSpare, source_spare}
 use Rattle.decorations.proofs.Kept.{filled_slots, filled_all, fill_runs, fill_room}
 use Rattle.decorations.proofs.Memory.{KeepsMemory, filled_memory, filled_runs}
-use Rattle.decorations.proofs.Values.{filled_length, shown_full}
+use Rattle.decorations.proofs.Values.{shown_full}
 use Rattle.decorations.proofs.SlotLists.{slot_read}
 use Rattle.decorations.proofs.Shown.{values_are}
 use Rattle.decorations.proofs.decorations.Decorations.fill.Goals as goal
@@ -22,7 +23,7 @@ invariant_of-self g c =
     let are = subst Q ready c.self.invariant in
     let here : slot_at slots i ≡ slot = slot_read slots i slot are.can_fill.slot c.index_mut-slot.ensures.value in
     let full : length (shown d.size slot) ≡ d.size = ap (λ s. length (shown d.size s)) (sym here) ∙ shown_full d.size (slot_at slots i) (fill_runs g.P.Place.GREATEST d.size d.room i slots d.spare are) in
-    let long = filled_length (shown d.size slot) c.args.start c.args.count c.args.value (omega arith) in
+    let long = length_filled c.args.start c.args.count c.args.value (shown d.size slot) (omega arith) in
     let R : Option (Runs ℕ) → Type 0 = λ s. MatchOption s (HasSpare (d.room + 3) d.spare) (λ (runs : Runs ℕ). d.room + 2 ≤ runs.room) in
     let roomy = c.fill_slot-changed.ensures.room d.room (subst R here (fill_room g.P.Place.GREATEST d.size d.room i slots d.spare are)) in
     filled_slots g.P.Place.GREATEST d.size d.room i (filled c.args.start c.args.count c.args.value (shown d.size slot)) slots c.fill_slot-changed.new.slot d.spare c.fill_slot-changed.new.spare are
@@ -40,7 +41,7 @@ returns-clause-values g c =
     let are = subst Q ready c.self.invariant in
     let here : slot_at slots i ≡ slot = slot_read slots i slot are.can_fill.slot c.index_mut-slot.ensures.value in
     let full : length (shown d.size slot) ≡ d.size = ap (λ s. length (shown d.size s)) (sym here) ∙ shown_full d.size (slot_at slots i) (fill_runs g.P.Place.GREATEST d.size d.room i slots d.spare are) in
-    let long = filled_length (shown d.size slot) c.args.start c.args.count c.args.value (omega arith) in
+    let long = length_filled c.args.start c.args.count c.args.value (shown d.size slot) (omega arith) in
     let values = values_are c.args.self.now d.size d.room d.ready slots i slot c.requires.indicator c.self.view_is (sym here) in
     let now = held_by (set slots i c.fill_slot-changed.new.slot) (vec_capacity d.slots) c.fill_slot-changed.new.spare in
     ap (λ vs. decorated d.size vs d.room None now)
