@@ -4,9 +4,9 @@ use Rattle.std.proofs.lemmas.Bool.{ne_eqb}
 use Rattle.ed_model.specs.declared.plan.LineEndTypes.{LineEndTypes}
 use Rattle.ed_model.specs.declared.plan.LineEndTypes.TheVariants.{Default, Unicode}
 use Rattle.ed_model.specs.Lines.{is_line_start}
+use Rattle.ed_model.specs.proved.Bytes.{stands_at}
 use Rattle.line_index.specs.Index.{starts_within}
 use Rattle.line_index.proofs.StartLists.{starts_apart, one_start, no_starts}
-use Rattle.line_index.proofs.TextBytes.{stands_within}
 
 -- one more place, at which a line starts or does not
 pub counted_at :
@@ -37,7 +37,7 @@ pub starts_behind :
 starts_behind text p h =
     let one : p + 1 - 1 ≡ p = omega arith in
     let some : (p + 1 == 0) ≡ false = ne_eqb (p + 1) 0 (λ z. omega arith) in
-    rw (some, one, stands_within 10 text p (omega arith), stands_within 13 text p (omega arith), stands_within 10 text (p + 1) h)
+    rw (some, one, stands_at 10 text p (omega arith), stands_at 13 text p (omega arith), stands_at 10 text (p + 1) h)
     (without_unicode (get_or text p 0 == 10) (get_or text p 0 == 13) (not (get_or text (p + 1) 0 == 10)))
 
 -- so one more byte is counted
@@ -68,15 +68,15 @@ starts_behind_wide text p l h =
       one,
       two,
       three,
-      stands_within 10 text p (omega arith),
-      stands_within 13 text p (omega arith),
-      stands_within 10 text (p + 1) h,
-      stands_within 0x85 text p (omega arith),
-      stands_within 0xC2 text (p - 1) (omega arith),
-      stands_within 0xA8 text p (omega arith),
-      stands_within 0xA9 text p (omega arith),
-      stands_within 0x80 text (p - 1) (omega arith),
-      stands_within 0xE2 text (p - 2) (omega arith),
+      stands_at 10 text p (omega arith),
+      stands_at 13 text p (omega arith),
+      stands_at 10 text (p + 1) h,
+      stands_at 0x85 text p (omega arith),
+      stands_at 0xC2 text (p - 1) (omega arith),
+      stands_at 0xA8 text p (omega arith),
+      stands_at 0xA9 text p (omega arith),
+      stands_at 0x80 text (p - 1) (omega arith),
+      stands_at 0xE2 text (p - 2) (omega arith),
     )
     refl
 

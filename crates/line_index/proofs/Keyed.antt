@@ -6,14 +6,10 @@ use Rattle.std.proofs.lemmas.List.{map-append, length-replicate}
 use Rattle.ed_model.specs.Lines.{line_of}
 use Rattle.ed_model.specs.Carry.{carried}
 use Rattle.ed_model.specs.MergeLaws.{JoinsRows}
-use Rattle.ed_model.specs.proved.Lists.{each_weaker}
-use Rattle.ed_model.specs.proved.Rising.{range-append}
+use Rattle.ed_model.specs.proved.Rising.{range-append, map_range_agree}
+use Rattle.ed_model.specs.proved.Elements.{all_append, all_weaker}
 
 -- functions of the numbers of a range
-
-pub map_range_agree : {Y : Type 0} (f g : ℕ → Y) (a n : ℕ) → ((k : ℕ) → a ≤ k → k < a + n → f k ≡ g k) → map f (range_with_len a n) ≡ map g (range_with_len a n)
-map_range_agree f g a zero h = refl
-map_range_agree f g a (suc n) h = ap₂ (λ y l. y ∷ l) (h a (omega arith) (omega arith)) (map_range_agree f g (a + 1) n (λ k l m. h k (omega arith) (omega arith)))
 
 pub map_range_same : {Y : Type 0} (f : ℕ → Y) (y : Y) (a n : ℕ) → ((k : ℕ) → a ≤ k → k < a + n → f k ≡ y) → map f (range_with_len a n) ≡ replicate n y
 map_range_same f y a zero h = refl
@@ -73,10 +69,6 @@ pub record Carries {R : Type 0} (t : List R → R) (at n : ℕ) (ks : List ℕ) 
   pub long : length ks ≡ length rows
   pub made : by_keys t at n ks rows ≡ out
 
-each_append : {X : Type 0} (P : X → Type 0) (xs ys : List X) → AllByRecursion P xs → AllByRecursion P ys → AllByRecursion P (xs ++ ys)
-each_append P [] ys a b = b
-each_append P (x ∷ xs) ys a b = (a.0, each_append P xs ys a.1 b)
-
 each_same : (P : ℕ → Type 0) (n x : ℕ) → P x → AllByRecursion P (replicate n x)
 each_same P zero x h = tt
 each_same P (suc n) x h = (h, each_same P n x h)
@@ -86,18 +78,18 @@ pub carries_both :
     → Carries t at n ks rows out → Carries t at' m ls rest later → Carries t at total (ks ++ ls) (rows ++ rest) (out ++ later)
 carries_both t at n at' m total ks ls rows rest out later e f a b =
     record {
-      low = each_append (λ k. at ≤ k) ks ls a.low (each_weaker (λ k. at' ≤ k) (λ k. at ≤ k) ls (λ k h. omega arith) b.low);
-      high = each_append (λ k. k < at + total) ks ls (each_weaker (λ k. k < at + n) (λ k. k < at + total) ks (λ k h. omega arith) a.high)
-          (each_weaker (λ k. k < at' + m) (λ k. k < at + total) ls (λ k h. omega arith) b.high);
+      low = all_append (λ k. at ≤ k) ks ls a.low (all_weaker (λ k. at' ≤ k) (λ k. at ≤ k) (λ k h. omega arith) ls b.low);
+      high = all_append (λ k. k < at + total) ks ls (all_weaker (λ k. k < at + n) (λ k. k < at + total) (λ k h. omega arith) ks a.high)
+          (all_weaker (λ k. k < at' + m) (λ k. k < at + total) (λ k h. omega arith) ls b.high);
       long = omega (arith, length-append ks ls, length-append rows rest, a.long, b.long);
       made =
           let first : map (λ line. t (keyed line (ks ++ ls) (rows ++ rest))) (range_with_len at n) ≡ by_keys t at n ks rows =
           map_range_agree _ _ at n (λ line l h. ap t (keyed_append line ks ls rows rest a.long
-          ∙ ap (λ r. keyed line ks rows ++ r) (keyed_none line ls rest (each_weaker (λ k. at' ≤ k) (λ k. k ≢ line) ls (λ k g. λ s. omega arith) b.low))
+          ∙ ap (λ r. keyed line ks rows ++ r) (keyed_none line ls rest (all_weaker (λ k. at' ≤ k) (λ k. k ≢ line) (λ k g. λ s. omega arith) ls b.low))
           ∙ append-nil (keyed line ks rows))) in
           let second : map (λ line. t (keyed line (ks ++ ls) (rows ++ rest))) (range_with_len (at + n) m) ≡ by_keys t (at + n) m ls rest =
           map_range_agree _ _ (at + n) m (λ line l h. ap t (keyed_append line ks ls rows rest a.long
-          ∙ ap (λ r. r ++ keyed line ls rest) (keyed_none line ks rows (each_weaker (λ k. k < at + n) (λ k. k ≢ line) ks (λ k g. λ s. omega arith) a.high)))) in
+          ∙ ap (λ r. r ++ keyed line ls rest) (keyed_none line ks rows (all_weaker (λ k. k < at + n) (λ k. k ≢ line) (λ k g. λ s. omega arith) ks a.high)))) in
           let behind : by_keys t (at + n) m ls rest ≡ later = rw (← e) b.made in
           rw (f, range-append at n m, map-append (λ line. t (keyed line (ks ++ ls) (rows ++ rest))) (range_with_len at n) (range_with_len (at + n) m))
           (ap₂ (λ x y. x ++ y) (first ∙ a.made) (second ∙ behind));

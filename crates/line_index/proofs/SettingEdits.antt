@@ -7,14 +7,13 @@ use Rattle.ed_model.specs.declared.plan.LineEndTypes.TheVariants.{Default, Unico
 use Rattle.ed_model.specs.Lines.{is_line_start, line_starts, line_of, line_count}
 use Rattle.ed_model.specs.Carry.{carried, regrouped}
 use Rattle.ed_model.specs.MergeLaws.{JoinsRows, RowsOfLinesThatStay}
-use Rattle.ed_model.specs.proved.Lines.{line_starts_increase}
+use Rattle.ed_model.specs.proved.Lines.{line_starts_increase, few_lines}
 use Rattle.line_index.specs.Edits.{after_edits, FitLines, fresh_lines}
 use Rattle.line_index.specs.Index.{starts_within}
 use Rattle.line_index.specs.StepEdits.{joined, came}
 use Rattle.line_index.specs.Settings.{next_of, lines_inside, all_inside_edits, edits_of_setting, SettingsFitLines, SettingsBringAll, SettingsBringFewLines}
 use Rattle.line_index.proofs.Abouts.{Fits, fits_both, joined_fits, came_fits}
 use Rattle.line_index.proofs.Keyed.{Carries, by_keys, carried_by_keys, carries_both, carries_none, carries_fresh, carries_on}
-use Rattle.line_index.proofs.RoomLemmas.{few_starts}
 use Rattle.line_index.proofs.Settling.{edits_in_turn, joined_is, came_is}
 use Rattle.line_index.proofs.StartLists.{starts_apart, one_start, no_starts}
 use Rattle.line_index.proofs.SettingLists.{AreLines, all_within, lines_from_first, line_within, map_within_same, none_to_itself, starts_on, still_starts}
@@ -261,9 +260,6 @@ settings_of text =
     at_least : (counts : List ℕ) → length counts ≤ all_lines counts
     at_least [] = omega arith
     at_least (count ∷ counts) = omega (arith, at_least counts)
-
-few_lines : (types : LineEndTypes) (text : List ℕ) → line_count types text ≤ length text + 1
-few_lines types text = omega (arith, ap length (all_within types text), few_starts types text 0 (length text + 1))
 
 -- what holds of the edits
 record Holds (old new : LineEndTypes) (text : List ℕ) : Type 0 where

@@ -1,25 +1,11 @@
 -- Lists of line starts: removing one, and splitting those between places.
-use Rattle.std.proofs.Common.{◌≡◌, ℕ, zero, suc, ◌+◌, ◌-◌, ◌<◌, ◌≤◌, Bool, true, false, cond, List, [], ◌∷◌, ◌++◌, length, get_or, take, drop, filter, remove, refl, sym, ap, ◌∙◌, arith, add-one, le_refl}
+use Rattle.std.proofs.Common.{◌≡◌, ℕ, zero, suc, ◌+◌, ◌-◌, ◌<◌, ◌≤◌, Bool, true, false, cond, List, [], ◌∷◌, ◌++◌, length, get_or, filter, refl, sym, ap, ◌∙◌, arith}
 use Rattle.std.specs.List.{range_with_len}
-use Rattle.std.proofs.lemmas.List.{length-take-le}
-use Rattle.std.proofs.lemmas.List.Edits.{remove-append_right}
 use Rattle.std.proofs.lemmas.List.Elements.{filter-append}
 use Rattle.ed_model.specs.declared.plan.LineEndTypes.{LineEndTypes}
 use Rattle.ed_model.specs.Lines.{is_line_start}
 use Rattle.ed_model.specs.proved.Rising.{range-append, filter_range_none, filter_range_agree}
 use Rattle.line_index.specs.Index.{starts_within, starts_near}
-
-drop_suc : (line : ℕ) (xs : List ℕ) → drop 1 (drop line xs) ≡ drop (suc line) xs
-drop_suc zero xs = refl
-drop_suc (suc line) [] = refl
-drop_suc (suc line) (x ∷ xs) = drop_suc line xs
-
--- one more start is removed
-pub removed_next : (xs : List ℕ) (first line : ℕ) → first ≤ line → line < length xs → remove (take first xs ++ drop line xs) first ≡ take first xs ++ drop (line + 1) xs
-removed_next xs first line h l =
-    let size : length (take first xs) ≡ first = length-take-le first xs (omega arith) in
-    let none : first - first ≡ 0 = omega arith in
-    rw (remove-append_right (take first xs) (drop line xs) first first size (le_refl first), none, add-one) (ap (λ l. take first xs ++ l) (drop_suc line xs))
 
 lie_more :
     (b : Bool) (a n k : ℕ) (rest : List ℕ) → ((j : ℕ) → j < length rest → (a + 1 ≤ get_or rest j 0) × (get_or rest j 0 < a + 1 + n))

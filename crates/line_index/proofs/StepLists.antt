@@ -1,6 +1,6 @@
 -- Line starts around a step: which of them stay, which are removed, and why the ones found in the new text are exactly
 -- the missing ones.
-use Rattle.std.proofs.Common.{◌≡◌, ℕ, zero, suc, ◌+◌, ◌-◌, ◌<◌, ◌≤◌, min, max, List, [], ◌∷◌, ◌++◌, length, get_or, take, drop, slice_range, map, filter, count_by, leb, ltb, Bool, refl, sym, ap, subst, ◌∙◌, inl, inr, arith, append_assoc, length-append, length-drop, append-nil}
+use Rattle.std.proofs.Common.{◌≡◌, ℕ, suc, ◌+◌, ◌-◌, ◌<◌, ◌≤◌, min, max, List, [], ◌∷◌, ◌++◌, length, get_or, take, drop, slice_range, map, filter, count_by, leb, ltb, Bool, refl, sym, ap, subst, ◌∙◌, inl, inr, arith, append_assoc, length-append, length-drop, append-nil}
 use Rattle.std.specs.List.{range_with_len}
 use Rattle.std.proofs.lemmas.Bool.{cases_lt, cases_eq, le-leb, le-ltb}
 use Rattle.std.proofs.lemmas.List.{length-take, length-take-le, length-map, get_or-take, get_or-drop, get_or-map, get_or-append-add}
@@ -14,6 +14,7 @@ use Rattle.ed_model.specs.proved.Rising.{count-cons}
 use Rattle.ed_model.specs.proved.Lines.{no_start_past, first_line_start, some_line, line_of_monotone, line_of_lt, line_of_last_start}
 use Rattle.ed_model.specs.proved.Steps.{length-inserted, length-deleted_within}
 use Rattle.ed_model.specs.proved.Neighbours.{some_before, starts_after_insertion, starts_after_deletion, starts_about_insertion, starts_about_deletion, starts_before_first, starts_from_others, first_line_about_is, first_line_behind_is}
+use Rattle.ed_model.specs.proved.Lists.{front_kept, behind_kept}
 use Rattle.partitioning.specs.Partitions.{CanLose, map_from}
 use Rattle.line_index.specs.Index.{Index, IsFree, IsIndexOf, IsInsertion, IsDeletion, index, starts_within}
 use Rattle.line_index.proofs.StartLists.{starts_apart, no_starts, one_start}
@@ -30,25 +31,13 @@ behind types text p k h l =
       | inr upto ↦ absurd (omega (arith, (line_of_last_start types text p k h).1 upto))
     ]
 
--- a list cut at a place
-
-front_of : (i : ℕ) (xs ys : List ℕ) → i ≤ length xs → take i (take i xs ++ ys) ≡ take i xs
-front_of zero xs ys h = refl
-front_of (suc i) [] ys h = absurd (omega arith)
-front_of (suc i) (x ∷ xs) ys h = ap (λ l. x ∷ l) (front_of i xs ys (omega arith))
-
-rest_of : (i : ℕ) (xs ys : List ℕ) → i ≤ length xs → drop i (take i xs ++ ys) ≡ ys
-rest_of zero xs ys h = refl
-rest_of (suc i) [] ys h = absurd (omega arith)
-rest_of (suc i) (x ∷ xs) ys h = rest_of i xs ys (omega arith)
-
 -- the starts behind the first i are moved
 pub moved_behind : (f : ℕ → ℕ) (i n : ℕ) (xs ys : List ℕ) → n ≡ i → i ≤ length xs → map_from f n (take i xs ++ ys) ≡ take i xs ++ map f ys
-moved_behind f i n xs ys e h = rw (e, front_of i xs ys h, rest_of i xs ys h) refl
+moved_behind f i n xs ys e h = rw (e, front_kept i xs ys h, behind_kept i xs ys h) refl
 
 -- others are inserted between
 pub put_between : (i : ℕ) (xs mid ys : List ℕ) → i ≤ length xs → take i (take i xs ++ ys) ++ mid ++ drop i (take i xs ++ ys) ≡ take i xs ++ mid ++ ys
-put_between i xs mid ys h = rw (front_of i xs ys h, rest_of i xs ys h) refl
+put_between i xs mid ys h = rw (front_kept i xs ys h, behind_kept i xs ys h) refl
 
 map_same : (xs : List ℕ) → map (λ s. s) xs ≡ xs
 map_same [] = refl

@@ -1,35 +1,16 @@
 -- Bytes of a text in two halves.
-use Rattle.std.proofs.Common.{◌≡◌, ℕ, zero, suc, ◌+◌, ◌-◌, ◌<◌, ◌≤◌, Bool, true, false, ◌==◌, ◌||◌, ◌&&◌, not, take, List, [], ◌∷◌, ◌++◌, length, get_or, slice_range, inl, inr, refl, ap, ◌∙◌, arith, length-append}
-use Rattle.std.proofs.lemmas.Option.{slice_get_past}
+use Rattle.std.proofs.Common.{◌≡◌, ℕ, ◌+◌, ◌-◌, ◌<◌, ◌≤◌, Bool, true, false, ◌==◌, ◌||◌, ◌&&◌, not, take, List, ◌++◌, length, get_or, slice_range, inl, inr, refl, ap, arith, length-append}
 use Rattle.std.proofs.lemmas.Bool.{ne_eqb, true≢false, cases_lt, cases_order}
 use Rattle.std.proofs.lemmas.List.{get_or-append-add}
 use Rattle.std.proofs.Math.ListN.{get_or-append}
 use Rattle.ed_model.specs.declared.plan.LineEndTypes.{LineEndTypes}
-use Rattle.ed_model.specs.Numbers.{is_number}
 use Rattle.ed_model.specs.Text.{stands}
 use Rattle.ed_model.specs.Lines.{is_line_start, knows_unicode}
-use Rattle.ed_model.specs.proved.Lists.{slice_get_append_left, slice_get_append_right, within_part, read_part}
+use Rattle.ed_model.specs.proved.Lists.{within_part, read_part}
+use Rattle.ed_model.specs.proved.Bytes.{stands_at}
 use Rattle.std.specs.Int.{bit_at}
 use Rattle.line_index.specs.Ends.{may_end}
 use Rattle.line_index.specs.Index.{MarkStarts}
-
-pub stands_within : (byte : ℕ) (xs : List ℕ) (p : ℕ) → p < length xs → stands byte xs p ≡ (get_or xs p 0 == byte)
-stands_within byte [] p h = absurd (omega arith)
-stands_within byte (x ∷ xs) zero h = refl
-stands_within byte (x ∷ xs) (suc p) h = stands_within byte xs p (omega arith)
-
--- in the first half
-pub stands_in_front : (byte : ℕ) (xs ys : List ℕ) (p : ℕ) → p < length xs → stands byte (xs ++ ys) p ≡ (get_or xs p 0 == byte)
-stands_in_front byte xs ys p h = ap (is_number byte) (slice_get_append_left xs ys p h) ∙ stands_within byte xs p h
-
--- in the second half
-pub stands_behind : (byte : ℕ) (xs ys : List ℕ) (p i : ℕ) → length xs ≤ p → i ≡ p - length xs → i < length ys → stands byte (xs ++ ys) p ≡ (get_or ys i 0 == byte)
-stands_behind byte xs ys p i h e l =
-    ap (is_number byte) (slice_get_append_right xs ys i p (omega arith)) ∙ stands_within byte ys i l
-
--- past the end
-pub stands_nowhere : (byte : ℕ) (xs ys : List ℕ) (p i : ℕ) → length xs ≤ p → i ≡ p - length xs → length ys ≤ i → stands byte (xs ++ ys) p ≡ false
-stands_nowhere byte xs ys p i h e l = ap (is_number byte) (slice_get_past (xs ++ ys) p (omega (arith, length-append xs ys)))
 
 -- places without a line end before them
 
@@ -47,7 +28,7 @@ pub no_start_behind : (types : LineEndTypes) (text : List ℕ) (p q : ℕ) → q
 no_start_behind types text p q e h none =
     let one : q - 1 ≡ p = omega arith in
     let some : (q == 0) ≡ false = ne_eqb q 0 (λ z. omega arith) in
-    rw (some, one, stands_within 10 text p h, stands_within 13 text p h, stands_within 0x85 text p h, stands_within 0xA8 text p h, stands_within 0xA9 text p h)
+    rw (some, one, stands_at 10 text p h, stands_at 13 text p h, stands_at 0x85 text p h, stands_at 0xA8 text p h, stands_at 0xA9 text p h)
     (no_end_of (get_or text p 0 == 10) (get_or text p 0 == 13) (knows_unicode types) (get_or text p 0 == 0x85) (get_or text p 0 == 0xA8) (get_or text p 0 == 0xA9)
     (not (stands 10 text q)) (stands 0xC2 text (q - 2)) (stands 0x80 text (q - 2)) (stands 0xE2 text (q - 3)) none)
 

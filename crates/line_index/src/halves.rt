@@ -10,7 +10,7 @@ use ed_model::LineEndTypes;
 use memchr::memchr2;
 
 // Returns whether `byte` stands at `place`.
-#[tactic(auto, using(crate::proofs::TextBytes::stands_in_front, crate::proofs::TextBytes::stands_behind, crate::proofs::TextBytes::stands_nowhere))]
+#[tactic(auto, using(ed_model::specs::proved::Bytes::stands_in_front, ed_model::specs::proved::Bytes::stands_behind, ed_model::specs::proved::Bytes::stands_nowhere))]
 fn is_at(byte: u8, before: &[u8], after: &[u8], place: usize) -> bool
     ensures { result ≡ stands byte (before.now ++ after.now) place }
 {

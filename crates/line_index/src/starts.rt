@@ -335,7 +335,7 @@ pub(crate) fn lines_after_step<P: Place>(
 
 // Removes the starts of the lines from `first` up to `last`.
 #[inline(always)]
-#[tactic(auto, using(crate::proofs::StartLists::removed_next))]
+#[tactic(auto, using(ed_model::specs::proved::Lists::removed_next))]
 pub(crate) fn remove_starts<P: Place>(starts: &mut Partitioning<P>, first: usize, last: usize)
     requires range { (0 < first) × (first ≤ last) × (last ≤ length starts.old.starts) }
     ensures starts { starts.new.starts ≡ take first starts.old.starts ++ drop last starts.old.starts }
