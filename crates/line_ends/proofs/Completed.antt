@@ -1,47 +1,14 @@
 -- The unwanted bytes of a text in which nothing is missing.
-use Rattle.std.proofs.Common.{◌≡◌, ℕ, ◌+◌, Bool, true, false, cond, ◌==◌, ◌||◌, ◌&&◌, List, [], ◌∷◌, ◌++◌, length, take, drop, refl, ap, ◌∙◌, sym, arith, append_assoc, length-append}
+use Rattle.std.proofs.Common.{◌≡◌, ℕ, ◌+◌, Bool, true, false, cond, ◌==◌, ◌||◌, ◌&&◌, List, [], ◌∷◌, ◌++◌, length, refl, ap, ◌∙◌, sym, arith}
 use Rattle.std.specs.Prelude.{count_by, not}
-use Rattle.std.proofs.lemmas.Bool.{true≢false, or_from, and_right, eqb-true}
+use Rattle.std.proofs.lemmas.Bool.{or_from, and_right}
 use Rattle.std.proofs.lemmas.List.Recursion.{is_count_by}
 use Rattle.std.proofs.lemmas.List.Sums.{sum_by-append}
 use Rattle.ed_model.specs.declared.plan.LineEnd.{LineEnd}
 use Rattle.ed_model.specs.declared.plan.LineEnd.TheVariants.{CrLf, Cr, Lf}
-use Rattle.ed_model.specs.LineEnds.{begins_with_line_feed, lacks_return, lacks_feed, missing_at, missing_from, is_unwanted, unwanted_at, place_after, unwanted_from, after_steps}
-use Rattle.ed_model.specs.proved.Lists.{inserted_between}
+use Rattle.ed_model.specs.LineEnds.{begins_with_line_feed, lacks_return, lacks_feed, is_unwanted, unwanted_at, place_after, unwanted_from}
+use Rattle.ed_model.specs.proved.Conversions.{put, filled, fills, still_feed}
 use Rattle.line_ends.specs.Conversion.{completed}
-
--- the text with the missing bytes, byte by byte
-abbrev put : Bool → Bool → ℕ → List ℕ → List ℕ
-put true y b rest = 13 ∷ b ∷ rest
-put false true b rest = b ∷ 10 ∷ rest
-put false false b rest = b ∷ rest
-
-abbrev filled : Bool → LineEnd → List ℕ → List ℕ
-filled f to [] = []
-filled f to (b ∷ bs) = put (lacks_return f to b) (lacks_feed to b bs) b (filled (b == 13) to bs)
-
-fills : (to : LineEnd) (rest : List ℕ) (f : Bool) (p : ℕ) (front : List ℕ) → length front ≡ p
-    → after_steps (missing_from p f to rest) (front ++ rest) ≡ front ++ filled f to rest
-fills to [] f p front e = refl
-fills to (b ∷ bs) f p front e = go (lacks_return f to b) (lacks_feed to b bs) (λ q start h. fills to bs (b == 13) q start h)
-  where
-    go : (x y : Bool) → ((q : ℕ) (start : List ℕ) → length start ≡ q → after_steps (missing_from q (b == 13) to bs) (start ++ bs) ≡ start ++ filled (b == 13) to bs)
-        → after_steps (missing_at p x y ++ missing_from (p + 1 + length (missing_at p x y)) (b == 13) to bs) (front ++ b ∷ bs) ≡ front ++ put x y b (filled (b == 13) to bs)
-    go true y rest =
-        ap (after_steps (missing_from (p + 1 + 1) (b == 13) to bs)) (inserted_between p front (13 ∷ []) (b ∷ bs) e ∙ sym (append_assoc front (13 ∷ b ∷ []) bs))
-        ∙ rest (p + 1 + 1) (front ++ 13 ∷ b ∷ []) (simp length-append (omega arith))
-        ∙ append_assoc front (13 ∷ b ∷ []) (filled (b == 13) to bs)
-    go false true rest =
-        ap (after_steps (missing_from (p + 1 + 1) (b == 13) to bs))
-        (ap (λ t. take (p + 1) t ++ (10 ∷ []) ++ drop (p + 1) t) (sym (append_assoc front (b ∷ []) bs))
-        ∙ inserted_between (p + 1) (front ++ b ∷ []) (10 ∷ []) bs (simp length-append (omega arith))
-        ∙ append_assoc front (b ∷ []) (10 ∷ bs) ∙ sym (append_assoc front (b ∷ 10 ∷ []) bs))
-        ∙ rest (p + 1 + 1) (front ++ b ∷ 10 ∷ []) (simp length-append (omega arith))
-        ∙ append_assoc front (b ∷ 10 ∷ []) (filled (b == 13) to bs)
-    go false false rest =
-        ap (after_steps (missing_from (p + 1 + 0) (b == 13) to bs)) (sym (append_assoc front (b ∷ []) bs))
-        ∙ rest (p + 1 + 0) (front ++ b ∷ []) (simp length-append (omega arith))
-        ∙ append_assoc front (b ∷ []) (filled (b == 13) to bs)
 
 completed_is : (to : LineEnd) (text : List ℕ) → completed to text ≡ filled false to text
 completed_is to text = fills to text false 0 [] refl
@@ -116,16 +83,6 @@ pub all_feeds : (text : List ℕ) → length (unwanted_from 0 false Cr (complete
 all_feeds text = ap (λ t. length (unwanted_from 0 false Cr t)) (completed_is Cr text) ∙ feeds text false 0 ∙ many_is 10 text
 
 -- If LF is wanted, each CR is unwanted.
-
--- the first byte stays the first
-still_feed : (bs : List ℕ) (f : Bool) → begins_with_line_feed bs ≡ true → begins_with_line_feed (filled f Lf bs) ≡ true
-still_feed [] f e = absurd (true≢false (sym e))
-still_feed (b ∷ bs) f e =
-    let ten : b ≡ 10 = eqb-true b 10 e in
-    let no_return : lacks_return f Lf b ≡ false = and_right ((b == 10) && not f) false refl in
-    let no_feed : lacks_feed Lf b bs ≡ false = ap (λ c. (c == 13) && not (begins_with_line_feed bs) && true) ten in
-    ap (λ x. begins_with_line_feed (put x (lacks_feed Lf b bs) b (filled (b == 13) Lf bs))) no_return
-    ∙ ap (λ y. begins_with_line_feed (put false y b (filled (b == 13) Lf bs))) no_feed ∙ e
 
 returns : (text : List ℕ) (f g : Bool) (p : ℕ) → length (unwanted_from p g Lf (filled f Lf text)) ≡ many 13 text
 returns [] f g p = refl

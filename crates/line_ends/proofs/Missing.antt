@@ -7,8 +7,9 @@ use Rattle.ed_model.specs.declared.plan.LineEnd.{LineEnd}
 use Rattle.ed_model.specs.Text.{stands}
 use Rattle.ed_model.specs.Steps.{Step, Insert, edited}
 use Rattle.ed_model.specs.LineEnds.{begins_with_line_feed, is_feed_foreign, is_return_foreign, lacks_return, lacks_feed, missing_at, missing_from}
+use Rattle.ed_model.specs.proved.Bytes.{stands_at}
 use Rattle.line_ends.specs.Conversion.{follows_return, lone_feed, lone_return, missing_in, IsNextLone, IsNextMissing}
-use Rattle.line_ends.proofs.Halves.{stands_at, Quiet}
+use Rattle.line_ends.proofs.Halves.{Quiet}
 use Rattle.line_ends.proofs.Walk.{follows_next, begins_is, along_quiet, quiet_lone}
 
 -- the insertions around one byte, and the rest

@@ -5,12 +5,8 @@ use Rattle.std.proofs.lemmas.List.{drop_all, drop_more, drop-drop, take_rest, le
 use Rattle.ed_model.specs.declared.plan.LineEnd.{LineEnd}
 use Rattle.ed_model.specs.declared.plan.LineEnd.TheVariants.{CrLf, Cr, Lf}
 use Rattle.ed_model.specs.LineEnds.{line_end_bytes, begins_with_line_feed, converted, converted_after}
+use Rattle.ed_model.specs.proved.Conversions.{behind_return}
 use Rattle.line_ends.specs.Conversion.{is_end, end_bytes}
-
--- what comes behind a CR, unless that is an LF
-no_flag : (to : LineEnd) (bs : List ℕ) → begins_with_line_feed bs ≡ false → (f : Bool) → converted_after f to bs ≡ converted_after false to bs
-no_flag to [] none f = refl
-no_flag to (b ∷ bs) none f = rw none refl
 
 -- the bytes before a line end
 quiet_front : (to : LineEnd) (bs : List ℕ) (n : ℕ) → n ≤ length bs → ((k : ℕ) → k < n → is_end (get_or bs k 0) ≡ false)
@@ -34,9 +30,9 @@ one_end to b bs e alone = go (b == 10) (b == 13) e alone
   where
     go : (x y : Bool) → (x || y) ≡ true → (y && begins_with_line_feed bs) ≡ false
         → cond (x && false) (converted_after false to bs) (cond (x || y) (line_end_bytes to ++ converted_after y to bs) (b ∷ converted_after false to bs)) ≡ line_end_bytes to ++ converted to bs
-    go true true c none = ap (λ t. line_end_bytes to ++ t) (no_flag to bs none true)
+    go true true c none = ap (λ t. line_end_bytes to ++ t) (behind_return to bs none true)
     go true false c none = refl
-    go false true c none = ap (λ t. line_end_bytes to ++ t) (no_flag to bs none true)
+    go false true c none = ap (λ t. line_end_bytes to ++ t) (behind_return to bs none true)
     go false false c none = absurd (true≢false (sym c))
 
 pub with_one : (to : LineEnd) (bs : List ℕ) (n : ℕ) → n < length bs → ((k : ℕ) → k < n → is_end (get_or bs k 0) ≡ false)

@@ -7,8 +7,9 @@ use Rattle.ed_model.specs.declared.plan.LineEnd.TheVariants.{CrLf, Cr, Lf}
 use Rattle.ed_model.specs.Text.{stands}
 use Rattle.ed_model.specs.Steps.{Step, Delete, edited}
 use Rattle.ed_model.specs.LineEnds.{begins_with_line_feed, is_feed_unwanted, is_return_unwanted, is_unwanted, unwanted_at, place_after, unwanted_from}
+use Rattle.ed_model.specs.proved.Bytes.{stands_at}
 use Rattle.line_ends.specs.Conversion.{follows_return, spare_feed, spare_return, unwanted_in, unwanted_since, IsNextUnwanted}
-use Rattle.line_ends.proofs.Halves.{stands_at, Quiet}
+use Rattle.line_ends.proofs.Halves.{Quiet}
 use Rattle.line_ends.proofs.Walk.{follows_next, begins_is, quiet_spare}
 
 -- the deletion of one byte, and the rest

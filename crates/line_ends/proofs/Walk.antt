@@ -5,8 +5,9 @@ use Rattle.ed_model.specs.declared.plan.LineEnd.{LineEnd}
 use Rattle.ed_model.specs.Text.{stands}
 use Rattle.ed_model.specs.Steps.{Step}
 use Rattle.ed_model.specs.LineEnds.{begins_with_line_feed}
+use Rattle.ed_model.specs.proved.Bytes.{stands_at}
 use Rattle.line_ends.specs.Conversion.{is_end, follows_return, lone_feed, lone_return, spare_feed, spare_return}
-use Rattle.line_ends.proofs.Halves.{stands_at, Quiet}
+use Rattle.line_ends.proofs.Halves.{Quiet}
 
 pub follows_next : (start : ℕ) (text : List ℕ) (p : ℕ) → start ≤ p → p < length text → follows_return start text (p + 1) ≡ (get_or text p 0 == 13)
 follows_next start text p s h =

@@ -7,7 +7,7 @@ ghost use Rattle.line_ends.specs.Conversion.{is_end};
 use memchr::memchr2;
 
 // Returns whether `byte` stands at `place`.
-#[tactic(auto, using(crate::proofs::Halves::stands_in_front, crate::proofs::Halves::stands_behind, crate::proofs::Halves::stands_nowhere))]
+#[tactic(auto, using(ed_model::specs::proved::Bytes::stands_in_front, ed_model::specs::proved::Bytes::stands_behind, ed_model::specs::proved::Bytes::stands_nowhere))]
 pub(crate) fn is_at(byte: u8, first: &[u8], second: &[u8], place: usize) -> bool
     ensures { result ≡ stands byte (first.now ++ second.now) place }
 {
