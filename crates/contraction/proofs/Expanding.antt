@@ -7,9 +7,9 @@ use Rattle.std.proofs.lemmas.List.Folds.{list_all-append}
 use Rattle.std.proofs.lemmas.List.FromFn.{length-map-range_with_len, get_or-map-range_with_len}
 use Rattle.ed_model.specs.Rows.{Flags, fresh_flags}
 use Rattle.ed_model.specs.Folding.{flags_at, is_expanded, with_visible, with_expanded, is_between, lines_shown, lines_hidden, expanded, is_open_between, is_header, is_child, last_child}
+use Rattle.ed_model.specs.proved.Rising.{range-append, map_range_agree}
 use Rattle.contraction.proofs.LineSets.{same_tests}
 use Rattle.contraction.specs.Folding.{is_closed, closed_at, behind_closed}
-use Rattle.contraction.proofs.Outside.{range-append}
 use Rattle.contraction.proofs.Nesting.{last_child_is, nested}
 
 -- a line after some were shown or hidden
@@ -22,15 +22,11 @@ length-with_visible passes shown flags = length-map-range_with_len (shown_at pas
 pub visible_at : (passes shown : ℕ → Bool) (flags : List Flags) (k : ℕ) → k < length flags → flags_at (with_visible passes shown flags) k ≡ shown_at passes shown flags k
 visible_at passes shown flags k l = get_or-map-range_with_len (shown_at passes shown flags) 0 (length flags) k k fresh_flags l (omega arith)
 
-map_same : (f g : ℕ → Flags) (a n : ℕ) → ((k : ℕ) → a ≤ k → k < a + n → f k ≡ g k) → map f (range_with_len a n) ≡ map g (range_with_len a n)
-map_same f g a zero same = refl
-map_same f g a (suc n) same = rw (same a (omega arith) (omega arith), map_same f g (a + 1) n (λ k h l. same k (omega arith) (omega arith))) refl
-
 -- two tests that pass the same lines, and show the same ones of them
 pub visible_same : (p q s t : ℕ → Bool) (flags : List Flags) → ((k : ℕ) → k < length flags → p k ≡ q k) → ((k : ℕ) → k < length flags → p k ≡ true → s k ≡ t k)
     → with_visible p s flags ≡ with_visible q t flags
 visible_same p q s t flags pq st =
-    map_same (shown_at p s flags) (shown_at q t flags) 0 (length flags) (λ k h l. go k (p k) (q k) refl (pq k (omega arith)) (st k (omega arith)))
+    map_range_agree (shown_at p s flags) (shown_at q t flags) 0 (length flags) (λ k h l. go k (p k) (q k) refl (pq k (omega arith)) (st k (omega arith)))
   where
     go : (k : ℕ) (b d : Bool) → p k ≡ b → b ≡ d → (b ≡ true → s k ≡ t k)
         → cond b (record (flags_at flags k) { visible = s k }) (flags_at flags k) ≡ cond d (record (flags_at flags k) { visible = t k }) (flags_at flags k)
@@ -43,7 +39,7 @@ pub visible_twice : (p q s t u : ℕ → Bool) (flags : List Flags)
     → with_visible q t (with_visible p s flags) ≡ with_visible p u flags
 visible_twice p q s t u flags both one =
     ap (λ n. map (shown_at q t (with_visible p s flags)) (range_with_len 0 n)) (length-with_visible p s flags)
-    ∙ map_same (shown_at q t (with_visible p s flags)) (shown_at p u flags) 0 (length flags)
+    ∙ map_range_agree (shown_at q t (with_visible p s flags)) (shown_at p u flags) 0 (length flags)
     (λ k h l.
     ap (λ (f : Flags). cond (q k) (record f { visible = t k }) f) (visible_at p s flags k (omega arith))
     ∙ go k (p k) (q k) (both k (omega arith)) (one k (omega arith)))

@@ -3,7 +3,7 @@ use Rattle.std.proofs.Common.{◌≡◌, ℕ, suc, ◌+◌, ◌-◌, ◌<◌, Bo
 use Rattle.std.specs.Prelude.{find}
 use Rattle.std.specs.List.{range_with_len}
 use Rattle.std.proofs.lemmas.List.{reverse-append}
-use Rattle.contraction.proofs.Outside.{range-append}
+use Rattle.ed_model.specs.proved.Rising.{range-append}
 
 -- the first number from one on, up to another, that passes
 abbrev pub first_from : (ℕ → Bool) → ℕ → ℕ → Option ℕ

@@ -1,5 +1,5 @@
 -- The flags that two sets of lines stand for.
-use Rattle.std.proofs.Common.{◌≡◌, ℕ, zero, suc, ◌+◌, ◌-◌, ◌*◌, ◌<◌, ◌≤◌, max, Bool, true, false, not, cond, eqb, List, [], ◌∷◌, length, get_or, set, take, map, replicate, filter, count_by, refl, sym, ap, ◌∙◌, ◌⊎◌, inl, inr, arith}
+use Rattle.std.proofs.Common.{◌≡◌, ℕ, ◌+◌, ◌-◌, ◌*◌, ◌<◌, ◌≤◌, max, Bool, true, false, not, cond, eqb, List, [], ◌∷◌, length, get_or, set, take, map, replicate, filter, count_by, refl, sym, ap, ◌∙◌, ◌⊎◌, inl, inr, arith}
 use Rattle.std.specs.List.{range_with_len}
 use Rattle.std.specs.Prelude.{slice_get, unwrap_or, Result, Ok, Err, OnOk}
 use Rattle.std.proofs.lemmas.Bool.{cases_lt, cases_eq, eq-eqb, ne_eqb, false≢true}
@@ -13,6 +13,7 @@ use Rattle.std.proofs.lemmas.List.FromFn.{length-range_with_len, length-map-rang
 use Rattle.ed_model.specs.Rows.{Flags, fresh_flags}
 use Rattle.ed_model.specs.Folding.{flags_at, is_visible, is_expanded, with_visible, with_expanded}
 use Rattle.ed_model.specs.DisplayLines.{display_line, line_shown, all_visible}
+use Rattle.ed_model.specs.proved.Rising.{filter_range_agree}
 use Rattle.partitioning.specs.Partitions.{Partitions, ArePartitions, IsLastAtMost}
 use Rattle.contraction.specs.LineSets.{holds, lines_outside}
 use Rattle.contraction.specs.ViewLines.{ViewLines, view_lines, flags_kept, room_in_all, contracted_lines}
@@ -83,11 +84,6 @@ count_map p f (k ∷ ks) = sum_by-cons (λ x. cond (p x) 1 0) (f k) (map f ks) �
     go true e = omega arith
     go false e = omega arith
 
-pub filter_within : (p q : ℕ → Bool) (a n : ℕ) → ((k : ℕ) → a ≤ k → k < a + n → p k ≡ q k) → filter p (range_with_len a n) ≡ filter q (range_with_len a n)
-filter_within p q a zero same = refl
-filter_within p q a (suc n) same =
-    rw (same a (omega arith) (omega arith), filter_within p q (a + 1) n (λ k l m. same k (omega arith) (omega arith))) refl
-
 -- the visible lines before a line are those that are not hidden
 visible_count : (h c : List ℕ) (n m : ℕ) → m ≤ n → count_by (λ (f : Flags). f.visible) (take m (flags_kept h c n)) ≡ length (filter (λ line. not (holds h line)) (range_with_len 0 m))
 visible_count h c n m l =
@@ -108,7 +104,7 @@ shown_in h c v n e =
     let each : (k : ℕ) → 0 ≤ k → k < 0 + h.length → is_visible (flags_kept h.starts c.starts h.length) k ≡ not (holds h.starts k) =
     λ k l m. ap (λ f. f.visible) (kept_at h.starts c.starts h.length k (omega arith)) in
     let same : filter (is_visible (flags_kept h.starts c.starts h.length)) (range_with_len 0 h.length) ≡ lines_outside h.starts h.length =
-    filter_within (is_visible (flags_kept h.starts c.starts h.length)) (λ k. not (holds h.starts k)) 0 h.length each in
+    sym (filter_range_agree (is_visible (flags_kept h.starts c.starts h.length)) (λ k. not (holds h.starts k)) 0 h.length each) in
     sym (ap (λ w. line_shown w.flags n) e) ∙ rw (lines, same) refl
 
 -- the flags of lines of which none is hidden or contracted

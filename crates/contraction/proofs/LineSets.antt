@@ -1,10 +1,9 @@
 -- A set of lines, as starts: what it holds, when a start is added or removed and when some move.
-use Rattle.std.proofs.Common.{◌≡◌, ℕ, zero, suc, ◌+◌, ◌-◌, ◌<◌, ◌≤◌, Bool, true, false, ◌&&◌, ◌||◌, ltb, leb, eqb, List, [], ◌∷◌, ◌++◌, length, get_or, take, drop, map, insert, remove, refl, sym, ap, ◌∙◌, inl, inr, arith, add-one, add-zero, le_refl}
+use Rattle.std.proofs.Common.{◌≡◌, ℕ, zero, suc, ◌+◌, ◌-◌, ◌<◌, ◌≤◌, Bool, true, false, ◌&&◌, ◌||◌, ltb, leb, eqb, List, [], ◌∷◌, ◌++◌, length, get_or, take, drop, map, insert, refl, sym, ap, ◌∙◌, inl, inr, arith, add-zero, le_refl}
 use Rattle.std.specs.List.Sorted.{IsStrictlyIncreasing}
 use Rattle.std.proofs.lemmas.Bool.{cases_lt, cases_eq, false≢true, or_cases, or_left, or_right, and_parts, and_from, eqb-true, eq-eqb, ne_eqb, leb-true, le-leb, lt-leb, ltb-true, lt-ltb, le-ltb}
 use Rattle.std.proofs.lemmas.Bool.Decides.{nat_tests}
-use Rattle.std.proofs.lemmas.List.{get_or-take, get_or-drop, length-take, length-take-le, length-drop, take-append-drop}
-use Rattle.std.proofs.lemmas.List.Edits.{remove-append_right}
+use Rattle.std.proofs.lemmas.List.{get_or-take, get_or-drop, length-take, length-drop, take-append-drop}
 use Rattle.partitioning.specs.Partitions.{ArePartitions, IsLastAtMost, raised_behind, lowered_behind}
 use Rattle.ed_model.specs.Folding.{is_between}
 use Rattle.contraction.specs.LineSets.{starts_at, holds_with_fresh, holds_without, holds_outside}
@@ -204,18 +203,6 @@ module _ (s : List ℕ) (end line i : ℕ) (sound : ArePartitions s end) (last :
       and_none : (y : Bool) → (y && false) ≡ false
       and_none true = refl
       and_none false = refl
-
-drop_suc : (n : ℕ) (xs : List ℕ) → drop 1 (drop n xs) ≡ drop (suc n) xs
-drop_suc zero xs = refl
-drop_suc (suc n) [] = refl
-drop_suc (suc n) (x ∷ xs) = drop_suc n xs
-
--- one more start is removed
-pub removed_next : (s : List ℕ) (first n : ℕ) → first ≤ n → n < length s → remove (take first s ++ drop n s) first ≡ take first s ++ drop (n + 1) s
-removed_next s first n h l =
-    let size : length (take first s) ≡ first = length-take-le first s (omega arith) in
-    let none : first - first ≡ 0 = omega arith in
-    rw (remove-append_right (take first s) (drop n s) first first size (le_refl first), none, add-one) (ap (λ l. take first s ++ l) (drop_suc n s))
 
 -- a later place has no earlier start
 pub found_later : (s : List ℕ) (a b i j : ℕ) → IsLastAtMost s a i → IsLastAtMost s b j → a ≤ b → i ≤ j

@@ -1,21 +1,15 @@
 -- The lines outside a set: how many there are before a line, and which is the nth.
-use Rattle.std.proofs.Common.{◌≡◌, ℕ, zero, suc, ◌+◌, ◌-◌, ◌<◌, ◌≤◌, Bool, true, false, not, cond, min, List, [], ◌∷◌, ◌++◌, length, get_or, filter, refl, ap, ◌∙◌, inl, inr, arith, add-zero, zero-add}
+use Rattle.std.proofs.Common.{◌≡◌, ℕ, zero, suc, ◌+◌, ◌-◌, ◌<◌, ◌≤◌, Bool, true, false, not, cond, min, List, [], ◌∷◌, ◌++◌, length, get_or, filter, refl, ap, ◌∙◌, inl, inr, arith, zero-add}
 use Rattle.std.specs.Prelude.{slice_get, unwrap_or}
 use Rattle.std.specs.List.{range_with_len}
 use Rattle.std.proofs.lemmas.Bool.{cases_lt, cases_eq}
 use Rattle.std.proofs.lemmas.List.{length-append, get_or_at, get_or_past}
 use Rattle.std.proofs.lemmas.List.Elements.{filter-append}
 use Rattle.std.proofs.lemmas.Option.{unwrap_or-slice_get}
+use Rattle.ed_model.specs.proved.Rising.{range-append}
 use Rattle.partitioning.specs.Partitions.{ArePartitions, IsLastAtMost}
 use Rattle.contraction.specs.LineSets.{starts_at, holds, lines_outside}
 use Rattle.contraction.proofs.LineSets.{rising_to, there, not_there}
-
-pub range-append : (a m n : ℕ) → range_with_len a (m + n) ≡ range_with_len a m ++ range_with_len (a + m) n
-range-append a zero n = rw (zero-add n, add-zero) refl
-range-append a (suc m) n =
-    let e : suc m + n ≡ suc (m + n) = omega arith in
-    let f : a + 1 + m ≡ a + suc m = omega arith in
-    rw e (ap (λ l. a ∷ l) (range-append (a + 1) m n ∙ ap (λ k. range_with_len (a + 1) m ++ range_with_len k n) f))
 
 -- the place behind is no start
 last_before : (s : List ℕ) (end m i : ℕ) → ArePartitions s end → IsLastAtMost s (m + 1) i → (get_or s i 0 ≡ m + 1 → ⊥) → IsLastAtMost s m i

@@ -3,3 +3,4 @@ pub mod Headings
 pub mod Levels
 pub mod LineSets
 pub mod ViewLines
+pub mod proved

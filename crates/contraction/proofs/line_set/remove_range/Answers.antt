@@ -1,8 +1,9 @@
 use Rattle.std.proofs.Common.{◌≡◌, ◌<◌, ◌+◌, ◌++◌, length, take, drop, remove, ap, ◌∙◌, arith}
 use Rattle.std.proofs.lemmas.List.{length-append, length-take-le, length-drop}
 use Rattle.std.proofs.lemmas.List.Edits.{length-remove}
+use Rattle.ed_model.specs.proved.Lists.{removed_next}
 use Rattle.contraction.specs.LineSets.{starts_at}
-use Rattle.contraction.proofs.LineSets.{removed_next, found_later, left}
+use Rattle.contraction.proofs.LineSets.{found_later, left}
 use Rattle.contraction.proofs.line_set.remove_range.Goals as goal
 
 pub loop-index-preserved : goal.loop-index-preserved
