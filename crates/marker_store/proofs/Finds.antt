@@ -3,8 +3,9 @@ use Rattle.std.proofs.Common.{◌≡◌, ℕ, ◌+◌, ◌-◌, ◌<◌, ◌≤�
 use Rattle.std.specs.Prelude.{find, reverse, ◌==◌, ◌||◌, Some, None}
 use Rattle.std.specs.List.{list_any, range_with_len}
 use Rattle.std.proofs.lemmas.Bool.{cases_eq, ne_eqb}
-use Rattle.std.proofs.lemmas.List.{take_more, take-append-drop, reverse-append}
+use Rattle.std.proofs.lemmas.List.{take_more, take-append-drop}
 use Rattle.ed_model.specs.Rows.{Marker}
+use Rattle.ed_model.specs.proved.Rising.{reverse_next}
 use Rattle.marker_store.specs.Lines.{has_handle, first_from}
 use Rattle.marker_store.specs.declared.drops.Drops.TheVariants.{Handle}
 use Rattle.marker_store.specs.Dropping.{kept}
@@ -26,23 +27,16 @@ find_some p a (suc n) i l h is none =
       | inr ne ↦ rw (none a (omega arith) (omega arith)) (find_some p (a + 1) n i (omega arith) (omega arith) is (λ k m j. none k (omega arith) (omega arith)))
     ]
 
-range_last : (a n : ℕ) → range_with_len a (suc n) ≡ range_with_len a n ++ (a + n) ∷ []
-range_last a zero = let e : a + 0 ≡ a = omega arith in rw e refl
-range_last a (suc n) = let e : a + suc n ≡ a + 1 + n = omega arith in rw e (ap (λ l. a ∷ l) (range_last (a + 1) n))
-
-back : (n : ℕ) → reverse (range_with_len 0 (suc n)) ≡ n ∷ reverse (range_with_len 0 n)
-back n = let e : 0 + n ≡ n = omega arith in ap reverse (range_last 0 n) ∙ reverse-append (range_with_len 0 n) ((0 + n) ∷ []) ∙ rw e refl
-
 pub last_none : (p : ℕ → Bool) (n : ℕ) → ((k : ℕ) → k < n → p k ≡ false) → find p (reverse (range_with_len 0 n)) ≡ None
 last_none p zero none = refl
-last_none p (suc n) none = rw (back n, none n (omega arith)) (last_none p n (λ k h. none k (omega arith)))
+last_none p (suc n) none = rw (reverse_next n, none n (omega arith)) (last_none p n (λ k h. none k (omega arith)))
 
 pub last_some : (p : ℕ → Bool) (n i : ℕ) → i < n → p i ≡ true → ((k : ℕ) → i < k → k < n → p k ≡ false) → find p (reverse (range_with_len 0 n)) ≡ Some i
 last_some p zero i h is none = absurd (omega arith)
 last_some p (suc n) i h is none =
     elim (cases_eq n i) [
-      | inl q ↦ let here : p n ≡ true = ap p q ∙ is in rw (back n, here) (ap Some q)
-      | inr ne ↦ rw (back n, none n (omega arith) (omega arith)) (last_some p n i (omega arith) is (λ k m j. none k m (omega arith)))
+      | inl q ↦ let here : p n ≡ true = ap p q ∙ is in rw (reverse_next n, here) (ap Some q)
+      | inr ne ↦ rw (reverse_next n, none n (omega arith) (omega arith)) (last_some p n i (omega arith) is (λ k m j. none k m (omega arith)))
     ]
 
 -- Of a handle.

@@ -1,20 +1,18 @@
 -- What loops over the entries keep.
-use Rattle.std.proofs.Common.{◌≡◌, ℕ, ◌+◌, ◌<◌, ◌≤◌, ◌≢◌, true, suc, List, [], ◌∷◌, ◌++◌, length, get_or, take, drop, map, refl, sym, ap, subst, ◌∙◌, arith, append-nil, length-append, take_at, drop-cons}
+use Rattle.std.proofs.Common.{◌≡◌, ℕ, ◌+◌, ◌<◌, ◌≤◌, ◌≢◌, true, suc, List, [], ◌∷◌, ◌++◌, length, get_or, take, drop, map, refl, sym, ap, subst, ◌∙◌, arith, append-nil, length-append, drop-cons}
 use Rattle.std.specs.Prelude.{fold, bit_or, ◌^◌, not}
 use Rattle.std.proofs.Math.Seq.{drop-append-add}
 use Rattle.std.proofs.lemmas.List.{take-append-drop, take_more, drop-drop, length-take-le, length-drop}
 use Rattle.std.proofs.lemmas.List.Elements.{filter-append}
 use Rattle.ed_model.specs.Rows.{Marker}
 use Rattle.ed_model.specs.LinePlans.{mask_of}
+use Rattle.ed_model.specs.proved.Lists.{front_kept}
 use Rattle.marker_store.specs.declared.drops.Drops.{Drops}
 use Rattle.marker_store.specs.Dropping.{is_dropped, kept}
 use Rattle.marker_store.specs.Entries.{Entry, no_entry, AllBefore, AllFrom, NoneIs, row}
 use Rattle.marker_store.proofs.Rows.{row-append, row-here, row_behind}
 
 -- The entries without some.
-
-pub seam-take : {X : Type 0} (n : ℕ) (xs ys : List X) → n ≤ length xs → take n (take n xs ++ ys) ≡ take n xs
-seam-take n xs ys h = take_at (take n xs) ys n (length-take-le n xs h)
 
 pub seam-drop : {X : Type 0} (n : ℕ) (xs ys : List X) → n ≤ length xs → drop (n + 1) (take n xs ++ ys) ≡ drop 1 ys
 seam-drop n xs ys h =
@@ -28,7 +26,7 @@ pub gone_more :
 gone_more from i es old e h l =
     let w : from ≤ length old = omega arith in
     ap (λ x. take from x ++ drop (from + 1) x) e
-    ∙ ap (λ x. x ++ drop (from + 1) (take from old ++ drop i old)) (seam-take from old (drop i old) w)
+    ∙ ap (λ x. x ++ drop (from + 1) (take from old ++ drop i old)) (front_kept from old (drop i old) w)
     ∙ ap (λ x. take from old ++ x) (seam-drop from old (drop i old) w ∙ drop-drop 1 i old)
 
 pub length-gone : (from i : ℕ) (es old : List Entry) → es ≡ take from old ++ drop i old → from ≤ i → i ≤ length old → length es + i ≡ length old + from
