@@ -1,14 +1,14 @@
 -- The index of a document's lines, before a step and after it: the facts that it requires of a step, and the room.
-use Rattle.std.proofs.Common.{◌≡◌, ℕ, zero, suc, ◌+◌, ◌-◌, ◌≤◌, Bool, true, false, cond, List, [], ◌∷◌, ◌++◌, length, take, drop, All, slice_get, slice_range, length-take, length-drop, refl, ap, sym, ◌∙◌, arith, nat_lt}
-use Rattle.std.specs.Prelude.{unwrap_or}
+use Rattle.std.proofs.Common.{◌≡◌, ℕ, ◌+◌, ◌≤◌, List, ◌++◌, length, take, drop, slice_range, refl, ap, sym, ◌∙◌, arith}
 use Rattle.std.proofs.lemmas.List.{length-map, map-append, take-map, drop-map}
 use Rattle.ed_model.specs.declared.plan.LineEndTypes.{LineEndTypes}
 use Rattle.ed_model.specs.Text.{Cell, bytes_of}
-use Rattle.ed_model.specs.Lines.{line_starts, line_count, line_end_length, start_after_line, end_of_line}
+use Rattle.ed_model.specs.Lines.{line_starts, line_count, end_of_line}
 use Rattle.ed_model.specs.MergeLaws.{end_of, put_in}
 use Rattle.ed_model.specs.Steps.{Step, Insert, Delete, place_of, edited, edited_cells}
-use Rattle.ed_model.specs.proved.Lines.{line_starts_in_range}
-use Rattle.ed_model.specs.proved.Steps.{bytes_of_edited_cells}
+use Rattle.ed_model.specs.proved.Lines.{end_in_range}
+use Rattle.ed_model.specs.proved.Steps.{bytes_of_edited_cells, length_of_range}
+use Rattle.ed_model.specs.proved.Lists.{length_slice}
 use Rattle.line_index.specs.Index.{Index, IsIndexOf, IsInsertion, IsDeletion, bytes_near}
 use Rattle.line_index.specs.RoomLaws.{lines_for_insertion, lines_for_deletion, InsertionAddsFewLines, DeletionAddsFewLines}
 use Rattle.line_index.specs.Change.{change_about}
@@ -17,23 +17,8 @@ use Rattle.document.specs.Parts.{HasLinesOf}
 
 -- The end of a line lies in the text.
 
-start_or_end : (starts : List ℕ) (end : ℕ) → All (λ s. s ≤ end) starts → (k : ℕ) → unwrap_or (slice_get starts k) end ≤ end
-start_or_end [] end a k = omega arith
-start_or_end (s ∷ ss) end a zero = a 0 0 (omega arith)
-start_or_end (s ∷ ss) end a (suc k) = start_or_end ss end (λ i d h. a (suc i) d (omega arith)) k
-
-before_or_at : (b : Bool) (next back end : ℕ) → next ≤ end → cond b (next - back) end ≤ end
-before_or_at true next back end h = omega arith
-before_or_at false next back end h = omega arith
-
-end_in_text : (types : LineEndTypes) (text : List ℕ) (line : ℕ) → end_of_line types text line ≤ length text
-end_in_text types text line =
-    let next : ℕ = start_after_line types text line in
-    before_or_at (nat_lt (line + 1) (line_count types text)) next (line_end_length text next) (length text)
-    (start_or_end (line_starts types text) (length text) (line_starts_in_range types text) (line + 1))
-
 pub end_in_cells : (cells : List Cell) (types : LineEndTypes) (text : List ℕ) (line : ℕ) → text ≡ bytes_of cells → end_of_line types text line ≤ length cells
-end_in_cells cells types text line read = omega (arith, end_in_text types text line, ap length read, length-map cells (λ (c : Cell). c.byte))
+end_in_cells cells types text line read = omega (arith, end_in_range types text line, ap length read, length-map cells (λ (c : Cell). c.byte))
 
 -- An insertion.
 
@@ -101,11 +86,6 @@ lines_of_deleted types cells new old lines place count has is same index =
 pub lines_of_index : (types : LineEndTypes) (text : List ℕ) (i : Index) → IsIndexOf text i → i.types ≡ types → length i.starts ≡ line_count types text
 lines_of_index types text i is same = ap length is.starts ∙ ap (λ t. line_count t text) same
 
-pub deleted_count : (cells : List Cell) (place count : ℕ) → place + count ≤ length cells → length (slice_range (bytes_of cells) place (place + count)) ≡ count
-deleted_count cells place count h =
-    let long : length (bytes_of cells) ≡ length cells = length-map cells (λ (c : Cell). c.byte) in
-    simp (length-take, length-drop) (omega (arith, long))
-
 -- The effect of a step on the lines.
 
 pub change_of_step :
@@ -124,7 +104,7 @@ pub change_of_deletion :
     → change_about place (place + count) place old.starts lines.starts lines.length ≡ change_of types (Delete place (slice_range (bytes_of cells) place (place + count))) (bytes_of cells)
 change_of_deletion types cells new old lines place count h has now is =
     let bytes : List ℕ = slice_range (bytes_of cells) place (place + count) in
-    let counted : length bytes ≡ count = deleted_count cells place count h in
+    let counted : length bytes ≡ count = length_of_range cells place count h in
     let end : place + count ≡ place + length bytes = omega arith in
     let none : place ≡ place + 0 = omega arith in
     ap (λ e. change_about place e place old.starts lines.starts lines.length) end
@@ -143,13 +123,10 @@ insertion_fits types cells lines place bytes few has p room =
       few types place bytes (bytes_of cells) (place_in_bytes cells place p),
     )
 
-length-slice : (xs : List ℕ) (start count : ℕ) → start + count ≤ length xs → length (slice_range xs start (start + count)) ≡ count
-length-slice xs start count h = simp (length-take, length-drop) (omega arith)
-
 -- cells from which a range was deleted are those after the deletion of its bytes
 pub deleted_cells : (cells new : List Cell) (place count : ℕ) → place + count ≤ length cells →
     new ≡ take place cells ++ drop (place + count) cells → new ≡ edited_cells (Delete place (slice_range (bytes_of cells) place (place + count))) cells
 deleted_cells cells new place count inside e =
     let as_long : length (bytes_of cells) ≡ length cells = length-map cells (λ (c : Cell). c.byte) in
     let within : place + count ≤ length (bytes_of cells) = omega (arith, as_long) in
-    e ∙ ap (λ n. take place cells ++ drop (place + n) cells) (sym (length-slice (bytes_of cells) place count within))
+    e ∙ ap (λ n. take place cells ++ drop (place + n) cells) (sym (length_slice (bytes_of cells) place count within))

@@ -6,7 +6,7 @@ use Rattle.ed_model.specs.Lines.{line_count}
 use Rattle.ed_model.specs.Steps.{Step, edited, edited_cells}
 use Rattle.ed_model.specs.Indicators.{indicator_after, indicators_after}
 use Rattle.ed_model.specs.MergeLaws.{end_of}
-use Rattle.ed_model.specs.proved.Steps.{bytes_of_edited_cells}
+use Rattle.ed_model.specs.proved.Steps.{bytes_of_edited_cells, length_of_bytes}
 use Rattle.line_index.specs.declared.change.LineChange.{LineChange}
 use Rattle.line_index.specs.RoomLaws.{lines_for_step}
 use Rattle.line_index.specs.StepEdits.{change_of}
@@ -19,9 +19,6 @@ use Rattle.document.proofs.LineSteps.{lines_of_index}
 pub small_bound : (is_large : Bool) → bound_of is_large ≤ 2 ^ 61
 small_bound true = omega arith
 small_bound false = omega arith
-
-pub length_of_bytes : (cells : List Cell) → length (bytes_of cells) ≡ length cells
-length_of_bytes cells = length-map cells (λ (c : Cell). c.byte)
 
 -- the facts that the rows require
 pub told_rows :

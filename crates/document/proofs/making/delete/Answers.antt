@@ -2,7 +2,7 @@ use Rattle.std.proofs.Common.{◌+◌, slice_range, arith}
 use Rattle.ed_model.specs.Numbers.{meets}
 use Rattle.ed_model.specs.Text.{bytes_of}
 use Rattle.ed_model.specs.Steps.{Delete}
-use Rattle.document.proofs.LineSteps.{deleted_count}
+use Rattle.ed_model.specs.proved.Steps.{length_of_range}
 use Rattle.document.proofs.SteppedParts.{told_rows, parts_after, small_bound}
 use Rattle.document.proofs.making.delete.Goals as goal
 
@@ -17,7 +17,7 @@ carry_rows-requires-clause-was c =
     let are = c.requires.parts.are in
     let step = Delete c.args.place (slice_range (bytes_of cells) c.args.place (c.args.place + c.args.count)) in
     let put = c.take_out-change.ensures in
-    let counted = deleted_count cells c.args.place c.args.count c.requires.fits in
+    let counted = length_of_range cells c.args.place c.args.count c.requires.fits in
     record {
       types = lines.index.types;
       step = step;
@@ -37,7 +37,7 @@ returns-clause-stepped c =
     let are = c.requires.parts.are in
     let step = Delete c.args.place (slice_range (bytes_of cells) c.args.place (c.args.place + c.args.count)) in
     let put = c.take_out-change.ensures in
-    let counted = deleted_count cells c.args.place c.args.count c.requires.fits in
+    let counted = length_of_range cells c.args.place c.args.count c.requires.fits in
     let told = told_rows step cells room options lines rows indicators c.take_out-change.result are put.change (omega (arith, c.requires.fits, counted)) c.requires.room.lines
     (omega (arith, are.fits, small_bound (meets options 0x100))) in
     let carried = c.carry_rows.ensures.carried lines.index.types step (bytes_of cells) told in

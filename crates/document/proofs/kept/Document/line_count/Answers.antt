@@ -2,7 +2,7 @@ use Rattle.std.proofs.Common.{length, ap, arith}
 use Rattle.ed_model.specs.Text.{bytes_of}
 use Rattle.document.specs.Kept.{Kept}
 use Rattle.ed_model.specs.proved.Lines.{few_lines}
-use Rattle.document.proofs.SteppedParts.{length_of_bytes}
+use Rattle.ed_model.specs.proved.Steps.{length_of_bytes}
 use Rattle.document.proofs.kept.Document.line_count.Goals as goal
 
 pub returns-clause-few : goal.returns-clause-few

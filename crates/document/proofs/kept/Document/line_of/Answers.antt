@@ -3,7 +3,8 @@ use Rattle.std.proofs.Common.{length, ap, arith}
 use Rattle.ed_model.specs.Numbers.{meets}
 use Rattle.ed_model.specs.Text.{bytes_of}
 use Rattle.ed_model.specs.proved.Lines.{few_lines}
-use Rattle.document.proofs.SteppedParts.{length_of_bytes, small_bound}
+use Rattle.ed_model.specs.proved.Steps.{length_of_bytes}
+use Rattle.document.proofs.SteppedParts.{small_bound}
 use Rattle.document.proofs.kept.Document.line_of.Goals as goal
 
 pub returns-clause-small : goal.returns-clause-small

@@ -2,11 +2,12 @@ use Rattle.std.proofs.Common.{replicate, ap, sym, ◌∙◌}
 use Rattle.cell_buffer.specs.Buffer.{Buffer}
 use Rattle.ed_model.specs.Text.{bytes_of, styles_of}
 use Rattle.ed_model.specs.proved.Steps.{bytes_behind_restyled}
-use Rattle.document.proofs.StyledCells.{none_changed, parts_restyled}
+use Rattle.ed_model.specs.proved.Indicators.{nothing_changed}
+use Rattle.document.proofs.StyledCells.{parts_restyled}
 use Rattle.document.proofs.kept.Document.style_run.Goals as goal
 
 pub returns-then-keeps_none-clause-changed : goal.returns-then-keeps_none-clause-changed
-returns-then-keeps_none-clause-changed c = rw (← c.self.view_is) (sym (none_changed (styles_of c.self.inside.cells.cells)))
+returns-then-keeps_none-clause-changed c = rw (← c.self.view_is) (sym (nothing_changed (styles_of c.self.inside.cells.cells)))
 
 pub invariant_of-self-2 : goal.invariant_of-self-2
 invariant_of-self-2 c =
