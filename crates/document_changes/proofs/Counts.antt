@@ -2,34 +2,20 @@
 use Rattle.std.proofs.Common.{◌≡◌, ℕ, zero, suc, ◌+◌, ◌<◌, Bool, true, false, cond, List, [], ◌∷◌, ◌++◌, length, get_or, set, refl, ap, sym, arith, length-append}
 use Rattle.std.specs.Prelude.{◌==◌, not, filter, Some, None, slice_index_or}
 use Rattle.std.proofs.lemmas.List.Sums.{sum_by-cons}
-use Rattle.std.proofs.lemmas.Bool.{eqb-true, eqb-false, eq-eqb, ne_eqb}
+use Rattle.std.proofs.lemmas.Bool.{eqb-true, eqb-false, eq-eqb, ne_eqb, cond-true, cond-false}
 use Rattle.ed_model.specs.Notes.{heard}
 use Rattle.ed_model.specs.Rows.{Row, Marker, fresh_row}
 use Rattle.ed_model.specs.Session.{Document, View}
 use Rattle.ed_model.specs.Changes.{new_markers, with_new_markers, without_markers, marker_count, marker_note, line_with_handle}
 use Rattle.document_changes.specs.Lines.{marker_notice}
 
-pub choose_true : {X : Type 0} (b : Bool) (x y : X) → b ≡ true → cond b x y ≡ x
-choose_true b x y h = rw h refl
-
-pub choose_false : {X : Type 0} (b : Bool) (x y : X) → b ≡ false → cond b x y ≡ y
-choose_false b x y h = rw h refl
-
-pub not_true : (b : Bool) → not b ≡ true → b ≡ false
-not_true true h = absurd (cc)
-not_true false h = refl
-
-pub not_false : (b : Bool) → not b ≡ false → b ≡ true
-not_false true h = refl
-not_false false h = absurd (cc)
-
 -- Notes are sent if markers were added or deleted.
 
 pub marker_told : (line : ℕ) (old new : Document) (views : List View) → (marker_count old.rows == marker_count new.rows) ≡ false → heard views (marker_notice old line) ≡ marker_note line old new views
-marker_told line old new views h = sym (choose_false (marker_count old.rows == marker_count new.rows) [] (heard views (marker_notice old line)) h)
+marker_told line old new views h = sym (cond-false (marker_count old.rows == marker_count new.rows) [] (heard views (marker_notice old line)) h)
 
 pub marker_untold : (line : ℕ) (old new : Document) (views : List View) → (marker_count old.rows == marker_count new.rows) ≡ true → [] ≡ marker_note line old new views
-marker_untold line old new views h = sym (choose_true (marker_count old.rows == marker_count new.rows) [] (heard views (marker_notice old line)) h)
+marker_untold line old new views h = sym (cond-true (marker_count old.rows == marker_count new.rows) [] (heard views (marker_notice old line)) h)
 
 -- New markers.
 

@@ -1,15 +1,14 @@
 -- Changes that leave the text unchanged, and the positions of views.
-use Rattle.std.proofs.Common.{◌≡◌, ℕ, false, List, [], ◌∷◌, ◌++◌, map, length, take, drop, replicate, refl, ap, sym, ◌∙◌}
+use Rattle.std.proofs.Common.{◌≡◌, ℕ, false, List, [], ◌∷◌, map, length, take, replicate, refl, ap, sym, ◌∙◌}
 use Rattle.std.specs.List.{AllByRecursion}
-use Rattle.std.proofs.lemmas.List.{map-append, length-map, take-append-drop}
-use Rattle.std.proofs.lemmas.Bool.{cond_both}
 use Rattle.ed_model.specs.declared.plan.DocumentChange.{DocumentChange}
 use Rattle.ed_model.specs.declared.plan.DocumentChange.TheVariants as change
-use Rattle.ed_model.specs.Text.{Cell, bytes_of}
 use Rattle.ed_model.specs.Lines.{line_count}
-use Rattle.ed_model.specs.Session.{Document, View, text_of, lines_in, keeps_no_styles}
-use Rattle.ed_model.specs.Changes.{changed_document, changed_lines, change_told, restyled, styled}
+use Rattle.ed_model.specs.Session.{Document, View, lines_in}
+use Rattle.ed_model.specs.Changes.{changed_document, changed_lines, change_told, styled}
 use Rattle.ed_model.specs.SoundLaws.{occurrences}
+use Rattle.ed_model.specs.proved.Steps.{length_of_bytes}
+use Rattle.ed_model.specs.proved.Changes.{text_of_styled}
 use Rattle.id_table.specs.Entries.{Entries}
 use Rattle.notify.specs.Gathered.{Gathered}
 use Rattle.ed_view.specs.Kept.{KeptView}
@@ -52,29 +51,12 @@ watched_still old new table same w = record {
 
 -- Styles do not change the text.
 
-restyled_bytes : (styles : List ℕ) (cells : List Cell) → bytes_of (restyled styles cells) ≡ bytes_of cells
-restyled_bytes [] cells = refl
-restyled_bytes (s ∷ ss) [] = refl
-restyled_bytes (s ∷ ss) (c ∷ cells) = ap (λ t. c.byte ∷ t) (restyled_bytes ss cells)
-
-styled_bytes : (new : List ℕ) (d : Document) → text_of (styled new d) ≡ text_of d
-styled_bytes new d =
-    cond_both (keeps_no_styles d) d.cells (take d.end_styled d.cells ++ restyled new (drop d.end_styled d.cells)) (λ cells. bytes_of cells ≡ bytes_of d.cells)
-    (λ _. refl)
-    (λ _. map-append (λ (c : Cell). c.byte) (take d.end_styled d.cells) (restyled new (drop d.end_styled d.cells))
-    ∙ ap (λ t. bytes_of (take d.end_styled d.cells) ++ t) (restyled_bytes new (drop d.end_styled d.cells))
-    ∙ sym (map-append (λ (c : Cell). c.byte) (take d.end_styled d.cells) (drop d.end_styled d.cells))
-    ∙ ap bytes_of (take-append-drop d.end_styled d.cells))
-
-length_text : (cells : List Cell) → length (bytes_of cells) ≡ length cells
-length_text cells = length-map cells (λ (c : Cell). c.byte)
-
 styled_places : (new : List ℕ) (d : Document) → KeepsPlaces d (styled new d)
 styled_places new d = record {
   id = refl;
   views = refl;
-  size = sym (length_text (styled new d).cells) ∙ ap length (styled_bytes new d) ∙ length_text d.cells;
-  lines = ap (line_count d.line_end_types) (styled_bytes new d);
+  size = sym (length_of_bytes (styled new d).cells) ∙ ap length (text_of_styled new d) ∙ length_of_bytes d.cells;
+  lines = ap (line_count d.line_end_types) (text_of_styled new d);
 }
 
 pub keeps_places : (text : List ℕ) (what : DocumentChange) (d : Document) → is_of_types what ≡ false → KeepsPlaces d (changed_document text what d)

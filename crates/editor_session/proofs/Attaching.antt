@@ -2,6 +2,7 @@
 use Rattle.std.proofs.Common.{◌≡◌, ℕ, ◌==◌, ap, sym, ◌∙◌, Some, None}
 use Rattle.ed_model.specs.Session.{View, document_at, view_at}
 use Rattle.ed_model.specs.SoundLaws.{IsSoundView}
+use Rattle.ed_model.specs.proved.Elements.{found_all}
 use Rattle.id_table.specs.Entries.{value_at}
 use Rattle.document.specs.Kept.{Kept}
 use Rattle.ed_view.specs.Kept.{KeptView}
@@ -9,7 +10,6 @@ use Rattle.message_requests.specs.Requested.{session_in}
 use Rattle.message_requests.specs.declared.state.SessionState.{SessionState}
 use Rattle.session_changes.specs.Kept.{IsKept}
 use Rattle.session_changes.specs.proved.Finding.{view_in, id_of_view, document_in, id_of_document, found_some, found_none}
-use Rattle.message_requests.specs.proved.Standing.{found_all}
 
 module _ (s : SessionState) (view : ℕ) (kept : IsKept s) (v : KeptView) (seen : value_at s.views.entries view ≡ Some v) where
   pub view_is : view_at (session_in s).views view ≡ Some v.view

@@ -17,6 +17,7 @@ use Rattle.ed_model.specs.Performing.{quiet}
 use Rattle.ed_model.specs.PlansFit.{PlansFit}
 use Rattle.ed_model.specs.SoundLaws.{IsSound, MessageKeepsSound}
 use Rattle.ed_model.specs.Table.{table, request, plan_of}
+use Rattle.ed_model.specs.proved.Changes.{changed_id}
 use Rattle.id_table.specs.Entries.{value_at}
 use Rattle.document_changes.specs.Fit.{IsFitChange}
 use Rattle.message_plans.specs.Frequent.{frequent_changes, frequent_change_of, is_frequent_change, change_planned, change_asked, transactions, transaction_of, performing, is_performed}
@@ -31,7 +32,6 @@ use Rattle.editor_session.proofs.Keeping.{kept_with}
 use Rattle.editor_session.proofs.PlanLemmas.{DoneFor, answers, kept_by, asked_by, kept_at, for_kept, change_fits, watched_here}
 use Rattle.editor_session.proofs.PlainChanges.{changed_for, changes_so}
 use Rattle.editor_session.proofs.Questions.{IsPlain, plain, found_plain, unheard}
-use Rattle.editor_session.proofs.Replacing.{change_keeps_id}
 use Rattle.editor_session.proofs.TableWay.{is_found}
 use Rattle.editor_session.proofs.ViewPlans.{unrecorded_plan}
 
@@ -104,7 +104,7 @@ module _ (s : SessionState) (kept : IsKept s) (document view : ℕ) (what : Docu
 
 -- whether it was made or not
 pub same_id : (what : DocumentChange) (old new : Document) (made : Bool) → (made ≡ true → new ≡ changed_document [] what old) → (made ≡ false → new ≡ old) → new.id ≡ old.id
-same_id what old new true so not = ap (λ (d : Document). d.id) (so refl) ∙ change_keeps_id [] what old
+same_id what old new true so not = ap (λ (d : Document). d.id) (so refl) ∙ changed_id [] what old
 same_id what old new false so not = ap (λ (d : Document). d.id) (not refl)
 
 -- the session after such a change in its tables

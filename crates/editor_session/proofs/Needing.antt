@@ -11,12 +11,13 @@ use Rattle.ed_model.specs.History.{TextStep}
 use Rattle.ed_model.specs.Performing.{Scene}
 use Rattle.ed_model.specs.Session.{View, view_at, watching}
 use Rattle.ed_model.specs.Steps.{Step, Insert, Delete}
-use Rattle.document.specs.Kept.{Kept, HasRoom, amount_sum, document_room, room_sum, no_room}
+use Rattle.document.specs.Kept.{Kept, HasRoom, amount_sum, room_sum, no_room}
 use Rattle.document.specs.declared.room.DocumentRoom.{DocumentRoom}
 use Rattle.scene.specs.Conversion.{room_of_step, room_of_steps, free_behind, notes_for, bytes_for}
 use Rattle.scene.specs.Needs.{IsCounted, note_room, notes_of_step, bytes_of_step, leaving_count}
 use Rattle.scene.specs.Undoing.{capped, capped_room, capped_notes}
 use Rattle.scene.specs.declared.need.SceneNeed.{SceneNeed}
+use Rattle.scene.specs.proved.Rooms.{same_room}
 use Rattle.editor_session.specs.Edited.{clipboard_need}
 use Rattle.editor_session.specs.Needs.{no_need, need_sum, IsAtLeast, IsEnoughFor, NeedsSteps}
 use Rattle.editor_session.specs.Plans.{takes_nothing_along}
@@ -110,8 +111,6 @@ two_steps scene gone start count bytes leaving need first extra both second besi
     freed a b count free l h = omega arith
 
 -- The room that is asked for, exactly: for one step, and for an insertion beside what a deletion leaves.
-same_room : (a b c d e a' b' c' d' e' : ℕ) → a ≡ a' → b ≡ b' → c ≡ c' → d ≡ d' → e ≡ e' → document_room a b c d e ≡ document_room a' b' c' d' e'
-same_room a b c d e a' b' c' d' e' p q r s t = cc
 
 pub one_room : (types : LineEndTypes) (step : Step) → room_sum (room_of_step types step) no_room ≡ capped_room (room_of_steps types (step ∷ []))
 one_room types step =

@@ -1,6 +1,6 @@
 -- Changes of the session, attempts to edit, and bytes that are handed out.
 use Rattle.std.proofs.Common.{◌≡◌, ℕ, ◌+◌, ◌≤◌, ℤ, pos, false, List, [], ◌++◌, length, refl, sym, subst, IfSome, IsSome, IsSomeAnd, slice_range}
-use Rattle.std.proofs.lemmas.Bool.{eqb-true}
+use Rattle.std.proofs.lemmas.Bool.{eqb-true, not-true}
 use Rattle.ed_types.specs.Notices.{Notice}
 use Rattle.ed_model.specs.declared.plan.SessionChange.{SessionChange}
 use Rattle.ed_model.specs.declared.plan.Plan.{Plan}
@@ -20,7 +20,7 @@ use Rattle.session_changes.specs.Ready.{takes_memory}
 use Rattle.editor_session.specs.Planned.{IsAskedBy, planned_message}
 use Rattle.editor_session.specs.Performed.{IsAnswered, IfFree, IsPlannedForSomeValue, IsPlannedWithText, IsPlannedForSomeValueWithText}
 use Rattle.editor_session.proofs.PlanLemmas.{DoneFor, answered, asked_by, attempted, can_change_session, document_here, for_document, handed_out, handed_out_styled, session_is_changed}
-use Rattle.editor_session.proofs.TableWay.{free_plan, not_true}
+use Rattle.editor_session.proofs.TableWay.{free_plan}
 
 module _ (s : SessionState) (kept : IsKept s) (document view : ℕ) where
   -- the document of a message is there
@@ -55,7 +55,7 @@ module _ (s : SessionState) (kept : IsKept s) (document view : ℕ) where
 
     pub session_free : (P : Type 0) → (takes_memory what ≡ false → P) → (value : ℤ) → IfFree (session_in s) document view bytes (plan.ChangeSession what value) P
     session_free P h value = λ m is_recorded t text_is free.
-        h (not_true (takes_memory what) (free_plan (session_in s) view m (planned_message document view (plan.ChangeSession what value) is_recorded) t free).0)
+        h (not-true (takes_memory what) (free_plan (session_in s) view m (planned_message document view (plan.ChangeSession what value) is_recorded) t free).0)
 
   -- An attempt.
 

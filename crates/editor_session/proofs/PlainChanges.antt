@@ -1,7 +1,7 @@
 -- Changes of a document at once.
 use Rattle.std.proofs.Common.{◌≡◌, ℕ, ◌≤◌, ◌==◌, ℤ, false, List, [], length, refl, sym, subst, Ok, Err, OnOk, IfSome, IsSomeAnd}
 use Rattle.std.specs.Prelude.{not, Result}
-use Rattle.std.proofs.lemmas.Bool.{and_parts, eqb-true}
+use Rattle.std.proofs.lemmas.Bool.{and_parts, eqb-true, not-true}
 use Rattle.ed_model.specs.declared.plan.DocumentChange.{DocumentChange}
 use Rattle.ed_model.specs.declared.plan.Plan.TheVariants as plan
 use Rattle.ed_model.specs.Session.{Session, Document, watching}
@@ -18,7 +18,7 @@ use Rattle.editor_session.specs.Doing.{CanChangeOnceThereIsRoom, IsChangedIn, Ch
 use Rattle.editor_session.specs.Performed.{IfFree, IsPlannedForSomeValueWithText}
 use Rattle.editor_session.specs.Planned.{IsAskedBy, planned_message}
 use Rattle.editor_session.proofs.PlanLemmas.{DoneFor, asked_by, kept_at, of_kept, for_kept, session_is, changed, change_fits, read_change, watched_here}
-use Rattle.editor_session.proofs.TableWay.{free_plan, not_true}
+use Rattle.editor_session.proofs.TableWay.{free_plan}
 use Rattle.editor_session.proofs.Held.{if_also}
 
 -- the session after a change in its tables
@@ -73,6 +73,6 @@ module _ (s : SessionState) (kept : IsKept s) (document view : ℕ) (text : List
       let parts = and_parts (not (needs_room what)) (notes_of_change what r.document.history (watching r.session.views r.document) == 0) none in
       let unheard = eqb-true (notes_of_change what r.document.history (watching r.session.views r.document)) 0 parts.1 in
       of_kept s planned text kept r by (λ k. needs_room what ≡ false → notes_of_change what k.document.history (watchers k.document s.views) ≡ 0 → P) here
-      (not_true (needs_room what) parts.0)
+      (not-true (needs_room what) parts.0)
       (subst (λ (d : Document). notes_of_change what d.history (watchers d s.views) ≡ 0) (sym at.is)
       (subst (λ (x : Session). notes_of_change what r.document.history (watching x.views r.document) ≡ 0) (session_is s planned text kept r by) unheard))

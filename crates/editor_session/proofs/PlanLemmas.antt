@@ -32,6 +32,7 @@ use Rattle.ed_model.specs.SoundLaws.{MessageKeepsSound, IsSoundView, StandsOn, L
 use Rattle.ed_model.specs.PlansFit.{IsFitPlan, IsFitDocumentChange, IsFitEdit, IsFitSource, IsFitFollow}
 use Rattle.ed_model.specs.Performing.{Scene, scene_of, session_of, step_made, steps_made, edit_made, sealed_scene, change_performed, changes_performed, transaction_performed, history_performed, caret_behind, is_last, changes_lines, save_point_change, followed, response, styled_text}
 use Rattle.ed_model.specs.Table.{table, performed, answered as answered_by, with_recording, record_note}
+use Rattle.ed_model.specs.proved.Elements.{found_all}
 use Rattle.id_table.specs.Entries.{value_at}
 use Rattle.notify.specs.Gathered.{Gathered}
 use Rattle.document.specs.Kept.{Kept}
@@ -43,7 +44,6 @@ use Rattle.scene.specs.Scenes.{views_of, scene_in, AreNamed, StandsIfOn, IsWatch
 use Rattle.scene.specs.Conversion.{notes_for, bytes_for}
 use Rattle.scene.specs.Undoing.{bits_of}
 use Rattle.message_requests.specs.Requested.{session_in}
-use Rattle.message_requests.specs.proved.Standing.{found_all}
 use Rattle.message_requests.specs.declared.state.SessionState.{SessionState}
 use Rattle.session_changes.specs.Kept.{IsKept, DocumentsAreNamed}
 use Rattle.editor_session.specs.Performed.{IsAnswered}

@@ -1,15 +1,10 @@
 -- An edit of one of the documents of a table.
 use Rattle.std.proofs.Common.{◌≡◌, ℕ, ◌==◌, Bool, true, false, cond, List, [], ◌∷◌, length, map, refl, ap, sym, ◌∙◌, subst, Some, IfSome}
 use Rattle.std.specs.Prelude.{nat_lt, if◌then◌else◌}
-use Rattle.std.proofs.lemmas.Bool.{cond_both}
-use Rattle.ed_model.specs.Steps.{Step}
-use Rattle.ed_model.specs.declared.plan.DocumentChange.{DocumentChange}
-use Rattle.ed_model.specs.declared.plan.DocumentChange.TheVariants as change
 use Rattle.ed_model.specs.History.{History, Change, TextStep, ContainerStep}
 use Rattle.ed_model.specs.Notes.{bit_if, multi_step}
-use Rattle.ed_model.specs.Changes.{changed_document}
 use Rattle.ed_model.specs.Session.{Document, with_document}
-use Rattle.ed_model.specs.Performing.{Scene, step_made, steps_made, edit_made, sealed_scene, change_performed, changes_performed, transaction_performed, is_last, changes_lines}
+use Rattle.ed_model.specs.Performing.{Scene, change_performed, changes_performed, transaction_performed, is_last, changes_lines}
 use Rattle.id_table.specs.Entries.{Entries, value_at, with_value_at}
 use Rattle.notify.specs.Gathered.{Gathered}
 use Rattle.document.specs.Kept.{Kept}
@@ -19,15 +14,6 @@ use Rattle.message_requests.specs.Requested.{documents_in}
 use Rattle.session_changes.specs.Kept.{DocumentsAreNamed}
 use Rattle.editor_session.specs.Edited.{Becomes}
 use Rattle.session_changes.specs.proved.Finding.{document_in, id_of_document, own_at, found_some, replaced}
-
-steps_keep_id : (later : Bool) (steps : List Step) (scene : Scene) → (steps_made later steps scene).document.id ≡ scene.document.id
-steps_keep_id later [] scene = refl
-steps_keep_id later (step ∷ steps) scene = steps_keep_id true steps (step_made later step scene)
-
-pub edit_keeps_id : (steps : List Step) (scene : Scene) → (edit_made steps scene).document.id ≡ scene.document.id
-edit_keeps_id steps scene =
-    cond_both (nat_lt 1 (length steps)) (sealed_scene (steps_made false steps (sealed_scene scene))) (steps_made false steps scene) (λ x. x.document.id ≡ scene.document.id)
-    (λ _. steps_keep_id false steps (sealed_scene scene)) (λ _. steps_keep_id false steps scene)
 
 module _ (documents : Entries Kept) (views' : Entries KeptView) (notes' : Gathered) (id : ℕ) (k k' : Kept) (scene : Scene) (named : DocumentsAreNamed documents.entries) (at : value_at documents.entries id ≡ Some k)
     (made : scene_in k'.document views'.entries notes'.notes ≡ scene) (same : scene.document.id ≡ k.document.id) where
@@ -66,29 +52,6 @@ pub transaction_keeps_id : (who : ℕ) (cs : List Change) (new : History) (scene
 transaction_keeps_id who cs new scene = changes_keep_id who (bit_if (nat_lt 1 (length cs)) multi_step) false cs scene
 
 -- A change of one of the documents of a table.
-
-pub change_keeps_id : (text : List ℕ) (what : DocumentChange) (d : Document) → (changed_document text what d).id ≡ d.id
-change_keeps_id text (change.SetReadOnly on) d = refl
-change_keeps_id text (change.SetLineEnd to) d = refl
-change_keeps_id text (change.SetLineEndTypes to) d = refl
-change_keeps_id text change.SetSavePoint d = refl
-change_keeps_id text change.BeginGroup d = refl
-change_keeps_id text change.EndGroup d = refl
-change_keeps_id text change.ForgetHistory d = refl
-change_keeps_id text (change.CollectUndo on) d = refl
-change_keeps_id text (change.AppendContainer token coalesce) d = refl
-change_keeps_id text (change.AddMarker line number) d = refl
-change_keeps_id text (change.AddMarkers line mask) d = refl
-change_keeps_id text (change.DeleteMarker line number) d = refl
-change_keeps_id text (change.DeleteMarkers number) d = refl
-change_keeps_id text (change.DeleteHandle handle) d = refl
-change_keeps_id text (change.SetLevel line level) d = refl
-change_keeps_id text (change.SetState line state) d = refl
-change_keeps_id text (change.SetEndStyled place) d = refl
-change_keeps_id text (change.StyleRun count style) d = refl
-change_keeps_id text (change.StyleBytes count) d = refl
-change_keeps_id text (change.NeedStyle start past) d = refl
-change_keeps_id text (change.FillIndicator indicator start count value) d = refl
 
 pub document_put : (documents : Entries Kept) (id : ℕ) (k k' : Kept) (d : Document) → DocumentsAreNamed documents.entries → value_at documents.entries id ≡ Some k → k'.document ≡ d → d.id ≡ k.document.id
     → documents_in (record documents { entries = with_value_at id k' documents.entries }) ≡ with_document d (documents_in documents)

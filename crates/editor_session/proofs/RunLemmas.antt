@@ -19,6 +19,7 @@ use Rattle.ed_model.specs.PlansFit.{PlansFit, IsFitPlanned}
 use Rattle.ed_model.specs.Requests.{Request, Planned}
 use Rattle.ed_model.specs.Table.{opened, closed, closed_view, table, table_from_view, table_from_kind, table_from_document, answered, request, plan_of}
 use Rattle.ed_model.specs.Run.{Running, outcomes, run_to, after_command, after_message, after_opening, loaded, file_at, set_text_message}
+use Rattle.ed_model.specs.proved.Lists.{drop_at_index}
 use Rattle.editor_session.specs.Answers.{AnswersBy}
 use Rattle.editor_session.proofs.Questions.{sound_request}
 
@@ -135,11 +136,6 @@ file_there files (suc k) bytes some there = let before : suc k - 1 ≡ k = omega
 
 -- One command more.
 
-next_drop : {X : Type 0} (i : ℕ) (xs : List X) (x : X) → slice_get xs i ≡ Some x → drop i xs ≡ x ∷ drop (suc i) xs
-next_drop i [] x e = absurd (cc)
-next_drop zero (y ∷ ys) x e = let same : y ≡ x = cc in ap (λ z. z ∷ ys) same
-next_drop (suc i) (y ∷ ys) x e = next_drop i ys x e
-
 next_take : {X : Type 0} (i : ℕ) (xs : List X) (x : X) → slice_get xs i ≡ Some x → take (suc i) xs ≡ take i xs ++ x ∷ []
 next_take i [] x e = absurd (cc)
 next_take zero (y ∷ ys) x e = let same : y ≡ x = cc in ap (λ z. z ∷ []) same
@@ -159,13 +155,13 @@ pub one_more_outcome : (files : List (List ℕ)) (commands : List Command) (i : 
 one_more_outcome files commands i c now new done more all o e state outcome grown h =
     let after : i + 1 ≡ suc i = omega arith in
     let rest = outcomes files (drop (suc i) commands) (after_command files c now).0 in
-    rw (after, grown, state, outcome) (join_assoc done (after_command files c now).1 rest ∙ sym (ap (λ cs. done ++ outcomes files cs now) (next_drop i commands c e)) ∙ h)
+    rw (after, grown, state, outcome) (join_assoc done (after_command files c now).1 rest ∙ sym (ap (λ cs. done ++ outcomes files cs now) (drop_at_index i commands c e)) ∙ h)
 
 pub one_more_state : (files : List (List ℕ)) (commands : List Command) (i : ℕ) (c : Command) (now new end : Running) → slice_get commands i ≡ Some c →
     new ≡ (after_command files c now).0 → run_to files (drop i commands) now ≡ end → run_to files (drop (i + 1) commands) new ≡ end
 one_more_state files commands i c now new end e state h =
     let after : i + 1 ≡ suc i = omega arith in
-    rw (after, state) (sym (ap (λ cs. run_to files cs now) (next_drop i commands c e)) ∙ h)
+    rw (after, state) (sym (ap (λ cs. run_to files cs now) (drop_at_index i commands c e)) ∙ h)
 
 pub one_more_done : (files : List (List ℕ)) (commands : List Command) (i : ℕ) (c : Command) (start now new : Running) → slice_get commands i ≡ Some c →
     new ≡ (after_command files c now).0 → now ≡ run_to files (take i commands) start → new ≡ run_to files (take (i + 1) commands) start

@@ -1,28 +1,29 @@
 -- Steps in turn, out of the room that was made for all of them.
 use Rattle.std.proofs.Common.{zero, suc, ◌≡◌, ◌≢◌, ℕ, ◌+◌, ◌-◌, ◌<◌, ◌≤◌, ◌==◌, Bool, true, false, cond, List, [], ◌∷◌, ◌++◌, length, refl, ap, sym, ◌∙◌, subst, arith, slice_range}
-use Rattle.std.specs.List.{AllByRecursion}
 use Rattle.ed_model.specs.Steps.{Step, Insert, Delete, step_bytes, replacement, insertion, deletion}
 use Rattle.ed_model.specs.History.{History, Transaction, TextStep, sealed_outside_groups, with_last_sealed}
-use Rattle.ed_model.specs.Session.{Document, View, text_of, watching}
+use Rattle.ed_model.specs.Session.{Document, text_of, watching}
 use Rattle.ed_model.specs.Performing.{Scene, step_made, edit_made, sealed_scene}
+use Rattle.ed_model.specs.proved.Steps.{length_of_range}
 use Rattle.document.specs.declared.text_step.TextStep.TheVariants as lent
 use Rattle.document.specs.Kept.{Kept, HasRoom, TakesRoom}
 use Rattle.document.specs.TextSteps.{bytes_out, step_in, need_of}
 use Rattle.id_table.specs.Entries.{Entries}
 use Rattle.ed_view.specs.Kept.{KeptView}
 use Rattle.notify.specs.Gathered.{Gathered}
-use Rattle.scene.specs.Scenes.{views_of, scene_in, StandsIfOn, IsWatched}
+use Rattle.scene.specs.Scenes.{views_of, scene_in, IsWatched}
 use Rattle.scene.specs.Hearing.{bytes_shared, made_kinds}
 use Rattle.scene.specs.Needs.{notes_needed, bytes_needed, NotesAreEnough, BytesAreEnough, SealingNeedsTheSame}
 use Rattle.scene.specs.Conversion.{room_of_step, room_of_steps, notes_for, bytes_for}
 use Rattle.scene.specs.proved.Enough.{first_notes, next_notes, first_bytes, next_bytes}
-use Rattle.scene.specs.proved.Rooms.{appended_collects, deletion_needs, first_room, length_range, next_room}
+use Rattle.scene.specs.proved.Rooms.{appended_collects, deletion_needs, first_room, next_room}
+use Rattle.scene.specs.proved.Watched.{watched_with_history}
 
 -- The steps of a replacement.
 
 pub deletes_some : (d : Document) (start count : ℕ) → start + count ≤ length d.cells → 0 < count → (bytes : List ℕ)
     → replacement start count bytes (text_of d) ≡ Delete start (slice_range (text_of d) start (start + count)) ∷ insertion start bytes
-deletes_some d start count h some bytes = go (slice_range (text_of d) start (start + count)) (length_range d.cells start count h)
+deletes_some d start count h some bytes = go (slice_range (text_of d) start (start + count)) (length_of_range d.cells start count h)
   where
     go : (gone : List ℕ) → length gone ≡ count → deletion start gone ++ insertion start bytes ≡ Delete start gone ∷ insertion start bytes
     go [] e = absurd (omega (arith, e))
@@ -58,20 +59,10 @@ sealed_collects h = go (h.depth == 0) h.past
     go true past = last h.past
     go false past = refl
 
--- A document whose last transaction is sealed, and one that is still watched.
+-- A document whose last transaction is sealed.
 
 abbrev pub sealed_kept : Kept → Kept
 sealed_kept k = record k { document = (let d = k.document in record d { history = sealed_outside_groups d.history }) }
-
-still_stands : (d : Document) (h : History) (views : List View) → AllByRecursion (StandsIfOn d) views → AllByRecursion (StandsIfOn (record d { history = h })) views
-still_stands d h [] all = tt
-still_stands d h (v ∷ vs) all = (
-  (λ e. (let on = all.0 e in record { anchor = on.anchor; caret = on.caret; target_start = on.target_start; target_end = on.target_end; lines = on.lines; first_line = on.first_line; indicator = on.indicator; listed = on.listed })),
-  still_stands d h vs all.1,
-)
-
-pub still_watched : (d : Document) (h : History) (table : Entries KeptView) → IsWatched d table → IsWatched (record d { history = h }) table
-still_watched d h table w = record { named = w.named; rise = w.rise; listed = w.listed; stand = still_stands d h (views_of table.entries) w.stand }
 
 pub positive : (n : ℕ) → n ≢ 0 → 0 < n
 positive zero h = absurd (h refl)
@@ -159,4 +150,4 @@ module _ (start count : ℕ) (bytes : List ℕ) (k k1 : Kept) (views : Entries K
         ∙ sym (ap (λ ss. edit_made ss at_first) are_two)
 
 pub ends_watched : (k3 k4 : Kept) (views : Entries KeptView) → k4 ≡ sealed_kept k3 → IsWatched k3.document views → IsWatched k4.document views
-ends_watched k3 k4 views e w = subst (λ x. IsWatched x.document views) (sym e) (still_watched k3.document (sealed_outside_groups k3.document.history) views w)
+ends_watched k3 k4 views e w = subst (λ x. IsWatched x.document views) (sym e) (watched_with_history k3.document (sealed_outside_groups k3.document.history) views w)

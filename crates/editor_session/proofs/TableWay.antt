@@ -1,5 +1,5 @@
 -- The way of a message through the table.
-use Rattle.std.proofs.Common.{◌&&◌, ◌≡◌, ◌≢◌, ℕ, Bool, true, false, cond, ◌==◌, List, [], ◌∷◌, ℤ, refl, ap, sym, ◌∙◌, subst, Option, Some, None, Ok, Err}
+use Rattle.std.proofs.Common.{◌&&◌, ◌≡◌, ◌≢◌, ℕ, true, false, cond, ◌==◌, List, [], ◌∷◌, ℤ, refl, ap, sym, ◌∙◌, subst, Option, Some, None, Ok, Err}
 use Rattle.std.specs.Prelude.{Result, not, IsOk, IfErr}
 use Rattle.ed_types.specs.declared.message.Message.{Message}
 use Rattle.ed_types.specs.declared.kind.Kind.{Kind}
@@ -28,7 +28,7 @@ use Rattle.ed_model.specs.declared.plan.SessionChange.TheVariants as session_cha
 use Rattle.ed_model.specs.History.{History}
 use Rattle.document_changes.specs.Needs.{needs_room, notes_of_change}
 use Rattle.session_changes.specs.Ready.{takes_memory}
-use Rattle.std.proofs.lemmas.Bool.{and_parts}
+use Rattle.std.proofs.lemmas.Bool.{and_parts, not-true}
 
 pub no_view : (s : Session) (id : ℕ) (m : Message) → view_at s.views id ≡ None → table s id m ≡ Err NoSuchView
 no_view s id m none = ap (table_from_view s m) none
@@ -74,10 +74,6 @@ never_refused (Err e) h = absurd (cc)
 
 -- Messages that need no memory.
 
-pub not_true : (b : Bool) → not b ≡ true → b ≡ false
-not_true true h = absurd (cc)
-not_true false h = refl
-
 -- a message that needs no memory, when it is found
 pub free_found : (s : Session) (view : ℕ) (m : Message) (kind : Kind) (r : Request) → IsFound s view m kind r → is_free s view m ≡ true → (planned_without_memory r (plan_of kind r) ≡ true) × ((r.view.records && (marks_of kind).r) ≡ false)
 free_found s view m kind r f free =
@@ -87,7 +83,7 @@ free_found s view m kind r f free =
     let is : is_free s view m ≡ is_free_request kind r =
     ap (is_free_from_view s m) seen ∙ ap (is_free_from_kind s r.view m) f.decoded ∙ ap (is_free_from_document s r.view kind m) there ∙ ap (is_free_request kind) same in
     let parts = and_parts (planned_without_memory r (plan_of kind r)) (not (r.view.records && (marks_of kind).r)) (sym is ∙ free) in
-    (parts.0, not_true (r.view.records && (marks_of kind).r) parts.1)
+    (parts.0, not-true (r.view.records && (marks_of kind).r) parts.1)
 
 pub free_plan : (s : Session) (view : ℕ) (m : Message) (planned : PlannedMessage) (t : IsPlannedAs s view m planned) → is_free s view m ≡ true → (needs_no_memory t.request planned.plan ≡ true) × (planned.is_recorded ≡ false)
 free_plan s view m planned t free =

@@ -3,7 +3,7 @@ use Rattle.std.proofs.Common.{arith, ◌≡◌, ℕ, ◌+◌, ◌≤◌, Bool, t
 use Rattle.std.specs.Prelude.{IfSome}
 use Rattle.std.specs.List.{AllByRecursion}
 use Rattle.std.proofs.lemmas.Bool.{eqb-true}
-use Rattle.std.proofs.lemmas.List.{length-take, length-drop, length-map}
+use Rattle.std.proofs.lemmas.List.{length-map}
 use Rattle.ed_model.specs.Text.{Cell}
 use Rattle.ed_types.specs.declared.kind.Kind.{Kind}
 use Rattle.ed_types.specs.declared.message.Message.{Message}
@@ -16,6 +16,7 @@ use Rattle.ed_model.specs.Session.{Session, View, Document, view_at, document_at
 use Rattle.ed_model.specs.Performing.{response}
 use Rattle.ed_model.specs.PlansFit.{PlansFit, IsSoundRequest, IsFitPlanned}
 use Rattle.ed_model.specs.Table.{table, record_note, table_from_view, table_from_kind, table_from_document, answered, request, plan_of}
+use Rattle.ed_model.specs.proved.Lists.{length_slice}
 use Rattle.message_requests.specs.declared.answers.HandedOut.{HandedOut}
 use Rattle.message_requests.specs.HandingOut.{handed_out}
 use Rattle.message_plans.specs.Asking.{text_questions, text_question_of, is_text_question, handed_planned, handed_asked}
@@ -50,9 +51,6 @@ handed_within law kind r h sound e = subst (IsFitPlanned r) (planned_so kind r h
 -- the reply that hands it out
 abbrev pub handing : Document → HandedOut → Response
 handing d h = response h.value (slice_range (text_of d) h.start (h.start + h.count)) []
-
-length_slice : (text : List ℕ) (p count : ℕ) → p + count ≤ length text → length (slice_range text p (p + count)) ≡ count
-length_slice text p count h = simp (length-take, length-drop) (omega arith)
 
 pub handing_length : (d : Document) (h : HandedOut) → h.start + h.count ≤ length d.cells → length (handing d h).text ≡ h.count
 handing_length d h within =

@@ -17,6 +17,7 @@ use Rattle.ed_model.specs.Table.{table, plan_of}
 use Rattle.id_table.specs.Entries.{value_at}
 use Rattle.ed_view.specs.Folding.{fold_need, HasFoldRoom}
 use Rattle.ed_view.specs.Kept.{KeptView}
+use Rattle.std.proofs.lemmas.Bool.{not-true}
 use Rattle.message_requests.specs.Requested.{session_in}
 use Rattle.message_requests.specs.declared.state.SessionState.{SessionState}
 use Rattle.session_changes.specs.Asked.{IsAsked, CanChangeView}
@@ -26,7 +27,7 @@ use Rattle.editor_session.specs.Plans.{needs_no_fold_room}
 use Rattle.editor_session.specs.Performed.{unrecorded, IfFree, IsPlannedForSomeValue}
 use Rattle.editor_session.specs.Planned.{IsFound, IsPlannedAs, planned_message}
 use Rattle.editor_session.proofs.PlanLemmas.{DoneFor, answers, asked_by, can_change_view, for_view, view_changed, view_here}
-use Rattle.editor_session.proofs.TableWay.{fit_of, free_plan, not_true}
+use Rattle.editor_session.proofs.TableWay.{fit_of, free_plan}
 
 -- That a message which is found and not recorded has this plan.
 pub unrecorded_plan : (s : Session) (document view : ℕ) (m : Message) (kind : Kind) (r : Request) (what : Plan) → IsFound s view m kind r → plan_of kind r ≡ Ok what → document ≡ r.document.id
@@ -64,7 +65,7 @@ no_fold_room (change.ShowLines first past) v h = (omega arith, omega arith)
 -- the room to fold is there where none is needed
 has_fold_room : (v : KeptView) (what : ViewChange) → needs_no_fold_room v.view.flags what ≡ true → HasFoldRoom v.room (fold_need v.view.flags what)
 has_fold_room v (change.EnsureVisible line) h = rw h (omega arith, omega arith)
-has_fold_room v other h = no_fold_room other v (not_true (takes_fold_room other) h)
+has_fold_room v other h = no_fold_room other v (not-true (takes_fold_room other) h)
 
 of_any : (o : Option KeptView) (what : ViewChange) → IsSome o → takes_fold_room what ≡ false → IsSomeAnd o (λ v. HasFoldRoom v.room (fold_need v.view.flags what))
 of_any None what e h = absurd (cc)

@@ -1,7 +1,6 @@
 -- A text that keeps to its limit is within the width of its document's places.
 use Rattle.std.proofs.Common.{arith, ◌≡◌, ◌==◌, ℕ, ◌+◌, ◌-◌, ◌≤◌, ◌<◌, ◌^◌, min, nat_le, Bool, true, false, cond, List, [], ◌∷◌, length, refl, ap, sym, subst, slice_range}
 use Rattle.std.proofs.lemmas.Bool.{and_parts, leb-true}
-use Rattle.std.proofs.lemmas.Bool.Decides.{nat_tests}
 use Rattle.std.proofs.lemmas.List.{length-take, length-drop, length-map}
 use Rattle.ed_types.specs.declared.limits.Limits.{Limits}
 use Rattle.ed_model.specs.declared.plan.LineEndTypes.{LineEndTypes}
@@ -16,11 +15,12 @@ use Rattle.ed_model.specs.Steps.{Step, Insert, Delete, edited}
 use Rattle.ed_model.specs.Text.{Cell}
 use Rattle.ed_model.specs.UndoPlans.{text_steps}
 use Rattle.ed_model.specs.proved.Steps.{length-inserted, length-deleted_within}
+use Rattle.ed_model.specs.proved.Elements.{found_all}
+use Rattle.ed_model.specs.proved.Limits.{allowed_lengths}
 use Rattle.document.specs.Kept.{Kept, FitsWidth, HasRoom, bound_of, no_room}
 use Rattle.document.specs.declared.room.DocumentRoom.{DocumentRoom}
 use Rattle.scene.specs.Conversion.{changes_for, room_of_steps_beside}
 use Rattle.scene.specs.Undoing.{capped, capped_room, free_behind, rooms_beside}
-use Rattle.message_requests.specs.proved.Standing.{found_all}
 use Rattle.editor_session.specs.Widths.{StepsFitWidth, ChangesFitWidth}
 
 -- a deletion's bytes are in the text
@@ -81,9 +81,6 @@ same_text_room types free (Delete p bytes ∷ steps) = ap (λ x. 0 - free + x) (
 text_steps_of : (steps : List Step) → text_steps (changes_for steps) ≡ steps
 text_steps_of [] = refl
 text_steps_of (step ∷ steps) = ap (λ ss. step ∷ ss) (text_steps_of steps)
-
-allowed_lengths : (l : Limits) → is_allowed l ≡ true → (l.doc_bytes ≤ 2 ^ 31 - 1) × (l.large_bytes ≤ 2 ^ 40)
-allowed_lengths l h = (grind (arith, nat_tests), grind (arith, nat_tests))
 
 -- a limit is less than the width of places, and than the greatest `usize`
 limit_below : (l : Limits) (d : Document) → is_allowed l ≡ true → (limit_of l d < bound_of (is_large d)) × (limit_of l d < 2 ^ 64 - 1)

@@ -1,5 +1,5 @@
 -- The plan of a replacement does not depend on which bytes are deleted and inserted, but only on how many.
-use Rattle.std.proofs.Common.{◌≡◌, ℕ, ℤ, suc, ◌+◌, ◌-◌, ◌≤◌, ◌<◌, ◌==◌, ◌||◌, ◌&&◌, nat_le, Bool, true, false, List, [], ◌∷◌, ◌++◌, length, refl, ap, sym, ◌∙◌, arith, slice_range, length-take, length-drop}
+use Rattle.std.proofs.Common.{◌≡◌, ℕ, ℤ, suc, ◌+◌, ◌-◌, ◌≤◌, ◌<◌, ◌==◌, ◌||◌, ◌&&◌, nat_le, Bool, true, false, List, [], ◌∷◌, ◌++◌, length, refl, ap, sym, ◌∙◌, arith, slice_range}
 use Rattle.std.proofs.lemmas.List.{length-map}
 use Rattle.std.proofs.lemmas.Bool.Decides.{nat_tests}
 use Rattle.std.proofs.Math.Bool.{and-true, and-false}
@@ -14,10 +14,8 @@ use Rattle.ed_model.specs.Steps.{deletion, insertion}
 use Rattle.ed_model.specs.Session.{limit_of}
 use Rattle.ed_model.specs.Requests.{Request, text, size}
 use Rattle.ed_model.specs.Edits.{stays_within, has_steps, edit_of_steps, source_bytes, steps_of, edit_plan}
+use Rattle.ed_model.specs.proved.Lists.{length_slice}
 use Rattle.message_requests.specs.Replacing.{edit_if, keeps_limit}
-
-length-slice : (xs : List ℕ) (start count : ℕ) → start + count ≤ length xs → length (slice_range xs start (start + count)) ≡ count
-length-slice xs start count h = simp (length-take, length-drop) (omega arith)
 
 some_is_not_none : (n : ℕ) → (suc n == 0) ≡ false
 some_is_not_none n = grind (arith, nat_tests)
@@ -54,7 +52,7 @@ replacement_planned : (r : Request) (start count : ℕ) (from : Source) (added :
 replacement_planned r start count from added done within is =
     let gone = slice_range (text r) start (start + count) in
     let as_long : length (text r) ≡ size r = length-map r.document.cells (λ (c : Cell). c.byte) in
-    let counted : length gone ≡ count = length-slice (text r) start count (omega (arith, as_long)) in
+    let counted : length gone ≡ count = length_slice (text r) start count (omega (arith, as_long)) in
     let limit = limit_of r.session.limits r.document in
     ap (λ n. edit_if (r.document.read_only && (nat_lt 0 n || nat_lt 0 added)) (keeps_limit limit (size r) n added) done) (sym counted)
     ∙ ap (λ n. edit_if (r.document.read_only && (nat_lt 0 (length gone) || nat_lt 0 n)) (keeps_limit limit (size r) (length gone) n) done) is

@@ -14,6 +14,7 @@ use Rattle.ed_model.specs.Session.{Document, View, text_of}
 use Rattle.ed_model.specs.SoundLaws.{AreStepsOf}
 use Rattle.ed_model.specs.UndoPlans.{text_steps}
 use Rattle.ed_model.specs.Performing.{Scene, document_after, change_performed}
+use Rattle.ed_model.specs.proved.Lists.{length_slice}
 use Rattle.document.specs.declared.text_step.TextStep.{TextStep}
 use Rattle.document.specs.declared.text_step.TextStep.TheVariants.{Insert, Delete}
 use Rattle.document.specs.declared.room.DocumentRoom.{DocumentRoom}
@@ -27,7 +28,6 @@ use Rattle.scene.specs.Hearing.{hearers}
 use Rattle.scene.specs.Needs.{note_room}
 use Rattle.scene.specs.Undoing.{both_rooms, bytes_of_change, notes_of_change, free_behind, freed_by, outline_kinds, outline_movement, performed_kinds, room_beside}
 use Rattle.scene.specs.Turns.{ChangeFits}
-use Rattle.scene.proofs.NotesOfSteps.{length_slice}
 
 -- A step of a change.
 

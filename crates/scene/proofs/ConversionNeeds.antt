@@ -18,6 +18,7 @@ use Rattle.document.specs.Kept.{document_room, amount_sum, room_sum}
 use Rattle.scene.specs.declared.need.NoteRoom.{NoteRoom}
 use Rattle.scene.specs.Needs.{note_room, leaving_count, notes_of_step, bytes_of_step, notes_of_steps, bytes_of_steps}
 use Rattle.scene.specs.Conversion.{both_rooms, free_behind, bytes_for, capped, capped_notes, capped_room, deletions_of, notes_for, room_of_many, room_of_step, room_of_steps, rooms_added, room_of_steps_beside}
+use Rattle.scene.specs.proved.Rooms.{same_room}
 
 -- this step of a conversion needs what that one needs
 pub record NeedsAs (types : LineEndTypes) (views : List View) (one step : Step) : Type 0 where
@@ -31,9 +32,6 @@ AllNeedAs types views one (s ∷ steps) = NeedsAs types views one s × AllNeedAs
 
 one_more : (x n : ℕ) → x + x * n ≡ x * suc n
 one_more x n = let e = mul-suc x n in omega arith
-
-same_room : (a b c d e a' b' c' d' e' : ℕ) → a ≡ a' → b ≡ b' → c ≡ c' → d ≡ d' → e ≡ e' → document_room a b c d e ≡ document_room a' b' c' d' e'
-same_room a b c d e a' b' c' d' e' p q r s t = cc
 
 many_notes : (types : LineEndTypes) (views : List View) (one : Step) (steps : List Step) → AllNeedAs types views one steps → notes_of_steps views steps ≡ notes_of_step views one * length steps
 many_notes types views one [] all = sym (none (notes_of_step views one))

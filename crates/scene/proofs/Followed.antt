@@ -6,24 +6,13 @@ use Rattle.line_index.specs.declared.edit.LineEdit.{LineEdit}
 use Rattle.selection.specs.declared.movements.Movement.{Movement}
 use Rattle.ed_model.specs.Session.{View, view_at, with_view}
 use Rattle.ed_model.specs.SoundLaws.{Rise}
+use Rattle.ed_model.specs.proved.Finding.{view_id}
 use Rattle.id_table.specs.Entries.{Entry, Entries, entry, id_of, value_at, value_of, with_value_at}
 use Rattle.ed_view.specs.Kept.{KeptView, contracted_in_all}
 use Rattle.ed_view.specs.Moving.{view_moved}
 use Rattle.scene.specs.Scenes.{views_of, fold_room_in_all, AreNamed}
 use Rattle.scene.specs.Following.{with_followed, followed_at, CanFollow, CanFollowInTurn}
 use Rattle.scene.proofs.Pending.{named_some, named_none}
-
--- the element that `find` returns passes the test
-found_test : {X : Type 0} (test : X → Bool) (xs : List X) (x : X) → find test xs ≡ Some x → test x ≡ true
-found_test test [] x e = absurd (cc)
-found_test {X} test (y ∷ ys) x e = go (test y) refl e (λ e. found_test test ys x e)
-  where
-    go : (b : Bool) → test y ≡ b → cond b (Some y) (find test ys) ≡ Some x → (find test ys ≡ Some x → test x ≡ true) → test x ≡ true
-    go true t e rest = let same : y ≡ x = cc in subst (λ z. test z ≡ true) same t
-    go false t e rest = rest e
-
-pub view_id : (views : List View) (id : ℕ) (v : View) → view_at views id ≡ Some v → v.id ≡ id
-view_id views id v e = eqb-true v.id id (found_test (λ (v : View). v.id == id) views v e)
 
 -- Replacing the value at an id.
 

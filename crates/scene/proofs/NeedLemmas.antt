@@ -1,19 +1,20 @@
 -- The notes of steps are at most as many as the need says.
-use Rattle.std.proofs.Common.{◌≡◌, ℕ, suc, ◌+◌, ◌<◌, ◌≤◌, Bool, true, false, cond, List, [], ◌∷◌, ◌++◌, map, length, refl, ap, ◌∙◌, arith, length-append}
-use Rattle.std.specs.Prelude.{◌==◌, ◌&&◌, not, nat_le, nat_lt, ℤ, Option, Some, None, filter, filter_map, option_map}
+use Rattle.std.proofs.Common.{◌≡◌, ℕ, suc, ◌+◌, ◌<◌, ◌≤◌, Bool, true, false, cond, List, [], ◌∷◌, map, length, refl, ap, ◌∙◌, arith}
+use Rattle.std.specs.Prelude.{◌==◌, ◌&&◌, not, nat_lt, ℤ, Option, Some, None, filter, filter_map, option_map}
 use Rattle.std.specs.List.{cons_option}
-use Rattle.std.proofs.lemmas.Bool.{ne_eqb, leb-true, ltb-true, lt-ltb}
-use Rattle.ed_types.specs.Notices.{Notice}
+use Rattle.std.proofs.lemmas.Bool.{ltb-true, lt-ltb}
 use Rattle.ed_model.specs.Numbers.{meets, growth, is_number}
 use Rattle.ed_model.specs.Steps.{Step, Insert, Delete, step_bytes}
-use Rattle.ed_model.specs.History.{History, Change, Transaction, TextStep, at_save_point, appended, begins_transaction, joins, joins_last, with_change, reachable, sealed_outside_groups, seal_first, with_last_sealed}
+use Rattle.ed_model.specs.History.{History, Change, Transaction, TextStep, at_save_point, appended, begins_transaction, joins, joins_last, with_change, reachable, sealed_outside_groups, with_last_sealed}
 use Rattle.ed_model.specs.Notes as notes
 use Rattle.ed_model.specs.Notes.{told, heard, before_note, after_note, performed_user}
 use Rattle.ed_model.specs.Session.{View, Document, view_at, watching, lines_in}
 use Rattle.ed_model.specs.Performing.{document_after, moved_view, view_after, leaving, step_made}
+use Rattle.ed_model.specs.proved.Changes.{view_after_id}
+use Rattle.ed_model.specs.proved.Histories.{lower_save_point, other_save_point, sealed_length}
 use Rattle.scene.specs.Hearing.{hearers, before_kind, after_kind, step_kinds, user_bits, bytes_shared}
 use Rattle.scene.specs.Needs.{user_kinds, leaving_count, notes_of_steps, bytes_of_steps, NotesAreEnough, BytesAreEnough, SealingNeedsTheSame}
-use Rattle.scene.proofs.ToldSoFar.{length_told}
+use Rattle.scene.proofs.ToldSoFar.{length_told, length_parts}
 use Rattle.scene.proofs.KindLemmas.{meets_left, meets_right, hearers_more, before_kind_is, after_kind_is}
 
 -- The kinds of a step are among `user_kinds`, whether it begins a transaction or not.
@@ -45,10 +46,6 @@ after_few begins lines s views =
 
 -- The views that watch after a step are those that watched before, with the same masks.
 
-after_id : (s : Step) (d : Document) (v : View) (b : Bool) → (cond b (moved_view s d v) v).id ≡ v.id
-after_id s d v true = refl
-after_id s d v false = refl
-
 after_mask : (s : Step) (d : Document) (v : View) (b : Bool) → (cond b (moved_view s d v) v).mask ≡ v.mask
 after_mask s d v true = refl
 after_mask s d v false = refl
@@ -56,7 +53,7 @@ after_mask s d v false = refl
 found_after : (s : Step) (d : Document) (vs : List View) (id : ℕ) → view_at (map (view_after s d) vs) id ≡ option_map (view_after s d) (view_at vs id)
 found_after s d [] id = refl
 found_after s d (v ∷ vs) id =
-    let same : (view_after s d v).id ≡ v.id = after_id s d v (v.document == d.id) in
+    let same : (view_after s d v).id ≡ v.id = view_after_id s d v in
     rw same (go (v.id == id) (found_after s d vs id))
   where
     go : (b : Bool) → view_at (map (view_after s d) vs) id ≡ option_map (view_after s d) (view_at vs id)
@@ -102,22 +99,6 @@ bytes_same s d vs (x ∷ xs) = let a = hear_same (user_kinds x) s d vs in let b 
 
 -- A document that collects steps is not at the save point after a step.
 
-not_behind : (n m : ℕ) (o : Option ℕ) → n < m → is_number m (reachable n o) ≡ false
-not_behind n m None l = refl
-not_behind n m (Some k) l = go (nat_le k n) refl
-  where
-    go : (b : Bool) → nat_le k n ≡ b → is_number m (cond b (Some k) None) ≡ false
-    go true t = let le = leb-true k n t in ne_eqb k m (λ e. omega arith)
-    go false t = refl
-
-not_there : (n : ℕ) (o : Option ℕ) → is_number n o ≡ false → is_number n (reachable n o) ≡ false
-not_there n None e = refl
-not_there n (Some k) e = go (nat_le k n)
-  where
-    go : (b : Bool) → is_number n (cond b (Some k) None) ≡ false
-    go true = e
-    go false = refl
-
 -- a change joins the one before only if the document is not at its save point
 joined_left : (x y z : Bool) → (x && not y && z) ≡ true → y ≡ false
 joined_left true true z h = absurd (cc)
@@ -126,14 +107,14 @@ joined_left false y z h = absurd (cc)
 
 left_past : (later : Bool) (c : Change) (h : History) (past : List Transaction) → h.past ≡ past
     → is_number (length (with_change (joins_last later c h past) c past)) (reachable (length past) h.save_point) ≡ false
-left_past later c h [] e = not_behind 0 1 h.save_point (omega arith)
+left_past later c h [] e = lower_save_point 0 1 h.save_point (omega arith)
 left_past later c h (t ∷ ts) e = go (joins_last later c h (t ∷ ts)) refl
   where
     go : (b : Bool) → joins_last later c h (t ∷ ts) ≡ b → is_number (length (with_change b c (t ∷ ts))) (reachable (length (t ∷ ts)) h.save_point) ≡ false
     go true j =
         let away : at_save_point h ≡ false = joined_left (not t.is_sealed) (at_save_point h) _ j in
-        not_there (length (t ∷ ts)) h.save_point (rw e at away)
-    go false j = not_behind (length (t ∷ ts)) (suc (length (t ∷ ts))) h.save_point (omega arith)
+        other_save_point (length (t ∷ ts)) h.save_point (rw e at away)
+    go false j = lower_save_point (length (t ∷ ts)) (suc (length (t ∷ ts))) h.save_point (omega arith)
 
 none_left : (later : Bool) (c : Change) (h : History) (views : List View) → leaving_count views (appended later c h) ≡ 0
 none_left later c h views = go h.collecting refl
@@ -152,9 +133,6 @@ leaving_length views h = go (h.collecting && at_save_point h)
 
 -- Laws.
 
-four_parts : (a b c d : List Notice) → length (a ++ b ++ c ++ d) ≡ length a + (length b + (length c + length d))
-four_parts a b c d = simp length-append (omega arith)
-
 pub notes_enough : NotesAreEnough
 notes_enough later step steps scene =
     let d = scene.document in
@@ -162,7 +140,7 @@ notes_enough later step steps scene =
     let W = watching scene.views d in
     let begins = begins_transaction later (TextStep step) h in
     let lines = growth (lines_in d) (lines_in (document_after step d)) in
-    let all = four_parts scene.notes (heard W (before_note performed_user step)) (leaving W h) (heard W (after_note (user_bits begins) lines step)) in
+    let all = length_parts scene.notes (heard W (before_note performed_user step)) (leaving W h) (heard W (after_note (user_bits begins) lines step)) in
     let b = before_few step W in
     let a = after_few begins lines step W in
     let l = leaving_length W h in
@@ -190,15 +168,11 @@ bytes_enough later step steps scene =
     let same = bytes_same step d scene.views steps in
     omega arith
 
-length_sealed : (past : List Transaction) → length (seal_first past) ≡ length past
-length_sealed [] = refl
-length_sealed (t ∷ ts) = refl
-
 sealed_leaves : (h : History) (views : List View) → leaving_count views (sealed_outside_groups h) ≡ leaving_count views h
 sealed_leaves h views = go (h.depth == 0)
   where
     go : (b : Bool) → leaving_count views (cond b (with_last_sealed h) h) ≡ leaving_count views h
-    go true = let l = length_sealed h.past in rw l refl
+    go true = let l = sealed_length h.past in rw l refl
     go false = refl
 
 pub sealing_same : SealingNeedsTheSame

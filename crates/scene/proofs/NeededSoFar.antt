@@ -7,11 +7,12 @@ use Rattle.ed_model.specs.History.{Change}
 use Rattle.ed_model.specs.Session.{View}
 use Rattle.document.specs.declared.room.DocumentRoom.{DocumentRoom}
 use Rattle.document.specs.Undoing.{room_of_change}
-use Rattle.document.specs.Kept.{document_room, no_room, amount_sum, room_sum}
+use Rattle.document.specs.Kept.{no_room, amount_sum, room_sum}
 use Rattle.scene.specs.declared.need.NoteRoom.{NoteRoom}
 use Rattle.scene.specs.declared.need.SceneNeed.{SceneNeed}
 use Rattle.scene.specs.Needs.{note_room}
 use Rattle.scene.specs.Undoing.{notes_of_change, bytes_of_change, notes_of_changes, bytes_of_changes, free_behind, room_beside, room_of_changes, rooms_beside, capped, capped_room, capped_notes}
+use Rattle.scene.specs.proved.Rooms.{same_room}
 
 -- the amount so far and the remaining amount add up to the whole
 abbrev pub IsSum : ℕ → ℕ → ℕ → Type 0
@@ -62,9 +63,6 @@ needed_notes views who types told free rest all need so e =
     let a = sum_all need.notes.notes (notes_of_changes views who all + told) so.notes in
     let b = sum_all need.notes.bytes (bytes_of_changes views who all) so.texts in
     ap (λ n. note_room n need.notes.bytes) a ∙ ap (λ n. note_room (capped (notes_of_changes views who all + told)) n) b
-
-same_room : (a a' b b' c c' d d' e e' : ℕ) → a ≡ a' → b ≡ b' → c ≡ c' → d ≡ d' → e ≡ e' → document_room a b c d e ≡ document_room a' b' c' d' e'
-same_room a a' b b' c c' d d' e e' p q r s t = cc
 
 pub needed_room : (views : List View) (who : ℕ) (types : LineEndTypes) (told free : ℕ) (rest all : List Change) (need : SceneNeed)
     → IsNeededSoFar views who types told free rest all need → rest ≡ [] → need.document ≡ capped_room (room_of_changes types all)

@@ -1,21 +1,18 @@
 -- The notes of a step are those of the model's step.
-use Rattle.std.proofs.Common.{◌≡◌, ℕ, ◌+◌, ◌≤◌, List, [], length, ap, sym, ◌∙◌, subst, arith}
+use Rattle.std.proofs.Common.{◌≡◌, ℕ, ◌+◌, List, [], length, ap, sym, ◌∙◌, subst}
 use Rattle.std.specs.Prelude.{slice_range, ℤ}
-use Rattle.std.proofs.lemmas.List.{length-drop, length-take}
 use Rattle.ed_types.specs.declared.reply.Note.{Note}
 use Rattle.ed_types.specs.Heard.{with_text}
 use Rattle.ed_types.specs.Notices.{Notice}
 use Rattle.ed_model.specs.Steps as model
 use Rattle.ed_model.specs.Steps.{step_bytes}
 use Rattle.ed_model.specs.Notes.{range_note, before_note, after_note}
+use Rattle.ed_model.specs.proved.Lists.{length_slice}
 use Rattle.document.specs.declared.text_step.TextStep.{TextStep}
 use Rattle.document.specs.declared.text_step.TextStep.TheVariants.{Insert, Delete}
 use Rattle.document.specs.TextSteps.{step_in, IsStepOn}
 use Rattle.scene.specs.Hearing.{before_kind, after_kind}
 use Rattle.scene.specs.StepNotes.{place_in, count_in, text_before}
-
-pub length_slice : (text : List ℕ) (p count : ℕ) → p + count ≤ length text → length (slice_range text p (p + count)) ≡ count
-length_slice text p count h = simp (length-take, length-drop) (omega arith)
 
 -- a note of a range of bytes, with any text
 abbrev pub TellsRange : Note → ℕ → ℕ → ℕ → Type 0

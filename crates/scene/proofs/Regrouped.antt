@@ -21,12 +21,15 @@ use Rattle.ed_model.specs.MergeLaws.{JoinsRows}
 use Rattle.ed_model.specs.Rows.{Row, Flags, flags_together}
 use Rattle.ed_model.specs.Session.{View, Document, view_at, text_of, lines_in}
 use Rattle.ed_model.specs.SoundLaws.{Rise, StandsOn, IsViewOn}
+use Rattle.ed_model.specs.proved.Finding.{ids_of}
+use Rattle.ed_model.specs.proved.Changes.{length_text}
+use Rattle.ed_model.specs.proved.Elements.{all_two, map_where}
 use Rattle.id_table.specs.Entries.{Entries}
 use Rattle.ed_view.specs.Kept.{KeptView}
 use Rattle.scene.specs.Scenes.{views_of, AreNamed, StandsIfOn, IsWatched}
 use Rattle.scene.specs.Following.{followed_at, CanFollow, CanFollowInTurn}
-use Rattle.scene.proofs.Watching.{ids_of, through, followed_through, through_none, through_once, each_found, not_listed}
-use Rattle.scene.proofs.StepScenes.{length_text, watched_can}
+use Rattle.scene.proofs.Watching.{through, followed_through, through_none, through_once, each_found, not_listed}
+use Rattle.scene.proofs.StepScenes.{watched_can}
 
 -- Line 0 stays visible, since the edits insert no line before it.
 
@@ -161,21 +164,13 @@ module _ (d : Document) (to : LineEndTypes) where
   abbrev pub changed : View → View
   changed v = changed_lines (change.SetLineEndTypes to) d v
 
-  map_all : (f g : View → View) (vs : List View) → AllByRecursion (λ v. f v ≡ g v) vs → map f vs ≡ map g vs
-  map_all f g [] all = refl
-  map_all f g (v ∷ vs) all = let a = all.0 in let b = map_all f g vs all.1 in cc
-
-  all_pairs : (P Q S : View → Type 0) (vs : List View) → ((v : View) → P v → Q v → S v) → AllByRecursion P vs → AllByRecursion Q vs → AllByRecursion S vs
-  all_pairs P Q S [] h a b = tt
-  all_pairs P Q S (v ∷ vs) h a b = (h v a.0 b.0, all_pairs P Q S vs h a.1 b.1)
-
   pub regrouped_views : (table : Entries KeptView) → IsWatched d table → JoinsRows flags_together → SettingsCarryRows Flags
       → followed_at nowhere setting d.views (views_of table.entries) ≡ map changed (views_of table.entries)
   regrouped_views table w joins law =
       let vs = views_of table.entries in
       followed_through nowhere setting d.views 0 table.next vs w.rise
-      ∙ map_all (through nowhere setting d.views) changed vs
-      (all_pairs (λ v. view_at vs v.id ≡ Some v) (StandsIfOn d) (λ v. through nowhere setting d.views v ≡ changed v) vs (λ v found stand. each v found stand (v.document == d.id) refl)
+      ∙ map_where (through nowhere setting d.views) changed vs
+      (all_two (λ v. view_at vs v.id ≡ Some v) (StandsIfOn d) (λ v. through nowhere setting d.views v ≡ changed v) vs (λ v found stand. each v found stand (v.document == d.id) refl)
       (each_found 0 table.next vs w.rise) w.stand)
     where
       each : (v : View) → view_at (views_of table.entries) v.id ≡ Some v → StandsIfOn d v → (b : Bool) → (v.document == d.id) ≡ b

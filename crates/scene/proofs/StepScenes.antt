@@ -2,7 +2,6 @@
 use Rattle.std.proofs.Common.{◌≡◌, ℕ, ◌+◌, ◌^◌, ◌<◌, ◌≤◌, Bool, true, false, cond, List, [], ◌∷◌, map, length, refl, ap, sym, ◌∙◌, subst, arith}
 use Rattle.std.specs.Prelude.{◌==◌, ◌&&◌, Some}
 use Rattle.std.specs.List.{AllByRecursion}
-use Rattle.std.proofs.lemmas.List.{length-map}
 use Rattle.std.proofs.lemmas.Bool.{eqb-true, eqb-false}
 use Rattle.ed_types.specs.Notices.{Notice}
 use Rattle.line_index.specs.declared.edit.LineEdit.{LineEdit}
@@ -11,7 +10,6 @@ use Rattle.line_index.specs.StepEdits.{EditsBringFewLines}
 use Rattle.selection.specs.declared.movements.Movement.{Movement}
 use Rattle.selection.specs.Positions.{movement_of, count_of}
 use Rattle.ed_model.specs.declared.plan.LineEndTypes.{LineEndTypes}
-use Rattle.ed_model.specs.Text.{Cell}
 use Rattle.ed_model.specs.Steps.{Step}
 use Rattle.ed_model.specs.MergeLaws.{end_of}
 use Rattle.ed_model.specs.History.{History, TextStep as Text, appended, begins_transaction, at_save_point}
@@ -20,6 +18,10 @@ use Rattle.ed_model.specs.Session.{View, Document, view_at, text_of, lines_in, w
 use Rattle.ed_model.specs.Performing.{Scene, document_after, moved_view, view_after, leaving, step_heard, step_made}
 use Rattle.ed_model.specs.SoundLaws.{Rise, StandsOn, IsViewOn, occurrences}
 use Rattle.ed_model.specs.StandingLaws.{StepsKeepViewsStanding}
+use Rattle.ed_model.specs.proved.Finding.{view_id, ids_of, same_ids}
+use Rattle.ed_model.specs.proved.Changes.{length_text, view_after_id, view_after_document}
+use Rattle.ed_model.specs.proved.Elements.{all_two, map_where}
+use Rattle.ed_model.specs.proved.Lists.{length_slice}
 use Rattle.id_table.specs.Entries.{Entry, Entries}
 use Rattle.ed_view.specs.Kept.{KeptView}
 use Rattle.ed_view.specs.Moving.{step_edits, MovesAreThoseOfSteps, StepsFitViews}
@@ -30,15 +32,10 @@ use Rattle.scene.specs.Scenes.{views_of, scene_in, AreNamed, StandsIfOn, IsWatch
 use Rattle.scene.specs.Hearing.{left_note, user_bits}
 use Rattle.scene.specs.Following.{followed_at, CanFollow, CanFollowInTurn}
 use Rattle.scene.specs.StepNotes.{IsSmallStep, count_in}
-use Rattle.scene.proofs.Followed.{view_id}
-use Rattle.scene.proofs.Watching.{ids_of, through, followed_through, through_none, through_once, can_in_turn, Ready, each_found, found_has, not_listed}
-use Rattle.scene.proofs.NotesOfSteps.{length_slice}
+use Rattle.scene.proofs.Watching.{through, followed_through, through_none, through_once, can_in_turn, Ready, each_found, found_has, not_listed}
 
 abbrev pub scene_with : Document → List View → List Notice → Scene
 scene_with d vs ns = record { document = d; views = vs; notes = ns }
-
-pub length_text : (d : Document) → length (text_of d) ≡ length d.cells
-length_text d = length-map d.cells (λ (c : Cell). c.byte)
 
 -- a step that fits the cells fits the text
 pub on_text : (step : TextStep) (d : Document) → IsStepOn step (length d.cells) → IsStepOn step (length (text_of d))
@@ -117,14 +114,6 @@ stands_can step d v fit few within places lines on =
       few = omega arith;
     }
 
-map_all : (f g : View → View) (vs : List View) → AllByRecursion (λ v. f v ≡ g v) vs → map f vs ≡ map g vs
-map_all f g [] all = refl
-map_all f g (v ∷ vs) all = let a = all.0 in let b = map_all f g vs all.1 in cc
-
-all_pairs : (P Q S : View → Type 0) (vs : List View) → ((v : View) → P v → Q v → S v) → AllByRecursion P vs → AllByRecursion Q vs → AllByRecursion S vs
-all_pairs P Q S [] h a b = tt
-all_pairs P Q S (v ∷ vs) h a b = (h v a.0 b.0, all_pairs P Q S vs h a.1 b.1)
-
 -- the views after all followed are those of the model after the step
 pub watched_after : (step : Step) (d : Document) (table : Entries KeptView) → IsWatched d table → MovesAreThoseOfSteps → end_of step ≤ length (text_of d)
     → followed_at (movement_of step) (step_edits step d) d.views (views_of table.entries) ≡ map (view_after step d) (views_of table.entries)
@@ -134,8 +123,8 @@ watched_after step d table w moves within =
     let es = step_edits step d in
     let one : (v : View) → view_at vs v.id ≡ Some v → StandsIfOn d v → through m es d.views v ≡ view_after step d v = λ v found stand. each v found stand (v.document == d.id) refl in
     followed_through m es d.views 0 table.next vs w.rise
-    ∙ map_all (through m es d.views) (view_after step d) vs
-    (all_pairs (λ v. view_at vs v.id ≡ Some v) (StandsIfOn d) (λ v. through m es d.views v ≡ view_after step d v) vs one (each_found 0 table.next vs w.rise) w.stand)
+    ∙ map_where (through m es d.views) (view_after step d) vs
+    (all_two (λ v. view_at vs v.id ≡ Some v) (StandsIfOn d) (λ v. through m es d.views v ≡ view_after step d v) vs one (each_found 0 table.next vs w.rise) w.stand)
   where
     each : (v : View) → view_at (views_of table.entries) v.id ≡ Some v → StandsIfOn d v → (b : Bool) → (v.document == d.id) ≡ b
         → through (movement_of step) (step_edits step d) d.views v ≡ cond b (moved_view step d v) v
@@ -147,21 +136,10 @@ watched_after step d table w moves within =
 
 -- The scene after a step is watched.
 
-after_id : (step : Step) (d : Document) (v : View) → (view_after step d v).id ≡ v.id
-after_id step d v = go (v.document == d.id)
-  where
-    go : (b : Bool) → (cond b (moved_view step d v) v).id ≡ v.id
-    go true = refl
-    go false = refl
-
-after_ids : (step : Step) (d : Document) (vs : List View) → ids_of (map (view_after step d) vs) ≡ ids_of vs
-after_ids step d [] = refl
-after_ids step d (v ∷ vs) = let a = after_id step d v in let b = after_ids step d vs in cc
-
 after_found : (step : Step) (d : Document) (vs : List View) (id : ℕ) (v : View) → view_at vs id ≡ Some v → view_at (map (view_after step d) vs) id ≡ Some (view_after step d v)
 after_found step d [] id v e = absurd (cc)
 after_found step d (u ∷ us) id v e =
-    let same = after_id step d u in
+    let same = view_after_id step d u in
     rw same (go (u.id == id) e (λ e. after_found step d us id v e))
   where
     go : (b : Bool) → cond b (Some u) (view_at us id) ≡ Some v → (view_at us id ≡ Some v → view_at (map (view_after step d) us) id ≡ Some (view_after step d v))
@@ -169,18 +147,11 @@ after_found step d (u ∷ us) id v e =
     go true e rest = let is : u ≡ v = cc in ap (λ x. Some (view_after step d x)) is
     go false e rest = rest e
 
-after_on : (step : Step) (d : Document) (v : View) → (view_after step d v).document ≡ v.document
-after_on step d v = go (v.document == d.id)
-  where
-    go : (b : Bool) → (cond b (moved_view step d v) v).document ≡ v.document
-    go true = refl
-    go false = refl
-
 after_listed : (step : Step) (d : Document) (vs : List View) (ids : List ℕ) → AllByRecursion (IsViewOn vs d.id) ids → AllByRecursion (IsViewOn (map (view_after step d) vs) d.id) ids
 after_listed step d vs [] all = tt
 after_listed step d vs (id ∷ ids) all =
     let v = all.0.0 in
-    ((view_after step d v, after_found step d vs id v all.0.1, after_on step d v ∙ all.0.2), after_listed step d vs ids all.1)
+    ((view_after step d v, after_found step d vs id v all.0.1, view_after_document step d v ∙ all.0.2), after_listed step d vs ids all.1)
 
 after_stand : (step : Step) (d : Document) (h : History) (vs : List View) → StepsKeepViewsStanding → AllByRecursion (StandsIfOn d) vs
     → AllByRecursion (StandsIfOn (record (document_after step d) { history = h })) (map (view_after step d) vs)
@@ -199,25 +170,10 @@ watched_again step d h old new law w views named next =
     record {
       named = named;
       rise = subst (λ n. Rise 0 n (ids_of (views_of new.entries))) (sym next)
-          (subst (λ us. Rise 0 old.next (ids_of us)) (sym views) (subst (Rise 0 old.next) (sym (after_ids step d vs)) w.rise));
+          (subst (λ us. Rise 0 old.next (ids_of us)) (sym views) (subst (Rise 0 old.next) (sym (same_ids (view_after step d) (view_after_id step d) vs)) w.rise));
       listed = subst (λ us. AllByRecursion (IsViewOn us d.id) d.views) (sym views) (after_listed step d vs d.views w.listed);
       stand = subst (AllByRecursion (StandsIfOn (record (document_after step d) { history = h }))) (sym views) (after_stand step d h vs law w.stand);
     }
-
--- the same with another history
-pub watched_with_history : (d : Document) (h : History) (table : Entries KeptView) → IsWatched d table → IsWatched (record d { history = h }) table
-watched_with_history d h table w = record {
-  named = w.named;
-  rise = w.rise;
-  listed = w.listed;
-  stand = all_pairs (StandsIfOn d) (λ v. Unit {0}) (StandsIfOn (record d { history = h })) (views_of table.entries)
-      (λ v stand _ on. let s = stand on in record { anchor = s.anchor; caret = s.caret; target_start = s.target_start; target_end = s.target_end; lines = s.lines; first_line = s.first_line; indicator = s.indicator; listed = s.listed })
-      w.stand (units (views_of table.entries));
-}
-  where
-    units : (vs : List View) → AllByRecursion (λ (v : View). Unit {0}) vs
-    units [] = tt
-    units (v ∷ vs) = (tt, units vs)
 
 -- A step of a message.
 

@@ -1,15 +1,16 @@
 -- Steps in turn, from the room that was reserved for all of them.
 use Rattle.std.proofs.Common.{zero, suc, ◌≡◌, ℕ, ◌+◌, ◌<◌, ◌≤◌, Bool, true, false, List, [], ◌∷◌, ◌++◌, length, map, take, drop, refl, ap, sym, ◌∙◌, subst, arith, slice_range}
 use Rattle.std.specs.Prelude.{None}
-use Rattle.std.proofs.lemmas.List.{length-append, length-map, length-take, length-drop, map-append, take-map, drop-map}
+use Rattle.std.proofs.lemmas.List.{length-append, length-take, length-drop}
 use Rattle.ed_model.specs.declared.plan.LineEnd.{LineEnd}
-use Rattle.ed_model.specs.Text.{Cell, bytes_of, plain_cells}
-use Rattle.ed_model.specs.Steps.{Step, Insert, Delete, step_bytes, edited, edited_cells}
+use Rattle.ed_model.specs.Steps.{Step, Insert, Delete, step_bytes, edited}
 use Rattle.ed_model.specs.LineEnds.{after_steps, conversion_steps, unwanted_from}
 use Rattle.ed_model.specs.History.{TextStep}
 use Rattle.ed_model.specs.Changes.{marker_count}
 use Rattle.ed_model.specs.Session.{Document, text_of, watching}
 use Rattle.ed_model.specs.Performing.{Scene, step_made, steps_made}
+use Rattle.ed_model.specs.proved.Steps.{bytes_of_edited_cells, length_of_range}
+use Rattle.ed_model.specs.proved.Changes.{length_text}
 use Rattle.document.specs.declared.room.DocumentRoom.{DocumentRoom}
 use Rattle.document.specs.declared.text_step.TextStep.TheVariants as lent
 use Rattle.document.specs.Kept.{Kept, ChangeRoom, HasRoom, TakesRoom, IsAtMost, no_room, with_freed}
@@ -22,7 +23,7 @@ use Rattle.scene.specs.Scenes.{views_of, scene_in, fold_room_in_all, IsWatched}
 use Rattle.scene.specs.Hearing.{bytes_shared, made_kinds}
 use Rattle.scene.specs.Needs.{notes_needed, bytes_needed, NotesAreEnough, BytesAreEnough}
 use Rattle.scene.specs.proved.Enough.{next_notes, next_bytes}
-use Rattle.scene.specs.proved.Rooms.{appended_collects, deletion_needs, length_range, next_room}
+use Rattle.scene.specs.proved.Rooms.{appended_collects, deletion_needs, next_room}
 use Rattle.scene.proofs.PerformedSoFar.{made_none, made_next, spare_next}
 use Rattle.scene.specs.Conversion.{AreLeft, RoomsStay, changes_for, freed_by_all, bytes_for, deletions_of, notes_for, room_of_step, room_of_steps}
 
@@ -38,16 +39,8 @@ few_bytes (s ∷ steps) scene room h = h
 
 -- The text after a step.
 
-bytes_of_plain : (bytes : List ℕ) → bytes_of (plain_cells bytes) ≡ bytes
-bytes_of_plain [] = refl
-bytes_of_plain (b ∷ bs) = ap (λ t. b ∷ t) (bytes_of_plain bs)
-
-bytes_after : (step : Step) (cells : List Cell) → bytes_of (edited_cells step cells) ≡ edited step (bytes_of cells)
-bytes_after (Insert p bytes) cells = simp (map-append, take-map, drop-map, bytes_of_plain)
-bytes_after (Delete p bytes) cells = simp (map-append, take-map, drop-map)
-
 pub text_after : (later : Bool) (s : Step) (scene after : Scene) → after ≡ step_made later s scene → text_of after.document ≡ edited s (text_of scene.document)
-text_after later s scene after e = ap (λ (x : Scene). text_of x.document) e ∙ bytes_after s scene.document.cells
+text_after later s scene after e = ap (λ (x : Scene). text_of x.document) e ∙ bytes_of_edited_cells s scene.document.cells
 
 -- Rooms.
 
@@ -144,9 +137,6 @@ made_left notes_law bytes_law s rest steps later was k0 k k' v0 v v' n0 n n' lef
 
 -- The insertions of a conversion.
 
-length_text : (d : Document) → length (text_of d) ≡ length d.cells
-length_text d = length-map d.cells (λ (c : Cell). c.byte)
-
 -- the insertions from `place` on, and all deletions, remain to be made
 pub record PutsLeft (to : LineEnd) (place : ℕ) (later : Bool) (k0 k : Kept) (v0 v : Entries KeptView) (n0 n : Gathered) : Type 0 where
   pub within : place ≤ length k.document.cells
@@ -238,7 +228,7 @@ take_made notes_law bytes_law to start place later was k0 k k' v0 v v' n0 n n' s
     (take_next to start place later was k0 k v0 v n0 n so next) made watched
     (take_room to start place k (λ need. TakesRoom k.room k'.room need) next takes) notes texts leaves same in
     let w = next.within in
-    let one : length (slice_range (text_of k.document) place (place + 1)) ≡ 1 = length_range k.document.cells place 1 (take_within to start place k next) in
+    let one : length (slice_range (text_of k.document) place (place + 1)) ≡ 1 = length_of_range k.document.cells place 1 (take_within to start place k next) in
     let size : length (text_of k'.document) + 1 ≡ length (text_of k.document) =
     ap (λ t. length t + 1) text ∙ one_shorter place (length (slice_range (text_of k.document) place (place + 1))) (text_of k.document) one w in
     record {

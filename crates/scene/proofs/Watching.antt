@@ -7,12 +7,10 @@ use Rattle.line_index.specs.declared.edit.LineEdit.{LineEdit}
 use Rattle.selection.specs.declared.movements.Movement.{Movement}
 use Rattle.ed_model.specs.Session.{View, view_at, with_view}
 use Rattle.ed_model.specs.SoundLaws.{Rise, IsViewOn, occurrences}
+use Rattle.ed_model.specs.proved.Finding.{view_id, ids_of}
+use Rattle.ed_model.specs.proved.Elements.{all_two}
 use Rattle.ed_view.specs.Moving.{view_moved}
 use Rattle.scene.specs.Following.{with_followed, followed_at, CanFollow, CanFollowInTurn}
-use Rattle.scene.proofs.Followed.{view_id}
-
-abbrev pub ids_of : List View → List ℕ
-ids_of views = map (λ (v : View). v.id) views
 
 module _ (movement : Movement) (edits : List LineEdit) where
   -- the view follows if the id is its own
@@ -187,10 +185,6 @@ module _ (movement : Movement) (edits : List LineEdit) where
 above : (P : View → Type 0) (low high : ℕ) (vs : List View) → Rise low high (ids_of vs) → ((v : View) → low ≤ v.id → P v) → AllByRecursion P vs
 above P low high [] r h = tt
 above P low high (v ∷ vs) r h = (h v r.0, above P (v.id + 1) high vs r.2 (λ u le. h u (let l : low ≤ v.id = r.0 in omega arith)))
-
-all_two : (P Q S : View → Type 0) (vs : List View) → ((v : View) → P v → Q v → S v) → AllByRecursion P vs → AllByRecursion Q vs → AllByRecursion S vs
-all_two P Q S [] h a b = tt
-all_two P Q S (v ∷ vs) h a b = (h v a.0 b.0, all_two P Q S vs h a.1 b.1)
 
 -- each view is found by its id
 pub each_found : (low high : ℕ) (vs : List View) → Rise low high (ids_of vs) → AllByRecursion (λ (v : View). view_at vs v.id ≡ Some v) vs

@@ -2,3 +2,4 @@
 -- assumption.
 pub mod Enough
 pub mod Rooms
+pub mod Watched

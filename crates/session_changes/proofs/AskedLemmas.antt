@@ -7,6 +7,8 @@ use Rattle.ed_model.specs.Session.{Document, View, Session, view_at, document_at
 use Rattle.ed_model.specs.SoundLaws.{IsSoundView, StandsOn}
 use Rattle.ed_model.specs.Requests.{Request}
 use Rattle.ed_model.specs.Changes.{changed_view, view_change_performed}
+use Rattle.ed_model.specs.proved.Finding.{found_once}
+use Rattle.ed_model.specs.proved.Changes.{changed_view_id}
 use Rattle.ed_view.specs.Folding.{fold_need, is_setting, FitChangesAreWithin, IsWithin, HasFoldRoom}
 use Rattle.ed_view.specs.Kept.{KeptView}
 use Rattle.document.specs.Kept.{Kept}
@@ -17,7 +19,7 @@ use Rattle.message_requests.specs.declared.state.SessionState.{SessionState}
 use Rattle.session_changes.specs.Kept.{IsKept}
 use Rattle.session_changes.specs.Asked.{IsAsked, CanChangeView}
 use Rattle.session_changes.specs.Folding.{HasFoldRoomAt, levels_of, changed_at, CanChange}
-use Rattle.session_changes.specs.proved.Finding.{view_in, id_of_view, fold_rooms_in, document_in, id_of_document, IsKeptAs, kept_as, own_at, holds_at, found_once, one_changes}
+use Rattle.session_changes.specs.proved.Finding.{view_in, id_of_view, fold_rooms_in, document_in, id_of_document, IsKeptAs, kept_as, own_at, holds_at, one_changes}
 
 module _ (s : SessionState) (document view : ℕ) (r : Request) (kept : IsKept s) (asked : IsAsked (session_in s) document view r) where
   pub view_found : view_at (session_in s).views view ≡ Some r.view
@@ -56,22 +58,6 @@ module _ (s : SessionState) (document view : ℕ) (r : Request) (kept : IsKept s
       some_same a b e = cc
 
 -- A view changes.
-
-pub id_stays : (levels : List ℕ) (change : ViewChange) (v : View) → (changed_view levels change v).id ≡ v.id
-id_stays levels (view_change.Select anchor caret) v = refl
-id_stays levels (view_change.SetTarget start past) v = refl
-id_stays levels (view_change.SetSearchFlags flags) v = refl
-id_stays levels (view_change.SetMask mask) v = refl
-id_stays levels (view_change.SetIndicator indicator) v = refl
-id_stays levels (view_change.SetIndicatorValue value) v = refl
-id_stays levels (view_change.SetPasteConversion on) v = refl
-id_stays levels (view_change.SetRecording on) v = refl
-id_stays levels (view_change.ShowLines first past) v = refl
-id_stays levels (view_change.HideLines first past) v = refl
-id_stays levels (view_change.SetExpanded line on) v = refl
-id_stays levels (view_change.Contract line) v = refl
-id_stays levels (view_change.Expand line) v = refl
-id_stays levels (view_change.EnsureVisible line) v = refl
 
 -- a setting does not change which lines are hidden or contracted, and so not the room for more of them
 flags_stay : (levels : List ℕ) (change : ViewChange) (v : View) → is_setting change ≡ true → (changed_view levels change v).flags ≡ v.flags
@@ -123,7 +109,7 @@ view_changed_so s document view change views kept k at levels are made next r as
     let old = session_in s in
     let vs : views_of views.entries ≡ with_view (changed_view (levels_of r.document) change r.view) r.session.views =
     made ∙ ap (λ ls. changed_at view (changed_view ls change) old.views) lv
-    ∙ in_its_place s document view r kept asked (changed_view (levels_of r.document) change) (id_stays (levels_of r.document) change r.view) in
+    ∙ in_its_place s document view r kept asked (changed_view (levels_of r.document) change) (changed_view_id (levels_of r.document) change r.view) in
     ap (λ x. record old { views = x; next_view = views.next }) vs
     ∙ ap (λ n. record old { views = with_view (changed_view (levels_of r.document) change r.view) r.session.views; next_view = n }) next
     ∙ ap (λ (x : Session). record x { views = with_view (changed_view (levels_of r.document) change r.view) r.session.views }) (sym asked.session)

@@ -1,24 +1,25 @@
 -- Whole sessions, and results.
-use Rattle.std.proofs.Common.{◌≡◌, ◌≢◌, ℕ, ◌+◌, ◌-◌, ◌<◌, ◌≤◌, ◌==◌, ◌^◌, Bool, true, false, cond, List, [], ◌∷◌, ◌++◌, map, length, refl, ap, sym, ◌∙◌, subst, arith, Option, Some, None, Ok, Err, OnOk, IfSome, IsSomeAnd}
+use Rattle.std.proofs.Common.{◌≡◌, ◌≢◌, ℕ, ◌+◌, ◌-◌, ◌<◌, ◌≤◌, ◌==◌, ◌^◌, Bool, true, false, cond, List, [], ◌∷◌, ◌++◌, map, length, refl, ap, sym, ◌∙◌, subst, arith, Option, Some, None, IfSome, IsSomeAnd}
 use Rattle.std.specs.Global.{Vec, Box}
-use Rattle.std.specs.Prelude.{Result, vec_capacity, filter}
-use Rattle.std.specs.List.{AllByRecursion, range_with_len}
+use Rattle.std.specs.Prelude.{vec_capacity}
+use Rattle.std.specs.List.{AllByRecursion}
 use Rattle.std.proofs.lemmas.Bool.{eq-eqb, ne_eqb}
 use Rattle.std.proofs.lemmas.Bool.Decides.{nat_tests}
 use Rattle.std.proofs.lemmas.List.{length-map, map-append}
-use Rattle.std.proofs.lemmas.List.FromFn.{length-range_with_len}
 use Rattle.ed_types.specs.declared.limits.Limits.{Limits}
-use Rattle.ed_model.specs.declared.plan.LineEndTypes.{LineEndTypes}
 use Rattle.ed_model.specs.declared.plan.ViewChange.{ViewChange}
 use Rattle.ed_model.specs.declared.plan.SessionChange.{SessionChange}
 use Rattle.ed_model.specs.declared.plan.SessionChange.TheVariants as change
 use Rattle.ed_model.specs.Text.{Cell}
-use Rattle.ed_model.specs.Lines.{line_count, is_line_start}
 use Rattle.ed_model.specs.Session.{Session, Document, View, view_at, document_at, text_of, lines_in, references, living, left_by, is_allowed, is_large, attached_to, new_document, with_view}
 use Rattle.ed_model.specs.SoundLaws.{Rise, IsSoundDocument, ListsItsViews}
 use Rattle.ed_model.specs.Requests.{Request}
 use Rattle.ed_model.specs.PlansFit.{IsFitSessionChange}
 use Rattle.ed_model.specs.Changes.{session_changed, held_less, attached, attached_last, with_attached, with_new_document}
+use Rattle.ed_model.specs.proved.Limits.{allowed_lengths}
+use Rattle.ed_model.specs.proved.Lines.{few_lines}
+use Rattle.ed_model.specs.proved.Finding.{rise_added}
+use Rattle.ed_model.specs.proved.Elements.{all_added}
 use Rattle.document.specs.Kept.{Kept}
 use Rattle.document.specs.declared.kept.Document.{Document as KeptDocument}
 use Rattle.document_table.specs.Leaving.{documents_in as entries_in, let_go, released, LeavesTheLiving}
@@ -40,10 +41,6 @@ use Rattle.session_changes.specs.proved.Finding.{document_in, id_of_document, ow
 use Rattle.session_changes.specs.proved.Names.{without_itself, none_listed}
 use Rattle.session_changes.proofs.AskedLemmas.{of_document, view_found, on_document, document_found, kept_view, kept_document, stands, in_its_place}
 use Rattle.session_changes.proofs.MovingLemmas.{ChangesAlike, living_left}
-
-pub when_ok : {A E : Type 0} (r : Result A E) (P Q : Type 0) → OnOk r P → (P → Q) → OnOk r Q
-when_ok (Ok a) P Q h f = f h
-when_ok (Err e) P Q h f = tt
 
 pub for_some : {V : Type 0} (P : V → Type 0) (o : Option V) (v : V) → o ≡ Some v → P v → IfSome o P
 for_some P o v e h = subst (λ x. IfSome x P) (sym e) h
@@ -116,23 +113,9 @@ clipboard_so s document view text what bytes done kept ready put r asked is =
 pub held_few : (l : Limits) → is_allowed l ≡ true → l.refs ≤ 2 ^ 31 - 1
 held_few l h = grind (arith, nat_tests)
 
-pub texts_few : (l : Limits) → is_allowed l ≡ true → (l.doc_bytes ≤ 2 ^ 31 - 1) × (l.large_bytes ≤ 2 ^ 40)
-texts_few l h = (grind (arith, nat_tests), grind (arith, nat_tests))
-
 limit_few : (b : Bool) (l : Limits) → (l.doc_bytes ≤ 2 ^ 31 - 1) × (l.large_bytes ≤ 2 ^ 40) → cond b l.large_bytes l.doc_bytes ≤ 2 ^ 40
 limit_few true l h = h.1
 limit_few false l h = (let small = h.0 in omega (arith, small))
-
-one_more : {X : Type 0} (b : Bool) (x : X) (kept : List X) (n : ℕ) → length kept ≤ n → length (cond b (x ∷ kept) kept) ≤ n + 1
-one_more true x kept n h = omega (arith, h)
-one_more false x kept n h = omega (arith, h)
-
-few_pass : {X : Type 0} (p : X → Bool) (xs : List X) → length (filter p xs) ≤ length xs
-few_pass p [] = omega arith
-few_pass p (x ∷ xs) = omega (arith, one_more (p x) x (filter p xs) (length xs) (few_pass p xs))
-
-few_lines : (types : LineEndTypes) (text : List ℕ) → line_count types text ≤ length text + 1
-few_lines types text = omega (arith, few_pass (is_line_start types text) (range_with_len 0 (length text + 1)), length-range_with_len 0 (length text + 1))
 
 -- a view has fewer than 2^63 lines
 pub few_flags : (s : SessionState) (document view : ℕ) (r : Request) → IsKept s → IsAsked (session_in s) document view r → IsSomeAnd (value_at s.views.entries view) (λ v. length v.view.flags < 2 ^ 63)
@@ -141,7 +124,7 @@ few_flags s document view r kept asked =
     let stand = stands s document view r kept asked in
     let flags : length there.value.view.flags ≡ lines_in r.document = ap (λ (x : View). length x.flags) there.is ∙ stand.lines in
     let sound : IsSoundDocument s.limits r.document = holds_at id_of_document (IsSoundDocument s.limits) (session_in s).documents document r.document kept.sound.documents (document_found s document view r kept asked) in
-    let small = limit_few (is_large r.document) s.limits (texts_few s.limits kept.limits) in
+    let small = limit_few (is_large r.document) s.limits (allowed_lengths s.limits kept.limits) in
     let cells : length (text_of r.document) ≡ length r.document.cells = length-map r.document.cells (λ (c : Cell). c.byte) in
     let few : length there.value.view.flags < 2 ^ 63 = omega (arith, flags, few_lines r.document.line_end_types (text_of r.document), cells, sound.bounded, small) in
     subst (λ o. IsSomeAnd o (λ v. length v.view.flags < 2 ^ 63)) (sym there.there) few
@@ -234,16 +217,8 @@ attached_so old new view to v k named at own here documents views next_document 
 
 -- A new document.
 
-rise_more : (low high : ℕ) (ids : List ℕ) → low ≤ high → Rise low high ids → Rise low (high + 1) (ids ++ high ∷ [])
-rise_more low high [] l r = (l, omega arith, tt)
-rise_more low high (id ∷ ids) l r = (let above = r.1 in (r.0, omega (arith, above), rise_more (id + 1) high ids (omega (arith, above)) r.2))
-
-all_more : {X : Type 0} (P : X → Type 0) (xs : List X) (x : X) → AllByRecursion P xs → P x → AllByRecursion P (xs ++ x ∷ [])
-all_more P [] x all is = (is, tt)
-all_more P (y ∷ ys) x all is = (all.0, all_more P ys x all.1 is)
-
 pub named_more : (entries : List (Entry Kept)) (next : ℕ) (k : Kept) → DocumentsAreNamed entries → k.document.id ≡ next → DocumentsAreNamed (entries ++ entry next k ∷ [])
-named_more entries next k named is = all_more (λ (e : Entry Kept). e.id ≡ e.value.document.id) entries (entry next k) named (sym is)
+named_more entries next k named is = all_added (λ (e : Entry Kept). e.id ≡ e.value.document.id) entries (entry next k) named (sym is)
 
 pub value_last : (low next : ℕ) (entries : List (Entry Kept)) (k : Kept) → DocumentsAreNamed entries → Rise low next (map (λ (d : Document). d.id) (map (λ (e : Entry Kept). e.value.document) entries))
     → value_at (entries ++ entry next k ∷ []) next ≡ Some k
@@ -275,7 +250,7 @@ module _ (s : SessionState) (document view : ℕ) (r : Request) (kept : IsKept s
       ap (map (λ (d : Document). d.id)) documents_more ∙ map-append (λ (d : Document). d.id) (documents_in s.documents) (k.document ∷ [])
       ∙ ap (λ n. map (λ (d : Document). d.id) (documents_in s.documents) ++ n ∷ []) is in
       subst (λ n. Rise 0 n (map (λ (d : Document). d.id) (documents_in more))) (sym next)
-      (subst (Rise 0 (s.documents.next + 1)) (sym ids) (rise_more 0 s.documents.next (map (λ (d : Document). d.id) (documents_in s.documents)) (omega arith) kept.sound.document_ids))
+      (subst (Rise 0 (s.documents.next + 1)) (sym ids) (rise_added 0 s.documents.next (map (λ (d : Document). d.id) (documents_in s.documents)) (omega arith) kept.sound.document_ids))
 
   pub can_attach_new : AwaitsView s.documents.next k → CanMove more document view s.documents.next
   can_attach_new awaits =
@@ -285,11 +260,11 @@ module _ (s : SessionState) (document view : ℕ) (r : Request) (kept : IsKept s
         named = all_named is;
         rise = all_rise is;
         elsewhere = subst (AllByRecursion (λ (d : Document). d.id ≢ document → left_by view d ≡ d)) (sym documents_more)
-            (all_more (λ (d : Document). d.id ≢ document → left_by view d ≡ d) (documents_in s.documents) k.document
+            (all_added (λ (d : Document). d.id ≢ document → left_by view d ≡ d) (documents_in s.documents) k.document
             (listed_elsewhere (session_in s).views r.view view document (session_in s).documents (view_found s document view r kept asked) (on_document s document view r kept asked) kept.sound.lists)
             (subst (λ (d : Document). d.id ≢ document → left_by view d ≡ d) (sym new) (λ _. refl)));
         referenced = subst (AllByRecursion (λ (d : Document). d.id ≢ s.documents.next → 0 < references d)) (sym documents_more)
-            (all_more (λ (d : Document). d.id ≢ s.documents.next → 0 < references d) (documents_in s.documents) k.document
+            (all_added (λ (d : Document). d.id ≢ s.documents.next → 0 < references d) (documents_in s.documents) k.document
             (though_not s.documents.next (session_in s).documents (referenced s.limits (session_in s).documents kept.sound.documents))
             (λ other. absurd (other is)));
         place = subst (λ o. IsSomeAnd o (λ k. 0 < k.spare.views)) (sym last_at) awaits.1;

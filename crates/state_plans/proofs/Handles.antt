@@ -1,15 +1,15 @@
 -- The handle of a marker is below the next handle.
-use Rattle.std.proofs.Common.{◌≡◌, ℕ, zero, suc, ◌+◌, Bool, true, false, cond, List, [], ◌∷◌, ◌++◌, length, map, refl, arith, length-append}
+use Rattle.std.proofs.Common.{◌≡◌, ℕ, zero, suc, Bool, true, false, cond, List, [], ◌∷◌, length, map, refl, arith}
 use Rattle.std.specs.Prelude.{ℤ, pos, negsuc, ◌==◌, ◌||◌, None, find, filter, slice_index_or}
 use Rattle.std.specs.List.{range_with_len, list_any}
-use Rattle.std.proofs.lemmas.List.Elements.{filter-append}
 use Rattle.ed_model.specs.Numbers.{within}
 use Rattle.ed_model.specs.Rows.{Row, Marker, fresh_row}
 use Rattle.ed_model.specs.SoundLaws.{occurrences, handles_in}
 use Rattle.ed_model.specs.Requests.{Request, line_total}
 use Rattle.ed_model.specs.LinePlans.{row_at, has_handle, line_of_handle}
 use Rattle.ed_model.specs.PlansFit.{IsSoundRequest}
-use Rattle.message_requests.specs.proved.Standing.{document_sound}
+use Rattle.ed_model.specs.proved.Requests.{request_document}
+use Rattle.ed_model.specs.proved.Finding.{occurrences_append}
 use Rattle.message_requests.specs.proved.Ranges.{outside}
 
 none_found : {X : Type 0} (test : X → Bool) (xs : List X) → ((x : X) → test x ≡ false) → find test xs ≡ None
@@ -31,9 +31,6 @@ absent n (m ∷ ms) e = go (m.handle == n) (absent n ms) e
     go true h e = absurd (omega (arith, e))
     go false h e = h e
 
-occurrences_append : (n : ℕ) (xs ys : List ℕ) → occurrences n (xs ++ ys) ≡ occurrences n xs + occurrences n ys
-occurrences_append n xs ys = simp (filter-append, length-append)
-
 absent_at : (n : ℕ) (rows : List Row) (line : ℕ) → occurrences n (handles_in rows) ≡ 0 → list_any (has_handle (pos n)) (slice_index_or rows line fresh_row).markers ≡ false
 absent_at n [] line e = refl
 absent_at n (row ∷ rows) zero e =
@@ -45,7 +42,7 @@ absent_in : (r : Request) → IsSoundRequest r → (w : ℤ) → within 0 r.docu
 absent_in r s (negsuc n) e line = negative n (row_at r line).markers
 absent_in r s (pos n) e line =
     let far = outside r.document.next_handle n e in
-    absent_at n r.document.rows line ((document_sound r s).handles_below n (omega (arith, far)))
+    absent_at n r.document.rows line ((request_document r s).handles_below n (omega (arith, far)))
 
 pub no_handle : (r : Request) → IsSoundRequest r → within 0 r.document.next_handle r.message.w ≡ None → line_of_handle r ≡ None
 no_handle r s e = none_found (λ line. list_any (has_handle r.message.w) (row_at r line).markers) (range_with_len 0 (line_total r)) (absent_in r s r.message.w e)

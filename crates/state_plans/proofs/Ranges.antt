@@ -1,6 +1,6 @@
 -- Lines that a search returns are lines of the document.
 use Rattle.std.proofs.Common.{◌≡◌, ℕ, zero, suc, ◌+◌, ◌-◌, ◌<◌, ◌≤◌, ◌^◌, min, Bool, true, false, cond, List, [], ◌∷◌, length, sym, arith, length-take}
-use Rattle.std.specs.Prelude.{ℤ, pos, negsuc, ◌==◌, Option, Some, None, filter, take, slice_get, unwrap_or, IfSome}
+use Rattle.std.specs.Prelude.{ℤ, pos, negsuc, ◌==◌, Option, Some, None, take, slice_get, unwrap_or, IfSome}
 use Rattle.std.specs.List.{range_with_len, AllByRecursion}
 use Rattle.std.proofs.lemmas.List.Sums.{count_by-le-length}
 use Rattle.ed_model.specs.Rows.{Row, Flags}
@@ -8,6 +8,7 @@ use Rattle.ed_model.specs.Folding.{is_header, is_parent_of, fold_parent, fold_he
 use Rattle.ed_model.specs.DisplayLines.{display_line, visible_lines, line_shown}
 use Rattle.ed_model.specs.Requests.{Request}
 use Rattle.ed_model.specs.FoldingPlans.{line_shown_at}
+use Rattle.ed_model.specs.proved.Elements.{all_filter}
 use Rattle.line_rows.specs.Kept.{first_from, last_up_to}
 use Rattle.message_requests.specs.proved.Ranges.{all_range, found_in_range, found_back_in_range}
 
@@ -36,14 +37,6 @@ display_bounded flags line =
     let few = count_by-le-length (λ (f : Flags). f.visible) (take (line + 1) flags) in
     let short = length-take (line + 1) flags in
     omega arith
-
-all_filter : {X : Type 0} (P : X → Type 0) (p : X → Bool) → (xs : List X) → AllByRecursion P xs → AllByRecursion P (filter p xs)
-all_filter P p [] a = tt
-all_filter P p (x ∷ xs) a = go (p x) (all_filter P p xs a.1)
-  where
-    go : (b : Bool) → AllByRecursion P (filter p xs) → AllByRecursion P (cond b (x ∷ filter p xs) (filter p xs))
-    go true rest = (a.0, rest)
-    go false rest = rest
 
 at_or : (xs : List ℕ) (i top : ℕ) → AllByRecursion (λ k. k < top) xs → unwrap_or (slice_get xs i) top ≤ top
 at_or [] i top a = omega arith

@@ -1,11 +1,10 @@
 -- A number that is found in a range lies in this range.
-use Rattle.std.proofs.Common.{◌≡◌, ℕ, zero, suc, ◌+◌, ◌<◌, ◌≤◌, Bool, true, false, cond, List, [], ◌∷◌, ◌++◌, reverse, refl, sym, subst, arith}
+use Rattle.std.proofs.Common.{◌≡◌, ℕ, zero, suc, ◌+◌, ◌<◌, ◌≤◌, Bool, true, false, cond, reverse, refl, arith}
 use Rattle.std.specs.Prelude.{pos, Some, None, find, nat_le, ◌&&◌}
 use Rattle.std.specs.List.{range_with_len, AllByRecursion}
-use Rattle.std.proofs.lemmas.List.{reverse-append}
 use Rattle.std.proofs.lemmas.Bool.Decides.{nat_tests}
 use Rattle.ed_model.specs.Numbers.{within}
-use Rattle.message_requests.specs.proved.Standing.{found_all}
+use Rattle.ed_model.specs.proved.Elements.{found_all, all_reverse}
 
 -- a number that is not in the range from 0 to `high` is above `high`
 pub outside : (high n : ℕ) → within 0 high (pos n) ≡ None → high < n
@@ -14,14 +13,6 @@ outside high n e = go (nat_le 0 n && nat_le n high) refl e
     go : (b : Bool) → (nat_le 0 n && nat_le n high) ≡ b → cond b (Some n) None ≡ None → high < n
     go true t e = absurd (cc)
     go false t e = grind (arith, nat_tests)
-
-all_append : {X : Type 0} (P : X → Type 0) (xs ys : List X) → AllByRecursion P xs → AllByRecursion P ys → AllByRecursion P (xs ++ ys)
-all_append P [] ys a b = b
-all_append P (x ∷ xs) ys a b = (a.0, all_append P xs ys a.1 b)
-
-all_reverse : {X : Type 0} (P : X → Type 0) (xs : List X) → AllByRecursion P xs → AllByRecursion P (reverse xs)
-all_reverse P [] a = tt
-all_reverse P (x ∷ xs) a = subst (AllByRecursion P) (sym (reverse-append (x ∷ []) xs)) (all_append P (reverse xs) (x ∷ []) (all_reverse P xs a.1) (a.0, tt))
 
 pub all_range : (from n top : ℕ) → (0 < n → from + n ≤ top) → AllByRecursion (λ k. k < top) (range_with_len from n)
 all_range from zero top h = tt

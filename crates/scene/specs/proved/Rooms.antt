@@ -1,26 +1,24 @@
 -- Room in the document for steps in turn is enough for the first of them, and what that one leaves is enough for the others.
 use Rattle.std.proofs.Common.{◌≡◌, ℕ, ◌+◌, ◌-◌, ◌≤◌, ◌^◌, min, Bool, true, false, List, [], ◌∷◌, length, refl, ap, sym, ◌∙◌, arith, slice_range}
-use Rattle.std.proofs.lemmas.List.{length-map, length-take, length-drop}
 use Rattle.ed_model.specs.declared.plan.LineEndTypes.{LineEndTypes}
-use Rattle.ed_model.specs.Text.{Cell, bytes_of}
 use Rattle.ed_model.specs.Steps.{Step, Insert, Delete}
 use Rattle.ed_model.specs.History.{History, Change, TextStep, appended}
 use Rattle.ed_model.specs.Session.{Document, text_of}
+use Rattle.ed_model.specs.proved.Steps.{length_of_range}
 use Rattle.document.specs.declared.room.DocumentRoom.{DocumentRoom}
 use Rattle.document.specs.declared.text_step.TextStep.TheVariants as lent
-use Rattle.document.specs.Kept.{Kept, HasRoom, TakesRoom}
+use Rattle.document.specs.Kept.{Kept, document_room, HasRoom, TakesRoom}
 use Rattle.document.specs.TextSteps.{bytes_out, need_of}
 use Rattle.scene.specs.Undoing.{both_rooms, free_behind}
 use Rattle.scene.specs.Conversion.{room_of_step, room_of_steps, room_of_steps_beside}
 
-pub length_range : (cells : List Cell) (start count : ℕ) → start + count ≤ length cells → length (slice_range (bytes_of cells) start (start + count)) ≡ count
-length_range cells start count h =
-    let long : length (bytes_of cells) ≡ length cells = length-map cells (λ (c : Cell). c.byte) in
-    simp (length-take, length-drop) (omega (arith, long))
+-- rooms are equal if each amount is
+pub same_room : (a b c d e a' b' c' d' e' : ℕ) → a ≡ a' → b ≡ b' → c ≡ c' → d ≡ d' → e ≡ e' → document_room a b c d e ≡ document_room a' b' c' d' e'
+same_room a b c d e a' b' c' d' e' p q r s t = cc
 
 pub deletion_needs : (types : LineEndTypes) (d : Document) (start count : ℕ) → start + count ≤ length d.cells
     → room_of_step types (Delete start (slice_range (text_of d) start (start + count))) ≡ need_of types (lent.Delete start count)
-deletion_needs types d start count h = ap (λ n. room_of_count n) (length_range d.cells start count h)
+deletion_needs types d start count h = ap (λ n. room_of_count n) (length_of_range d.cells start count h)
   where
     room_of_count : ℕ → DocumentRoom
     room_of_count n = record { text = 0; lines = 3; insertions = 0; steps = 1; bytes = n }

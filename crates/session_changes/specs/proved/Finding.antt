@@ -5,6 +5,8 @@ use Rattle.std.specs.List.{AllByRecursion}
 use Rattle.std.proofs.lemmas.Bool.{eqb-true, eqb-false, eq-eqb, ne_eqb}
 use Rattle.ed_model.specs.SoundLaws.{Rise}
 use Rattle.ed_model.specs.Session.{Document, View}
+use Rattle.ed_model.specs.proved.Elements.{found_test, found_all}
+use Rattle.ed_model.specs.proved.Finding.{found_once}
 use Rattle.document.specs.Kept.{Kept}
 use Rattle.ed_view.specs.Kept.{KeptView, contracted_in_all}
 use Rattle.id_table.specs.Entries.{Entry, entry, value_of, value_at, with_value_at}
@@ -15,39 +17,10 @@ module _ {X : Type 0} (own : X → ℕ) where
   at_id xs id = find (λ x. own x == id) xs
 
   pub own_at : (xs : List X) (id : ℕ) (x : X) → at_id xs id ≡ Some x → own x ≡ id
-  own_at [] id x e = absurd (cc)
-  own_at (y ∷ ys) id x e = go (own y == id) refl e (λ e. own_at ys id x e)
-    where
-      go : (b : Bool) → (own y == id) ≡ b → cond b (Some y) (at_id ys id) ≡ Some x → (at_id ys id ≡ Some x → own x ≡ id) → own x ≡ id
-      go true t e rest = let same : y ≡ x = cc in ap own (sym same) ∙ eqb-true (own y) id t
-      go false t e rest = rest e
+  own_at xs id x e = eqb-true (own x) id (found_test (λ x. own x == id) xs x e)
 
   pub holds_at : (P : X → Type 0) (xs : List X) (id : ℕ) (x : X) → AllByRecursion P xs → at_id xs id ≡ Some x → P x
-  holds_at P [] id x all e = absurd (cc)
-  holds_at P (y ∷ ys) id x all e = go (own y == id) e (λ e. holds_at P ys id x all.1 e)
-    where
-      go : (b : Bool) → cond b (Some y) (at_id ys id) ≡ Some x → (at_id ys id ≡ Some x → P x) → P x
-      go true e rest = let same : y ≡ x = cc in subst P same all.0
-      go false e rest = rest e
-
-  none_above : (P : X → Type 0) (id low high : ℕ) (xs : List X) → Rise low high (map own xs) → id < low → AllByRecursion (λ x. own x ≡ id → P x) xs
-  none_above P id low high [] r l = tt
-  none_above P id low high (x ∷ xs) r l =
-      let ge : low ≤ own x = r.0 in ((λ e. absurd (omega (arith, e, ge, l))), none_above P id (own x + 1) high xs r.2 (omega (arith, ge, l)))
-
-  -- ids rise, so no two values have the same id
-  pub found_once : (low high : ℕ) (xs : List X) (id : ℕ) (w : X) → Rise low high (map own xs) → at_id xs id ≡ Some w → AllByRecursion (λ x. own x ≡ id → x ≡ w) xs
-  found_once low high [] id w r e = tt
-  found_once low high (x ∷ xs) id w r e = go (own x == id) refl e (λ e. found_once (own x + 1) high xs id w r.2 e)
-    where
-      go : (b : Bool) → (own x == id) ≡ b → cond b (Some x) (at_id xs id) ≡ Some w
-          → (at_id xs id ≡ Some w → AllByRecursion (λ x. own x ≡ id → x ≡ w) xs)
-          → (own x ≡ id → x ≡ w) × AllByRecursion (λ x. own x ≡ id → x ≡ w) xs
-      go true t e rest =
-          let same = eqb-true (own x) id t in
-          let is : x ≡ w = cc in
-          ((λ _. is), none_above (λ x. x ≡ w) id (own x + 1) high xs r.2 (omega (arith, same)))
-      go false t e rest = ((λ same. absurd (eqb-false (own x) id t same)), rest e)
+  holds_at P xs id x all e = found_all P (λ x. own x == id) xs x all e
 
   pub one_changes : (g : X → X) (id : ℕ) (w : X) (xs : List X) → AllByRecursion (λ x. own x ≡ id → x ≡ w) xs
       → map (λ x. if own x == id then g w else x) xs ≡ map (λ x. if own x == id then g x else x) xs

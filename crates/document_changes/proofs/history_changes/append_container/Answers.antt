@@ -1,5 +1,6 @@
 use Rattle.std.proofs.Common.{List, [], refl, sym, ap, ◌∙◌, subst, w64}
 use Rattle.std.specs.Prelude.{◌&&◌, ℤ}
+use Rattle.std.proofs.lemmas.Bool.{cond-true, cond-false}
 use Rattle.std.proofs.lemmas.Int.{to_z-of_z}
 use Rattle.ed_types.specs.Notices.{Notice}
 use Rattle.ed_model.specs.declared.plan.DocumentChange.TheVariants as change
@@ -8,7 +9,6 @@ use Rattle.ed_model.specs.Notes.{told, blank, save_point_left}
 use Rattle.ed_model.specs.Changes.{changed_document}
 use Rattle.scene.specs.Scenes.{watchers}
 use Rattle.document_changes.specs.Changed.{AreTold}
-use Rattle.document_changes.proofs.Counts.{choose_true, choose_false}
 use Rattle.document_changes.proofs.Told.{told_nothing}
 use Rattle.document_changes.proofs.Unmoved.{is_changed}
 use Rattle.document_changes.proofs.history_changes.append_container.Goals as goal
@@ -21,7 +21,7 @@ returns-then-is_left-clause-changed c = λ text sender.
     ∙ ap (λ (z : ℤ). changed_document text (change.AppendContainer z c.args.coalesce) d) (to_z-of_z w64 c.args.token c.ranges.token) in
     is_changed text (change.AppendContainer c.args.token c.args.coalesce) sender d _ c.args.views.now c.args.notes.now _ refl c.requires.watched made
     (λ v _. subst (λ (ts : List Notice). AreTold ts c.args.notes.now c.tell_all.new.notes)
-    (sym (choose_true (d.history.collecting && at_save_point d.history) (told views (blank save_point_left)) [] (sym c.leaves_save_point-is_left.ensures ∙ c.if-is_left.true)))
+    (sym (cond-true (d.history.collecting && at_save_point d.history) (told views (blank save_point_left)) [] (sym c.leaves_save_point-is_left.ensures ∙ c.if-is_left.true)))
     (rw made at c.tell_all.ensures))
 
 pub returns-else-is_left-clause-changed : goal.returns-else-is_left-clause-changed
@@ -32,5 +32,5 @@ returns-else-is_left-clause-changed c = λ text sender.
     ∙ ap (λ (z : ℤ). changed_document text (change.AppendContainer z c.args.coalesce) d) (to_z-of_z w64 c.args.token c.ranges.token) in
     is_changed text (change.AppendContainer c.args.token c.args.coalesce) sender d _ c.args.views.now c.args.notes.now _ refl c.requires.watched made
     (λ v _. subst (λ (ts : List Notice). AreTold ts c.args.notes.now c.args.notes.now)
-    (sym (choose_false (d.history.collecting && at_save_point d.history) (told views (blank save_point_left)) [] (sym c.leaves_save_point-is_left.ensures ∙ c.if-is_left.false)))
+    (sym (cond-false (d.history.collecting && at_save_point d.history) (told views (blank save_point_left)) [] (sym c.leaves_save_point-is_left.ensures ∙ c.if-is_left.false)))
     (told_nothing c.args.notes.now))

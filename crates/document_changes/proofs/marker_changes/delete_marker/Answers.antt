@@ -2,9 +2,10 @@ use Rattle.std.proofs.Common.{List, [], refl, sym, ◌∙◌, subst}
 use Rattle.ed_types.specs.Notices.{Notice}
 use Rattle.ed_model.specs.declared.plan.DocumentChange.TheVariants as change
 use Rattle.ed_model.specs.Changes.{changed_document}
+use Rattle.std.proofs.lemmas.Bool.{not-true, not-false}
 use Rattle.scene.specs.Scenes.{watchers}
 use Rattle.document_changes.specs.Changed.{AreTold}
-use Rattle.document_changes.proofs.Counts.{marker_told, marker_untold, not_true, not_false}
+use Rattle.document_changes.proofs.Counts.{marker_told, marker_untold}
 use Rattle.document_changes.proofs.Told.{told_nothing}
 use Rattle.document_changes.proofs.Unmoved.{is_changed}
 use Rattle.document_changes.proofs.marker_changes.delete_marker.Goals as goal
@@ -17,7 +18,7 @@ returns-then-delete_marker-clause-changed c = λ text sender.
     let went = rw made at (sym c.delete_marker.ensures.went ∙ c.if-delete_marker.true) in
     is_changed text what sender d _ c.args.views.now c.args.notes.now _ refl c.requires.watched made
     (λ v _. rw made (subst (λ (ts : List Notice). AreTold ts c.args.notes.now c.tell_markers.new.notes)
-    (marker_told c.args.line d (changed_document [] what d) (watchers d c.args.views.now) (not_true _ went))
+    (marker_told c.args.line d (changed_document [] what d) (watchers d c.args.views.now) (not-true _ went))
     (rw made at c.tell_markers.ensures)))
 
 pub returns-else-delete_marker-clause-changed : goal.returns-else-delete_marker-clause-changed
@@ -28,5 +29,5 @@ returns-else-delete_marker-clause-changed c = λ text sender.
     let went = rw made at (sym c.delete_marker.ensures.went ∙ c.if-delete_marker.false) in
     is_changed text what sender d _ c.args.views.now c.args.notes.now _ refl c.requires.watched made
     (λ v _. rw made (subst (λ (ts : List Notice). AreTold ts c.args.notes.now c.args.notes.now)
-    (marker_untold c.args.line d (changed_document [] what d) (watchers d c.args.views.now) (not_false _ went))
+    (marker_untold c.args.line d (changed_document [] what d) (watchers d c.args.views.now) (not-false _ went))
     (told_nothing c.args.notes.now)))

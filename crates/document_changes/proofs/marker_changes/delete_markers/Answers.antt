@@ -1,5 +1,6 @@
 use Rattle.std.proofs.Common.{◌≡◌, List, [], refl, sym, ap, ◌∙◌, subst}
 use Rattle.std.specs.Prelude.{◌==◌, negsuc}
+use Rattle.std.proofs.lemmas.Bool.{cond-true, cond-false, not-true, not-false}
 use Rattle.ed_types.specs.Notices.{Notice}
 use Rattle.ed_types.specs.Heard.{with_text}
 use Rattle.ed_model.specs.declared.plan.DocumentChange.TheVariants as change
@@ -7,7 +8,6 @@ use Rattle.ed_model.specs.Changes.{changed_document, marker_count}
 use Rattle.ed_model.specs.Notes.{heard, change_note, change_marker}
 use Rattle.scene.specs.Scenes.{watchers}
 use Rattle.document_changes.specs.Changed.{AreTold}
-use Rattle.document_changes.proofs.Counts.{not_true, not_false, choose_true, choose_false}
 use Rattle.document_changes.proofs.Told.{told_nothing}
 use Rattle.document_changes.proofs.Unmoved.{is_changed}
 use Rattle.document_changes.proofs.marker_changes.delete_markers.Goals as goal
@@ -25,7 +25,7 @@ returns-then-delete_markers-clause-changed c = λ text sender.
     ap (λ (m : Notice). record m { line = negsuc 0 }) (c.change_note-note.ensures.note []) in
     is_changed text what sender d _ c.args.views.now c.args.notes.now _ refl c.requires.watched made
     (λ v _. rw made (subst (λ (ts : List Notice). AreTold ts c.args.notes.now c.tell_heard.new.notes)
-    (ap (λ (m : Notice). heard views m) is ∙ sym (choose_false (marker_count d.rows == marker_count new.rows) [] (heard views n) (not_true _ went)))
+    (ap (λ (m : Notice). heard views m) is ∙ sym (cond-false (marker_count d.rows == marker_count new.rows) [] (heard views n) (not-true _ went)))
     (rw made at c.tell_heard.ensures)))
 
 pub returns-else-delete_markers-clause-changed : goal.returns-else-delete_markers-clause-changed
@@ -39,5 +39,5 @@ returns-else-delete_markers-clause-changed c = λ text sender.
     let n = let m = change_note change_marker in record m { line = negsuc 0 } in
     is_changed text what sender d _ c.args.views.now c.args.notes.now _ refl c.requires.watched made
     (λ v _. rw made (subst (λ (ts : List Notice). AreTold ts c.args.notes.now c.args.notes.now)
-    (sym (choose_true (marker_count d.rows == marker_count new.rows) [] (heard views n) (not_false _ went)))
+    (sym (cond-true (marker_count d.rows == marker_count new.rows) [] (heard views n) (not-false _ went)))
     (told_nothing c.args.notes.now)))

@@ -1,5 +1,5 @@
 use Rattle.std.proofs.Common.{List, [], refl, sym, ap, ◌∙◌, subst}
-use Rattle.std.proofs.lemmas.Bool.{eq-eqb, ne_eqb}
+use Rattle.std.proofs.lemmas.Bool.{eq-eqb, ne_eqb, cond-true, cond-false}
 use Rattle.std.specs.Prelude.{◌==◌}
 use Rattle.ed_types.specs.Notices.{Notice}
 use Rattle.ed_model.specs.declared.plan.DocumentChange.TheVariants as change
@@ -9,7 +9,6 @@ use Rattle.document.specs.Kept.{Kept}
 use Rattle.scene.specs.Scenes.{watchers}
 use Rattle.document_changes.specs.Changed.{AreTold}
 use Rattle.document_changes.specs.Lines.{level_notice}
-use Rattle.document_changes.proofs.Counts.{choose_true, choose_false}
 use Rattle.document_changes.proofs.Told.{told_nothing, told_nobody}
 use Rattle.document_changes.proofs.Unmoved.{is_changed}
 use Rattle.document_changes.proofs.row_changes.set_level.Goals as goal
@@ -23,7 +22,7 @@ returns-then-before-level-clause-changed c = λ text sender.
     let same = eq-eqb old c.args.level (sym c.set_level-before.ensures.before ∙ c.if-before-level.true) in
     is_changed text (change.SetLevel c.args.line c.args.level) sender d _ c.args.views.now c.args.notes.now _ refl c.requires.watched made
     (λ v _. subst (λ (ts : List Notice). AreTold ts c.args.notes.now c.args.notes.now)
-    (sym (choose_true (old == c.args.level) [] (heard views (level_notice c.args.line c.args.level old)) same))
+    (sym (cond-true (old == c.args.level) [] (heard views (level_notice c.args.line c.args.level old)) same))
     (told_nothing c.args.notes.now))
 
 pub returns-then-is_full-clause-changed : goal.returns-then-is_full-clause-changed
@@ -36,7 +35,7 @@ returns-then-is_full-clause-changed c = λ text sender.
     let n = level_notice c.args.line c.args.level old in
     is_changed text (change.SetLevel c.args.line c.args.level) sender d _ c.args.views.now c.args.notes.now _ refl c.requires.watched made
     (λ v _. subst (λ (ts : List Notice). AreTold ts c.args.notes.now c.args.notes.now)
-    (sym (choose_false (old == c.args.level) [] (heard views n) other))
+    (sym (cond-false (old == c.args.level) [] (heard views n) other))
     (told_nobody views n c.args.notes.now c.requires.room (sym c.is_full.ensures ∙ c.if-is_full.true)))
 
 pub returns-clause-changed : goal.returns-clause-changed
@@ -48,5 +47,5 @@ returns-clause-changed c = λ text sender.
     let other = ne_eqb old c.args.level (λ e. c.if-before-level.false (c.set_level-before.ensures.before ∙ e)) in
     is_changed text (change.SetLevel c.args.line c.args.level) sender d _ c.args.views.now c.args.notes.now _ refl c.requires.watched made
     (λ v _. subst (λ (ts : List Notice). AreTold ts c.args.notes.now c.tell_level.new.notes)
-    (ap (λ b. heard views (level_notice c.args.line c.args.level b)) c.set_level-before.ensures.before ∙ sym (choose_false (old == c.args.level) [] (heard views (level_notice c.args.line c.args.level old)) other))
+    (ap (λ b. heard views (level_notice c.args.line c.args.level b)) c.set_level-before.ensures.before ∙ sym (cond-false (old == c.args.level) [] (heard views (level_notice c.args.line c.args.level old)) other))
     (rw made at c.tell_level.ensures))

@@ -2,6 +2,7 @@ use Rattle.std.proofs.Common.{List, [], refl, sym, ap, ◌∙◌, subst, w32, w6
 use Rattle.std.proofs.lemmas.Int.{to_z-of_z}
 use mir.Val.{to_z, of_z}
 use Rattle.std.specs.Prelude.{ℤ}
+use Rattle.std.proofs.lemmas.Bool.{cond-true, cond-false}
 use Rattle.ed_types.specs.Notices.{Notice}
 use Rattle.ed_model.specs.declared.plan.DocumentChange.TheVariants as change
 use Rattle.ed_model.specs.Changes.{changed_document, document_row, line_note, is_same}
@@ -9,7 +10,6 @@ use Rattle.ed_model.specs.Notes.{heard, change_line_state}
 use Rattle.document.specs.Kept.{Kept}
 use Rattle.scene.specs.Scenes.{watchers}
 use Rattle.document_changes.specs.Changed.{AreTold}
-use Rattle.document_changes.proofs.Counts.{choose_true, choose_false}
 use Rattle.document_changes.proofs.States.{same_state, other_state}
 use Rattle.document_changes.proofs.Told.{told_nothing, told_nobody}
 use Rattle.document_changes.proofs.Unmoved.{is_changed}
@@ -29,7 +29,7 @@ returns-then-before-state-clause-changed c = λ text sender.
     let n = line_note change_line_state c.args.line in
     is_changed text (change.SetState c.args.line c.args.state) sender d _ c.args.views.now c.args.notes.now _ refl c.requires.watched made
     (λ v _. subst (λ (ts : List Notice). AreTold ts c.args.notes.now c.args.notes.now)
-    (sym (choose_true (is_same old c.args.state) [] (heard views n) same))
+    (sym (cond-true (is_same old c.args.state) [] (heard views n) same))
     (told_nothing c.args.notes.now))
 
 pub returns-then-is_full-clause-changed : goal.returns-then-is_full-clause-changed
@@ -45,7 +45,7 @@ returns-then-is_full-clause-changed c = λ text sender.
     let n = line_note change_line_state c.args.line in
     is_changed text (change.SetState c.args.line c.args.state) sender d _ c.args.views.now c.args.notes.now _ refl c.requires.watched made
     (λ v _. subst (λ (ts : List Notice). AreTold ts c.args.notes.now c.args.notes.now)
-    (sym (choose_false (is_same old c.args.state) [] (heard views n) other))
+    (sym (cond-false (is_same old c.args.state) [] (heard views n) other))
     (told_nobody views n c.args.notes.now c.requires.room (sym c.is_full.ensures ∙ c.if-is_full.true)))
 
 pub returns-clause-changed : goal.returns-clause-changed
@@ -61,5 +61,5 @@ returns-clause-changed c = λ text sender.
     let n = line_note change_line_state c.args.line in
     is_changed text (change.SetState c.args.line c.args.state) sender d _ c.args.views.now c.args.notes.now _ refl c.requires.watched made
     (λ v _. subst (λ (ts : List Notice). AreTold ts c.args.notes.now c.tell_state.new.notes)
-    (sym (choose_false (is_same old c.args.state) [] (heard views n) other))
+    (sym (cond-false (is_same old c.args.state) [] (heard views n) other))
     (rw made at c.tell_state.ensures))

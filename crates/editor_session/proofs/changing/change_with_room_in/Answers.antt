@@ -1,6 +1,7 @@
 use Rattle.std.proofs.Common.{◌≡◌, false, sym, ap, subst, ◌∙◌, IfSome, IsOk}
 use Rattle.std.specs.Option.{option_copied_mut}
 use Rattle.ed_model.specs.Changes.{changed_document}
+use Rattle.ed_model.specs.proved.Changes.{changed_id}
 use Rattle.document_changes.specs.Needs.{needs_room, notes_of_change}
 use Rattle.id_table.specs.Entries.{with_value_at}
 use Rattle.scene.specs.Scenes.{watchers}
@@ -8,7 +9,7 @@ use Rattle.editor_session.specs.Doing.{IsChangedIn}
 use Rattle.session_changes.specs.proved.Finding.{document_in, id_of_document, unchanged, named_with}
 use Rattle.editor_session.proofs.Going.{on_err}
 use Rattle.editor_session.proofs.PlainChanges.{all_ok}
-use Rattle.editor_session.proofs.Replacing.{document_put, change_keeps_id}
+use Rattle.editor_session.proofs.Replacing.{document_put}
 use Rattle.editor_session.proofs.changing.change_with_room_in.Goals as goal
 
 pub returns-clause-changed : goal.returns-clause-changed
@@ -24,7 +25,7 @@ returns-clause-changed c =
     all_ok c.change_with_room.result _ _ _ _ e.document e.lines e.told
     (λ is lines told. subst (λ o. IfSome o (λ k. IsChangedIn a.change a.sender a.text.now k documents views a.notes.now (record documents { entries = with_value_at a.document n.document documents.entries }) n.views n.notes)) (sym at)
     (record {
-      documents_after = document_put documents a.document old n.document d c.requires.named at is (change_keeps_id a.text.now a.change old.document);
+      documents_after = document_put documents a.document old n.document d c.requires.named at is (changed_id a.text.now a.change old.document);
       views_after = lines;
       notes_after = told;
     }))

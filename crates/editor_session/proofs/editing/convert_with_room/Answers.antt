@@ -2,9 +2,9 @@ use Rattle.std.proofs.Common.{rules, ◌≡◌, ap, ◌∙◌}
 use Rattle.ed_model.specs.LineEnds.{conversion_steps}
 use Rattle.ed_model.specs.Performing.{edit_made, Scene}
 use Rattle.ed_model.specs.Session.{Document, text_of}
+use Rattle.ed_model.specs.proved.Scenes.{edit_made_id}
 use Rattle.scene.specs.Scenes.{scene_in}
 use Rattle.scene.specs.Conversion.{room_of_steps}
-use Rattle.editor_session.proofs.Replacing.{edit_keeps_id}
 use Rattle.editor_session.proofs.Widths.{capped_fits}
 use Rattle.editor_session.proofs.editing.convert_with_room.Goals as goal
 
@@ -28,4 +28,4 @@ pub returns-clause-id : goal.returns-clause-id
 returns-clause-id c =
     let a = c.args in
     let d = a.document.now.document in
-    ap (λ (x : Scene). x.document.id) (returns-clause-scene c) ∙ edit_keeps_id (conversion_steps a.to (text_of d)) (scene_in d a.views.now.entries a.notes.now.notes)
+    ap (λ (x : Scene). x.document.id) (returns-clause-scene c) ∙ edit_made_id (conversion_steps a.to (text_of d)) (scene_in d a.views.now.entries a.notes.now.notes)

@@ -1,11 +1,12 @@
 use Rattle.std.proofs.Common.{◌≡◌, [], sym, ap, ◌∙◌, refl, subst, IfSome, IsOk}
 use Rattle.std.specs.Option.{option_copied_mut}
 use Rattle.ed_model.specs.Performing.{edit_made}
+use Rattle.ed_model.specs.proved.Scenes.{edit_made_id}
 use Rattle.id_table.specs.Entries.{with_value_at}
 use Rattle.scene.specs.Scenes.{scene_in}
 use Rattle.session_changes.specs.proved.Finding.{document_in, id_of_document, unchanged, named_with}
 use Rattle.editor_session.specs.Edits.{edit_steps}
-use Rattle.editor_session.proofs.Replacing.{becomes_so, edit_keeps_id}
+use Rattle.editor_session.proofs.Replacing.{becomes_so}
 use Rattle.editor_session.proofs.Going.{on_ok, on_err}
 use Rattle.editor_session.proofs.editing.edit_in.Goals as goal
 
@@ -21,7 +22,7 @@ returns-clause-made c =
     on_ok c.edit_with_room.result _ _ c.edit_with_room.ensures.scene
     (λ made. becomes_so documents (record documents { entries = with_value_at a.document n.document documents.entries }) n.views n.notes a.document old n.document
     (λ x. edit_made (edit_steps a.edit a.text.now a.clipboard.now a.pasted.now x.document) (scene_in x.document views before)) c.requires.named at refl made
-    (edit_keeps_id (edit_steps a.edit a.text.now a.clipboard.now a.pasted.now old.document) (scene_in old.document views before)))
+    (edit_made_id (edit_steps a.edit a.text.now a.clipboard.now a.pasted.now old.document) (scene_in old.document views before)))
 
 pub returns-clause-same : goal.returns-clause-same
 returns-clause-same c =

@@ -1,6 +1,7 @@
 use Rattle.std.proofs.Common.{◌++◌, [], sym, ap, subst, ◌∙◌, List, ℕ, IfSome}
 use Rattle.std.specs.Option.{option_copied_mut}
 use Rattle.ed_model.specs.Changes.{changed_document, change_told}
+use Rattle.ed_model.specs.proved.Changes.{changed_id}
 use Rattle.document.specs.Kept.{Kept}
 use Rattle.id_table.specs.Entries.{with_value_at}
 use Rattle.scene.specs.Scenes.{watchers}
@@ -8,7 +9,7 @@ use Rattle.editor_session.specs.Doing.{IsChangedIn}
 use Rattle.editor_session.specs.Performed.{no_notes}
 use Rattle.session_changes.specs.proved.Finding.{document_in, id_of_document, unchanged, named_with}
 use Rattle.editor_session.proofs.FrequentChanges.{same_id}
-use Rattle.editor_session.proofs.Replacing.{document_put, change_keeps_id}
+use Rattle.editor_session.proofs.Replacing.{document_put}
 use Rattle.editor_session.proofs.frequent.change_unheard_in.Goals as goal
 
 pub returns-clause-changed : goal.returns-clause-changed
@@ -24,7 +25,7 @@ returns-clause-changed c = λ so.
     let d = changed_document text a.change old.document in
     let e = c.change_unheard.ensures.made so text sender no_notes in
     record {
-      documents_after = document_put documents a.document old new d c.requires.named at e.document (change_keeps_id text a.change old.document);
+      documents_after = document_put documents a.document old new d c.requires.named at e.document (changed_id text a.change old.document);
       views_after = e.lines;
       notes_after = λ v own. (e.told v own).notes ∙ ap (λ x. no_notes.notes ++ change_told v (watchers old.document views) old.document x a.change) e.document;
     })

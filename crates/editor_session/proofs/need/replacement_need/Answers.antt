@@ -2,6 +2,7 @@ use Rattle.std.proofs.Common.{length, ◌≡◌, ◌+◌, [], ◌∷◌, sym, ap
 use Rattle.std.proofs.lemmas.Bool.{eqb-true, eqb-false}
 use Rattle.ed_model.specs.Steps.{Insert, Delete, replacement}
 use Rattle.ed_model.specs.Session.{text_of, watching}
+use Rattle.ed_model.specs.proved.Steps.{length_of_range}
 use Rattle.document.specs.TextSteps.{need_of}
 use Rattle.document.specs.declared.text_step.TextStep.TheVariants as lent
 use Rattle.scene.specs.Scenes.{scene_in, views_of}
@@ -10,7 +11,7 @@ use Rattle.scene.specs.Conversion.{room_of_steps}
 use Rattle.scene.specs.Undoing.{capped_room}
 use Rattle.scene.specs.declared.need.SceneNeed.{SceneNeed}
 use Rattle.editor_session.specs.Needs.{NeedsSteps}
-use Rattle.scene.specs.proved.Rooms.{deletion_needs, length_range}
+use Rattle.scene.specs.proved.Rooms.{deletion_needs}
 use Rattle.editor_session.proofs.Stepping.{deletes_some, deletes_none, inserts_none, inserts_some, positive}
 use Rattle.editor_session.proofs.Needing.{one_step_summed, one_step_room, two_steps, two_steps_room, frees_all}
 use Rattle.editor_session.proofs.need.replacement_need.Goals as goal
@@ -58,7 +59,7 @@ returns c =
     let needs = deletion_needs types d a.start a.count c.requires.range in
     let first_is = c.step_need-2.ensures
     ∙ ap (λ r. record { notes = note_room (notes_of_step views gone) (bytes_of_step views gone); document = r }) (sym needs) in
-    let frees = frees_all a.start a.count bytes (length_range d.cells a.start a.count c.requires.range) (omega arith) in
+    let frees = frees_all a.start a.count bytes (length_of_range d.cells a.start a.count c.requires.range) (omega arith) in
     let is : replacement a.start a.count a.bytes.now (text_of d) ≡ gone ∷ come ∷ [] =
     deletes_some d a.start a.count c.requires.range (positive a.count c.if-count-eq0.false) a.bytes.now ∙ ap (λ ss. gone ∷ ss) (inserts_some a.start a.bytes.now (eqb-false (length a.bytes.now) 0 (sym c.if-is_empty-2.ensures))) in
     record {

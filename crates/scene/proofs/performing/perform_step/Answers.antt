@@ -8,6 +8,7 @@ use Rattle.ed_model.specs.Session.{Document, text_of, lines_in}
 use Rattle.ed_model.specs.Notes.{heard, before_note, after_note}
 use Rattle.ed_model.specs.Performing.{document_after}
 use Rattle.ed_model.specs.SoundLaws.{Rise}
+use Rattle.ed_model.specs.proved.Changes.{length_text}
 use Rattle.ed_view.specs.Moving.{step_edits}
 use Rattle.scene.specs.Scenes.{watchers, scene_in, IsWatched}
 use Rattle.scene.specs.Undoing.{bits_of, all_bits, outline_movement}
@@ -15,7 +16,7 @@ use Rattle.scene.specs.Turns.{bits_behind, CanTellAfter, IsPerformed}
 use Rattle.scene.proofs.Followed.{named_ids}
 use Rattle.scene.proofs.ToldSoFar.{heard_last, length_parts}
 use Rattle.scene.proofs.KindLemmas.{unheard_after}
-use Rattle.scene.proofs.StepScenes.{length_text, same_scene, watched_can, stands_can, watched_after, watched_again}
+use Rattle.scene.proofs.StepScenes.{same_scene, watched_can, stands_can, watched_after, watched_again}
 use Rattle.scene.proofs.ChangeNotes.{bits_more, performed_few}
 use Rattle.scene.proofs.ChangeSteps.{some_has, step_same, small_fits, small_count, ends_in_text, lines_of_room, outline_movement_is}
 use Rattle.scene.proofs.performing.perform_step.Goals as goal

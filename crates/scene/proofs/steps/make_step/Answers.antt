@@ -2,8 +2,9 @@ use Rattle.std.proofs.Common.{◌+◌, ◌≤◌, ◌∙◌, length, sym, subst}
 use Rattle.ed_model.specs.History.{TextStep, appended}
 use Rattle.ed_model.specs.Session.{text_of}
 use Rattle.ed_model.specs.Performing.{Scene}
+use Rattle.scene.specs.proved.Watched.{watched_with_history}
 use Rattle.document.specs.TextSteps.{step_in}
-use Rattle.scene.proofs.StepScenes.{watched_with_history, made_as_heard}
+use Rattle.scene.proofs.StepScenes.{made_as_heard}
 use Rattle.scene.proofs.steps.make_step.Goals as goal
 
 pub step_heard-requires-clause-watched : goal.step_heard-requires-clause-watched

@@ -1,8 +1,9 @@
 use Rattle.std.proofs.Common.{sym, ap, ◌∙◌, ◌<◌}
 use Rattle.std.specs.Option.{option_copied_mut}
+use Rattle.std.proofs.lemmas.Result.{on_ok_weaker}
 use Rattle.document.specs.Kept.{Kept}
 use Rattle.session_changes.specs.proved.Finding.{document_in, id_of_document, unchanged, named_with, value_replaced}
-use Rattle.session_changes.proofs.SessionLemmas.{when_ok, for_some, of_some, places_most}
+use Rattle.session_changes.proofs.SessionLemmas.{for_some, of_some, places_most}
 use Rattle.session_changes.proofs.ready.reserve_view_in.Goals as goal
 
 pub returns-clause-same : goal.returns-clause-same
@@ -17,9 +18,9 @@ returns-clause-named c =
 
 pub returns-clause-ok : goal.returns-clause-ok
 returns-clause-ok c =
-    when_ok c.reserve_view.result _ _ c.reserve_view.ensures.ok
+    on_ok_weaker c.reserve_view.result
     (for_some (λ (k : Kept). 0 < k.spare.views) _ c.reserve_view.new.self
-    (value_replaced c.args.documents.now.entries c.args.document c.in-Some.document.now c.reserve_view.new.self (sym c.get_mut.ensures.value ∙ ap option_copied_mut c.in-Some.is)))
+    (value_replaced c.args.documents.now.entries c.args.document c.in-Some.document.now c.reserve_view.new.self (sym c.get_mut.ensures.value ∙ ap option_copied_mut c.in-Some.is))) c.reserve_view.ensures.ok
 
 pub returns-clause-room_is_there : goal.returns-clause-room_is_there
 returns-clause-room_is_there c = λ has.

@@ -1,8 +1,8 @@
 use Rattle.std.proofs.Common.{sym, ap, ◌∙◌}
 use Rattle.std.specs.Option.{option_copied_mut}
 use Rattle.ed_model.specs.Changes.{changed_view}
+use Rattle.ed_model.specs.proved.Changes.{changed_view_id}
 use Rattle.session_changes.specs.proved.Finding.{view_in, id_of_view, fold_rooms_in, changed, keeping, named_with, same_fold_rooms}
-use Rattle.session_changes.proofs.AskedLemmas.{id_stays}
 use Rattle.session_changes.proofs.views.change_in.Goals as goal
 
 pub returns-clause-views : goal.returns-clause-views
@@ -14,7 +14,7 @@ pub returns-clause-named : goal.returns-clause-named
 returns-clause-named c =
     named_with view_in id_of_view c.args.views.now.entries c.args.view c.args.views.now.next c.requires.named c.requires.rise c.in-Some.view.now c.change.new.self
     (sym c.get_mut.ensures.value ∙ ap option_copied_mut c.in-Some.is)
-    (ap id_of_view c.change.ensures.view ∙ id_stays c.args.levels.now c.args.change c.in-Some.view.now.view)
+    (ap id_of_view c.change.ensures.view ∙ changed_view_id c.args.levels.now c.args.change c.in-Some.view.now.view)
 
 pub returns-clause-fold_rooms : goal.returns-clause-fold_rooms
 returns-clause-fold_rooms c =

@@ -1,7 +1,8 @@
 use Rattle.std.proofs.Common.{sym, ap, ◌∙◌}
 use Rattle.std.specs.Option.{option_copied_mut}
+use Rattle.std.proofs.lemmas.Result.{on_ok_weaker}
 use Rattle.session_changes.specs.proved.Finding.{view_in, id_of_view, staying, unchanged, named_with, other_replaced}
-use Rattle.session_changes.proofs.SessionLemmas.{when_ok, fold_room_is_there, fold_room_there, fold_room_most}
+use Rattle.session_changes.proofs.SessionLemmas.{fold_room_is_there, fold_room_there, fold_room_most}
 use Rattle.session_changes.proofs.views.reserve_in.Goals as goal
 
 pub returns-clause-same : goal.returns-clause-same
@@ -16,9 +17,9 @@ returns-clause-named c =
 
 pub returns-clause-ok : goal.returns-clause-ok
 returns-clause-ok c =
-    when_ok c.reserve_folding.result _ _ c.reserve_folding.ensures.ok
+    on_ok_weaker c.reserve_folding.result
     (fold_room_there c.args.views.now.entries c.args.view c.in-Some.view.now c.reserve_folding.new.self c.args.change c.fold_need-need.result
-    (sym c.get_mut.ensures.value ∙ ap option_copied_mut c.in-Some.is) c.reserve_folding.ensures.same c.fold_need-need.ensures)
+    (sym c.get_mut.ensures.value ∙ ap option_copied_mut c.in-Some.is) c.reserve_folding.ensures.same c.fold_need-need.ensures) c.reserve_folding.ensures.ok
 
 pub returns-clause-at_most : goal.returns-clause-at_most
 returns-clause-at_most c =
