@@ -9,6 +9,7 @@ use Rattle.std.specs.Char.{IsAsciiDigit}
 use Rattle.ed_types.specs.declared.script.Cause.{Cause}
 use Rattle.ed_model.specs.Spelling.{space, spelled}
 use Rattle.ed_model.specs.Reading.{◌>>=◌, word_of, behind_word, not_empty, word_field, number_field}
+use Rattle.ed_model.specs.proved.Reading.{not_empty-some}
 use Rattle.macro_script.specs.Fields.{IsNumberAtFront}
 use Rattle.macro_script.proofs.SpelledNumbers.{spelled-digits, one_digit_more}
 use Rattle.macro_script.proofs.Words.{NoSpaceBefore, ends_at}
@@ -18,10 +19,6 @@ no_space ds len h all k low is =
     let range = digit_at (take len ds) k all (omega (arith, length-take len ds)) in
     let same = get_or-take len ds k 0 low in
     omega arith
-
-some_word : (word : List ℕ) → 0 < length word → not_empty word ≡ Ok word
-some_word [] h = absurd (omega arith)
-some_word (b ∷ bs) h = refl
 
 -- The first `len` bytes are a whole word of digits without a needless zero, and have this value.
 pub record IsWholeNumber (bytes : List ℕ) (n len : ℕ) : Type 0 where
@@ -56,7 +53,7 @@ word_is bytes n len h =
     let ends = ends_at bytes len h.within (no_space bytes len h.within h.digits) h.ended in
     let long : length (word_of bytes) ≡ length (spelled n) = ap length word.0 in
     let some : 0 < length (spelled n) = omega (arith, h.some, ends.1) in
-    ap (λ w. not_empty w >>= with_rest (behind_word bytes)) word.0 ∙ ap (λ r. r >>= with_rest (behind_word bytes)) (some_word (spelled n) some) ∙
+    ap (λ w. not_empty w >>= with_rest (behind_word bytes)) word.0 ∙ ap (λ r. r >>= with_rest (behind_word bytes)) (not_empty-some (spelled n) some) ∙
     ap (λ rest. Ok (spelled n, rest)) word.1
 
 behind_space : (b : ℕ) (bs : List ℕ) → b ≡ space → word_field (b ∷ bs) ≡ word_behind bs
