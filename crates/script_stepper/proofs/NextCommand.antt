@@ -1,24 +1,11 @@
 -- The run of one more command.
-use Rattle.std.proofs.Common.{◌≡◌, ◌≤◌, ◌<◌, ◌+◌, ℕ, zero, suc, List, [], ◌∷◌, ◌++◌, length, take, drop, slice_get, Some, None, refl, ap, sym, ◌∙◌, arith}
+use Rattle.std.proofs.Common.{◌≡◌, ◌≤◌, ◌<◌, ◌+◌, ℕ, zero, suc, List, [], ◌∷◌, ◌++◌, length, take, slice_get, Some, None, refl, ap, sym, ◌∙◌, arith}
 use Rattle.std.proofs.lemmas.Option.{slice_get_within, slice_get_past}
 use Rattle.ed_types.specs.declared.script.Command.{Command}
 use Rattle.ed_types.specs.declared.script.Outcome.{Outcome}
 use Rattle.ed_model.specs.Run.{Running, starting, outcomes, run_to, after_command}
 use Rattle.ed_model.specs.Session.{new_session, greatest_limits}
 use Rattle.script_stepper.specs.Stepping.{Stepping, StandsAt, next_outcome}
-
--- the command at index `i` is the first of those from `i` on
-pub left_at : {X : Type 0} (i : ℕ) (xs : List X) (x : X) → slice_get xs i ≡ Some x → drop i xs ≡ x ∷ drop (suc i) xs
-left_at i [] x e = absurd (cc)
-left_at zero (y ∷ ys) x e = let same : y ≡ x = cc in ap (λ z. z ∷ ys) same
-left_at (suc i) (y ∷ ys) x e = left_at i ys x e
-
--- the commands that remain after that command
-pub one_less : (files : List (List ℕ)) (commands : List Command) (i : ℕ) (c : Command) (now new end : Running) → slice_get commands i ≡ Some c →
-    new ≡ (after_command files c now).0 → run_to files (drop i commands) now ≡ end → run_to files (drop (i + 1) commands) new ≡ end
-one_less files commands i c now new end e state h =
-    let after : i + 1 ≡ suc i = omega arith in
-    rw (after, state) (sym (ap (λ cs. run_to files cs now) (left_at i commands c e)) ∙ h)
 
 -- the run of the first `i + 1` commands
 pub one_more : (files : List (List ℕ)) (commands : List Command) (start : Running) (i : ℕ) (c : Command) → slice_get commands i ≡ Some c →
