@@ -4,8 +4,7 @@ use Rattle.ed_model.specs.declared.plan.ViewChange.{ViewChange}
 use Rattle.ed_model.specs.declared.plan.ViewChange.TheVariants.{HideLines, SetExpanded, Contract, Expand, EnsureVisible}
 use Rattle.ed_model.specs.Rows.{Row}
 use Rattle.ed_model.specs.Session.{Document, View}
-use Rattle.split_vector.specs.Split.{most_room}
-use Rattle.contraction.specs.ViewLines.{FoldRoom, contracted_lines}
+use Rattle.contraction.specs.ViewLines.{FoldRoom, most_contracted_room}
 use Rattle.ed_view.specs.declared.folding.FoldNeed.{FoldNeed}
 use Rattle.ed_view.specs.Folding.{fold_need, IsWithin, HasFoldRoom}
 use Rattle.ed_view.specs.Kept.{KeptView}
@@ -28,7 +27,7 @@ HasFoldRoomAt entries view change = IsSomeAnd (value_at entries view) (λ v. Has
 -- the room is at most this need, or about what the view has once it has doubled its memory
 abbrev pub IsFoldRoomAtMost : KeptView → FoldRoom → FoldNeed → Type 0
 IsFoldRoomAtMost old room need =
-    (room.hidden ≤ max need.hidden (2 * old.room.hidden + 1)) × (room.contracted ≤ most_room (contracted_lines old.view.flags + 1) old.room.contracted need.contracted)
+    (room.hidden ≤ max need.hidden (2 * old.room.hidden + 1)) × (room.contracted ≤ most_contracted_room (record { flags = old.view.flags; room = old.room }) need.contracted)
 
 -- this holds of the view with this id, by the need of the change
 abbrev pub IsRoomAtMostAt : List (Entry KeptView) → List (Entry KeptView) → ℕ → ViewChange → Type 0
