@@ -14,10 +14,11 @@ ghost use Rattle.document_changes.specs.RoomLeft.{LeavesRoom};
 use crate::telling::tell_all;
 use document::Document;
 use ed_model::DocumentChange;
+use ed_types::notification::{SAVE_POINT_LEFT, SAVE_POINT_REACHED};
 use ed_view::View;
 use id_table::IdTable;
 use notify::NoteList;
-use scene::{SAVE_POINT_LEFT, SAVE_POINT_REACHED, leaves_save_point};
+use scene::leaves_save_point;
 
 // Sets a value of which no view is notified, and which needs no room.
 fn set(document: &mut Document, change: DocumentChange)

@@ -7,6 +7,7 @@
 
 mod change;
 mod history_changes;
+mod laws;
 mod marker_changes;
 mod need;
 mod ready;

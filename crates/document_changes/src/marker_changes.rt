@@ -12,11 +12,14 @@ ghost use Rattle.document_changes.specs.Lines.{marker_notice};
 ghost use Rattle.document_changes.specs.Needs.{HasMaskRoom};
 ghost use Rattle.document_changes.specs.RoomLeft.{LeavesRoom};
 
-use crate::telling::{CHANGE_MARKER, change_note, line_note, tell_heard};
+use crate::laws::parts_match_text;
+use crate::telling::{change_note, line_note, tell_heard};
 use document::{Document, count_numbers};
+use ed_types::modification::CHANGE_MARKER;
 use ed_view::View;
 use id_table::IdTable;
 use notify::NoteList;
+use scene::document_is_small;
 
 // Notifies views that the markers of a line changed. Out of line, so that the hot path neither prepares a note nor
 // looks up the start of the line.
@@ -27,7 +30,7 @@ fn tell_start(document: &Document, views: &IdTable<View>, notes: &mut NoteList, 
     requires room { hearers change_marker (watchers document.now.document views.now) ≤ notes.old.note_room }
     ensures { HearersAreTold document.now views.now (marker_notice document.now.document line) notes.old notes.new }
 {
-    let _ = document.line_count(); // states that the number of lines is small
+    document_is_small(document);
     let mut note = line_note(CHANGE_MARKER, line);
     note.position = document.line_start(line) as i64;
     tell_heard(document, views, notes, &note);
@@ -65,7 +68,7 @@ pub(crate) fn add_marker(
     ensures changed { IsMade (change.AddMarker line number) document.old document.new views.now notes.old notes.new }
     ensures room { LeavesRoom (change.AddMarker line number) document.old document.new }
 {
-    let _ = document.rows(); // states that each line has a row
+    parts_match_text(document);
     document.add_marker_reserved(line, number);
     tell_markers(document, views, notes, line);
 }
@@ -88,7 +91,7 @@ pub(crate) fn add_markers(
     ensures changed { IsMade (change.AddMarkers line mask) document.old document.new views.now notes.old notes.new }
     ensures room { LeavesRoom (change.AddMarkers line mask) document.old document.new }
 {
-    let _ = document.rows(); // states that each line has a row
+    parts_match_text(document);
     document.add_markers_reserved(line, mask);
     if count_numbers(mask) > 0 {
         tell_markers(document, views, notes, line);
@@ -151,7 +154,8 @@ pub(crate) fn delete_handle(
     ensures changed { IsMade (change.DeleteHandle handle) document.old document.new views.now notes.old notes.new }
     ensures room { LeavesRoom (change.DeleteHandle handle) document.old document.new }
 {
-    let _ = document.rows().next_handle(); // states that the handle is small
+    document_is_small(document);
+    parts_match_text(document);
     if let Some(line) = document.delete_handle(handle as u32) {
         tell_markers(document, views, notes, line);
     }

@@ -4,11 +4,10 @@ ghost use Rattle.std.specs.Prelude.{◌≡◌};
 ghost use Rattle.scene.specs.Scenes.{AreNamed};
 ghost use Rattle.document_changes.specs.Needs.{change_note_need};
 
-use crate::telling::{
-    CHANGE_FOLD, CHANGE_INDICATOR, CHANGE_LINE_STATE, CHANGE_MARKER, CHANGE_STYLE,
-};
+use crate::telling::{INDICATOR_KIND, STYLE_KIND};
 use document::Document;
 use ed_model::DocumentChange;
+use ed_types::modification::{CHANGE_FOLD, CHANGE_LINE_STATE, CHANGE_MARKER};
 use ed_view::View;
 use id_table::IdTable;
 use scene::{count_hearers, count_watchers, leaving_need};
@@ -29,10 +28,10 @@ pub fn change_note_need(document: &Document, views: &IdTable<View>, change: Docu
         DocumentChange::SetLevel { .. } => count_hearers(document, views, CHANGE_FOLD),
         DocumentChange::SetState { .. } => count_hearers(document, views, CHANGE_LINE_STATE),
         DocumentChange::StyleRun { .. } | DocumentChange::StyleBytes { .. } => {
-            count_hearers(document, views, CHANGE_STYLE)
+            count_hearers(document, views, STYLE_KIND)
         }
         DocumentChange::NeedStyle { .. } => 1,
-        DocumentChange::FillIndicator { .. } => count_hearers(document, views, CHANGE_INDICATOR),
+        DocumentChange::FillIndicator { .. } => count_hearers(document, views, INDICATOR_KIND),
         DocumentChange::SetReadOnly { .. }
         | DocumentChange::SetLineEnd { .. }
         | DocumentChange::SetLineEndTypes { .. }

@@ -11,6 +11,7 @@ ghost use Rattle.document_changes.specs.Needs.{HasMaskRoom, IsReady, ReservesAtM
 use document::{Document, DocumentRoom, count_numbers};
 use ed_model::{DocumentChange, LineEndTypes};
 use line_index::{LineEdit, fresh_lines};
+use scene::document_is_small;
 use std::alloc::{AllocError, Global};
 use std::marker::Model;
 
@@ -45,7 +46,7 @@ fn reserve_types(
     ensures spare { OnOk result (ReservesSpare (change.SetLineEndTypes types) document.old document.new) }
     ensures err { OnErr result (document.new.spare ≡ document.old.spare) }
 {
-    let _ = document.len(); // states that the number of lines is small
+    document_is_small(document);
     let edits = document.line_type_edits(alloc, types)?;
     document.reserve_lines(fresh_lines(edits.as_slice()))?;
     Ok(ChangeReady { edits })
@@ -98,8 +99,7 @@ fn reserve_other(document: &mut Document, change: DocumentChange) -> Result<(), 
     ensures spare { OnOk result (ReservesSpare change document.old document.new) }
     ensures err { OnErr result (document.new.spare ≡ document.old.spare) }
 {
-    let _ = document.len(); // states that the text stays within its bound
-    let _ = document.line_count(); // states that the number of lines is small
+    document_is_small(document);
     match change {
         DocumentChange::AppendContainer { .. } => {
             document.reserve(DocumentRoom::of_container_step())

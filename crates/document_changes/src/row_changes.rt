@@ -11,11 +11,13 @@ ghost use Rattle.document_changes.specs.Changed.{HearersAreTold, IsMade};
 ghost use Rattle.document_changes.specs.Lines.{level_notice};
 ghost use Rattle.document_changes.specs.RoomLeft.{LeavesRoom};
 
-use crate::telling::{CHANGE_FOLD, CHANGE_LINE_STATE, line_note, tell_heard};
+use crate::telling::{line_note, tell_heard};
 use document::Document;
+use ed_types::modification::{CHANGE_FOLD, CHANGE_LINE_STATE};
 use ed_view::View;
 use id_table::IdTable;
 use notify::NoteList;
+use scene::document_is_small;
 
 // Notifies views of the fold level of a line, and of the one before. Out of line, so that the hot path does not prepare
 // a note.
@@ -55,7 +57,7 @@ pub(crate) fn set_level(
     ensures changed { IsMade (change.SetLevel line level) document.old document.new views.now notes.old notes.new }
     ensures room { LeavesRoom (change.SetLevel line level) document.old document.new }
 {
-    let _ = document.line_count(); // states that the number of lines is small
+    document_is_small(document);
     let before = document.set_level(line, level);
     if before == level {
         return;
@@ -103,7 +105,7 @@ pub(crate) fn set_state(
     ensures changed { IsMade (change.SetState line state) document.old document.new views.now notes.old notes.new }
     ensures room { LeavesRoom (change.SetState line state) document.old document.new }
 {
-    let _ = document.line_count(); // states that the number of lines is small
+    document_is_small(document);
     let state = narrowed(state);
     let before = document.set_state(line, state);
     if before == state {

@@ -9,11 +9,13 @@ ghost use Rattle.document_changes.specs.Changed.{IsFilled, IsMade, IsMadeBy, IsM
 ghost use Rattle.document_changes.specs.Needs.{indicator_kind, style_kind};
 ghost use Rattle.document_changes.specs.RoomLeft.{LeavesRoom};
 
-use crate::telling::{CHANGE_INDICATOR, CHANGE_STYLE, range_note, tell_heard, tell_style_needed};
+use crate::laws::parts_match_text;
+use crate::telling::{INDICATOR_KIND, STYLE_KIND, range_note, tell_heard, tell_style_needed};
 use document::Document;
 use ed_view::View;
 use id_table::IdTable;
 use notify::NoteList;
+use scene::document_is_small;
 
 // Notifies views that a range of bytes changed, if there is one. Out of line, so that the hot path does not prepare a
 // note.
@@ -74,9 +76,9 @@ pub(crate) fn style_run(
     ensures changed { IsMade (StyleRun count style) document.old document.new views.now notes.old notes.new }
     ensures room { LeavesRoom (StyleRun count style) document.old document.new }
 {
-    let _ = document.len(); // states that ranges are small
+    document_is_small(document);
     let changed = document.style_run(count, style as u8);
-    tell_range(document, views, notes, CHANGE_STYLE, changed);
+    tell_range(document, views, notes, STYLE_KIND, changed);
 }
 
 /// Like `style_run`, with the first `count` bytes of a text as styles.
@@ -95,9 +97,9 @@ pub(crate) fn style_bytes(
     ensures changed { IsMadeWith text.now (StyleBytes count) document.old document.new views.now notes.old notes.new }
     ensures room { LeavesRoom (StyleBytes count) document.old document.new }
 {
-    let _ = document.len(); // states that ranges are small
+    document_is_small(document);
     let changed = document.style_bytes(&text[..count]);
-    tell_range(document, views, notes, CHANGE_STYLE, changed);
+    tell_range(document, views, notes, STYLE_KIND, changed);
 }
 
 /// Lowers the end of the styled text to `start` at most, and asks the sending view to style the text up to `end`.
@@ -116,7 +118,7 @@ pub(crate) fn need_style(
     ensures changed { IsMadeBy sender (NeedStyle start end) document.old document.new views.now notes.old notes.new }
     ensures room { LeavesRoom (NeedStyle start end) document.old document.new }
 {
-    let _ = document.len(); // states that places are small
+    document_is_small(document);
     let styled = document.end_styled();
     document.set_end_styled(styled.min(start));
     tell_style_needed(notes, sender, end);
@@ -140,8 +142,8 @@ pub(crate) fn fill_indicator(
     ensures changed { IsFilled indicator start count value document.old document.new views.now notes.old notes.new }
     ensures room { LeavesRoom (FillIndicator indicator start count value) document.old document.new }
 {
-    let _ = document.len(); // states that ranges are small
-    let _ = document.indicators().length(); // states that each byte has a value
+    document_is_small(document);
+    parts_match_text(document);
     let changed = document.fill(indicator as usize, start, count, value);
-    tell_range(document, views, notes, CHANGE_INDICATOR, changed);
+    tell_range(document, views, notes, INDICATOR_KIND, changed);
 }

@@ -12,26 +12,18 @@ ghost use Rattle.document_changes.specs.Lines.{style_notice};
 
 use document::Document;
 use ed_types::Note;
+use ed_types::modification::{CHANGE_INDICATOR, CHANGE_STYLE, PERFORMED_USER};
+use ed_types::notification::{MODIFIED, STYLE_NEEDED};
 use ed_view::View;
 use id_table::IdTable;
 use notify::{NoteList, blank};
-use scene::{Audience, MODIFIED, NoteText, tell};
+use scene::{Audience, NoteText, tell};
 
-// SCN_STYLENEEDED
-const STYLE_NEEDED: u32 = 2000;
+/// The kind of the note that a message changed styles.
+pub(crate) const STYLE_KIND: u32 = CHANGE_STYLE | PERFORMED_USER;
 
-// Bits of the kind of SCN_MODIFIED, with Scintilla's names without SC_MOD_ and SC_.
-pub(crate) const CHANGE_FOLD: u32 = 0x8;
-
-pub(crate) const CHANGE_MARKER: u32 = 0x200;
-
-pub(crate) const CHANGE_LINE_STATE: u32 = 0x8000;
-
-/// CHANGESTYLE, with PERFORMED_USER
-pub(crate) const CHANGE_STYLE: u32 = 0x4 | 0x10;
-
-/// CHANGEINDICATOR, with PERFORMED_USER
-pub(crate) const CHANGE_INDICATOR: u32 = 0x4000 | 0x10;
+/// The kind of the note that a message changed an indicator.
+pub(crate) const INDICATOR_KIND: u32 = CHANGE_INDICATOR | PERFORMED_USER;
 
 /// Returns a note of a change of this kind.
 pub(crate) fn change_note(kind: u32) -> Note

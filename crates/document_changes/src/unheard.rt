@@ -15,6 +15,7 @@ use document::Document;
 use ed_model::DocumentChange;
 use ed_view::View;
 use id_table::IdTable;
+use scene::document_is_small;
 
 // Adds a marker to a line, and returns whether the allocation for it succeeded.
 #[inline(always)]
@@ -45,7 +46,7 @@ fn set_level(document: &mut Document, line: usize, level: u32) -> bool
     ensures spare { result ≡ true → LeavesSpare (change.SetLevel line level) document.old document.new }
     ensures same { result ≡ false → document.new ≡ document.old }
 {
-    let _ = document.line_count(); // states that the number of lines is small
+    document_is_small(document);
     let Ok(()) = document.reserve_levels(line + 1) else {
         return false;
     };

@@ -11,7 +11,7 @@ ghost use Rattle.scene.specs.StepNotes.{need_on};
 ghost use Rattle.scene.specs.Needs.{leaving_notes};
 ghost use Rattle.scene.specs.Conversion.{CanMakeSteps, capped_room, room_of_many, ConversionIsMade, DeletionsAreLeft, DeletionsAreMade, DeletionsKeepRooms, IsConverted, IsFirstMissing, IsFirstUnwanted, NoneMissing, NoneUnwanted, conversion_fill, conversion_freed, conversion_of, deletions_in, has_steps, insertions_in, notes_for_all, notes_for_conversion, notes_for_many, room_for_all, room_for_conversion, unwanted_steps};
 
-use crate::laws::needs_are_enough;
+use crate::laws::{document_is_small, needs_are_enough};
 use crate::need::{NoteRoom, SceneNeed, leaving_need, note_need};
 use crate::steps::make_step;
 use document::{Document, DocumentRoom, TextStep};
@@ -57,7 +57,7 @@ fn put_missing(
     let mut later = false;
     let mut place = 0;
     'putting: while let Some((found, byte)) = missing_behind(document, place, to) {
-        let _ = document.len(); // states that no place exceeds the range of places
+        document_is_small(document);
         let step = TextStep::Insert {
             place: found,
             bytes: &[byte],

@@ -17,10 +17,9 @@ mod telling;
 mod undoing;
 
 pub use conversion::{conversion_need, convert};
-pub use laws::needs_are_enough;
+pub use laws::{document_is_small, needs_are_enough};
 pub use need::{NoteRoom, SceneNeed, leaving_need, note_need};
 pub use regrouping::regroup;
-pub use step_notes::MODIFIED;
-pub use steps::{SAVE_POINT_LEFT, StepBits, leaves_save_point, make_step, step_heard};
+pub use steps::{StepBits, leaves_save_point, make_step, step_heard};
 pub use telling::{Audience, NoteText, attempt, count_hearers, count_watchers, tell};
-pub use undoing::{SAVE_POINT_REACHED, history_need, perform_history};
+pub use undoing::{history_need, perform_history};

@@ -7,10 +7,11 @@ ghost use Rattle.scene.specs.Scenes.{watchers, AreNamed};
 ghost use Rattle.scene.specs.Hearing.{hearers, bytes_shared};
 ghost use Rattle.scene.specs.Needs.{IsCounted, note_room, bytes_for_step, leaving_notes, notes_for_step};
 
-use crate::step_notes::{PERFORMED_USER, START_ACTION, count_of, kind_after, kind_before};
+use crate::step_notes::{count_of, kind_after, kind_before};
 use crate::steps::leaves_save_point;
 use crate::telling::{count_hearers, count_watchers};
 use document::{Document, DocumentRoom, TextStep};
+use ed_types::modification::{PERFORMED_USER, START_ACTION};
 use ed_view::View;
 use id_table::IdTable;
 

@@ -11,32 +11,23 @@ ghost use Rattle.scene.specs.Telling.{note_room_in_all};
 ghost use Rattle.scene.specs.Undoing.{bits_of, all_bits as every_bit, every_kind, outline_kinds, outline_movement};
 ghost use Rattle.scene.specs.Turns.{change_at, bits_behind, CanPerform, CanTellHeardStep, CanTellTurn, IsOutlineAt, IsStepAt, IsTurnTold, IsTurnToldBefore, IsUnheard, PerformsStep, PerformsTurn, container_hearers, token_notes};
 
+use crate::laws::document_is_small;
 use crate::moving::follow_change;
-use crate::step_notes::{
-    BEFORE_DELETE, BEFORE_INSERT, DELETE_TEXT, INSERT_TEXT, MODIFIED, tell_coming, tell_made,
-};
+use crate::step_notes::{tell_coming, tell_made};
 use crate::telling::{Audience, NoteText, count_hearers, tell};
 use document::{ChangeOutline, Direction, Document, TextStep};
 use ed_model::steps_keep_views_standing;
 use ed_types::Note;
+use ed_types::modification::{
+    BEFORE_DELETE, BEFORE_INSERT, CONTAINER, DELETE_TEXT, INSERT_TEXT, LAST_STEP, MULTI_LINE,
+    MULTI_STEP, PERFORMED_REDO, PERFORMED_UNDO,
+};
+use ed_types::notification::MODIFIED;
 use ed_view::{View, moves_are_those_of_steps};
 use id_table::IdTable;
 use line_index::edits_of_steps;
 use notify::{NoteList, blank};
 use selection::Movement;
-
-// Bits of the kind of SCN_MODIFIED, with Scintilla's names without SC_ and SC_MOD_.
-const PERFORMED_UNDO: u32 = 0x20;
-
-const PERFORMED_REDO: u32 = 0x40;
-
-const MULTI_STEP: u32 = 0x80;
-
-const LAST_STEP: u32 = 0x100;
-
-const MULTI_LINE: u32 = 0x1000;
-
-const CONTAINER: u32 = 0x40000;
 
 /// The change whose turn it is: that at `index`, in the order of performing.
 #[derive(Clone, Copy, Debug, PartialEq, Eq)]
@@ -133,7 +124,7 @@ fn tell_heard_change(document: &Document, views: &IdTable<View>, notes: &mut Not
 {
     let who = bit_of(turn.direction);
     let step = step_at(document, turn);
-    let _ = document.len(); // states that the numbers of the step are small
+    document_is_small(document);
     notes.share(document.change_bytes(turn.direction, turn.index), &[]);
     tell_coming(document, views, notes, true, who, step);
 }
@@ -215,7 +206,7 @@ fn perform_step(
     edits_of_steps();
     moves_are_those_of_steps();
     steps_keep_views_standing();
-    let _ = document.len(); // states that no position exceeds the range of positions
+    document_is_small(document);
     let hears = tell_before_change(document, views, notes, turn, outline, quiet);
     let old_lines = document.line_count();
     let change = document.make_change(turn.direction, turn.index);

@@ -5,6 +5,7 @@ ghost use Rattle.id_table.specs.Entries.{id_of};
 ghost use Rattle.scene.specs.Scenes.{IsWatched, KeepFoldRooms, views_in};
 ghost use Rattle.scene.specs.Regrouping.{IsWatchedWith, regrouped_views, regrouping_edits};
 
+use crate::laws::document_is_small;
 use crate::moving::follow;
 use document::Document;
 use ed_model::{LineEndTypes, rows_match_lines, rows_that_meet};
@@ -33,7 +34,7 @@ pub fn regroup(
     edits_of_settings();
     rows_match_lines();
     rows_that_meet();
-    let _ = document.len(); // states that no position exceeds the range of positions
+    document_is_small(document);
     // Moves no place.
     let nowhere = Movement::Inserted { place: 0, count: 0 };
     follow(document.views(), views, nowhere, edits);

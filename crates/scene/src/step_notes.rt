@@ -13,26 +13,12 @@ ghost use Rattle.scene.specs.StepNotes.{place_in, count_in, IsSmallStep, note_te
 use crate::telling::{Audience, NoteText, tell};
 use document::{Document, TextStep};
 use ed_types::Note;
+use ed_types::modification::{BEFORE_DELETE, BEFORE_INSERT, DELETE_TEXT, INSERT_TEXT};
+use ed_types::notification::MODIFIED;
 use ed_view::View;
 use id_table::IdTable;
 use notify::{NoteList, blank};
 use selection::Movement;
-
-/// The code of the notes before and after a change: `SCN_MODIFIED` of Scintilla.
-pub const MODIFIED: u32 = 2008;
-
-// Bits of the kind of SCN_MODIFIED, with Scintilla's names without SC_MOD_ and SC_.
-pub(crate) const INSERT_TEXT: u32 = 0x1;
-
-pub(crate) const DELETE_TEXT: u32 = 0x2;
-
-pub(crate) const BEFORE_INSERT: u32 = 0x400;
-
-pub(crate) const BEFORE_DELETE: u32 = 0x800;
-
-pub(crate) const PERFORMED_USER: u32 = 0x10;
-
-pub(crate) const START_ACTION: u32 = 0x2000;
 
 // Returns the place of the step, in bytes from 0.
 fn place_of(step: TextStep) -> usize

@@ -14,21 +14,20 @@ ghost use Rattle.scene.specs.Telling.{HasNoteRoomFor, TakesNoteRoom, TakesTextRo
 ghost use Rattle.scene.specs.StepNotes.{IsSmallStep, need_on, step_on};
 ghost use Rattle.scene.specs.Steps.{FreesDeletedBytes, IsHeard, IsMade, count_ahead, heard_bytes, made_bytes, notes_ahead, scene_heard, scene_made, step_hearers};
 
+use crate::laws::document_is_small;
 use crate::moving::follow_change;
 use crate::step_notes::{
-    PERFORMED_USER, START_ACTION, kind_after, kind_before, movement_of, share_bytes, tell_coming,
-    tell_made,
+    kind_after, kind_before, movement_of, share_bytes, tell_coming, tell_made,
 };
 use crate::telling::{Audience, NoteText, count_hearers, tell};
 use document::{Document, TextStep};
 use ed_model::steps_keep_views_standing;
+use ed_types::modification::{PERFORMED_USER, START_ACTION};
+use ed_types::notification::SAVE_POINT_LEFT;
 use ed_view::{View, moves_are_those_of_steps};
 use id_table::IdTable;
 use line_index::edits_of_steps;
 use notify::{NoteList, blank};
-
-/// The code of the note that the save point is left: `SCN_SAVEPOINTLEFT` of Scintilla.
-pub const SAVE_POINT_LEFT: u32 = 2003;
 
 /// The bits of a step's notes that say who makes the step, and as which of several.
 #[derive(Clone, Copy, Debug, PartialEq, Eq)]
@@ -163,7 +162,7 @@ pub fn step_heard(
     edits_of_steps();
     moves_are_those_of_steps();
     steps_keep_views_standing();
-    let _ = document.len(); // states that no position exceeds the range of positions
+    document_is_small(document);
     let hears = tell_before(document, views, notes, bits, is_left, step);
     let old_lines = document.line_count();
     let change = document.step(step);

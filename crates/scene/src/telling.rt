@@ -9,6 +9,7 @@ ghost use Rattle.scene.specs.Telling.{watching_audience, with_audience_told, wit
 
 use document::Document;
 use ed_types::Note;
+use ed_types::notification::MODIFY_ATTEMPT;
 use ed_view::View;
 use id_table::IdTable;
 use notify::{NoteList, blank};
@@ -30,9 +31,6 @@ pub enum NoteText {
     /// The text shared in the list of notes.
     Shared,
 }
-
-/// SCN_MODIFYATTEMPTRO
-const MODIFY_ATTEMPT: u32 = 2004;
 
 // Returns the note for this view. Its range of the text is ignored.
 fn note_for(note: &Note, view: u32) -> Note

@@ -13,18 +13,16 @@ ghost use Rattle.scene.specs.Undoing.{free_behind, save_point_notes, capped_room
 ghost use Rattle.scene.specs.Turns.{turn_of, CanMakeOutlined};
 ghost use Rattle.scene.specs.Performed.{CanPerformAll, AreAllPerformed, HistoryFits, HistoryIsPerformed, IsSavePointTold};
 
+use crate::laws::document_is_small;
 use crate::need::{NoteRoom, SceneNeed, told_need};
 use crate::performing::{Turn, kinds_of, kinds_of_all, perform_change};
-use crate::steps::SAVE_POINT_LEFT;
 use crate::telling::{Audience, NoteText, count_hearers, survey, tell};
 use document::{ChangeOutline, Direction, Document, DocumentRoom};
 use ed_model::positions_after_a_step;
+use ed_types::notification::{SAVE_POINT_LEFT, SAVE_POINT_REACHED};
 use ed_view::View;
 use id_table::IdTable;
 use notify::{NoteList, blank};
-
-/// The code of the note that the save point is reached: `SCN_SAVEPOINTREACHED` of Scintilla.
-pub const SAVE_POINT_REACHED: u32 = 2002;
 
 // Returns the turn of the change at `index`, of `count` changes.
 fn turn_at(direction: Direction, index: usize, count: usize) -> Turn
@@ -61,7 +59,7 @@ fn caret_by(document: &Document, outline: ChangeOutline, before: Option<usize>) 
     requires can { CanMakeOutlined outline document.now }
     ensures { result ≡ place_by outline before }
 {
-    let _ = document.len(); // states that no place exceeds the range of places
+    document_is_small(document);
     match outline {
         ChangeOutline::Insert { place, count } => Some(place + count),
         ChangeOutline::Delete { place, .. } => Some(place),

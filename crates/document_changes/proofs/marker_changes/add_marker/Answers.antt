@@ -12,7 +12,7 @@ pub returns-clause-changed : goal.returns-clause-changed
 returns-clause-changed c = λ text sender.
     let d = c.args.document.now.document in
     let made = c.add_marker_reserved.ensures.document in
-    let within : c.args.line < length d.rows = subst (λ n. c.args.line < n) (sym c.rows.ensures.count) c.requires.line in
+    let within : c.args.line < length d.rows = subst (λ n. c.args.line < n) (sym c.parts_match_text.ensures.rows) c.requires.line in
     let numbers = c.args.number ∷ [] in
     is_changed text (change.AddMarker c.args.line c.args.number) sender d _ c.args.views.now c.args.notes.now _ refl c.requires.watched made
     (λ v _. rw made (subst (λ (ts : List Notice). AreTold ts c.args.notes.now c.tell_markers.new.notes)

@@ -14,7 +14,7 @@ pub returns-then-count_numbers-gt0-clause-changed : goal.returns-then-count_numb
 returns-then-count_numbers-gt0-clause-changed c = λ text sender.
     let d = c.args.document.now.document in
     let made = c.add_markers_reserved.ensures.document in
-    let within : c.args.line < length d.rows = subst (λ n. c.args.line < n) (sym c.rows.ensures.count) c.requires.line in
+    let within : c.args.line < length d.rows = subst (λ n. c.args.line < n) (sym c.parts_match_text.ensures.rows) c.requires.line in
     let numbers = numbers_in c.args.mask in
     let count = c.count_numbers.ensures.count in
     let some = c.if-count_numbers-gt0.true in
@@ -27,7 +27,7 @@ pub returns-else-count_numbers-gt0-clause-changed : goal.returns-else-count_numb
 returns-else-count_numbers-gt0-clause-changed c = λ text sender.
     let d = c.args.document.now.document in
     let made = c.add_markers_reserved.ensures.document in
-    let within : c.args.line < length d.rows = subst (λ n. c.args.line < n) (sym c.rows.ensures.count) c.requires.line in
+    let within : c.args.line < length d.rows = subst (λ n. c.args.line < n) (sym c.parts_match_text.ensures.rows) c.requires.line in
     let numbers = numbers_in c.args.mask in
     let count = c.count_numbers.ensures.count in
     let none = c.if-count_numbers-gt0.false in

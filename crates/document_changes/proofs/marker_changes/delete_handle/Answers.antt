@@ -17,7 +17,7 @@ tell_markers-requires-clause-line c =
     let made = c.delete_handle.ensures.document in
     let left = left_line _ _ _ (rw made at (sym c.delete_handle.ensures.line ∙ c.in-Some.is)) in
     let within = left_within c.args.handle 0 d.rows left.0 in
-    let count = c.rows.ensures.count in
+    let count = c.parts_match_text.ensures.rows in
     let same = left.1 in
     rw made (omega arith)
 

@@ -13,8 +13,8 @@ pub tell_range-requires-clause-small : goal.tell_range-requires-clause-small
 tell_range-requires-clause-small c =
     let d = c.args.document.now.document in
     let old = slice_index_or d.indicators c.args.indicator [] in
-    let l = values_length d.indicators c.args.indicator (length d.cells) (rw (c.indicators.ensures.values, c.indicators.ensures.length) at c.length.ensures.each) in
-    let small = c.len.ensures.small in
+    let l = values_length d.indicators c.args.indicator (length d.cells) c.parts_match_text.ensures.indicators in
+    let small = c.document_is_small.ensures.text in
     range_small c.fill-changed.result old (slice_index_or c.fill-changed.new.self.document.indicators c.args.indicator []) c.fill-changed.ensures.changed (omega arith)
 
 pub returns-clause-changed : goal.returns-clause-changed

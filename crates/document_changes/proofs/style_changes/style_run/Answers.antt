@@ -16,7 +16,7 @@ pub tell_range-requires-clause-small : goal.tell_range-requires-clause-small
 tell_range-requires-clause-small c =
     let d = c.args.document.now.document in
     let l = length-map d.cells (λ (c : Cell). c.style) in
-    let small = c.len.ensures.small in
+    let small = c.document_is_small.ensures.text in
     range_small c.style_run-changed.result (styles_of d.cells) (styles_of c.style_run-changed.new.self.document.cells) c.style_run-changed.ensures.changed (omega arith)
 
 pub returns-clause-changed : goal.returns-clause-changed

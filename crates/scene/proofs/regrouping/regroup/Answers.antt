@@ -8,7 +8,7 @@ pub follow-requires-clause-can : goal.follow-requires-clause-can
 follow-requires-clause-can c =
     let d = c.args.document.now.document in
     let laws = c.edits_of_settings.ensures in
-    let small = c.len.ensures.small in
+    let small = c.document_is_small.ensures.text in
     rw (c.views.ensures, c.requires.edits) (regrouped_can_all d c.args.types c.args.views.now laws.fit laws.few (omega arith) c.requires.watched)
 
 pub returns-clause-views : goal.returns-clause-views

@@ -26,7 +26,7 @@ tell_before-hears-requires c =
     let r = c.requires.notes in
     record {
       fits = c.requires.fits;
-      small = small_step d.line_end_types c.args.step (length d.cells) c.args.document.now.room.text c.requires.fits c.requires.room.0 c.len.ensures.small;
+      small = small_step d.line_end_types c.args.step (length d.cells) c.args.document.now.room.text c.requires.fits c.requires.room.0 c.document_is_small.ensures.text;
       named = c.requires.watched.named;
       notes = omega arith;
       full = λ full. none_by_notes W s c.args.bits.before c.args.bits.after (growth (lines_in d) (lines_in (document_after s d))) (omega arith) (omega arith);
@@ -62,13 +62,13 @@ follow_change-requires c =
     let M = c.movement_of.ensures (text_of d) on in
     let E : edits_of c.step-change.result ≡ step_edits s d = ap edits_of change in
     let V : c.views.result.now ≡ d.views = c.views.ensures ∙ ap (λ (x : Document). x.views) after in
-    let small = small_step d.line_end_types c.args.step (length d.cells) c.args.document.now.room.text c.requires.fits c.requires.room.0 c.len.ensures.small in
+    let small = small_step d.line_end_types c.args.step (length d.cells) c.args.document.now.room.text c.requires.fits c.requires.room.0 c.document_is_small.ensures.text in
     let count = count_is c.args.step (text_of d) on in
     let need = lines_of_need d.line_end_types c.args.step (text_of d) in
     let bound = rw same at c.line_count-old_lines.ensures.within in
     let lines = rw same at c.line_count-old_lines.ensures.count in
     let room = c.requires.room.1 in
-    let cells = c.len.ensures.small in
+    let cells = c.document_is_small.ensures.text in
     record {
       small = c.step-change.ensures.small;
       named = c.requires.watched.named;

@@ -9,6 +9,6 @@ overflow_add-result c =
     let d = c.args.document.now.document in
     let can = c.requires.can in
     let text = length_text d in
-    let small = c.len.ensures.small in
+    let small = c.document_is_small.ensures.text in
     let room = can.3.0 in
     omega (arith, ends_small d.line_end_types can.0 (text_of d) c.args.document.now.room.text c.in-Insert.place c.in-Insert.count (sym c.in-Insert.is ∙ can.1) can.2 room (omega arith))
