@@ -18,10 +18,6 @@ use Rattle.scene.specs.Scenes.{views_of, watchers, fold_room_in_all, IsWatched}
 abbrev pub IsNoteOf : Note → Notice → Type 0
 IsNoteOf note notice = (text : List ℕ) → with_text note text ≡ record notice { text = text }
 
--- how many notes a list has and has room for, in all
-abbrev pub note_room_in_all : Gathered → ℕ
-note_room_in_all notes = notes.note_room + length notes.notes
-
 -- these notes were appended, and no text was shared for them
 pub record AreTold (told : List Notice) (old new : Gathered) : Type 0 where
   pub notes : new.notes ≡ old.notes ++ told
