@@ -24,6 +24,7 @@ use document::Direction;
 use document_changes::change_unheard;
 use document_table::DocumentTable;
 use ed_model::{DocumentChange, plans_are_fit, soundness_is_kept};
+use ed_types::modification::{CHANGE_FOLD, CHANGE_MARKER, CHANGE_STYLE};
 use ed_types::{Bytes, Kind, Refusal, Reply, kinds_and_numbers};
 use ed_view::View;
 use id_table::IdTable;
@@ -32,9 +33,8 @@ use message_requests::{SentMessage, SessionState};
 use notify::NoteList;
 use std::alloc::Global;
 
-/// The bits of a mask by which a view listens for frequent changes: SC_MOD_CHANGESTYLE, SC_MOD_CHANGEFOLD and
-/// SC_MOD_CHANGEMARKER.
-const FREQUENT_CHANGES: u32 = 0x4 | 0x8 | 0x200;
+/// The bits of a mask by which a view listens for frequent changes.
+const FREQUENT_CHANGES: u32 = CHANGE_STYLE | CHANGE_FOLD | CHANGE_MARKER;
 
 /// A frequent change, and the value that its message answers.
 #[derive(Clone, Copy, Debug)]

@@ -3,12 +3,10 @@
 ghost use Rattle.std.specs.Prelude.{◌≡◌, ◌++◌, ◌<◌, ◌≤◌, length, true, false, OnOk, IsOk};
 ghost use Rattle.editor_session.specs.Planned.{first_note};
 
+use ed_types::notification::MACRO_RECORD;
 use message_requests::SentMessage;
 use notify::{NoteList, blank};
 use std::alloc::AllocError;
-
-/// The code of the note, `SCN_MACRORECORD`.
-const MACRO_RECORD: u32 = 2009;
 
 /// Appends the note of `message`, which `view` records. There must be room for it.
 fn put_record(view: u32, message: &SentMessage, notes: &mut NoteList)
