@@ -1,16 +1,14 @@
 -- What is done for a request by its plan.
-use Rattle.std.specs.Prelude.{◌≡◌, ◌++◌, ◌≤◌, ℕ, ℤ, false, List, map, reverse, length, Option}
+use Rattle.std.specs.Prelude.{◌≡◌, ◌++◌, ◌≤◌, ℕ, ℤ, false, List, map, reverse, length}
 use Rattle.ed_types.specs.Notices.{Notice}
 use Rattle.ed_model.specs.declared.plan.Plan.{Plan}
 use Rattle.ed_model.specs.History.{latest_text_step}
 use Rattle.ed_model.specs.Notes.{told as notes_told, modify_attempt, blank as blank_note}
 use Rattle.ed_model.specs.declared.plan.DocumentChange.{DocumentChange}
-use Rattle.ed_model.specs.Session.{View, text_of, with_document}
+use Rattle.ed_model.specs.Session.{View, with_document}
 use Rattle.ed_model.specs.Changes.{changed_document, changed_lines, change_told}
 use Rattle.document_changes.specs.Fit.{IsFitChange, bytes_read}
 use Rattle.document_changes.specs.Needs.{needs_room, notes_of_change}
-use Rattle.ed_model.specs.SoundLaws.{AreStepsOf}
-use Rattle.ed_model.specs.UndoPlans.{text_steps}
 use Rattle.ed_model.specs.Requests.{Request}
 use Rattle.ed_model.specs.Performing.{Scene, response, session_of, caret_behind, transaction_performed}
 use Rattle.ed_model.specs.Table.{performed}
@@ -20,11 +18,12 @@ use Rattle.document.specs.declared.undoing.Direction.{Direction}
 use Rattle.document.specs.Kept.{Kept}
 use Rattle.document.specs.Undoing.{changes_of, history_behind}
 use Rattle.ed_view.specs.Kept.{KeptView}
-use Rattle.scene.specs.Scenes.{views_of, watchers, IsWatched}
-use Rattle.scene.specs.Undoing.{bits_of, place_behind_any}
+use Rattle.scene.specs.Scenes.{kept_scene, views_of, watchers, IsWatched}
+use Rattle.scene.specs.Undoing.{bits_of}
+use Rattle.scene.specs.Performed.{HistoryFits}
 use Rattle.message_requests.specs.Requested.{documents_in, session_in}
 use Rattle.message_requests.specs.declared.state.SessionState.{SessionState}
-use Rattle.editor_session.specs.Documents.{OfDocument, kept_scene}
+use Rattle.editor_session.specs.Documents.{OfDocument}
 use Rattle.editor_session.specs.Performed.{no_notes}
 use Rattle.editor_session.specs.Widths.{ChangesFitWidth}
 
@@ -36,17 +35,9 @@ pub record IsDone (r : Request) (what : Plan) (s : SessionState) (before after :
 
 -- Undo and redo.
 
--- the steps of undo or redo fit the document's text, each after those before it
-abbrev pub ChangesFitText : Direction → Kept → Type 0
-ChangesFitText direction k = AreStepsOf (text_of k.document) (text_steps (changes_of direction k.document.history))
-
--- where undo or redo leaves the caret, if it makes a step of the text
-abbrev pub place_after : Direction → Kept → Option ℕ
-place_after direction k = place_behind_any (latest_text_step (reverse (changes_of direction k.document.history)))
-
 -- the steps fit the text, no text on their way is too long for the document's places, and the views stand well on it
 pub record CanGoOnceThereIsRoom (direction : Direction) (views : Entries KeptView) (k : Kept) : Type 0 where
-  pub steps : ChangesFitText direction k
+  pub steps : HistoryFits direction k
   pub wide : ChangesFitWidth k.document (changes_of direction k.document.history)
   pub watched : IsWatched k.document views
 

@@ -11,10 +11,10 @@ use Rattle.id_table.specs.Entries.{Entries}
 use Rattle.notify.specs.Gathered.{Gathered}
 use Rattle.document.specs.Kept.{Kept}
 use Rattle.ed_view.specs.Kept.{KeptView}
-use Rattle.scene.specs.Scenes.{IsWatched}
+use Rattle.scene.specs.Scenes.{kept_scene, IsWatched}
 use Rattle.message_requests.specs.Requested.{session_in}
 use Rattle.message_requests.specs.declared.state.SessionState.{SessionState}
-use Rattle.editor_session.specs.Documents.{OfDocument, HasDocument, kept_scene}
+use Rattle.editor_session.specs.Documents.{OfDocument, HasDocument}
 use Rattle.editor_session.specs.Edited.{IsEditWithin, IsPastedFor, stored_bytes, taken_along}
 use Rattle.editor_session.specs.Widths.{StepsFitWidth}
 

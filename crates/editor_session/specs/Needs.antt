@@ -12,9 +12,8 @@ use Rattle.document.specs.TextSteps.{step_in, need_of}
 use Rattle.ed_view.specs.Kept.{KeptView}
 use Rattle.scene.specs.Conversion.{room_of_steps, notes_for, bytes_for}
 use Rattle.scene.specs.Needs.{note_room, notes_of_step, bytes_of_step, IsCounted}
-use Rattle.scene.specs.Scenes.{watchers}
+use Rattle.scene.specs.Scenes.{kept_scene, watchers}
 use Rattle.scene.specs.declared.need.SceneNeed.{SceneNeed}
-use Rattle.editor_session.specs.Documents.{kept_scene}
 
 abbrev pub no_need : SceneNeed
 no_need = record { notes = note_room 0 0; document = no_room }

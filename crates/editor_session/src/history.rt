@@ -5,13 +5,15 @@ ghost use Rattle.ed_types.specs.declared.refusal.Refusal.TheVariants.{OutOfMemor
 ghost use Rattle.ed_model.specs.Session.{Document as ModelDocument};
 ghost use Rattle.ed_model.specs.SoundLaws.{Rise};
 ghost use Rattle.document.specs.Undoing.{changes_of};
-ghost use Rattle.scene.specs.Scenes.{AreNamed, IsWatched};
+ghost use Rattle.scene.specs.Scenes.{AreNamed, IsWatched, kept_scene};
+ghost use Rattle.scene.specs.Undoing.{history_caret};
+ghost use Rattle.scene.specs.Performed.{HistoryFits};
 ghost use Rattle.message_requests.specs.Requested.{session_in, documents_in};
 ghost use Rattle.session_changes.specs.Kept.{IsKept, DocumentsAreNamed, ViewsRise};
-ghost use Rattle.editor_session.specs.Doing.{CanGoOnceThereIsRoom, scene_gone, ChangesFitText, place_after, GoesAt};
+ghost use Rattle.editor_session.specs.Doing.{CanGoOnceThereIsRoom, scene_gone, GoesAt};
 ghost use Rattle.editor_session.specs.Widths.{ChangesFitWidth};
 ghost use Rattle.editor_session.specs.Performed.{going, no_notes, IsPlannedForSomeValue};
-ghost use Rattle.editor_session.specs.Documents.{OfDocument, HasDocument, kept_scene};
+ghost use Rattle.editor_session.specs.Documents.{OfDocument, HasDocument};
 ghost use Rattle.editor_session.specs.Performing.{HasGone, AnswersAlone};
 ghost use Rattle.editor_session.specs.Edited.{BecomesAt};
 
@@ -41,12 +43,12 @@ fn go_with_room(
     direction: Direction,
     most: usize,
 ) -> Result<Option<usize>, AllocError>
-    requires steps { ChangesFitText direction document.old }
+    requires steps { HistoryFits direction document.old }
     requires wide { ChangesFitWidth document.old.document (changes_of direction document.old.document.history) }
     requires watched { IsWatched document.old.document views.old }
     ensures scene { let scene = scene_gone direction views.old notes.old document.old in
         OnOk result (kept_scene document.new views.new notes.new ≡ scene) }
-    ensures place { IfOk result (λ place. place ≡ place_after direction document.old) }
+    ensures place { IfOk result (λ place. place ≡ history_caret direction document.old) }
     ensures same { OnErr result (document.new.document ≡ document.old.document) }
     ensures same_views { OnErr result (views.new ≡ views.old) }
     ensures id { document.new.document.id ≡ document.old.document.id }
@@ -85,7 +87,7 @@ fn go_with_room_in(
     requires rise { Rise 0 documents.old.next (map (λ (d : ModelDocument). d.id) (documents_in documents.old)) }
     ensures gone { let scene = scene_gone direction views.old notes.old in
         OnOk result (BecomesAt document scene documents.old documents.new views.new notes.new) }
-    ensures place { IfOk result (λ place. OfDocument documents.old document (λ k. place ≡ place_after direction k)) }
+    ensures place { IfOk result (λ place. OfDocument documents.old document (λ k. place ≡ history_caret direction k)) }
     ensures same { OnErr result (documents_in documents.new ≡ documents_in documents.old) }
     ensures same_views { OnErr result (views.new ≡ views.old) }
     ensures documents { DocumentsAreNamed documents.new.entries }
