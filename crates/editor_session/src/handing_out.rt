@@ -8,6 +8,7 @@ ghost use Rattle.editor_session.specs.Ranges.{HasRange, styled_range, HandsOut, 
 use document::Document;
 use ed_types::Refusal;
 use message_requests::SessionState;
+use scene::document_is_small;
 use std::alloc::{AllocError, Global};
 
 /// Appends bytes of a document, each followed by its style. There must be room for them.
@@ -16,8 +17,7 @@ fn append_styled(document: &Document, start: usize, count: usize, target: &mut V
     requires room { vec_len target.old + 2 * count ≤ vec_capacity target.old }
     ensures { target.new.items ≡ target.old.items ++ styled_range start count document.now }
 {
-    // States that no place of the text is past the numbers of `usize`.
-    let _ = document.len();
+    document_is_small(document);
     for place in start..start + count {
         target.push_reserved(document.byte(place));
         target.push_reserved(document.style(place));
