@@ -1,11 +1,10 @@
 -- Replies that are left in a place.
-use Rattle.std.proofs.Common.{◌≡◌, ◌⊎◌, ◌&&◌, ◌∙◌, ℤ, Bool, true, false, cond, inl, inr, ap, sym, subst, Ok, Err, IfErr}
+use Rattle.std.proofs.Common.{◌≡◌, ◌&&◌, ◌==◌, ℕ, ℤ, List, [], Bool, true, false, length, sym, subst, ap, Ok, Err, IfErr}
 use Rattle.std.specs.Prelude.{Result}
 use Rattle.ed_types.specs.declared.refusal.Refusal.{Refusal}
-use Rattle.ed_types.specs.Notices.{Response}
-use Rattle.ed_model.specs.Performing.{quiet}
+use Rattle.ed_types.specs.Notices.{Notice, Response}
 use Rattle.ed_model.specs.Session.{Session}
-use Rattle.editor_session.specs.Left.{told, is_value_alone, IsLeft}
+use Rattle.editor_session.specs.Left.{told, is_value_alone}
 
 -- what holds of a refusal that was made holds of what is told
 pub err_told : (P : Refusal → Type 0) (r : Result ℤ Refusal) (left : Response) (made : Result Response Refusal) → told r left ≡ made → IfErr made P → IfErr r P
@@ -20,13 +19,10 @@ refused_told (Err refusal) (Err other) left made is h =
     let same : other ≡ refusal = cc in
     ap (λ e. Err e) same
 
--- what was left in the place of a value alone is the whole reply, or is a value alone too
-pub left_of_quiet : (value start : ℤ) (left : Response) → IsLeft (Ok value) (quiet start) left → (left.value ≡ value) ⊎ (left ≡ quiet left.value)
-left_of_quiet value start left = go (is_value_alone left && is_value_alone (quiet start))
-  where
-    go : (b : Bool) → left ≡ cond b (quiet start) (record left { value = value }) → (left.value ≡ value) ⊎ (left ≡ quiet left.value)
-    go true is = inr (is ∙ ap quiet (sym (ap (λ (r : Response). r.value) is)))
-    go false is = inl (ap (λ (r : Response). r.value) is)
+-- a message that is answered with a reply is not one that is refused
+pub not_refused_too : {S : Type 0} (says : Result S Refusal) (value : ℤ) (left : Response) → IfErr says (λ r. Ok value ≡ Err r) → IfErr says (λ r. Ok left ≡ Err r)
+not_refused_too (Ok x) value left h = tt
+not_refused_too (Err r) value left h = absurd (cc)
 
 abbrev pub refusing : (R : Type 0) → Refusal → Result R Refusal
 refusing R refusal = Err refusal

@@ -1,6 +1,6 @@
-//! Replies that are left in a place of the caller's, who keeps the value apart.
+//! Replies that are left in a place of the caller's.
 
-ghost use Rattle.std.specs.Prelude.{◌≡◌, ◌==◌, ◌&&◌, ◌⊎◌, length, Ok};
+ghost use Rattle.std.specs.Prelude.{◌≡◌, ◌==◌, ◌&&◌, length, Ok};
 ghost use Rattle.ed_model.specs.Performing.{quiet};
 ghost use Rattle.editor_session.specs.Left.{told, is_value_alone, IsLeft};
 
@@ -31,14 +31,15 @@ fn put(reply: &mut Reply, new: Reply)
     *reply = new;
 }
 
-/// Replaces `reply` by `new`, and returns the value. Writes nothing if neither has a text or notes.
+/// Replaces `reply` by `new`, and returns the value. Writes only the value if neither has a text or notes.
 #[inline(always)]
 pub(crate) fn keep(reply: &mut Reply, new: Reply) -> i64
-    ensures whole { record reply.new { value = result } ≡ new }
-    ensures place { IsLeft (Ok result) reply.old reply.new }
+    ensures whole { reply.new ≡ new }
+    ensures value { result ≡ reply.new.value }
 {
     let value = new.value();
     if is_value_alone(&new) && is_value_alone(reply) {
+        reply.set_value(value);
         return value;
     }
     put(reply, new);
@@ -54,17 +55,5 @@ pub(crate) fn keep_made(reply: &mut Reply, made: Result<Reply, Refusal>) -> Resu
     match made {
         Ok(new) => Ok(keep(reply, new)),
         Err(refusal) => Err(refusal),
-    }
-}
-
-/// Returns the whole reply: what was left, with this value.
-pub(crate) fn whole(alloc: Global, value: i64, reply: Reply) -> Reply
-    requires place { (reply.value ≡ value) ⊎ (reply ≡ quiet reply.value) }
-    ensures { result ≡ record reply { value = value } }
-{
-    if is_value_alone(&reply) {
-        answer(alloc, value)
-    } else {
-        reply
     }
 }

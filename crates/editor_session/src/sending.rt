@@ -19,7 +19,7 @@ use crate::frequent::{
     answer_found_change, answer_unheard_change, answer_unheard_transaction, find_change,
     heard_change_of,
 };
-use crate::left::{answer, keep, keep_made, whole};
+use crate::left::{answer, keep, keep_made};
 use crate::performing::perform_message;
 use crate::reading::read_as;
 use crate::target::answer_target_message;
@@ -37,8 +37,7 @@ fn is_recorded(kind: Kind, request: &Request) -> bool
     request.view.records() && kind.columns().r
 }
 
-/// Plans and performs a message to `view`. Returns the value; the text and the notes of the reply replace those of
-/// `reply`.
+/// Plans and performs a message to `view`. Replaces `reply` by the message's reply, and returns the value.
 ///
 /// # Errors
 ///
@@ -110,8 +109,8 @@ fn answer_without_notes(
     }
 }
 
-/// Answers a message to `view`. Returns the value; the text and the notes of the reply replace those of `reply`. Out of
-/// line, so that plain questions do not pay for its stack frame.
+/// Answers a message to `view`. Replaces `reply` by the message's reply, and returns the value. Out of line, so that
+/// plain questions do not pay for its stack frame.
 ///
 /// # Errors
 ///
@@ -163,7 +162,7 @@ fn answer_by_plan(
 {
     let mut reply = answer(alloc, 0);
     match answer_into_by_plan(alloc, state, view, message, &mut reply) {
-        Ok(value) => Ok(whole(alloc, value, reply)),
+        Ok(_) => Ok(reply),
         Err(refusal) => Err(refusal),
     }
 }

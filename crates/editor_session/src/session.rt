@@ -197,8 +197,8 @@ impl Session {
     }
 
     /// Sends any message as `send_lent` does, but replaces `reply` by its reply, and returns the value. If neither reply has a text or
-    /// notes, nothing is written, and `reply.value()` is not this message's value: use the result. It does not try first whether the
-    /// message is a question: use `ask` and `read` for these.
+    /// notes, only the value is written. It tries first whether the message is a plain question; a text question is planned: use `read`
+    /// for these.
     ///
     /// # Errors
     ///

@@ -14,7 +14,7 @@ returns-in-Answer-clause-answer c =
     let unrecorded_now : a.is_recorded ≡ false = search rules in
     let answered : quiet c.in-Answer.value ≡ c.answer.result = search rules in
     plain_answer s a.view a.message.now t.kind t.request c.in-Answer.value t.found (t.planned ∙ ap (λ x. Ok x) c.in-Answer.is) (sym t.recorded ∙ unrecorded_now)
-    ∙ ap (λ x. Ok (s, x)) (answered ∙ sym c.keep.ensures.whole ∙ ap (λ v. record c.keep.new.reply { value = v }) (search rules))
+    ∙ ap (λ x. Ok (s, x)) (answered ∙ sym c.keep.ensures.whole)
 
 pub perform_free_change-requires-clause-sent : goal.perform_free_change-requires-clause-sent
 perform_free_change-requires-clause-sent c =
@@ -31,4 +31,4 @@ returns-in-ChangeView-clause-answer c =
     let unrecorded_now : a.is_recorded ≡ false = search rules in
     let planned = subst (λ b. IsPlannedAs (session_in a.state.now) a.view m (planned_message a.document a.view (plan.ChangeView p.change p.value) b)) unrecorded_now (subst (λ x. IsPlannedAs (session_in a.state.now) a.view m (planned_message a.document a.view x a.is_recorded)) p.is c.requires.planned) in
     c.perform_free_change.ensures.answer m p.value planned
-    ∙ ap (λ x. Ok (session_in c.perform_free_change.new.state, x)) (answered ∙ sym c.keep-in-ChangeView.ensures.whole ∙ ap (λ v. record c.keep-in-ChangeView.new.reply { value = v }) (search rules))
+    ∙ ap (λ x. Ok (session_in c.perform_free_change.new.state, x)) (answered ∙ sym c.keep-in-ChangeView.ensures.whole)

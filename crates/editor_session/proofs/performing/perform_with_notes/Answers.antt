@@ -17,7 +17,7 @@ returns-in-Ok-perform-clause-answer c =
     let first : c.record_if.new.notes.notes ≡ first_note a.is_recorded a.view a.message.now = search rules in
     let finished : response c.in-Ok-perform.value n.handed_out.items n.notes.notes ≡ c.finish.result = search rules in
     c.in-Ok-perform.ensures.answer a.message.now a.is_recorded c.requires.planned (search rules) first
-    ∙ ap (λ x. Ok (session_in n.state, x)) (finished ∙ sym c.keep.ensures.whole ∙ ap (λ v. record c.keep.new.reply { value = v }) (search rules))
+    ∙ ap (λ x. Ok (session_in n.state, x)) (finished ∙ sym c.keep.ensures.whole)
 
 pub returns-in-Err-clause-free : goal.returns-in-Err-clause-free
 returns-in-Err-clause-free c free =

@@ -16,8 +16,8 @@ returns-in-Ok-clause-done c done =
     let left : Response = c.send_into.new.reply in
     let value : to_z w64 (of_z w64 c.in-Ok.told) ≡ c.in-Ok.told = search rules in
     let cleared : c.clear-in-Ok.new.self ≡ [] = search rules in
-    subst (λ m. table c.args.self.now.session c.args.view m ≡ Ok (c.send_into.new.self, record left { value = c.in-Ok.told })) same c.in-Ok.ensures.answer
-    ∙ ap (λ v. Ok (c.send_into.new.self, record left { value = v })) (sym value)
+    subst (λ m. table c.args.self.now.session c.args.view m ≡ Ok (c.send_into.new.self, left)) same c.in-Ok.ensures.answer
+    ∙ ap (λ v. Ok (c.send_into.new.self, record left { value = v })) (c.in-Ok.ensures.place ∙ sym value)
     ∙ ap (λ t. Ok (c.send_into.new.self, record left { value = to_z w64 (of_z w64 c.in-Ok.told); text = t })) (sym (text_alone left.text))
     ∙ ap (λ read. Ok (c.send_into.new.self, record left { value = to_z w64 (of_z w64 c.in-Ok.told); text = text_or left.text read })) (sym cleared)
 
