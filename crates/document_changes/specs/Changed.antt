@@ -1,5 +1,6 @@
 -- The effect of a change on a document, its views and the notes.
 use Rattle.std.specs.Prelude.{◌≡◌, ◌+◌, ◌++◌, ℕ, List, [], length, map, bit_or, Option}
+use Rattle.std.specs.List.{AllByRecursion}
 use Rattle.ed_types.specs.declared.reply.Note.{Note}
 use Rattle.ed_types.specs.Heard.{with_text}
 use Rattle.ed_types.specs.Notices.{Notice}
@@ -13,6 +14,10 @@ use Rattle.id_table.specs.Entries.{Entries, id_of}
 use Rattle.notify.specs.Gathered.{Gathered}
 use Rattle.ed_view.specs.Kept.{KeptView}
 use Rattle.scene.specs.Scenes.{views_of, watchers, fold_room_in_all, IsWatched}
+
+-- each indicator has a value for each byte of the text
+abbrev pub IndicatorsCoverText : Document → Type 0
+IndicatorsCoverText d = AllByRecursion (λ (values : List ℕ). length values ≡ length d.cells) d.indicators
 
 -- with any text, the note is this notice with that text
 abbrev pub IsNoteOf : Note → Notice → Type 0

@@ -1,8 +1,8 @@
 //! Laws: functions that do nothing, whose contracts state what holds for all documents.
 
 ghost use Rattle.std.specs.Prelude.{◌≡◌, length};
-ghost use Rattle.std.specs.List.{AllByRecursion};
 ghost use Rattle.ed_model.specs.Session.{lines_in};
+ghost use Rattle.document_changes.specs.Changed.{IndicatorsCoverText};
 
 use document::Document;
 
@@ -10,7 +10,7 @@ use document::Document;
 #[inline(always)]
 pub(crate) fn parts_match_text(document: &Document)
     ensures rows { length document.now.document.rows ≡ lines_in document.now.document }
-    ensures indicators { AllByRecursion (λ values. length values ≡ length document.now.document.cells) document.now.document.indicators }
+    ensures indicators { IndicatorsCoverText document.now.document }
 {
     document.rows();
     document.indicators().length();
