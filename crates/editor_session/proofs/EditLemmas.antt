@@ -10,8 +10,9 @@ use Rattle.ed_model.specs.declared.plan.Follow.TheVariants as follow
 use Rattle.ed_model.specs.declared.plan.Plan.TheVariants as plan
 use Rattle.ed_model.specs.Edits.{steps_of, has_steps}
 use Rattle.ed_model.specs.LineEnds.{converted}
-use Rattle.ed_model.specs.Performing.{Scene, session_of, followed, with_caret, with_target}
+use Rattle.ed_model.specs.Performing.{Scene, session_of, edit_made, followed, with_caret, with_target}
 use Rattle.ed_model.specs.PlansFit.{EditStepsFit}
+use Rattle.ed_model.specs.proved.Scenes.{edit_made_id}
 use Rattle.ed_model.specs.Requests.{Request}
 use Rattle.ed_model.specs.Session.{Document, Session, text_of}
 use Rattle.ed_model.specs.Steps.{Step, insertion}
@@ -19,18 +20,20 @@ use Rattle.id_table.specs.Entries.{Entries, value_at}
 use Rattle.notify.specs.Gathered.{Gathered}
 use Rattle.document.specs.Kept.{Kept}
 use Rattle.ed_view.specs.Kept.{KeptView}
-use Rattle.scene.specs.Scenes.{views_of}
+use Rattle.scene.specs.Scenes.{kept_scene, views_of}
 use Rattle.message_requests.specs.Requested.{session_in}
 use Rattle.message_requests.specs.declared.state.SessionState.{SessionState}
 use Rattle.session_changes.specs.Kept.{IsKept}
 use Rattle.editor_session.specs.Edited.{IsPastedFor, TakesWithin, is_turned, clipboard_need, taken_along, followed_views, followed_clipboard, Becomes}
-use Rattle.editor_session.specs.Edits.{CanEdit, Edits, edit_steps, scene_after}
+use Rattle.editor_session.specs.Edits.{CanEdit, Edits, MakesEdit, edit_steps, scene_after}
 use Rattle.editor_session.specs.Plans.{takes_nothing_along}
 use Rattle.editor_session.specs.Planned.{IsAskedBy, planned_message}
 use Rattle.editor_session.specs.Performed.{IfFree, IsPlannedForSomeValueWithText}
 use Rattle.editor_session.specs.Widths.{StepsFitWidth}
 use Rattle.editor_session.proofs.Widths.{steps_fit_width}
 use Rattle.editor_session.proofs.Needing.{no_steps, nothing_along}
+use Rattle.editor_session.proofs.OneDocument.{with_one, said_of_it}
+use Rattle.editor_session.proofs.Replacing.{becomes}
 use Rattle.editor_session.proofs.PlanLemmas.{DoneFor, asked_by, document_here, kept_at, of_kept, for_kept, session_is, takes_here, within_here, limits_here, watched_here, same_steps, edited}
 use Rattle.editor_session.proofs.TableWay.{free_plan}
 
@@ -52,6 +55,16 @@ followed_so (follow.Clipboard start count) view before taken s s' between notes'
     let views : views_of s'.views.entries ≡ scene.views = moved ∙ done.views_after in
     let held = clipboard ∙ take in
     rw (done.documents_after, views, held, next_document, next_view, limits) refl
+
+-- the document, the views and the notes after the steps of an edit
+pub edit_put : (s : SessionState) (kept : IsKept s) (document : ℕ) (change : Edit) (text held pasted : List ℕ) (old new : Kept) (between : Entries KeptView) (notes notes' : Gathered) → value_at s.documents.entries document ≡ Some old → held ≡ s.clipboard.items
+    → MakesEdit (edit_steps change text held pasted old.document) old s.views notes new between notes'
+    → IfSome (value_at s.documents.entries document) (λ k. Becomes (scene_after change text pasted s notes k) s.documents (with_one s.documents document new) between notes')
+edit_put s kept document change text held pasted old new between notes notes' at is made =
+    said_of_it s kept document old new at (λ k. Becomes (scene_after change text pasted s notes k) s.documents (with_one s.documents document new) between notes')
+    (subst (λ x. Becomes (edit_made (edit_steps change text x pasted old.document) (kept_scene old s.views notes)) s.documents (with_one s.documents document new) between notes') is
+    (becomes s.documents between notes' document old new (edit_made (edit_steps change text held pasted old.document) (kept_scene old s.views notes)) kept.documents at made
+    (edit_made_id (edit_steps change text held pasted old.document) (kept_scene old s.views notes))))
 
 pub edited_with : (s s' : SessionState) (document view : ℕ) (text pasted taken : List ℕ) (change : Edit) (after : Follow) (between : Entries KeptView) (notes notes' : Gathered)
     → IsSomeAnd (value_at s.documents.entries document) (CanEdit change text pasted after taken s)
@@ -76,11 +89,7 @@ inserts_nothing (g ∷ gs) start bytes h = absurd (cc)
 
 turns_nothing : (r : Request) (change : Edit) → not (has_steps (steps_of r change)) ≡ true → (is_turned change ≡ false) ⊎ (converted r.document.line_end r.session.clipboard ≡ [])
 turns_nothing r (edit.Replace start count (source.Clipboard true)) h = inr (inserts_nothing _ start (converted r.document.line_end r.session.clipboard) h)
-turns_nothing r (edit.Replace start count (source.Clipboard false)) h = inl refl
-turns_nothing r (edit.Replace start count source.Nothing) h = inl refl
-turns_nothing r (edit.Replace start count (source.MessageText n)) h = inl refl
-turns_nothing r (edit.Replace start count source.LineEnd) h = inl refl
-turns_nothing r (edit.ConvertLineEnds to) h = inl refl
+turns_nothing r _ h = inl refl
 
 pub for_all : (o : Option Kept) (P : Kept → Type 0) → ((k : Kept) → P k) → IfSome o P
 for_all None P h = tt
@@ -89,19 +98,11 @@ for_all (Some k) P h = h k
 -- what the edit puts in of the clipboard, if that is not converted
 pub pasted_none : (change : Edit) (clipboard pasted : List ℕ) (end : _) → is_turned change ≡ false → IsPastedFor change clipboard end pasted
 pasted_none (edit.Replace start count (source.Clipboard true)) clipboard pasted end h = absurd (cc)
-pasted_none (edit.Replace start count (source.Clipboard false)) clipboard pasted end h = tt
-pasted_none (edit.Replace start count source.Nothing) clipboard pasted end h = tt
-pasted_none (edit.Replace start count (source.MessageText n)) clipboard pasted end h = tt
-pasted_none (edit.Replace start count source.LineEnd) clipboard pasted end h = tt
-pasted_none (edit.ConvertLineEnds to) clipboard pasted end h = tt
+pasted_none _ clipboard pasted end h = tt
 
 pub pasted_so : (change : Edit) (clipboard pasted : List ℕ) (end : _) → pasted ≡ converted end clipboard → IsPastedFor change clipboard end pasted
 pasted_so (edit.Replace start count (source.Clipboard true)) clipboard pasted end h = h
-pasted_so (edit.Replace start count (source.Clipboard false)) clipboard pasted end h = tt
-pasted_so (edit.Replace start count source.Nothing) clipboard pasted end h = tt
-pasted_so (edit.Replace start count (source.MessageText n)) clipboard pasted end h = tt
-pasted_so (edit.Replace start count source.LineEnd) clipboard pasted end h = tt
-pasted_so (edit.ConvertLineEnds to) clipboard pasted end h = tt
+pasted_so _ clipboard pasted end h = tt
 
 module _ (s : SessionState) (kept : IsKept s) (document view : ℕ) (text : List ℕ) (change : Edit) (after : Follow) where
   module _ (by_text : IsPlannedForSomeValueWithText (session_in s) document view text (λ value. plan.Edit change value after)) where

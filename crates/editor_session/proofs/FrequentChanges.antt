@@ -25,12 +25,12 @@ use Rattle.message_requests.specs.Requested.{session_in}
 use Rattle.message_requests.specs.declared.state.SessionState.{SessionState}
 use Rattle.scene.specs.Scenes.{AreNamed}
 use Rattle.session_changes.specs.Kept.{IsKept, DocumentsAreNamed}
-use Rattle.editor_session.specs.Doing.{CanBeMade, Changes, IsChangedIn}
+use Rattle.editor_session.specs.Doing.{CanBeMade, Changes}
 use Rattle.editor_session.specs.Planned.{IsPlannedAs, planned_message}
 use Rattle.editor_session.specs.Performed.{unrecorded, no_notes, IsPlannedForSomeValue}
 use Rattle.editor_session.proofs.Keeping.{kept_with}
 use Rattle.editor_session.proofs.PlanLemmas.{DoneFor, answers, kept_by, asked_by, kept_at, for_kept, change_fits, watched_here}
-use Rattle.editor_session.proofs.PlainChanges.{changed_for, changes_so}
+use Rattle.editor_session.proofs.PlainChanges.{changed_for}
 use Rattle.editor_session.proofs.Questions.{IsPlain, plain, found_plain, unheard}
 use Rattle.editor_session.proofs.TableWay.{is_found}
 use Rattle.editor_session.proofs.ViewPlans.{unrecorded_plan}
@@ -106,15 +106,6 @@ module _ (s : SessionState) (kept : IsKept s) (document view : ℕ) (what : Docu
 pub same_id : (what : DocumentChange) (old new : Document) (made : Bool) → (made ≡ true → new ≡ changed_document [] what old) → (made ≡ false → new ≡ old) → new.id ≡ old.id
 same_id what old new true so not = ap (λ (d : Document). d.id) (so refl) ∙ changed_id [] what old
 same_id what old new false so not = ap (λ (d : Document). d.id) (not refl)
-
--- the session after such a change in its tables
-pub changes_unheard : (document : ℕ) (what : DocumentChange) (s s' : SessionState) → IfSome (value_at s.documents.entries document) (λ k. (text : List ℕ) (sender : ℕ) → IsChangedIn what sender text k s.documents s.views no_notes s'.documents s'.views no_notes)
-    → s'.clipboard ≡ s.clipboard → s'.documents.next ≡ s.documents.next → s'.views.next ≡ s.views.next → s'.limits ≡ s.limits → IfSome (value_at s.documents.entries document) (λ k. (text : List ℕ) (sender : ℕ) → Changes what sender text k s no_notes s' no_notes)
-changes_unheard document what s s' done clipboard next_document next_view limits = go (value_at s.documents.entries document) done
-  where
-    go : (o : Option _) → IfSome o (λ k. (text : List ℕ) (sender : ℕ) → IsChangedIn what sender text k s.documents s.views no_notes s'.documents s'.views no_notes) → IfSome o (λ k. (text : List ℕ) (sender : ℕ) → Changes what sender text k s no_notes s' no_notes)
-    go None h = tt
-    go (Some k) h = λ text sender. changes_so what sender text s s' no_notes no_notes k (h text sender) clipboard next_document next_view limits
 
 -- what holds of a session goes on holding
 pub kept_unheard : MessageKeepsSound → (s s' : SessionState) (document view : ℕ) (what : DocumentChange) (made : Bool) → IsKept s → IsPlannedForSomeValue (session_in s) document view (plan.ChangeDocument what)

@@ -5,23 +5,20 @@ use Rattle.ed_model.specs.Steps.{Step}
 use Rattle.ed_model.specs.Session.{View, with_document}
 use Rattle.ed_model.specs.History.{latest_text_step}
 use Rattle.document.specs.declared.undoing.Direction.{Direction}
-use Rattle.document.specs.Undoing.{changes_of}
-use Rattle.scene.specs.Scenes.{views_of}
+use Rattle.document.specs.Undoing.{changes_of, history_behind}
+use Rattle.id_table.specs.Entries.{Entries, value_at}
+use Rattle.ed_view.specs.Kept.{KeptView}
+use Rattle.scene.specs.Scenes.{kept_scene, views_of}
 use Rattle.message_requests.specs.Requested.{documents_in}
 use Rattle.message_requests.specs.declared.state.SessionState.{SessionState}
 use Rattle.editor_session.specs.Doing.{scene_gone, Goes}
 use Rattle.ed_model.specs.Performing.{place_behind, with_caret, caret_behind}
 use Rattle.notify.specs.Gathered.{Gathered}
 use Rattle.document.specs.Kept.{Kept}
-use Rattle.scene.specs.Undoing.{place_behind_any}
-
-pub both_if : (o : Option Kept) (P Q R : Kept → Type 0) → ((k : Kept) → P k → Q k → R k) → IfSome o P → IfSome o Q → IfSome o R
-both_if None P Q R f p q = tt
-both_if (Some k) P Q R f p q = f k p q
-
-pub if_also : (o : Option Kept) (P Q : Kept → Type 0) → ((k : Kept) → P k → Q k) → IfSome o P → IfSome o Q
-if_also None P Q f h = tt
-if_also (Some k) P Q f h = f k h
+use Rattle.scene.specs.Undoing.{bits_of, place_behind_any}
+use Rattle.session_changes.specs.Kept.{IsKept}
+use Rattle.editor_session.proofs.OneDocument.{with_scene, said_of_it}
+use Rattle.editor_session.proofs.Replacing.{becomes, transaction_keeps_id}
 
 -- The caret after undo and redo.
 
@@ -42,3 +39,14 @@ went view direction s s' notes notes' k between documents moved caret clipboard 
     let latest = latest_text_step (reverse (changes_of direction k.document.history)) in
     let views : views_of s'.views.entries ≡ caret_behind view latest (scene_gone direction s.views notes k).views = caret ∙ ap (caret_behind view latest) moved in
     record { session_after = rw (documents, views, clipboard, next_document, next_view, limits) refl; notes_after = told }
+
+-- the session after undo or redo in its document with the id, and after the caret is set
+pub went_at : (s : SessionState) (kept : IsKept s) (document view : ℕ) (direction : Direction) (old new : Kept) (between views' : Entries KeptView) (notes notes' : Gathered) → value_at s.documents.entries document ≡ Some old
+    → kept_scene new between notes' ≡ scene_gone direction s.views notes old
+    → views_of views'.entries ≡ caret_behind view (latest_text_step (reverse (changes_of direction old.document.history))) (views_of between.entries) → views'.next ≡ s.views.next
+    → IfSome (value_at s.documents.entries document) (λ k. Goes view direction s notes k (with_scene s document new views') notes')
+went_at s kept document view direction old new between views' notes notes' at scene caret next =
+    let put = becomes s.documents between notes' document old new (scene_gone direction s.views notes old) kept.documents at scene
+    (transaction_keeps_id (bits_of direction) (changes_of direction old.document.history) (history_behind direction old.document.history) (kept_scene old s.views notes)) in
+    said_of_it s kept document old new at (λ k. Goes view direction s notes k (with_scene s document new views') notes')
+    (went view direction s (with_scene s document new views') notes notes' old (views_of between.entries) put.documents_after put.views_after caret refl refl next refl put.notes_after)

@@ -19,11 +19,6 @@ refused_told (Err refusal) (Err other) left made is h =
     let same : other ≡ refusal = cc in
     ap (λ e. Err e) same
 
--- a message that is answered with a reply is not one that is refused
-pub not_refused_too : {S : Type 0} (says : Result S Refusal) (value : ℤ) (left : Response) → IfErr says (λ r. Ok value ≡ Err r) → IfErr says (λ r. Ok left ≡ Err r)
-not_refused_too (Ok x) value left h = tt
-not_refused_too (Err r) value left h = absurd (cc)
-
 abbrev pub refusing : (R : Type 0) → Refusal → Result R Refusal
 refusing R refusal = Err refusal
 

@@ -8,6 +8,7 @@ pub mod Replacing
 pub mod PlanLemmas
 pub mod Attaching
 pub mod Held
+pub mod OneDocument
 pub mod Keeping
 pub mod ViewPlans
 pub mod OpeningLemmas

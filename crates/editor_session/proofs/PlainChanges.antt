@@ -1,41 +1,38 @@
 -- Changes of a document at once.
-use Rattle.std.proofs.Common.{◌≡◌, ℕ, ◌≤◌, ◌==◌, ℤ, false, List, [], length, refl, sym, subst, Ok, Err, OnOk, IfSome, IsSomeAnd}
-use Rattle.std.specs.Prelude.{not, Result}
+use Rattle.std.proofs.Common.{◌≡◌, ℕ, ◌≤◌, ◌==◌, ℤ, false, List, [], length, refl, sym, subst, Some, IfSome, IsSomeAnd}
+use Rattle.std.specs.Prelude.{not}
 use Rattle.std.proofs.lemmas.Bool.{and_parts, eqb-true, not-true}
 use Rattle.ed_model.specs.declared.plan.DocumentChange.{DocumentChange}
 use Rattle.ed_model.specs.declared.plan.Plan.TheVariants as plan
-use Rattle.ed_model.specs.Session.{Session, Document, watching}
-use Rattle.id_table.specs.Entries.{value_at}
+use Rattle.ed_model.specs.Changes.{changed_document}
+use Rattle.ed_model.specs.proved.Changes.{changed_id}
+use Rattle.ed_model.specs.Session.{Session, Document, watching, with_document}
+use Rattle.id_table.specs.Entries.{Entries, value_at}
 use Rattle.document.specs.Kept.{Kept}
 use Rattle.notify.specs.Gathered.{Gathered}
 use Rattle.document_changes.specs.Fit.{IsFitChange, bytes_read}
 use Rattle.document_changes.specs.Needs.{needs_room, notes_of_change}
-use Rattle.scene.specs.Scenes.{watchers}
-use Rattle.message_requests.specs.Requested.{session_in}
+use Rattle.ed_view.specs.Kept.{KeptView}
+use Rattle.scene.specs.Scenes.{views_of, watchers}
+use Rattle.message_requests.specs.Requested.{session_in, documents_in}
 use Rattle.message_requests.specs.declared.state.SessionState.{SessionState}
 use Rattle.session_changes.specs.Kept.{IsKept}
-use Rattle.editor_session.specs.Doing.{CanChangeOnceThereIsRoom, IsChangedIn, Changes}
+use Rattle.editor_session.specs.Doing.{CanChangeOnceThereIsRoom, Changes, TellsOfChange, views_changed}
 use Rattle.editor_session.specs.Performed.{IfFree, IsPlannedForSomeValueWithText}
 use Rattle.editor_session.specs.Planned.{IsAskedBy, planned_message}
 use Rattle.editor_session.proofs.PlanLemmas.{DoneFor, asked_by, kept_at, of_kept, for_kept, session_is, changed, change_fits, read_change, watched_here}
 use Rattle.editor_session.proofs.TableWay.{free_plan}
-use Rattle.editor_session.proofs.Held.{if_also}
+use Rattle.editor_session.proofs.OneDocument.{with_one, with_scene}
+use Rattle.editor_session.proofs.Replacing.{document_put}
 
--- the session after a change in its tables
-pub changes_so : (what : DocumentChange) (view : ℕ) (text : List ℕ) (s s' : SessionState) (notes notes' : Gathered) (k : Kept) → IsChangedIn what view text k s.documents s.views notes s'.documents s'.views notes'
-    → s'.clipboard ≡ s.clipboard → s'.documents.next ≡ s.documents.next → s'.views.next ≡ s.views.next → s'.limits ≡ s.limits → Changes what view text k s notes s' notes'
-changes_so what view text s s' notes notes' k done clipboard next_document next_view limits =
-    record { session_after = rw (done.documents_after, done.views_after, clipboard, next_document, next_view, limits) refl; notes_after = done.notes_after }
-
-pub changes_in : (document : ℕ) (what : DocumentChange) (view : ℕ) (text : List ℕ) (s s' : SessionState) (notes notes' : Gathered) → IfSome (value_at s.documents.entries document) (λ k. IsChangedIn what view text k s.documents s.views notes s'.documents s'.views notes')
-    → s'.clipboard ≡ s.clipboard → s'.documents.next ≡ s.documents.next → s'.views.next ≡ s.views.next → s'.limits ≡ s.limits → IfSome (value_at s.documents.entries document) (λ k. Changes what view text k s notes s' notes')
-changes_in document what view text s s' notes notes' done clipboard next_document next_view limits =
-    if_also (value_at s.documents.entries document) (λ k. IsChangedIn what view text k s.documents s.views notes s'.documents s'.views notes') (λ k. Changes what view text k s notes s' notes')
-    (λ k here. changes_so what view text s s' notes notes' k here clipboard next_document next_view limits) done
-
-pub all_ok : {A E : Type 0} (r : Result A E) (P Q R S : Type 0) → OnOk r P → OnOk r Q → OnOk r R → (P → Q → R → S) → OnOk r S
-all_ok (Ok a) P Q R S p q h f = f p q h
-all_ok (Err e) P Q R S p q h f = tt
+-- the session after the change of its document with the id, and of the views
+pub change_made : (s : SessionState) (kept : IsKept s) (what : DocumentChange) (document view : ℕ) (text : List ℕ) (old new : Kept) (views' : Entries KeptView) (notes notes' : Gathered) → value_at s.documents.entries document ≡ Some old
+    → new.document ≡ changed_document text what old.document → views_of views'.entries ≡ views_changed what old s.views → TellsOfChange what view text old s.views notes notes' → views'.next ≡ s.views.next
+    → Changes what view text old s notes (with_scene s document new views') notes'
+change_made s kept what document view text old new views' notes notes' at is lines told next =
+    let d = changed_document text what old.document in
+    let documents : documents_in (with_one s.documents document new) ≡ with_document d (documents_in s.documents) = document_put s.documents document old new d kept.documents at is (changed_id text what old.document) in
+    record { session_after = rw (documents, lines, next) refl; notes_after = told }
 
 module _ (s : SessionState) (kept : IsKept s) (document view : ℕ) (text : List ℕ) (what : DocumentChange) where
   pub can_change_once : IsPlannedForSomeValueWithText (session_in s) document view text (plan.ChangeDocument what) → IsSomeAnd (value_at s.documents.entries document) (CanChangeOnceThereIsRoom what text s.views)

@@ -134,11 +134,8 @@ transaction_told_from ns who cs new d views =
 -- The bytes of a source.
 
 same_bytes : (r : Request) (from : Source) (pasted : List ℕ) → IsTurnedFor from r.session.clipboard r.document.line_end pasted → stored_bytes from r.message.text r.session.clipboard pasted r.document.line_end ≡ source_bytes r from
-same_bytes r source.Nothing pasted h = refl
-same_bytes r (source.MessageText count) pasted h = refl
 same_bytes r (source.Clipboard true) pasted h = h
-same_bytes r (source.Clipboard false) pasted h = refl
-same_bytes r source.LineEnd pasted h = refl
+same_bytes r _ pasted h = refl
 
 pub same_edit : (r : Request) (change : Edit) (value : ℤ) (after : Follow) (pasted : List ℕ) → IsPastedFor change r.session.clipboard r.document.line_end pasted
     → edit_steps change r.message.text r.session.clipboard pasted r.document ≡ steps_of r change
@@ -146,10 +143,8 @@ same_edit r (edit.Replace start count from) value after pasted h = ap (λ xs. re
 same_edit r (edit.ConvertLineEnds to) value after pasted h = refl
 
 stored_in : (r : Request) (from : Source) → IsFitSource r from → IsStoredIn from (length r.message.text)
-stored_in r source.Nothing h = tt
 stored_in r (source.MessageText count) h = h
-stored_in r (source.Clipboard convert) h = tt
-stored_in r source.LineEnd h = tt
+stored_in r _ h = tt
 
 edit_within : (r : Request) (change : Edit) → IsFitEdit r change → IsEditWithin change (size r) (length r.message.text)
 edit_within r (edit.Replace start count from) fit = (fit.0, stored_in r from fit.1)
@@ -158,15 +153,7 @@ edit_within r (edit.ConvertLineEnds to) fit = tt
 -- a fit plan lies within
 pub fits_within : (r : Request) (what : Plan) → IsFitPlan r what → IsWithin what (size r) (length r.message.text)
 fits_within r (plan.Edit change value after) fit = edit_within r change fit.0
-fits_within r (plan.Answer value) fit = tt
-fits_within r (plan.HandOut value start count) fit = tt
-fits_within r (plan.HandOutStyled start count) fit = tt
-fits_within r plan.Attempt fit = tt
-fits_within r plan.Undo fit = tt
-fits_within r plan.Redo fit = tt
-fits_within r (plan.ChangeDocument change value) fit = tt
-fits_within r (plan.ChangeView change value) fit = tt
-fits_within r (plan.ChangeSession change value) fit = tt
+fits_within r _ fit = tt
 
 pub same_notes : (steps : List Step) (d : Document) (views : List View) (ns : List Notice) → notes_for steps (record { document = d; views = views; notes = ns }) ≡ notes_for steps (record { document = d; views = views; notes = [] })
 same_notes [] d views ns = refl
@@ -179,9 +166,7 @@ same_note_bytes (s ∷ ss) d views ns = refl
 -- what a fit edit takes to the clipboard lies in the text
 takes_within : (r : Request) (after : ℕ) (f : Follow) → IsFitFollow r after f → TakesWithin f (size r)
 takes_within r after (follow.Clipboard start count) h = h
-takes_within r after follow.Nothing h = tt
-takes_within r after (follow.Caret place) h = tt
-takes_within r after (follow.Target start past) h = tt
+takes_within r after _ h = tt
 
 -- A fit change of a document.
 
@@ -200,39 +185,11 @@ fit_change r (change.StyleRun count style) l h = h
 fit_change r (change.StyleBytes count) l h = h.0
 fit_change r (change.NeedStyle start past) l h = h.1
 fit_change r (change.FillIndicator indicator start count value) l h = h
-fit_change r (change.SetReadOnly on) l h = tt
-fit_change r (change.SetLineEnd to) l h = tt
-fit_change r (change.SetLineEndTypes to) l h = tt
-fit_change r change.SetSavePoint l h = tt
-fit_change r change.EndGroup l h = tt
-fit_change r change.ForgetHistory l h = tt
-fit_change r (change.CollectUndo on) l h = tt
-fit_change r (change.AppendContainer token coalesce) l h = tt
-fit_change r (change.DeleteMarkers number) l h = tt
-fit_change r (change.SetEndStyled place) l h = tt
+fit_change r _ l h = tt
 
 pub read_change : (r : Request) (what : DocumentChange) → IsFitDocumentChange r what → bytes_read what ≤ length r.message.text
 read_change r (change.StyleBytes count) h = h.1
-read_change r change.BeginGroup h = omega arith
-read_change r (change.AddMarker line number) h = omega arith
-read_change r (change.AddMarkers line mask) h = omega arith
-read_change r (change.DeleteMarker line number) h = omega arith
-read_change r (change.DeleteHandle handle) h = omega arith
-read_change r (change.SetLevel line level) h = omega arith
-read_change r (change.SetState line state) h = omega arith
-read_change r (change.StyleRun count style) h = omega arith
-read_change r (change.NeedStyle start past) h = omega arith
-read_change r (change.FillIndicator indicator start count value) h = omega arith
-read_change r (change.SetReadOnly on) h = omega arith
-read_change r (change.SetLineEnd to) h = omega arith
-read_change r (change.SetLineEndTypes to) h = omega arith
-read_change r change.SetSavePoint h = omega arith
-read_change r change.EndGroup h = omega arith
-read_change r change.ForgetHistory h = omega arith
-read_change r (change.CollectUndo on) h = omega arith
-read_change r (change.AppendContainer token coalesce) h = omega arith
-read_change r (change.DeleteMarkers number) h = omega arith
-read_change r (change.SetEndStyled place) h = omega arith
+read_change r _ h = omega arith
 
 -- A request of a session that is kept.
 

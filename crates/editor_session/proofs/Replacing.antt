@@ -29,14 +29,6 @@ module _ (documents : Entries Kept) (views' : Entries KeptView) (notes' : Gather
   pub becomes : Becomes scene documents (record documents { entries = with_value_at id k' documents.entries }) views' notes'
   becomes = record { documents_after = replaced_at; views_after = ap (λ (x : Scene). x.views) made; notes_after = ap (λ (x : Scene). x.notes) made }
 
-pub becomes_so : (documents documents' : Entries Kept) (views' : Entries KeptView) (notes' : Gathered) (id : ℕ) (k k' : Kept) (scene : Kept → Scene) → DocumentsAreNamed documents.entries → value_at documents.entries id ≡ Some k
-    → documents' ≡ record documents { entries = with_value_at id k' documents.entries }
-    → scene_in k'.document views'.entries notes'.notes ≡ scene k → (scene k).document.id ≡ k.document.id
-    → IfSome (value_at documents.entries id) (λ x. Becomes (scene x) documents documents' views' notes')
-becomes_so documents documents' views' notes' id k k' scene named at is made same =
-    subst (λ o. IfSome o (λ x. Becomes (scene x) documents documents' views' notes')) (sym at)
-    (subst (λ ds. Becomes (scene k) documents ds views' notes') (sym is) (becomes documents views' notes' id k k' (scene k) named at made same))
-
 -- Undo and redo keep the document's id.
 
 changes_keep_id : (who several : ℕ) (lines_changed : Bool) (cs : List Change) (scene : Scene) → (changes_performed who several lines_changed cs scene).document.id ≡ scene.document.id

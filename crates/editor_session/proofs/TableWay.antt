@@ -115,15 +115,10 @@ free_session_change _ f = absurd f
 
 free_needs_none : (r : Request) (what : Plan) → IsFreePlan what → needs_no_memory r what ≡ true
 free_needs_none r (plan.Answer value) h = refl
-free_needs_none r (plan.HandOut value start count) h = absurd h
-free_needs_none r (plan.HandOutStyled start count) h = absurd h
-free_needs_none r (plan.Edit change value after) h = absurd h
-free_needs_none r plan.Attempt h = absurd h
-free_needs_none r plan.Undo h = absurd h
-free_needs_none r plan.Redo h = absurd h
 free_needs_none r (plan.ChangeDocument change value) h = free_change change r.document.history (watching r.session.views r.document) h
 free_needs_none r (plan.ChangeView change value) h = free_view_change r.view.flags change h
 free_needs_none r (plan.ChangeSession change value) h = free_session_change change h
+free_needs_none r _ h = absurd h
 
 pub marked_are_free : MarkedPlansAreFree → MarkedMessagesAreFree
 marked_are_free law s view m marked unrecorded = from_view (view_at s.views view) marked unrecorded

@@ -78,30 +78,10 @@ TellsOfChange change sender text k views notes notes' =
 abbrev pub IfChangeIsFree : DocumentChange → Entries KeptView → Type 0 → Kept → Type 0
 IfChangeIsFree change views P k = needs_room change ≡ false → notes_of_change change k.document.history (watchers k.document views) ≡ 0 → P
 
--- it is made on a document of the table
-pub record IsChangedIn (change : DocumentChange) (sender : ℕ) (text : List ℕ) (k : Kept) (documents : Entries Kept) (views : Entries KeptView) (notes : Gathered)
-    (documents' : Entries Kept) (views' : Entries KeptView) (notes' : Gathered) : Type 0 where
-  pub documents_after : documents_in documents' ≡ with_document (changed_document text change k.document) (documents_in documents)
-  pub views_after : views_of views'.entries ≡ views_changed change k views
-  pub notes_after : TellsOfChange change sender text k views notes notes'
-
--- it is made on the document with the id
-abbrev pub IsChangedAt : ℕ → DocumentChange → ℕ → List ℕ → Entries Kept → Entries KeptView → Gathered → Entries Kept → Entries KeptView → Gathered → Type 0
-IsChangedAt document change sender text documents views notes documents' views' notes' =
-    OfDocument documents document (λ k. IsChangedIn change sender text k documents views notes documents' views' notes')
-
--- it is made on the document with the id, for any sender and text, and no view is told of it
-abbrev pub IsChangedUnheard : ℕ → DocumentChange → Entries KeptView → Entries Kept → Entries Kept → Type 0
-IsChangedUnheard document change views documents documents' =
-    OfDocument documents document (λ k. (text : List ℕ) (sender : ℕ) → IsChangedIn change sender text k documents views no_notes documents' views no_notes)
-
+-- the change is made on a document of the session: the session and the notes are those after it
 pub record Changes (change : DocumentChange) (sender : ℕ) (text : List ℕ) (k : Kept) (s : SessionState) (notes : Gathered) (s' : SessionState) (notes' : Gathered) : Type 0 where
   pub session_after : session_in s' ≡ (let t = session_in s in record t { documents = with_document (changed_document text change k.document) t.documents; views = map (changed_lines change k.document) t.views })
   pub notes_after : TellsOfChange change sender text k s.views notes notes'
-
--- the change is made on the session's document with the id: the session and the notes are those after it
-abbrev pub ChangesAt : ℕ → DocumentChange → ℕ → List ℕ → SessionState → Gathered → SessionState → Gathered → Type 0
-ChangesAt document change sender text s notes s' notes' = OfDocument s.documents document (λ k. Changes change sender text k s notes s' notes')
 
 -- the views of the document with the id are told of an attempt to edit it
 abbrev pub TellsOfAttempt : SessionState → ℕ → Gathered → Gathered → Type 0

@@ -62,10 +62,6 @@ pub record Becomes (scene : Scene) (documents documents' : Entries Kept) (views'
   pub views_after : views_of views'.entries ≡ scene.views
   pub notes_after : notes'.notes ≡ scene.notes
 
--- the document with the id becomes that of its scene, and the views and the notes are the scene's
-abbrev pub BecomesAt : ℕ → (Kept → Scene) → Entries Kept → Entries Kept → Entries KeptView → Gathered → Type 0
-BecomesAt document scene documents documents' views' notes' = OfDocument documents document (λ k. Becomes (scene k) documents documents' views' notes')
-
 -- What follows.
 
 -- what goes to the clipboard is in a text of this length

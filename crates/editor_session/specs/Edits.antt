@@ -35,11 +35,6 @@ MakesEdit steps k views notes k' views' notes' = kept_scene k' views' notes' ≡
 abbrev pub EditFitsWidth : Edit → List ℕ → List ℕ → List ℕ → Kept → Type 0
 EditFitsWidth change text clipboard pasted k = StepsFitWidth k.document (edit_steps change text clipboard pasted k.document)
 
--- the edit lies within the document and the text, it fits the document's places, and the views stand well on the document
-abbrev pub CanBeEdited : Edit → List ℕ → List ℕ → List ℕ → Entries KeptView → Kept → Type 0
-CanBeEdited change text clipboard pasted views k =
-    IsEditWithin change (length k.document.cells) (length text) × EditFitsWidth change text clipboard pasted k × IsWatched k.document views
-
 -- the scene of a document after the edit
 abbrev pub edited_scene : Edit → List ℕ → List ℕ → List ℕ → Entries KeptView → Gathered → Kept → Scene
 edited_scene change text clipboard pasted views notes k = edit_made (edit_steps change text clipboard pasted k.document) (kept_scene k views notes)

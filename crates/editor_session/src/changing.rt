@@ -1,26 +1,22 @@
 //! Changes of the document, of the view and of the session other than edits of the text; and attempts to edit a
 //! read-only document. Room is made for all that a change needs, before anything changes.
 
-ghost use Rattle.std.specs.Prelude.{◌≡◌, ◌≤◌, pos, not, true, false, map, length, OnOk, OnErr, IfErr, IsOk, IsSome};
+ghost use Rattle.std.specs.Prelude.{◌≡◌, ◌≤◌, not, true, false, length, OnOk, OnErr, IfErr, IsOk, IsSome};
 ghost use Rattle.ed_types.specs.declared.refusal.Refusal.TheVariants.{OutOfMemory};
 ghost use Rattle.ed_model.specs.declared.plan.Plan.TheVariants as plan;
 ghost use Rattle.ed_model.specs.Changes.{changed_document};
-ghost use Rattle.ed_model.specs.Session.{Document as ModelDocument};
-ghost use Rattle.ed_model.specs.SoundLaws.{Rise};
 ghost use Rattle.id_table.specs.Entries.{value_at};
 ghost use Rattle.document_changes.specs.Fit.{IsFitChange, bytes_read};
-ghost use Rattle.scene.specs.Scenes.{views_of, AreNamed, IsWatched};
-ghost use Rattle.message_requests.specs.Requested.{session_in, documents_in};
+ghost use Rattle.scene.specs.Scenes.{views_of, IsWatched};
+ghost use Rattle.message_requests.specs.Requested.{session_in};
 ghost use Rattle.session_changes.specs.Folding.{takes_fold_room};
-ghost use Rattle.session_changes.specs.Kept.{IsKept, DocumentsAreNamed};
-ghost use Rattle.editor_session.specs.Doing.{CanChangeOnceThereIsRoom, views_changed, TellsOfChange, IfChangeIsFree, IsChangedAt, ChangesAt, TellsOfAttempt};
+ghost use Rattle.session_changes.specs.Kept.{IsKept};
+ghost use Rattle.editor_session.specs.Doing.{views_changed, TellsOfChange, IfChangeIsFree, TellsOfAttempt};
 ghost use Rattle.editor_session.specs.Performed.{IsPlannedForSomeValue};
-ghost use Rattle.editor_session.specs.Documents.{OfDocument, HasDocument};
 ghost use Rattle.editor_session.specs.Performing.{IsPlanned, IsPlanPerformed, TellsNothing, TellsNothingForAnyText, IfPlanIsFree, IfPlanIsFreeForAnyText, AnswersItsValue};
 
 use document::Document;
 use document_changes::{change_document, change_note_need, reserve_change};
-use document_table::DocumentTable;
 use ed_model::{DocumentChange, SessionChange, ViewChange, soundness_is_kept};
 use ed_types::Refusal;
 use ed_view::View;
@@ -70,73 +66,6 @@ fn change_with_room(
     Ok(())
 }
 
-/// Like `change_with_room`, in the document with this id.
-///
-/// # Errors
-///
-/// `AllocError` if an allocation fails. All documents and views are then as they were.
-#[inline(always)]
-fn change_with_room_in(
-    alloc: Global,
-    documents: &mut DocumentTable,
-    views: &mut IdTable<View>,
-    notes: &mut NoteList,
-    document: u32,
-    sender: u32,
-    text: &[u8],
-    change: DocumentChange,
-) -> Result<(), AllocError>
-    requires can { HasDocument documents.old document (CanChangeOnceThereIsRoom change text.now views.old) }
-    requires named { DocumentsAreNamed documents.old.entries }
-    requires rise { Rise 0 documents.old.next (map (λ (d : ModelDocument). d.id) (documents_in documents.old)) }
-    ensures changed { let made = IsChangedAt document change sender text.now documents.old views.old notes.old in
-        OnOk result (made documents.new views.new notes.new) }
-    ensures same { OnErr result (documents_in documents.new ≡ documents_in documents.old) }
-    ensures same_views { OnErr result (views.new ≡ views.old) }
-    ensures documents { DocumentsAreNamed documents.new.entries }
-    ensures views { AreNamed views.new.entries }
-    ensures next_document { documents.new.next ≡ documents.old.next }
-    ensures next_view { views.new.next ≡ views.old.next }
-    ensures free { OfDocument documents.old document (IfChangeIsFree change views.old (IsOk result)) }
-{
-    let Some(document) = documents.get_mut(document) else {
-        unreachable!()
-    };
-    change_with_room(alloc, document, views, notes, sender, text, change)
-}
-
-/// Like `change_with_room_in`, in a session.
-///
-/// # Errors
-///
-/// `AllocError` if an allocation fails. The session is then as it was.
-#[inline(always)]
-fn change_making_room(
-    alloc: Global,
-    state: &mut SessionState,
-    document: u32,
-    view: u32,
-    text: &[u8],
-    change: DocumentChange,
-    notes: &mut NoteList,
-) -> Result<(), AllocError>
-    requires kept { IsKept state.old }
-    requires can { HasDocument state.old.documents document (CanChangeOnceThereIsRoom change text.now state.old.views) }
-    ensures changed { OnOk result (ChangesAt document change view text.now state.old notes.old state.new notes.new) }
-    ensures same { OnErr result (session_in state.new ≡ session_in state.old) }
-    ensures documents { DocumentsAreNamed state.new.documents.entries }
-    ensures views { AreNamed state.new.views.entries }
-    ensures limits { state.new.limits ≡ state.old.limits }
-    ensures free { OfDocument state.old.documents document (IfChangeIsFree change state.old.views (IsOk result)) }
-{
-    let SessionState {
-        documents,
-        views,
-        ..
-    } = state;
-    change_with_room_in(alloc, documents, views, notes, document, view, text, change)
-}
-
 /// Makes `change` in the document with this id, for a message to `view`.
 ///
 /// # Errors
@@ -163,7 +92,15 @@ pub(crate) fn perform_change(
 {
     // States that the session stays sound.
     soundness_is_kept();
-    match change_making_room(alloc, state, document, view, text, change, notes) {
+    let SessionState {
+        documents,
+        views,
+        ..
+    } = state;
+    let Some(document) = documents.get_mut(document) else {
+        unreachable!()
+    };
+    match change_with_room(alloc, document, views, notes, view, text, change) {
         Ok(()) => Ok(()),
         Err(_) => Err(Refusal::OutOfMemory),
     }

@@ -1,25 +1,23 @@
 //! Edits of the text: room is made for all of an edit, and then it is made, with what follows it.
 
-ghost use Rattle.std.specs.Prelude.{◌≡◌, ◌≤◌, ◌+◌, ◌++◌, [], true, false, map, length, OnOk, OnErr, IfOk, IfErr, IsOk, IsSome};
+ghost use Rattle.std.specs.Prelude.{◌≡◌, ◌≤◌, ◌+◌, [], true, false, length, OnOk, OnErr, IfOk, IfErr, IsOk, IsSome};
 ghost use Rattle.ed_types.specs.declared.refusal.Refusal.TheVariants.{OutOfMemory};
 ghost use Rattle.ed_model.specs.declared.plan.Edit.TheVariants as edit;
 ghost use Rattle.ed_model.specs.LineEnds.{conversion_steps, converted};
-ghost use Rattle.ed_model.specs.Session.{Document as ModelDocument, text_of};
-ghost use Rattle.ed_model.specs.SoundLaws.{Rise};
+ghost use Rattle.ed_model.specs.Session.{text_of};
 ghost use Rattle.id_table.specs.Entries.{value_at};
-ghost use Rattle.scene.specs.Scenes.{views_of, AreNamed, IsWatched};
-ghost use Rattle.message_requests.specs.Requested.{session_in, documents_in};
-ghost use Rattle.session_changes.specs.Kept.{IsKept, DocumentsAreNamed, ViewsRise};
-ghost use Rattle.editor_session.specs.Edited.{IsEditWithin, TakesWithin, is_turned, clipboard_need, followed_views, BecomesAt};
-ghost use Rattle.editor_session.specs.Edits.{edit_steps, replacement_in, MakesEdit, EditFitsWidth, CanBeEdited, edited_scene, IfNoSteps, IfNoStepsAt, CanEditAt, EditsAt, IsPasted, IfPastesNothing, IsTaken};
+ghost use Rattle.scene.specs.Scenes.{AreNamed, IsWatched};
+ghost use Rattle.message_requests.specs.Requested.{session_in};
+ghost use Rattle.session_changes.specs.Kept.{IsKept, DocumentsAreNamed};
+ghost use Rattle.editor_session.specs.Edited.{IsEditWithin, TakesWithin, is_turned, clipboard_need};
+ghost use Rattle.editor_session.specs.Edits.{edit_steps, replacement_in, MakesEdit, EditFitsWidth, IfNoStepsAt, CanEditAt, EditsAt, IsPasted, IfPastesNothing, IsTaken};
 ghost use Rattle.editor_session.specs.Widths.{StepsFitWidth};
-ghost use Rattle.editor_session.specs.Documents.{OfDocument, HasDocument};
+ghost use Rattle.editor_session.specs.Documents.{HasDocument};
 ghost use Rattle.editor_session.specs.Performing.{IsPlanned, editing, IsPlanPerformed, IfPlanIsFree};
 
 use crate::edits::{follow_edit, replace_bytes, source_bytes};
 use crate::need::replacement_need;
 use document::Document;
-use document_table::DocumentTable;
 use ed_model::{Edit, Follow, LineEnd, Source, plans_are_fit, soundness_is_kept};
 use ed_types::Refusal;
 use ed_view::View;
@@ -149,44 +147,8 @@ fn edit_with_room(
     }
 }
 
-/// Like `edit_with_room`, in the document with this id.
-///
-/// # Errors
-///
-/// Those of `replace_with_room`.
-#[inline(always)]
-fn edit_in(
-    documents: &mut DocumentTable,
-    views: &mut IdTable<View>,
-    notes: &mut NoteList,
-    document: u32,
-    text: &[u8],
-    clipboard: &[u8],
-    pasted: &[u8],
-    edit: Edit,
-) -> Result<(), AllocError>
-    requires can { HasDocument documents.old document (CanBeEdited edit text.now clipboard.now pasted.now views.old) }
-    requires named { DocumentsAreNamed documents.old.entries }
-    requires rise { Rise 0 documents.old.next (map (λ (d : ModelDocument). d.id) (documents_in documents.old)) }
-    ensures made { let scene = edited_scene edit text.now clipboard.now pasted.now views.old notes.old in
-        OnOk result (BecomesAt document scene documents.old documents.new views.new notes.new) }
-    ensures same { OnErr result (documents_in documents.new ≡ documents_in documents.old) }
-    ensures same_views { OnErr result (views.new ≡ views.old) }
-    ensures documents { DocumentsAreNamed documents.new.entries }
-    ensures views { AreNamed views.new.entries }
-    ensures rise { ViewsRise views.new }
-    ensures next_document { documents.new.next ≡ documents.old.next }
-    ensures next_view { views.new.next ≡ views.old.next }
-    ensures free { OfDocument documents.old document (IfNoSteps edit text.now clipboard.now pasted.now (IsOk result)) }
-{
-    let Some(document) = documents.get_mut(document) else {
-        unreachable!()
-    };
-    edit_with_room(document, views, notes, text, clipboard, pasted, edit)
-}
-
-/// Like `edit_in`, in a session, and then does what follows the edit for `view`. `taken` becomes the clipboard, if the
-/// edit takes bytes there.
+/// Like `edit_with_room`, in the document with this id, and then does what follows the edit for `view`. `taken` becomes
+/// the clipboard, if the edit takes bytes there.
 ///
 /// # Errors
 ///
@@ -219,9 +181,10 @@ fn edit_making_room(
         clipboard,
         ..
     } = state;
-    match edit_in(
-        documents, views, notes, document, text, clipboard, pasted, edit,
-    ) {
+    let Some(document) = documents.get_mut(document) else {
+        unreachable!()
+    };
+    match edit_with_room(document, views, notes, text, clipboard, pasted, edit) {
         Ok(()) => {
             follow_edit(views, clipboard, view, follow, taken);
             Ok(())

@@ -1,20 +1,16 @@
 //! Frequent changes of a document: a run's style, a marker, a fold level. They are made without notes if no view
 //! listens. Undo and redo, if no view listens: they need no plan, notes or reply.
 
-ghost use Rattle.std.specs.Prelude.{◌≡◌, map, true, false, Some, IfNone, IfSome, IfErr, IsOk};
+ghost use Rattle.std.specs.Prelude.{◌≡◌, true, false, Some, IfNone, IfSome, IfErr, IsOk};
 ghost use Rattle.ed_types.specs.declared.refusal.Refusal.TheVariants.{OutOfMemory};
 ghost use Rattle.ed_model.specs.declared.plan.Plan.TheVariants as plan;
-ghost use Rattle.ed_model.specs.Session.{Document as ModelDocument};
-ghost use Rattle.ed_model.specs.SoundLaws.{Rise};
 ghost use Rattle.message_plans.specs.Frequent.{frequent_change_of, transaction_of, performing};
 ghost use Rattle.message_plans.specs.Ways.{frequent_change_in};
-ghost use Rattle.message_requests.specs.Requested.{session_in, documents_in};
-ghost use Rattle.session_changes.specs.Kept.{IsKept, DocumentsAreNamed};
-ghost use Rattle.editor_session.specs.Doing.{CanBeMade, IsChangedUnheard};
+ghost use Rattle.message_requests.specs.Requested.{session_in};
+ghost use Rattle.session_changes.specs.Kept.{IsKept};
 ghost use Rattle.editor_session.specs.Plans.{is_free};
 ghost use Rattle.editor_session.specs.Performed.{going, IsPlannedForSomeValue};
 ghost use Rattle.editor_session.specs.Answering.{IsAnswer, AnswersValue};
-ghost use Rattle.editor_session.specs.Documents.{HasDocument};
 ghost use Rattle.editor_session.specs.Performing.{HasPlan, AnswersItsValue};
 
 use crate::attached::{look_up, request_to};
@@ -22,12 +18,9 @@ use crate::changing::perform_change;
 use crate::history::perform_transaction_unheard;
 use document::Direction;
 use document_changes::change_unheard;
-use document_table::DocumentTable;
 use ed_model::{DocumentChange, plans_are_fit, soundness_is_kept};
 use ed_types::modification::{CHANGE_FOLD, CHANGE_MARKER, CHANGE_STYLE};
 use ed_types::{Bytes, Kind, Refusal, Reply, kinds_and_numbers};
-use ed_view::View;
-use id_table::IdTable;
 use message_plans::{Way, change_of, is_performed};
 use message_requests::{SentMessage, SessionState};
 use notify::NoteList;
@@ -92,30 +85,8 @@ pub(crate) fn find_change(
     })
 }
 
-/// Applies `change` to the document with this id if no view listens, and returns whether it did. Otherwise, and if an
-/// allocation fails, all documents are as they were.
-#[inline(always)]
-fn change_unheard_in(
-    documents: &mut DocumentTable,
-    views: &IdTable<View>,
-    document: u32,
-    change: DocumentChange,
-) -> bool
-    requires can { HasDocument documents.old document (CanBeMade change views.now) }
-    requires named { DocumentsAreNamed documents.old.entries }
-    requires rise { Rise 0 documents.old.next (map (λ (d : ModelDocument). d.id) (documents_in documents.old)) }
-    ensures changed { result ≡ true → IsChangedUnheard document change views.now documents.old documents.new }
-    ensures same { result ≡ false → documents_in documents.new ≡ documents_in documents.old }
-    ensures documents { DocumentsAreNamed documents.new.entries }
-    ensures next { documents.new.next ≡ documents.old.next }
-{
-    let Some(document) = documents.get_mut(document) else {
-        unreachable!()
-    };
-    change_unheard(document, views, change)
-}
-
-/// Like `change_unheard_in`, in the session, for a message to `view`.
+/// Applies `change`, for a message to `view`, to the document with this id if no view listens, and returns whether it
+/// did. Otherwise, and if an allocation fails, the session is as it was.
 #[inline(always)]
 fn perform_change_unheard(
     state: &mut SessionState,
@@ -136,7 +107,10 @@ fn perform_change_unheard(
         views,
         ..
     } = state;
-    change_unheard_in(documents, views, document, change)
+    let Some(document) = documents.get_mut(document) else {
+        unreachable!()
+    };
+    change_unheard(document, views, change)
 }
 
 /// Makes the frequent change that this message to `view` asks for, and returns the value that is answered. `None`, with

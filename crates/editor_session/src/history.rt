@@ -1,25 +1,21 @@
 //! Undo and redo in a document of the session.
 
-ghost use Rattle.std.specs.Prelude.{◌≡◌, pos, [], map, true, false, OnOk, OnErr, IfOk, IfErr};
+ghost use Rattle.std.specs.Prelude.{◌≡◌, pos, [], true, false, OnOk, OnErr, IfOk, IfErr};
 ghost use Rattle.ed_types.specs.declared.refusal.Refusal.TheVariants.{OutOfMemory};
-ghost use Rattle.ed_model.specs.Session.{Document as ModelDocument};
-ghost use Rattle.ed_model.specs.SoundLaws.{Rise};
 ghost use Rattle.document.specs.Undoing.{changes_of};
 ghost use Rattle.scene.specs.Scenes.{AreNamed, IsWatched, kept_scene};
 ghost use Rattle.scene.specs.Undoing.{history_caret};
 ghost use Rattle.scene.specs.Performed.{HistoryFits};
-ghost use Rattle.message_requests.specs.Requested.{session_in, documents_in};
-ghost use Rattle.session_changes.specs.Kept.{IsKept, DocumentsAreNamed, ViewsRise};
+ghost use Rattle.message_requests.specs.Requested.{session_in};
+ghost use Rattle.session_changes.specs.Kept.{IsKept, DocumentsAreNamed};
 ghost use Rattle.editor_session.specs.Doing.{CanGoOnceThereIsRoom, scene_gone, GoesAt};
 ghost use Rattle.editor_session.specs.Widths.{ChangesFitWidth};
 ghost use Rattle.editor_session.specs.Performed.{going, no_notes, IsPlannedForSomeValue};
-ghost use Rattle.editor_session.specs.Documents.{OfDocument, HasDocument};
+ghost use Rattle.editor_session.specs.Documents.{HasDocument};
 ghost use Rattle.editor_session.specs.Performing.{HasGone, AnswersAlone};
-ghost use Rattle.editor_session.specs.Edited.{BecomesAt};
 
 use crate::edits::set_caret;
 use document::{Direction, Document};
-use document_table::DocumentTable;
 use ed_model::{plans_are_fit, soundness_is_kept};
 use ed_types::Refusal;
 use ed_view::View;
@@ -69,41 +65,7 @@ fn go_with_room(
     Ok(perform_history(document, views, notes, direction))
 }
 
-/// Like `go_with_room`, in the document with this id.
-///
-/// # Errors
-///
-/// Those of `go_with_room`. All documents and views are then as they were.
-fn go_with_room_in(
-    documents: &mut DocumentTable,
-    views: &mut IdTable<View>,
-    notes: &mut NoteList,
-    document: u32,
-    direction: Direction,
-    most: usize,
-) -> Result<Option<usize>, AllocError>
-    requires can { HasDocument documents.old document (CanGoOnceThereIsRoom direction views.old) }
-    requires named { DocumentsAreNamed documents.old.entries }
-    requires rise { Rise 0 documents.old.next (map (λ (d : ModelDocument). d.id) (documents_in documents.old)) }
-    ensures gone { let scene = scene_gone direction views.old notes.old in
-        OnOk result (BecomesAt document scene documents.old documents.new views.new notes.new) }
-    ensures place { IfOk result (λ place. OfDocument documents.old document (λ k. place ≡ history_caret direction k)) }
-    ensures same { OnErr result (documents_in documents.new ≡ documents_in documents.old) }
-    ensures same_views { OnErr result (views.new ≡ views.old) }
-    ensures documents { DocumentsAreNamed documents.new.entries }
-    ensures views { AreNamed views.new.entries }
-    ensures rise { ViewsRise views.new }
-    ensures next_document { documents.new.next ≡ documents.old.next }
-    ensures next_view { views.new.next ≡ views.old.next }
-    ensures unheard { OnOk result (most ≡ 0 → notes.old ≡ no_notes → notes.new.notes ≡ []) }
-{
-    let Some(document) = documents.get_mut(document) else {
-        unreachable!()
-    };
-    go_with_room(document, views, notes, direction, most)
-}
-
-/// Like `go_with_room_in`, in a session, and then moves the caret of `view` behind the last step.
+/// Like `go_with_room`, in the document with this id, and then moves the caret of `view` behind the last step.
 ///
 /// # Errors
 ///
@@ -130,7 +92,10 @@ fn go_making_room(
         views,
         ..
     } = state;
-    match go_with_room_in(documents, views, notes, document, direction, most) {
+    let Some(document) = documents.get_mut(document) else {
+        unreachable!()
+    };
+    match go_with_room(document, views, notes, direction, most) {
         Ok(Some(place)) => {
             set_caret(views, view, place);
             Ok(())
