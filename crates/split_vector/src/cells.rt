@@ -6,7 +6,7 @@ ghost use Rattle.std.specs.Prelude.{◌≡◌, ℕ, ◌+◌, ◌-◌, ◌*◌, �
 ghost use Rattle.std.specs.Vec.Ownership.{FitsInBlock};
 ghost use base.Fml.{ftrue};
 ghost use denote.RawPtr.{Ptr};
-ghost use Rattle.split_vector.specs.Cells.{IsRun};
+ghost use Rattle.split_vector.specs.Cells.{Hold, IsRun, IsWritten};
 ghost use Rattle.split_vector.specs.Ownership.{cells_of, cells_own, cells_lent, deed_owns};
 
 use crate::raw::{move_down, move_up};
@@ -159,12 +159,22 @@ pub(crate) fn discard<T, A: Allocator>(cells: Cells<T>, deed: Deed<T, A>)
 }
 
 impl<T> Cells<T> {
+    // Writes `item` into the cell `place`. The ghost value is what the cells hold then.
+    #[inline(always)]
+    fn write_cell(&mut self, base: Base<T>, place: usize, item: T)
+        ghost after: { List T × ℕ × List T }
+        requires { (base.ptr ≡ self.old.at) × IsWritten self.old.left self.old.spare self.old.right place item after }
+        ensures { (self.new.at ≡ self.old.at) × Hold self.new.left self.new.spare self.new.right after }
+    {
+        unsafe { base.ptr.add(place).write(item) }
+    }
+
     /// Writes `item` into the first cell of the gap.
     pub(crate) fn push(&mut self, base: Base<T>, gap: usize, item: T)
         requires { (base.ptr ≡ self.old.at) × (gap ≡ length self.old.left) × (0 < self.old.spare) }
         ensures { (self.new.at ≡ self.old.at) × (self.new.left ≡ self.old.left ++ item ∷ []) × (self.new.spare ≡ self.old.spare - 1) × (self.new.right ≡ self.old.right) }
     {
-        unsafe { base.ptr.add(gap).write(item) }
+        self.write_cell(base, gap, item);
     }
 
     /// Writes `item` into the last cell of the gap.
@@ -172,7 +182,7 @@ impl<T> Cells<T> {
         requires { (base.ptr ≡ self.old.at) × (place + 1 ≡ length self.old.left + self.old.spare) × (0 < self.old.spare) }
         ensures { (self.new.at ≡ self.old.at) × (self.new.left ≡ self.old.left) × (self.new.spare ≡ self.old.spare - 1) × (self.new.right ≡ item ∷ self.old.right) }
     {
-        unsafe { base.ptr.add(place).write(item) }
+        self.write_cell(base, place, item);
     }
 
     /// Overwrites the item at `index` on the left. The old item is forgotten.
@@ -180,7 +190,7 @@ impl<T> Cells<T> {
         requires { (base.ptr ≡ self.old.at) × (index < length self.old.left) }
         ensures { (self.new.at ≡ self.old.at) × (self.new.left ≡ slice_set self.old.left index item) × (self.new.spare ≡ self.old.spare) × (self.new.right ≡ self.old.right) }
     {
-        unsafe { base.ptr.add(index).write(item) }
+        self.write_cell(base, index, item);
     }
 
     /// Overwrites the item in the cell `place`, which lies right of the gap. The old item is forgotten.
@@ -188,7 +198,7 @@ impl<T> Cells<T> {
         requires { (base.ptr ≡ self.old.at) × (length self.old.left + self.old.spare ≤ place) × (place < length self.old.left + self.old.spare + length self.old.right) }
         ensures { (self.new.at ≡ self.old.at) × (self.new.left ≡ self.old.left) × (self.new.spare ≡ self.old.spare) × (self.new.right ≡ slice_set self.old.right (place - (length self.old.left + self.old.spare)) item) }
     {
-        unsafe { base.ptr.add(place).write(item) }
+        self.write_cell(base, place, item);
     }
 
     /// Returns the `len` items from the cell `from` on.

@@ -1,4 +1,4 @@
--- `replace_left` writes over an item on the left. Assumes `Logic`.
+-- `write_cell` puts an item into one cell. Assumes `Logic`.
 use mathlib.Core.Path.{◌≡◌, refl, sym, ap, subst, ◌∙◌}
 use Prim.Native.Nat.{ℕ, ◌+◌, ◌*◌, ◌<◌, ◌^◌}
 use native.Mathlib.Omega.{arith}
@@ -47,11 +47,11 @@ use Rattle.core.proofs.mem.Param.{El, R, args, elτ}
 use Rattle.core.proofs.ptr.Rows.{times_below, one_below}
 use Rattle.std_alloc.proofs.RawLayout.{as_written}
 use Rattle.split_vector.specs.Ownership.{slot, slots, cells_own}
-use Rattle.split_vector.proofs.Items.{cells_set_left}
-use Rattle.split_vector.proofs.Memory.{all_of, all_long, slot_room, Cr, Bs, sz, Place, word_had, value_in, tells, Besides, slot_out, slot_in}
-use Rattle.split_vector.specs.contracts.cells.Cells.replace_left.Key.{name as #self}
-use Rattle.split_vector.proofs.cells.Cells.replace_left.Statement as stated
-use Rattle.split_vector.proofs.cells.Cells.replace_left.Code as code
+use Rattle.split_vector.specs.Cells.{Hold, IsWritten}
+use Rattle.split_vector.proofs.Memory.{all_of, slot_room, Cr, Bs, sz, Place, word_had, value_in, tells, Besides, slot_out, slot_in}
+use Rattle.split_vector.specs.contracts.cells.Cells.write_cell.Key.{name as #self}
+use Rattle.split_vector.proofs.cells.Cells.write_cell.Statement as stated
+use Rattle.split_vector.proofs.cells.Cells.write_cell.Code as code
 
 module _ (E : El) where
   abbrev function : Fn
@@ -63,28 +63,32 @@ module _ (E : El) where
   abbrev stayed : Stays ended.signature.params ended.kept
   stayed = (stay_ref (0 ∷ []) tt (plain (λ _. Cr E)), (stay_dropped (plain (λ _. Bs E)) no, (stay_dropped (plain (λ _. usize)) no, (stay_dropped (plain (λ _. R E)) no, tt))))
 
-  abbrev Asks : (Cr E).Denot → (Bs E).Denot → (usize).Denot → (R E).Denot → Type 0
-  Asks d base index item = (base.ptr ≡ d.at) × (index < length d.left)
+  -- the items on the left, the empty cells, and the items on the right
+  abbrev Held : Type 0
+  Held = List (R E).Denot × ℕ × List (R E).Denot
 
-  abbrev Gives0 : (Cr E).Denot → (Bs E).Denot → (usize).Denot → (R E).Denot → (unit).Denot → (Cr E).Denot → Type 0
-  Gives0 d base index item r new = (new.at ≡ d.at) × (new.left ≡ set d.left index item) × (new.spare ≡ d.spare) × (new.right ≡ d.right)
+  abbrev Asks : (Cr E).Denot → (Bs E).Denot → (usize).Denot → (R E).Denot → Held → Type 0
+  Asks d base place item held = (base.ptr ≡ d.at) × IsWritten d.left d.spare d.right place item held
+
+  abbrev Gives : (Cr E).Denot → Held → (Cr E).Denot → Type 0
+  Gives d held new = (new.at ≡ d.at) × Hold new.left new.spare new.right held
 
   abbrev spec : {M : Type 1} {𝓤 : Ura M} (𝓛 : Logic 𝓤) → Clauses 𝓤 ended
-  spec {𝓤 = 𝓤} 𝓛 κs a = record { ghost = Unit {0}; requires = λ _. fact 𝓤 (Asks a.0.now a.1.0 a.1.1.0 a.1.1.1.0); ensures = λ _ r w. fact 𝓤 (Gives0 a.0.now a.1.0 a.1.1.0 a.1.1.1.0 r w.0.now) }
+  spec {𝓤 = 𝓤} 𝓛 κs a = record { ghost = Held; requires = λ g. fact 𝓤 (Asks a.0.now a.1.0 a.1.1.0 a.1.1.1.0 g); ensures = λ g r w. fact 𝓤 (Gives a.0.now g w.0.now) }
 
-module _ (E : El) {M : Type 1} {𝓤 : Ura M} (𝓛 : Logic 𝓤) (C : Calls 𝓤 𝓛.H) (Λ : Loops 𝓤 𝓛.H) (κ : Lft) (q : Share) (rb ro : ℕ) (γ : GName) (d : (Cr E).Denot) (base : (Bs E).Denot) (index : (usize).Denot) (item : (R E).Denot) (us0 us1 us2 us3 : List Val) where
+module _ (E : El) {M : Type 1} {𝓤 : Ura M} (𝓛 : Logic 𝓤) (C : Calls 𝓤 𝓛.H) (Λ : Loops 𝓤 𝓛.H) (κ : Lft) (q : Share) (rb ro : ℕ) (γ : GName) (d : (Cr E).Denot) (base : (Bs E).Denot) (place : (usize).Denot) (item : (R E).Denot) (held : Held E) (us0 us1 us2 us3 : List Val) where
   open 𝓛 use {H, A}
 
   abbrev self : MutBor (Cr E).Denot
   self = record { ref_ptr = (rb, ro); ghost_name = γ; now = d }
 
   abbrev bound : (walk_of 𝓛 (ended E) (stayed E) (spec E 𝓛)).Ghost
-  bound = (((κ, tt), (q, tt), tt, (self, (base, (index, (item, tt)))), (us0, (us1, (us2, (us3, tt))))), tt)
+  bound = (((κ, tt), (q, tt), tt, (self, (base, (place, (item, tt)))), (us0, (us1, (us2, (us3, tt))))), held)
 
   abbrev Post : Val → SProp 𝓤
   Post = (walk_of 𝓛 (ended E) (stayed E) (spec E 𝓛)).post bound
 
-  exits : us0 ≡ vptr rb ro ∷ [] → (r : (unit).Denot) (v : Val) (new : (Cr E).Denot) → Gives0 E d base index item r new → ent 𝓤 (⋆ 𝓛 (‵ (fobs γ ((Cr E).coded.code new)) ∷ ‵ (fbor κ (Borrowed (mem (Cr E)) rb ro γ)) ∷ ‵ (flft κ q) ∷ ‵ ((unit).own_val r (v ∷ [])) ∷ [])) (Post v)
+  exits : us0 ≡ vptr rb ro ∷ [] → (r : (unit).Denot) (v : Val) (new : (Cr E).Denot) → Gives E d held new → ent 𝓤 (⋆ 𝓛 (‵ (fobs γ ((Cr E).coded.code new)) ∷ ‵ (fbor κ (Borrowed (mem (Cr E)) rb ro γ)) ∷ ‵ (flft κ q) ∷ ‵ ((unit).own_val r (v ∷ [])) ∷ [])) (Post v)
   exits passed r v new g0 =
       qed 𝓛 (‵ (fobs γ ((Cr E).coded.code new)) ∷ ‵ (fbor κ (Borrowed (mem (Cr E)) rb ro γ)) ∷ ‵ (flft κ q) ∷ ‵ ((unit).own_val r (v ∷ [])) ∷ []) ∵
       suffices ! _ (ends_at 𝓛 (ended E) (stayed E) (spec E 𝓛) bound v r (new, (tt, (tt, (tt, tt)))) (tt, (tt, (tt, (tt, tt))))) $ says ! g0 $
@@ -93,33 +97,33 @@ module _ (E : El) {M : Type 1} {𝓤 : Ura M} (𝓛 : Logic 𝓤) (C : Calls �
   abbrev Had : Val → List (Item 𝓤)
   Had v_item = ‵ (fobs γ ((Cr E).coded.code d)) ∷ ‵ (fbor κ (Borrowed (mem (Cr E)) rb ro γ)) ∷ ‵ (flft κ q) ∷ ‵ ((R E).own_val item (v_item ∷ [])) ∷ []
 
-  walk : us0 ≡ vptr rb ro ∷ [] → Asks E d base index item → index < 2 ^ 64 → (v_item : Val) → Good (layout (R E)) v_item → ent 𝓤 (⋆ 𝓛 (Had v_item)) (WpFn 𝓤 H C Λ (function E) (vptr rb ro ∷ word base.ptr ∷ vint w64 index ∷ v_item ∷ []) Post)
-  walk passed asked fits_index v_item good_item =
-      let within : index < length (all_of E d) = omega (arith, asked.1, all_long E d) in
-      let new : (Cr E).Denot = record { mark = d.mark; at = d.at; left = set d.left index item; spare = d.spare; right = d.right } in
-      qed 𝓛 (Had v_item) ∵ enter ! C Λ (function E) (vptr rb ro ∷ word base.ptr ∷ vint w64 index ∷ v_item ∷ []) _ $ alloc_all ! (λ l. pass_all ! refl ((tt, tt), (word-Good [] base.ptr, ((tt, record { fits = fits_index }), (good_item, tt)))) $
+  walk : us0 ≡ vptr rb ro ∷ [] → Asks E d base place item held → place < 2 ^ 64 → (v_item : Val) → Good (layout (R E)) v_item → ent 𝓤 (⋆ 𝓛 (Had v_item)) (WpFn 𝓤 H C Λ (function E) (vptr rb ro ∷ word base.ptr ∷ vint w64 place ∷ v_item ∷ []) Post)
+  walk passed asked fits_place v_item good_item =
+      let new : (Cr E).Denot = record { mark = d.mark; at = d.at; left = held.0; spare = held.1; right = held.2 } in
+      let within : place < length (all_of E d) = asked.1.0 in let written : set (all_of E d) place (Some item) ≡ all_of E new = asked.1.1 in
+      qed 𝓛 (Had v_item) ∵ enter ! C Λ (function E) (vptr rb ro ∷ word base.ptr ∷ vint w64 place ∷ v_item ∷ []) _ $ alloc_all ! (λ l. pass_all ! refl ((tt, tt), (word-Good [] base.ptr, ((tt, record { fits = fits_place }), (good_item, tt)))) $
       let En : Env 𝓤 H = env (function E).locals l in
       opens ! tt (Cr E) {h = d} rb ro (λ vs. move ! (1 ∷ []) $ fsplit ! $ move ! (1 ∷ []) $
       in_a_block ! d.at (λ p. cells_own (R E) p (all_of E d)) (id⊢ 𝓤 (never 𝓤)) (λ b o e. fsplit ! $ flt_l ! (λ small.
       let s = sz E in let tiny : s < 2 ^ 64 = omega (arith, one_below (length (all_of E d)) s (2 ^ 63) (omega arith) small) in
-      let far : index * s < 2 ^ 64 = omega (arith, times_below index (length (all_of E d)) s (2 ^ 63) (omega arith) small) in
+      let far : place * s < 2 ^ 64 = omega (arith, times_below place (length (all_of E d)) s (2 ^ 63) (omega arith) small) in
       take_at ! 2 $ rewrite ! 0 (λ (p : Ptr). ‵ (fat full_share (layout (Bs E)) (l 2) 0 (word p))) (asked.0 ∙ e) refl $ give_at ! 2 $ first ! $ blocks ! $
       sets ! (bin ! (get ! refl) (size_lit ! (record { fits = tiny })) (record { fits = far })) refl (tt, record { fits = far }) $
       sets ! (bin ! (get_in ! (fld ! refl (stop !)) (sub ! 0 refl (whole !))) (get ! refl) tt) refl (tt, tt) $
-      use1 𝓛 (‵ (slot (R E) b (index * s + o) (get_or (all_of E d) index None)) ⊛ ‵ (Besides E 𝓛 b o (all_of E d) index)) (slot_out E 𝓛 b o (all_of E d) index within) $ split ! $ use1 𝓛 (‵ (slot (R E) b (index * s + o) None)) (slot_room E 𝓛 b (get_or (all_of E d) index None) (index * s + o)) $ as_written ! (elτ E) b (index * s + o) $
+      use1 𝓛 (‵ (slot (R E) b (place * s + o) (get_or (all_of E d) place None)) ⊛ ‵ (Besides E 𝓛 b o (all_of E d) place)) (slot_out E 𝓛 b o (all_of E d) place within) $ split ! $ use1 𝓛 (‵ (slot (R E) b (place * s + o) None)) (slot_room E 𝓛 b (get_or (all_of E d) place None) (place * s + o)) $ as_written ! (elτ E) b (place * s + o) $
       -- [the room; the other places; the mark; its cell; the open borrow; obs; auth; what the item owns]
       sets ! (of_opd ! (get ! refl)) refl good_item $ assigns_last ! (of_opd ! (get ! refl)) (through ! refl (stop !)) (init ! 0 refl good_item) $
       exec ! C Λ En (after 1 (function E).body) (at_ret En Post) $ sets ! (of_opd ! (unit_lit !)) refl (tt, tt) $
-      move ! (0 ∷ 7 ∷ []) $ use2 𝓛 (‵ (slot (R E) b (index * s + o) (Some item))) (value_in 0 E.row E.laws 𝓛 item b (index * s + o) v_item) $
-      use2 𝓛 (‵ (slots (R E) b o (set (all_of E d) index (Some item)))) (slot_in E 𝓛 b o (all_of E d) index within (Some item)) $ rewrite ! 0 (λ (cs : List (Place E)). ‵ (slots (R E) b o cs)) {x = all_of E new} (cells_set_left d.left d.spare d.right index item asked.1) refl $
-      flt_i ! (length (all_of E new) * s) (2 ^ 63) (subst (λ k. k * s < 2 ^ 63) (omega (arith, all_long E d, all_long E new, ap length (cells_set_left d.left d.spare d.right index item asked.1), length-set (all_of E d) index (Some item))) small) $ fjoin ! $
+      move ! (0 ∷ 7 ∷ []) $ use2 𝓛 (‵ (slot (R E) b (place * s + o) (Some item))) (value_in 0 E.row E.laws 𝓛 item b (place * s + o) v_item) $
+      use2 𝓛 (‵ (slots (R E) b o (set (all_of E d) place (Some item)))) (slot_in E 𝓛 b o (all_of E d) place within (Some item)) $ rewrite ! 0 (λ (cs : List (Place E)). ‵ (slots (R E) b o cs)) {x = all_of E new} written refl $
+      flt_i ! (length (all_of E new) * s) (2 ^ 63) (subst (λ k. k * s < 2 ^ 63) (sym (length-set (all_of E d) place (Some item)) ∙ ap length written) small) $ fjoin ! $
       rewrite ! 0 (λ (p : Ptr). ‵ (cells_own (R E) p (all_of E new))) (sym e) refl $ move ! (1 ∷ 0 ∷ []) $ fjoin ! $ move ! (1 ∷ 0 ∷ []) $ closes ! tt (Cr E) new vs rb ro $
       returns ! (look_at ! 0 refl) $ free_all ! refl $ keep ! (0 ∷ 1 ∷ 2 ∷ []) $ feq_i ! (List Val) (vunit ∷ []) (vunit ∷ []) refl $ move ! (1 ∷ 2 ∷ 3 ∷ 0 ∷ []) $
-      by ! (exits passed tt vunit new (refl, refl, refl, refl))))))
+      by ! (exits passed tt vunit new (refl, (refl, refl, refl)))))))
 
-  entry : Asks E d base index item → ent 𝓤 (on_entry 𝓛 (ended E).signature (κ, tt) (q, tt) (self, (base, (index, (item, tt)))) (us0, (us1, (us2, (us3, tt))))) (WpFn 𝓤 H C Λ (function E) (us0 ++ (us1 ++ (us2 ++ (us3 ++ [])))) Post)
+  entry : Asks E d base place item held → ent 𝓤 (on_entry 𝓛 (ended E).signature (κ, tt) (q, tt) (self, (base, (place, (item, tt)))) (us0, (us1, (us2, (us3, tt))))) (WpFn 𝓤 H C Λ (function E) (us0 ++ (us1 ++ (us2 ++ (us3 ++ [])))) Post)
   entry asked =
-      qed 𝓛 ((‵ (flft κ q) ⊛ ‵ ftrue) ∷ ‵ (owns (MutRef (named 0) κ (Cr E) ∷ Bs E ∷ usize ∷ R E ∷ []) (self, (base, (index, (item, tt)))) (us0, (us1, (us2, (us3, tt))))) ∷ []) ∵
+      qed 𝓛 ((‵ (flft κ q) ⊛ ‵ ftrue) ∷ ‵ (owns (MutRef (named 0) κ (Cr E) ∷ Bs E ∷ usize ∷ R E ∷ []) (self, (base, (place, (item, tt)))) (us0, (us1, (us2, (us3, tt))))) ∷ []) ∵
       split ! $ move ! (2 ∷ []) $
       fsplit ! $
       fsplit3 ! $ feq_l ! (λ e0.
@@ -127,21 +131,21 @@ module _ (E : El) {M : Type 1} {𝓤 : Ura M} (𝓛 : Logic 𝓤) (C : Calls �
       fsplit ! $
       word_had ! base.ptr us1 (λ e1.
       fsplit ! $
-      fsplit ! $ feq_l ! (λ e2. flt_l ! (λ fits_index.
+      fsplit ! $ feq_l ! (λ e2. flt_l ! (λ fits_place.
       fsplit ! $
       tells E.row E.laws ! item us3 (λ v_item e3 good_item.
       keep ! (2 ∷ 3 ∷ 4 ∷ 0 ∷ []) $
-      by ! (subst (λ (ws : List Val × List Val × List Val × List Val). ent 𝓤 (⋆ 𝓛 (Had v_item)) (WpFn 𝓤 H C Λ (function E) (ws.0 ++ (ws.1 ++ (ws.2 ++ (ws.3 ++ [])))) Post)) (λ j. (sym e0 j, sym e1 j, sym e2 j, sym e3 j)) (walk e0 asked fits_index v_item good_item)))))))
+      by ! (subst (λ (ws : List Val × List Val × List Val × List Val). ent 𝓤 (⋆ 𝓛 (Had v_item)) (WpFn 𝓤 H C Λ (function E) (ws.0 ++ (ws.1 ++ (ws.2 ++ (ws.3 ++ [])))) Post)) (λ j. (sym e0 j, sym e1 j, sym e2 j, sym e3 j)) (walk e0 asked fits_place v_item good_item)))))))
 
 meets : (E : El) {M : Type 1} {𝓤 : Ura M} (𝓛 : Logic 𝓤) (𝓣 : Tables 𝓤 𝓛.H)
     → Meets 𝓛 (ended E).signature (WpFn 𝓤 𝓛.H 𝓣.C 𝓣.Λ (function E)) (closing 𝓛 (ended E) (spec E 𝓛))
 meets E {𝓤 = 𝓤} 𝓛 𝓣 =
     walk_Meets 𝓛 (ended E) (stayed E) (Goes-ref 𝓛 1 0 tt (plain (λ _. Cr E)), (Goes-dropped 𝓛 1 (plain (λ _. Bs E)) no (λ κs x f. refl), (Goes-dropped 𝓛 1 (plain (λ _. usize)) no (λ κs x f. refl), (Goes-dropped 𝓛 1 (plain (λ _. R E)) no (λ κs x f. refl), tt)))) (spec E 𝓛) (WpFn 𝓤 𝓛.H 𝓣.C 𝓣.Λ (function E)) (WpFn-mono 𝓤 𝓛.H 𝓛.laws 𝓣 (function E))
-    (λ z. needs 𝓤 (Asks E z.0.3.0.now z.0.3.1.0 z.0.3.1.1.0 z.0.3.1.1.1.0) _ (entry E 𝓛 𝓣.C 𝓣.Λ z.0.0.0 z.0.1.0 z.0.3.0.ref_ptr.0 z.0.3.0.ref_ptr.1 z.0.3.0.ghost_name z.0.3.0.now z.0.3.1.0 z.0.3.1.1.0 z.0.3.1.1.1.0 z.0.4.0 z.0.4.1.0 z.0.4.1.1.0 z.0.4.1.1.1.0))
+    (λ z. needs 𝓤 (Asks E z.0.3.0.now z.0.3.1.0 z.0.3.1.1.0 z.0.3.1.1.1.0 z.1) _ (entry E 𝓛 𝓣.C 𝓣.Λ z.0.0.0 z.0.1.0 z.0.3.0.ref_ptr.0 z.0.3.0.ref_ptr.1 z.0.3.0.ghost_name z.0.3.0.now z.0.3.1.0 z.0.3.1.1.0 z.0.3.1.1.1.0 z.1 z.0.4.0 z.0.4.1.0 z.0.4.1.1.0 z.0.4.1.1.1.0))
 
-pub replace_left_spec : {M : Type 1} → stated.statement M
+pub write_cell_spec : {M : Type 1} → stated.statement M
 unfolding tables_of
-replace_left_spec 𝓤 𝓛 𝓜 𝓡 wired X LX y =
+write_cell_spec 𝓤 𝓛 𝓜 𝓡 wired X LX y =
     let E : El = record { row = X; laws = LX } in
     let 𝓣 : Tables 𝓤 𝓛.H = tables_of 𝓤 𝓛.H 𝓜 (tables 𝓤 𝓛.H 𝓜 𝓡 𝓡.env) in
     let k = #self (args E) in

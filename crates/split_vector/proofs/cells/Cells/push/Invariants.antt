@@ -1,0 +1,5 @@
+use Rattle.std.proofs.Common.{◌-◌, [], ◌∷◌, ◌++◌}
+use Rattle.split_vector.proofs.cells.Cells.push.Given as goal
+
+abbrev pub ghost-write_cell : goal.ghost-write_cell
+ghost-write_cell g a = (a.self.now.left ++ a.item ∷ [], a.self.now.spare - 1, a.self.now.right)
