@@ -1,6 +1,7 @@
 -- The cells of a block as a list.
-use Rattle.std.proofs.Common.{◌≡◌, ℕ, zero, suc, ◌+◌, ◌-◌, ◌<◌, ◌≤◌, List, [], ◌∷◌, ◌++◌, map, length, get_or, take, drop, set, replicate, Option, Some, None, refl, sym, ap, ◌∙◌, arith, length-append, length-take, length-drop, take-append-drop, append_assoc}
+use Rattle.std.proofs.Common.{◌≡◌, ℕ, zero, suc, ◌+◌, ◌-◌, ◌<◌, ◌≤◌, Bool, true, false, List, [], ◌∷◌, ◌++◌, map, length, get_or, take, drop, set, replicate, Option, Some, None, refl, sym, ap, ◌∙◌, arith, length-append, length-take, length-drop, take-append-drop, append_assoc}
 use Rattle.std.proofs.lemmas.List.{length-map, length-replicate, map-append, take-map, drop-map, drop-drop}
+use Rattle.split_vector.specs.Cells.{Hold, Run, beside, run_start}
 use Rattle.split_vector.specs.Ownership.{cells_of}
 
 module _ {X : Type 0} where
@@ -62,21 +63,32 @@ module _ {X : Type 0} where
       let b = map Some (drop i xs) in let c = map Some (take j ys) in
       omega (arith, length-append b (none n ++ c), length-append (none n) c, length-map (drop i xs) Some, length-map (take j ys) Some, length-replicate n empty, length-drop i xs, length-take j ys)
 
-  -- the cells with the items from the place on up to the gap apart, before and after they move over it
-  pub cells_raised : (xs : List X) (n : ℕ) (ys : List X) (i : ℕ) → cells_of xs n ys ≡ map Some (take i xs) ++ (map Some (drop i xs) ++ (none n ++ map Some ys))
-  cells_raised xs n ys i = ap (λ l. l ++ (none n ++ map Some ys)) (parted xs i) ∙ append_assoc (map Some (take i xs)) (map Some (drop i xs)) (none n ++ map Some ys)
+  -- the cells as a row of four: the items before the run, the run and the gap in their order, and the items behind
+  abbrev pub spread : Bool → Run X → List (Option X)
+  spread true p = map Some p.0 ++ (map Some p.1 ++ (none p.2 ++ map Some p.3))
+  spread false p = map Some p.0 ++ (none p.2 ++ (map Some p.1 ++ map Some p.3))
 
-  pub raised_cells : (xs : List X) (n : ℕ) (ys : List X) (i : ℕ) → map Some (take i xs) ++ (none n ++ (map Some (drop i xs) ++ map Some ys)) ≡ cells_of (take i xs) n (drop i xs ++ ys)
-  raised_cells xs n ys i = ap (λ l. map Some (take i xs) ++ (none n ++ l)) (sym (map-append Some (drop i xs) ys))
+  -- the run stands apart from the items that lie on its side of the gap
+  joined : (on_left : Bool) (p : Run X) → cells_of (beside on_left p).0 (beside on_left p).1 (beside on_left p).2 ≡ spread on_left p
+  joined true p = ap (λ l. l ++ (none p.2 ++ map Some p.3)) (map-append Some p.0 p.1) ∙ append_assoc (map Some p.0) (map Some p.1) (none p.2 ++ map Some p.3)
+  joined false p = ap (λ l. map Some p.0 ++ (none p.2 ++ l)) (map-append Some p.1 p.3)
 
-  -- the cells with the first j items after the gap apart, before and after they move back over it
-  pub cells_lowered : (xs : List X) (n : ℕ) (ys : List X) (j : ℕ) → cells_of xs n ys ≡ map Some xs ++ (none n ++ (map Some (take j ys) ++ map Some (drop j ys)))
-  cells_lowered xs n ys j = ap (λ l. map Some xs ++ (none n ++ l)) (parted ys j)
+  pub cells_spread : (on_left : Bool) (p : Run X) (xs : List X) (n : ℕ) (ys : List X) → Hold xs n ys (beside on_left p) → cells_of xs n ys ≡ spread on_left p
+  cells_spread on_left p xs n ys h = (λ j. cells_of (h.0 j) (h.1 j) (h.2 j)) ∙ joined on_left p
 
-  pub lowered_cells : (xs : List X) (n : ℕ) (ys : List X) (j : ℕ) → map Some xs ++ (map Some (take j ys) ++ (none n ++ map Some (drop j ys))) ≡ cells_of (xs ++ take j ys) n (drop j ys)
-  lowered_cells xs n ys j =
-      let c = map Some (take j ys) in let r = none n ++ map Some (drop j ys) in
-      sym (append_assoc (map Some xs) c r) ∙ ap (λ l. l ++ r) (sym (map-append Some xs (take j ys)))
+  -- how many cells there are, wherever the run lies
+  pub spread_long : (on_left : Bool) (p : Run X) → length (spread on_left p) ≡ length p.0 + length p.1 + p.2 + length p.3
+  spread_long true p =
+      let a = map Some p.0 in let b = map Some p.1 in let c = map Some p.3 in
+      omega (arith, length-append a (b ++ (none p.2 ++ c)), length-append b (none p.2 ++ c), length-append (none p.2) c, length-map p.0 Some, length-map p.1 Some, length-map p.3 Some, length-replicate p.2 empty)
+  spread_long false p =
+      let a = map Some p.0 in let b = map Some p.1 in let c = map Some p.3 in
+      omega (arith, length-append a (none p.2 ++ (b ++ c)), length-append (none p.2) (b ++ c), length-append b c, length-map p.0 Some, length-map p.1 Some, length-map p.3 Some, length-replicate p.2 empty)
+
+  -- the run begins at the end of the gap, or before
+  pub run_starts : (on_left : Bool) (p : Run X) → run_start on_left p ≤ length p.0 + p.2
+  run_starts true p = omega arith
+  run_starts false p = omega arith
 
   set_end : (n : ℕ) (ys : List X) (i : ℕ) (x : X) → i + 1 ≡ n → set (none n ++ map Some ys) i (Some x) ≡ none (n - 1) ++ map Some (x ∷ ys)
   set_end zero ys i x e = absurd (omega (arith, e))

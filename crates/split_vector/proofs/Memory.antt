@@ -5,12 +5,14 @@
 --     cut, glue      a row is two rows side by side
 --     of_room, to_room      room for an array is a row of empty places
 --     of_array, to_array      an array is a row of its items
+--     run_out, run_in      the items beside the gap, as an array, move over it
 use mathlib.Core.Path.{◌≡◌, refl, sym, ap, subst, ◌∙◌}
-use Prim.Native.Nat.{ℕ, zero, suc, ◌+◌, ◌-◌, ◌*◌, ◌<◌, ◌≤◌}
+use Prim.Native.Nat.{ℕ, zero, suc, ◌+◌, ◌-◌, ◌*◌, ◌<◌, ◌≤◌, ◌^◌}
 use native.Mathlib.Omega.{arith}
 use native.Mathlib.Nat.{zero-mul, suc-mul}
+use mathlib.Core.Bool.{Bool, true, false, not}
 use mathlib.Core.List.{List, [], ◌∷◌, ◌++◌, map}
-use lib.ListN.{length, take, drop, set, get_or, replicate, take-append-drop, length-take, length-drop}
+use lib.ListN.{length, take, drop, set, get_or, replicate, take-append-drop, length-take}
 use lib.Seq.{drop-cons, set_split}
 use seplogic.Ra.Ura.{Ura}
 use base.Fraction.{full_share}
@@ -25,16 +27,16 @@ use denote.Array.{Array}
 use denote.Index.{row, whole_out, whole_in}
 use Rattle.core.proofs.ptr.Rows as arrays
 use Rattle.std.proofs.lemmas.List.{length-map, length-replicate}
-use Rattle.split_vector.proofs.Items.{none, cells_long, around, cells_around, around_long, cells_raised, raised_cells, cells_lowered, lowered_cells}
+use Rattle.split_vector.proofs.Items.{none, cells_long, around, cells_around, around_long, spread}
 use types.Kit.{given, learn}
 use contract.Monad.{fact, fact_i}
-use types.Kit.{Item, Goal, Seq, Step, step, prop, ‵, raw, some, ◌⊛◌, ◌$◌, ◌∵◌, !, qed, by, move, keep, drop as skip, use0, use1, use2, pick, split, check, show, frame, fsplit, fjoin, fpick, fpack, feq_i, feq_l, rewrite, done}
+use types.Kit.{Item, Goal, Seq, Step, step, prop, ‵, raw, some, ◌⊛◌, ◌$◌, ◌∵◌, !, qed, by, move, keep, drop as skip, use0, use1, use2, pick, split, split3, check, show, frame, fsplit, fjoin, fpick, fpack, feq_i, feq_l, rewrite, done}
 use denote.RattleType.{RattleType, Valss}
 use denote.Laws.{Typed, Is, shows}
 use denote.Param.{param, layout}
 use denote.Param.Laws.{Laws, param_laws}
 use denote.Memory.{lone, part_at, mem}
-use denote.RawPtr.{Ptr, RawPtr, ptr_val}
+use denote.RawPtr.{Ptr, RawPtr, block_ptr, ptr_val}
 use denote.Shadow.{makes_shadow}
 use denote.Slice.{elements_shared}
 use denote.Steps.{nothing, peeks}
@@ -47,6 +49,8 @@ use Rattle.std.specs.Prelude.{Option, Some, None}
 use Rattle.std.specs.Mem.{type_size}
 use Rattle.core.proofs.mem.Param.{El, R, el_x, elτ}
 use Rattle.std_alloc.proofs.RcSteps.{Good, word}
+use Rattle.core.specs.Ptr.{memory_before_copy, memory_after_copy}
+use Rattle.split_vector.specs.Cells.{LiesApart, Run, run_start}
 use Rattle.split_vector.specs.Ownership.{cells_of, deed_owns, slot, slots, slot_lent, slots_lent}
 use Rattle.split_vector.specs.contracts.cells.Cells as C-type
 use Rattle.split_vector.specs.contracts.cells.Base as B-type
@@ -272,73 +276,81 @@ module _ (E : El) {M : Type 1} {𝓤 : Ura M} (𝓛 : Logic 𝓤) (b : ℕ) wher
         use2 𝓛 (‵ (Row at (none wide ++ map Some (drop j ys)))) (glue (none wide) (map Some (drop j ys)) at at' a'') $ move ! (1 ∷ 0 ∷ []) $
         by ! (glue (map Some (take i xs)) (none wide ++ map Some (drop j ys)) o at a)
 
-    -- the items from the place i on come out of the row as an array with room above it, and go back above the room
-    module _ (i count : ℕ) (e : i + count ≡ length d.left) where
-      abbrev moving : List (el_x E)
-      moving = drop i xs
+  -- a run beside the gap comes out of the row as an array, with the gap as room, and goes back on the other side of the room
+  module _ (o count : ℕ) (p : Run (el_x E)) (e : count ≡ length p.1) where
+    abbrev low : ℕ
+    low = length p.0 * s + o
 
-      up_facts : (length (map Some (take i xs)) ≡ i) × (length moving ≡ count) × (length (map Some moving) ≡ count)
-      up_facts = (omega (arith, length-map (take i xs) Some, length-take i xs), omega (arith, length-drop i xs), omega (arith, length-map (drop i xs) Some, length-drop i xs))
+    abbrev top : ℕ
+    top = p.2 * s + (count * s + low)
 
-      abbrev low : ℕ
-      low = i * s + o
+    -- where the run begins, on the left of the gap and on the right
+    abbrev pub begin : Bool → ℕ
+    begin true = low
+    begin false = p.2 * s + low
 
-      abbrev pub UpRest : Fml
-      UpRest = fsep (Row o (map Some (take i xs))) (Row (n * s + (count * s + low)) (map Some ys))
+    pub begins : (on_left : Bool) (from : ℕ) → from ≡ run_start on_left p → from * s + o ≡ begin on_left
+    begins true from is = ap (λ k. k * s + o) is
+    begins false from is = let wide = ap (λ (k : ℕ). k * s) is ∙ arrays.add_times (length p.0) p.2 s in omega (arith, wide)
 
-      pub up_out : ent 𝓤 (sem 𝓛 (Row o (all_of E d))) (sep 𝓤 (sem 𝓛 (fsep (Values moving count low) (Space n (count * s + low)))) (sem 𝓛 UpRest))
-      up_out =
-          let f = up_facts in
-          qed 𝓛 (‵ (Row o (all_of E d)) ∷ []) ∵ rewrite ! 0 (λ (l : List (Place E)). ‵ (Row o l)) (cells_raised xs n ys i) refl $
-          use1 𝓛 (‵ (Row o (map Some (take i xs))) ⊛ ‵ (Row low (map Some moving ++ (none n ++ map Some ys)))) (cut (map Some (take i xs)) (map Some moving ++ (none n ++ map Some ys)) o low (ap (λ k. k * s + o) (sym f.0))) $ split ! $ move ! (1 ∷ []) $
-          use1 𝓛 (‵ (Row low (map Some moving)) ⊛ ‵ (Row (count * s + low) (none n ++ map Some ys))) (cut (map Some moving) (none n ++ map Some ys) low (count * s + low) (ap (λ k. k * s + low) (sym f.2))) $ split ! $ move ! (1 ∷ []) $
-          use1 𝓛 (‵ (Row (count * s + low) (none n)) ⊛ ‵ (Row (n * s + (count * s + low)) (map Some ys))) (cut (none n) (map Some ys) (count * s + low) (n * s + (count * s + low)) (ap (λ k. k * s + (count * s + low)) (sym (length-replicate n (None_of E))))) $ split ! $
-          use1 𝓛 (‵ (Space n (count * s + low))) (to_room n (count * s + low)) $ move ! (2 ∷ []) $ use1 𝓛 (‵ (Values moving count low)) (to_array moving count low f.1) $ move ! (0 ∷ 1 ∷ []) $ fjoin ! $
-          move ! (2 ∷ 1 ∷ []) $ fjoin ! $ move ! (1 ∷ []) $ done !
+    pub begin_apart : (up : Bool) → count * s < 2 ^ 64 → LiesApart (R E) up p.2 count (block_ptr b (begin up)) (block_ptr b (begin (not up)))
+    begin_apart true wide = (refl, wide)
+    begin_apart false wide = (refl, wide)
 
-      pub up_in : ent 𝓤 (sep 𝓤 (sem 𝓛 (fsep (Values moving count (n * s + low)) (Space n low))) (sem 𝓛 UpRest)) (sem 𝓛 (Row o (cells_of (take i xs) n (moving ++ ys))))
-      up_in =
-          let f = up_facts in let high : ℕ = n * s + low in
-          qed 𝓛 (‵ (fsep (Values moving count high) (Space n low)) ∷ ‵ UpRest ∷ []) ∵ fsplit ! $ use1 𝓛 (‵ (Row high (map Some moving))) (of_array moving count high) $ move ! (1 ∷ []) $
-          use1 𝓛 (‵ (Row low (none n))) (of_room n low) $ move ! (2 ∷ []) $ fsplit ! $ move ! (3 ∷ 1 ∷ []) $
-          use2 𝓛 (‵ (Row high (map Some moving ++ map Some ys))) (glue (map Some moving) (map Some ys) high (n * s + (count * s + low)) (let g = ap (λ k. k * s + high) (sym f.2) in omega (arith, g))) $ move ! (2 ∷ 0 ∷ []) $
-          use2 𝓛 (‵ (Row low (none n ++ (map Some moving ++ map Some ys)))) (glue (none n) (map Some moving ++ map Some ys) low high (ap (λ k. k * s + low) (sym (length-replicate n (None_of E))))) $ move ! (1 ∷ 0 ∷ []) $
-          use2 𝓛 (‵ (Row o (map Some (take i xs) ++ (none n ++ (map Some moving ++ map Some ys))))) (glue (map Some (take i xs)) (none n ++ (map Some moving ++ map Some ys)) o low (ap (λ k. k * s + o) (sym f.0))) $
-          rewrite ! 0 (λ (l : List (Place E)). ‵ (Row o l)) (raised_cells xs n ys i) refl $ done !
+    -- what the move does not touch
+    abbrev pub Outside : Fml
+    Outside = fsep (Row o (map Some p.0)) (Row top (map Some p.3))
 
-    -- the first items after the gap come out of the row as an array with room below it, and go back below the room
-    module _ (count : ℕ) (e : count ≤ length d.right) where
-      abbrev coming : List (el_x E)
-      coming = take count ys
+    run_long : length (map Some p.1) ≡ count
+    run_long = length-map p.1 Some ∙ sym e
 
-      down_facts : (length (map Some xs) ≡ length xs) × (length coming ≡ count) × (length (map Some coming) ≡ count)
-      down_facts = (length-map xs Some, omega (arith, length-take count ys), omega (arith, length-map (take count ys) Some, length-take count ys))
+    room_long : length (none {X = el_x E} p.2) ≡ p.2
+    room_long = length-replicate p.2 (None_of E)
 
-      abbrev foot : ℕ
-      foot = length xs * s + o
+    front : low ≡ length (map Some p.0) * s + o
+    front = ap (λ k. k * s + o) (sym (length-map p.0 Some))
 
-      abbrev pub DownRest : Fml
-      DownRest = fsep (Row o (map Some xs)) (Row (count * s + (n * s + foot)) (map Some (drop count ys)))
+    -- the two rows in the middle, which are the run and the gap in either order, come out and go back
+    parts_out : (us vs : List (Place E)) (mid : ℕ) → mid ≡ length us * s + low → top ≡ length vs * s + mid
+        → ent 𝓤 (sem 𝓛 (Row o (map Some p.0 ++ (us ++ (vs ++ map Some p.3))))) (sep 𝓤 (sem 𝓛 (Row low us)) (sep 𝓤 (sem 𝓛 (Row mid vs)) (sem 𝓛 Outside)))
+    parts_out us vs mid m t =
+        qed 𝓛 (‵ (Row o (map Some p.0 ++ (us ++ (vs ++ map Some p.3)))) ∷ []) ∵
+        use1 𝓛 (‵ (Row o (map Some p.0)) ⊛ ‵ (Row low (us ++ (vs ++ map Some p.3)))) (cut (map Some p.0) (us ++ (vs ++ map Some p.3)) o low front) $ split ! $ move ! (1 ∷ []) $
+        use1 𝓛 (‵ (Row low us) ⊛ ‵ (Row mid (vs ++ map Some p.3))) (cut us (vs ++ map Some p.3) low mid m) $ split ! $ move ! (1 ∷ []) $
+        use1 𝓛 (‵ (Row mid vs) ⊛ ‵ (Row top (map Some p.3))) (cut vs (map Some p.3) mid top t) $ split ! $
+        move ! (3 ∷ 1 ∷ []) $ fjoin ! $ move ! (2 ∷ 1 ∷ []) $ done !
 
-      pub down_out : ent 𝓤 (sem 𝓛 (Row o (all_of E d))) (sep 𝓤 (sem 𝓛 (fsep (Values coming count (n * s + foot)) (Space n foot))) (sem 𝓛 DownRest))
-      down_out =
-          let f = down_facts in let rest = map Some (drop count ys) in
-          qed 𝓛 (‵ (Row o (all_of E d)) ∷ []) ∵ rewrite ! 0 (λ (l : List (Place E)). ‵ (Row o l)) (cells_lowered xs n ys count) refl $
-          use1 𝓛 (‵ (Row o (map Some xs)) ⊛ ‵ (Row foot (none n ++ (map Some coming ++ rest)))) (cut (map Some xs) (none n ++ (map Some coming ++ rest)) o foot (ap (λ k. k * s + o) (sym f.0))) $ split ! $ move ! (1 ∷ []) $
-          use1 𝓛 (‵ (Row foot (none n)) ⊛ ‵ (Row (n * s + foot) (map Some coming ++ rest))) (cut (none n) (map Some coming ++ rest) foot (n * s + foot) (ap (λ k. k * s + foot) (sym (length-replicate n (None_of E))))) $ split ! $ move ! (1 ∷ []) $
-          use1 𝓛 (‵ (Row (n * s + foot) (map Some coming)) ⊛ ‵ (Row (count * s + (n * s + foot)) rest)) (cut (map Some coming) rest (n * s + foot) (count * s + (n * s + foot)) (ap (λ k. k * s + (n * s + foot)) (sym f.2))) $ split ! $
-          use1 𝓛 (‵ (Values coming count (n * s + foot))) (to_array coming count (n * s + foot) f.1) $ move ! (2 ∷ []) $ use1 𝓛 (‵ (Space n foot)) (to_room n foot) $ move ! (1 ∷ 0 ∷ []) $ fjoin ! $
-          move ! (2 ∷ 1 ∷ []) $ fjoin ! $ move ! (1 ∷ []) $ done !
+    parts_in : (us vs : List (Place E)) (mid : ℕ) → mid ≡ length us * s + low → top ≡ length vs * s + mid
+        → ent 𝓤 (sep 𝓤 (sem 𝓛 (Row low us)) (sep 𝓤 (sem 𝓛 (Row mid vs)) (sem 𝓛 Outside))) (sem 𝓛 (Row o (map Some p.0 ++ (us ++ (vs ++ map Some p.3)))))
+    parts_in us vs mid m t =
+        qed 𝓛 (‵ (Row low us) ∷ ‵ (Row mid vs) ∷ ‵ Outside ∷ []) ∵ move ! (2 ∷ []) $ fsplit ! $ move ! (3 ∷ 1 ∷ []) $
+        use2 𝓛 (‵ (Row mid (vs ++ map Some p.3))) (glue vs (map Some p.3) mid top t) $ move ! (2 ∷ 0 ∷ []) $
+        use2 𝓛 (‵ (Row low (us ++ (vs ++ map Some p.3)))) (glue us (vs ++ map Some p.3) low mid m) $ move ! (1 ∷ 0 ∷ []) $
+        by ! (glue (map Some p.0) (us ++ (vs ++ map Some p.3)) o low front)
 
-      pub down_in : ent 𝓤 (sep 𝓤 (sem 𝓛 (fsep (Values coming count foot) (Space n (count * s + foot)))) (sem 𝓛 DownRest)) (sem 𝓛 (Row o (cells_of (xs ++ coming) n (drop count ys))))
-      down_in =
-          let f = down_facts in let rest = map Some (drop count ys) in let high : ℕ = count * s + foot in
-          qed 𝓛 (‵ (fsep (Values coming count foot) (Space n high)) ∷ ‵ DownRest ∷ []) ∵ fsplit ! $ use1 𝓛 (‵ (Row foot (map Some coming))) (of_array coming count foot) $ move ! (1 ∷ []) $
-          use1 𝓛 (‵ (Row high (none n))) (of_room n high) $ move ! (2 ∷ []) $ fsplit ! $ move ! (2 ∷ 1 ∷ []) $
-          use2 𝓛 (‵ (Row high (none n ++ rest))) (glue (none n) rest high (count * s + (n * s + foot)) (let g = ap (λ k. k * s + high) (sym (length-replicate n (None_of E))) in omega (arith, g))) $ move ! (2 ∷ 0 ∷ []) $
-          use2 𝓛 (‵ (Row foot (map Some coming ++ (none n ++ rest)))) (glue (map Some coming) (none n ++ rest) foot high (ap (λ k. k * s + foot) (sym f.2))) $ move ! (1 ∷ 0 ∷ []) $
-          use2 𝓛 (‵ (Row o (map Some xs ++ (map Some coming ++ (none n ++ rest))))) (glue (map Some xs) (map Some coming ++ (none n ++ rest)) o foot (ap (λ k. k * s + o) (sym f.0))) $
-          rewrite ! 0 (λ (l : List (Place E)). ‵ (Row o l)) (lowered_cells xs n ys count) refl $ done !
+    pub run_out : (up : Bool) → ent 𝓤 (sem 𝓛 (Row o (spread up p))) (sep 𝓤 (sem 𝓛 (memory_before_copy (R E) up p.2 count (block_ptr b (begin up)) (block_ptr b (begin (not up))) p.1)) (sem 𝓛 Outside))
+    run_out true =
+        let mid : ℕ = count * s + low in
+        qed 𝓛 (‵ (Row o (spread true p)) ∷ []) ∵
+        use1 𝓛 (‵ (Row low (map Some p.1)) ⊛ ‵ (Row mid (none p.2)) ⊛ ‵ Outside) (parts_out (map Some p.1) (none p.2) mid (ap (λ k. k * s + low) (sym run_long)) (ap (λ k. k * s + mid) (sym room_long))) $ split3 ! $
+        use1 𝓛 (‵ (Values p.1 count low)) (to_array p.1 count low (sym e)) $ move ! (1 ∷ []) $ use1 𝓛 (‵ (Space p.2 mid)) (to_room p.2 mid) $ move ! (1 ∷ 0 ∷ []) $ fjoin ! $ done !
+    run_out false =
+        let mid : ℕ = p.2 * s + low in
+        qed 𝓛 (‵ (Row o (spread false p)) ∷ []) ∵
+        use1 𝓛 (‵ (Row low (none p.2)) ⊛ ‵ (Row mid (map Some p.1)) ⊛ ‵ Outside) (parts_out (none p.2) (map Some p.1) mid (ap (λ k. k * s + low) (sym room_long)) (let g = ap (λ k. k * s + mid) (sym run_long) in omega (arith, g))) $ split3 ! $
+        use1 𝓛 (‵ (Space p.2 low)) (to_room p.2 low) $ move ! (1 ∷ []) $ use1 𝓛 (‵ (Values p.1 count mid)) (to_array p.1 count mid (sym e)) $ fjoin ! $ done !
+
+    pub run_in : (up : Bool) → ent 𝓤 (sep 𝓤 (sem 𝓛 (memory_after_copy (R E) up p.2 count (block_ptr b (begin up)) (block_ptr b (begin (not up))) p.1)) (sem 𝓛 Outside)) (sem 𝓛 (Row o (spread (not up) p)))
+    run_in true =
+        let mid : ℕ = p.2 * s + low in
+        qed 𝓛 (‵ (fsep (Values p.1 count mid) (Space p.2 low)) ∷ ‵ Outside ∷ []) ∵ fsplit ! $ use1 𝓛 (‵ (Row mid (map Some p.1))) (of_array p.1 count mid) $ move ! (1 ∷ []) $
+        use1 𝓛 (‵ (Row low (none p.2))) (of_room p.2 low) $
+        by ! (parts_in (none p.2) (map Some p.1) mid (ap (λ k. k * s + low) (sym room_long)) (let g = ap (λ k. k * s + mid) (sym run_long) in omega (arith, g)))
+    run_in false =
+        let mid : ℕ = count * s + low in
+        qed 𝓛 (‵ (fsep (Values p.1 count low) (Space p.2 mid)) ∷ ‵ Outside ∷ []) ∵ fsplit ! $ use1 𝓛 (‵ (Row low (map Some p.1))) (of_array p.1 count low) $ move ! (1 ∷ []) $
+        use1 𝓛 (‵ (Row mid (none p.2))) (of_room p.2 mid) $ move ! (1 ∷ 0 ∷ []) $
+        by ! (parts_in (map Some p.1) (none p.2) mid (ap (λ k. k * s + low) (sym run_long)) (ap (λ k. k * s + mid) (sym room_long)))
 
   module _ (κ : Lft) where
     abbrev Seen : ℕ → List (Place E) → Fml

@@ -2,14 +2,14 @@
 //!
 //! `Base` is the address alone, and may be copied. `Cells` is the right to use the cells, and `Deed` the right to free
 //! the block. Both take no bytes and exist once for each block; a function that needs them takes them as arguments.
-ghost use Rattle.std.specs.Prelude.{◌≡◌, ℕ, ◌+◌, ◌-◌, ◌*◌, ◌^◌, ◌<◌, ◌≤◌, ◌⊎◌, List, [], ◌∷◌, ◌++◌, map, length, take, drop, slice_set, Some, IfOk, OnErr, ⊤};
+ghost use Rattle.std.specs.Prelude.{◌≡◌, ℕ, ◌+◌, ◌-◌, ◌*◌, ◌^◌, ◌<◌, ◌≤◌, ◌⊎◌, List, [], ◌∷◌, ◌++◌, map, length, take, drop, slice_set, Some, IfOk, OnErr, ⊤, not};
 ghost use Rattle.std.specs.Vec.Ownership.{FitsInBlock};
 ghost use base.Fml.{ftrue};
 ghost use denote.RawPtr.{Ptr};
-ghost use Rattle.split_vector.specs.Cells.{Hold, IsRun, IsWritten};
+ghost use Rattle.split_vector.specs.Cells.{CanMove, Held, Hold, IsRun, IsWritten, Run, beside};
 ghost use Rattle.split_vector.specs.Ownership.{cells_of, cells_own, cells_lent, deed_owns};
 
-use crate::raw::{move_down, move_up};
+use crate::raw::move_run;
 use std::alloc::{AllocError, Allocator};
 use std::marker::{Model, PhantomData};
 use std::mem::{align_of, size_of};
@@ -162,7 +162,7 @@ impl<T> Cells<T> {
     // Writes `item` into the cell `place`. The ghost value is what the cells hold then.
     #[inline(always)]
     fn write_cell(&mut self, base: Base<T>, place: usize, item: T)
-        ghost after: { List T × ℕ × List T }
+        ghost after: { Held T }
         requires { (base.ptr ≡ self.old.at) × IsWritten self.old.left self.old.spare self.old.right place item after }
         ensures { (self.new.at ≡ self.old.at) × Hold self.new.left self.new.spare self.new.right after }
     {
@@ -209,12 +209,23 @@ impl<T> Cells<T> {
         unsafe { slice::from_raw_parts(base.ptr.add(from), len) }
     }
 
+    // Moves the run of `count` items from the cell `from` on over the gap: `up`, from its left side, or down, from its
+    // right. The callers pass a literal for `up`.
+    #[inline(always)]
+    fn move_over(&mut self, base: Base<T>, from: usize, to: usize, count: usize, up: bool)
+        ghost run: { Run T }
+        requires { (base.ptr ≡ self.old.at) × CanMove up self.old.left self.old.spare self.old.right from to count run }
+        ensures { (self.new.at ≡ self.old.at) × Hold self.new.left self.new.spare self.new.right (beside (not up) run) }
+    {
+        unsafe { move_run(base.ptr.add(from), base.ptr.add(to), count, up) }
+    }
+
     /// Moves the last `count` items on the left to the right side of the gap.
     pub(crate) fn raise(&mut self, base: Base<T>, from: usize, to: usize, count: usize)
         requires { (base.ptr ≡ self.old.at) × (from + count ≡ length self.old.left) × (to ≡ from + self.old.spare) }
         ensures { (self.new.at ≡ self.old.at) × (self.new.left ≡ take from self.old.left) × (self.new.spare ≡ self.old.spare) × (self.new.right ≡ drop from self.old.left ++ self.old.right) }
     {
-        unsafe { move_up(base.ptr.add(from), base.ptr.add(to), count) }
+        self.move_over(base, from, to, count, true);
     }
 
     /// Moves the first `count` items on the right to the left side of the gap.
@@ -222,7 +233,7 @@ impl<T> Cells<T> {
         requires { (base.ptr ≡ self.old.at) × (to ≡ length self.old.left) × (from ≡ to + self.old.spare) × (count ≤ length self.old.right) }
         ensures { (self.new.at ≡ self.old.at) × (self.new.left ≡ self.old.left ++ take count self.old.right) × (self.new.spare ≡ self.old.spare) × (self.new.right ≡ drop count self.old.right) }
     {
-        unsafe { move_down(base.ptr.add(from), base.ptr.add(to), count) }
+        self.move_over(base, from, to, count, false);
     }
 
     /// Forgets the items next to the gap: it keeps the first `left` on the left, and drops the first `after` on the right.

@@ -4,7 +4,7 @@
 //!
 //! The layers, from the memory up:
 //!
-//! - `raw` moves a run of items inside one block, up or down, in loops that the compiler turns into `memmove`. `block`
+//! - `raw` moves a run of items inside one block, up or down, in a loop that the compiler turns into a `memmove`. `block`
 //!   splits a long move of the gap into parts instead.
 //! - `cells` has the raw pointers, in functions of a line or two. A block is seen as the items left of the gap, a
 //!   number of empty cells, and the items right of it. Only cells with an item are ever read.

@@ -47,7 +47,7 @@ use Rattle.core.proofs.mem.Param.{El, R, args, elτ}
 use Rattle.core.proofs.ptr.Rows.{times_below, one_below}
 use Rattle.std_alloc.proofs.RawLayout.{as_written}
 use Rattle.split_vector.specs.Ownership.{slot, slots, cells_own}
-use Rattle.split_vector.specs.Cells.{Hold, IsWritten}
+use Rattle.split_vector.specs.Cells.{Held, Hold, IsWritten}
 use Rattle.split_vector.proofs.Memory.{all_of, slot_room, Cr, Bs, sz, Place, word_had, value_in, tells, Besides, slot_out, slot_in}
 use Rattle.split_vector.specs.contracts.cells.Cells.write_cell.Key.{name as #self}
 use Rattle.split_vector.proofs.cells.Cells.write_cell.Statement as stated
@@ -63,20 +63,16 @@ module _ (E : El) where
   abbrev stayed : Stays ended.signature.params ended.kept
   stayed = (stay_ref (0 ∷ []) tt (plain (λ _. Cr E)), (stay_dropped (plain (λ _. Bs E)) no, (stay_dropped (plain (λ _. usize)) no, (stay_dropped (plain (λ _. R E)) no, tt))))
 
-  -- the items on the left, the empty cells, and the items on the right
-  abbrev Held : Type 0
-  Held = List (R E).Denot × ℕ × List (R E).Denot
-
-  abbrev Asks : (Cr E).Denot → (Bs E).Denot → (usize).Denot → (R E).Denot → Held → Type 0
+  abbrev Asks : (Cr E).Denot → (Bs E).Denot → (usize).Denot → (R E).Denot → Held (R E).Denot → Type 0
   Asks d base place item held = (base.ptr ≡ d.at) × IsWritten d.left d.spare d.right place item held
 
-  abbrev Gives : (Cr E).Denot → Held → (Cr E).Denot → Type 0
+  abbrev Gives : (Cr E).Denot → Held (R E).Denot → (Cr E).Denot → Type 0
   Gives d held new = (new.at ≡ d.at) × Hold new.left new.spare new.right held
 
   abbrev spec : {M : Type 1} {𝓤 : Ura M} (𝓛 : Logic 𝓤) → Clauses 𝓤 ended
-  spec {𝓤 = 𝓤} 𝓛 κs a = record { ghost = Held; requires = λ g. fact 𝓤 (Asks a.0.now a.1.0 a.1.1.0 a.1.1.1.0 g); ensures = λ g r w. fact 𝓤 (Gives a.0.now g w.0.now) }
+  spec {𝓤 = 𝓤} 𝓛 κs a = record { ghost = Held (R E).Denot; requires = λ g. fact 𝓤 (Asks a.0.now a.1.0 a.1.1.0 a.1.1.1.0 g); ensures = λ g r w. fact 𝓤 (Gives a.0.now g w.0.now) }
 
-module _ (E : El) {M : Type 1} {𝓤 : Ura M} (𝓛 : Logic 𝓤) (C : Calls 𝓤 𝓛.H) (Λ : Loops 𝓤 𝓛.H) (κ : Lft) (q : Share) (rb ro : ℕ) (γ : GName) (d : (Cr E).Denot) (base : (Bs E).Denot) (place : (usize).Denot) (item : (R E).Denot) (held : Held E) (us0 us1 us2 us3 : List Val) where
+module _ (E : El) {M : Type 1} {𝓤 : Ura M} (𝓛 : Logic 𝓤) (C : Calls 𝓤 𝓛.H) (Λ : Loops 𝓤 𝓛.H) (κ : Lft) (q : Share) (rb ro : ℕ) (γ : GName) (d : (Cr E).Denot) (base : (Bs E).Denot) (place : (usize).Denot) (item : (R E).Denot) (held : Held (R E).Denot) (us0 us1 us2 us3 : List Val) where
   open 𝓛 use {H, A}
 
   abbrev self : MutBor (Cr E).Denot
