@@ -26,7 +26,7 @@ module _ {X : Type 0} where
   -- `place` is one of these cells, and they hold `after` once the item is in it
   abbrev pub IsWritten : List X → ℕ → List X → (place : ℕ) → X → (after : Held X) → Type 0
   IsWritten xs n ys place item after =
-      (place < length (cells_of xs n ys))
+      (place < length xs + n + length ys)
       × (slice_set (cells_of xs n ys) place (Some item) ≡ cells_of after.0 after.1 after.2)
 
   -- what the cells hold if the run lies on the left of the gap, or on the right

@@ -170,6 +170,7 @@ impl<T> Cells<T> {
     }
 
     /// Writes `item` into the first cell of the gap.
+    #[tactic(auto, using(crate::proofs::Items::cells_set_push))]
     pub(crate) fn push(&mut self, base: Base<T>, gap: usize, item: T)
         requires { (base.ptr ≡ self.old.at) × (gap ≡ length self.old.left) × (0 < self.old.spare) }
         ensures { (self.new.at ≡ self.old.at) × (self.new.left ≡ self.old.left ++ item ∷ []) × (self.new.spare ≡ self.old.spare - 1) × (self.new.right ≡ self.old.right) }
@@ -178,6 +179,7 @@ impl<T> Cells<T> {
     }
 
     /// Writes `item` into the last cell of the gap.
+    #[tactic(auto, using(crate::proofs::Items::cells_set_last))]
     pub(crate) fn push_right(&mut self, base: Base<T>, place: usize, item: T)
         requires { (base.ptr ≡ self.old.at) × (place + 1 ≡ length self.old.left + self.old.spare) × (0 < self.old.spare) }
         ensures { (self.new.at ≡ self.old.at) × (self.new.left ≡ self.old.left) × (self.new.spare ≡ self.old.spare - 1) × (self.new.right ≡ item ∷ self.old.right) }
@@ -186,6 +188,7 @@ impl<T> Cells<T> {
     }
 
     /// Overwrites the item at `index` on the left. The old item is forgotten.
+    #[tactic(auto, using(crate::proofs::Items::cells_set_left))]
     pub(crate) fn replace_left(&mut self, base: Base<T>, index: usize, item: T)
         requires { (base.ptr ≡ self.old.at) × (index < length self.old.left) }
         ensures { (self.new.at ≡ self.old.at) × (self.new.left ≡ slice_set self.old.left index item) × (self.new.spare ≡ self.old.spare) × (self.new.right ≡ self.old.right) }
@@ -194,6 +197,7 @@ impl<T> Cells<T> {
     }
 
     /// Overwrites the item in the cell `place`, which lies right of the gap. The old item is forgotten.
+    #[tactic(auto, using(crate::proofs::Items::cells_set_right))]
     pub(crate) fn replace_right(&mut self, base: Base<T>, place: usize, item: T)
         requires { (base.ptr ≡ self.old.at) × (length self.old.left + self.old.spare ≤ place) × (place < length self.old.left + self.old.spare + length self.old.right) }
         ensures { (self.new.at ≡ self.old.at) × (self.new.left ≡ self.old.left) × (self.new.spare ≡ self.old.spare) × (self.new.right ≡ slice_set self.old.right (place - (length self.old.left + self.old.spare)) item) }

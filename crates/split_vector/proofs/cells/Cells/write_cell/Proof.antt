@@ -48,7 +48,7 @@ use Rattle.core.proofs.ptr.Rows.{times_below, one_below}
 use Rattle.std_alloc.proofs.RawLayout.{as_written}
 use Rattle.split_vector.specs.Ownership.{slot, slots, cells_own}
 use Rattle.split_vector.specs.Cells.{Held, Hold, IsWritten}
-use Rattle.split_vector.proofs.Memory.{all_of, slot_room, Cr, Bs, sz, Place, word_had, value_in, tells, Besides, slot_out, slot_in}
+use Rattle.split_vector.proofs.Memory.{all_of, all_long, slot_room, Cr, Bs, sz, Place, word_had, value_in, tells, Besides, slot_out, slot_in}
 use Rattle.split_vector.specs.contracts.cells.Cells.write_cell.Key.{name as #self}
 use Rattle.split_vector.proofs.cells.Cells.write_cell.Statement as stated
 use Rattle.split_vector.proofs.cells.Cells.write_cell.Code as code
@@ -96,7 +96,7 @@ module _ (E : El) {M : Type 1} {𝓤 : Ura M} (𝓛 : Logic 𝓤) (C : Calls �
   walk : us0 ≡ vptr rb ro ∷ [] → Asks E d base place item held → place < 2 ^ 64 → (v_item : Val) → Good (layout (R E)) v_item → ent 𝓤 (⋆ 𝓛 (Had v_item)) (WpFn 𝓤 H C Λ (function E) (vptr rb ro ∷ word base.ptr ∷ vint w64 place ∷ v_item ∷ []) Post)
   walk passed asked fits_place v_item good_item =
       let new : (Cr E).Denot = record { mark = d.mark; at = d.at; left = held.0; spare = held.1; right = held.2 } in
-      let within : place < length (all_of E d) = asked.1.0 in let written : set (all_of E d) place (Some item) ≡ all_of E new = asked.1.1 in
+      let within : place < length (all_of E d) = omega (arith, asked.1.0, all_long E d) in let written : set (all_of E d) place (Some item) ≡ all_of E new = asked.1.1 in
       qed 𝓛 (Had v_item) ∵ enter ! C Λ (function E) (vptr rb ro ∷ word base.ptr ∷ vint w64 place ∷ v_item ∷ []) _ $ alloc_all ! (λ l. pass_all ! refl ((tt, tt), (word-Good [] base.ptr, ((tt, record { fits = fits_place }), (good_item, tt)))) $
       let En : Env 𝓤 H = env (function E).locals l in
       opens ! tt (Cr E) {h = d} rb ro (λ vs. move ! (1 ∷ []) $ fsplit ! $ move ! (1 ∷ []) $
