@@ -1,6 +1,7 @@
 -- The children of a header when it is contracted or expanded.
 use Rattle.std.proofs.Common.{◌≡◌, ℕ, zero, suc, ◌+◌, ◌-◌, ◌<◌, ◌≤◌, Bool, true, false, not, ◌&&◌, ◌||◌, cond, ltb, leb, List, length, map, sym, refl, ap, ◌∙◌, inl, inr, arith, le_refl}
 use Rattle.std.specs.List.{range_with_len, list_all}
+use Rattle.std.proofs.Math.Bool.{and-false}
 use Rattle.std.proofs.lemmas.Bool.{cases_eq, cases_Bool, and_parts, and_from, false≢true, not-true, leb-true, le-leb, ltb-true, lt-ltb, le-ltb}
 use Rattle.std.proofs.lemmas.List.{get_or-set_other, length-set}
 use Rattle.std.proofs.lemmas.List.Folds.{list_all-append}
@@ -177,7 +178,7 @@ module _ (levels : List ℕ) (flags : List Flags) (header : ℕ) where
       open_apart line (last + 1) k h (omega (arith, is.from))
       ∙ elim (cases_Bool (is_child levels line k)) [
         | inl child ↦
-            rw (some, parts.0, child, shut) (and_none (open_to levels flags header line k))
+            rw (some, parts.0, child, shut) (and-false (open_to levels flags header line k))
         | inr other ↦
             rw other
             (and_true (open_to levels flags header line k) (list_all (lets_through levels flags k) (range_with_len line (last + 1 - line)))
@@ -185,10 +186,6 @@ module _ (levels : List ℕ) (flags : List Flags) (header : ℕ) where
             (λ j a b. no_child_through j k (outside line k l other j a (omega (arith, is.from))))))
       ]
     where
-      and_none : (b : Bool) → (b && false) ≡ false
-      and_none true = refl
-      and_none false = refl
-
       outside : (line k : ℕ) → line < length levels → is_child levels line k ≡ false → (j : ℕ) → line ≤ j → j ≤ last_child levels line → is_child levels j k ≡ false
       outside line k l other j a b =
           same_tests (is_child levels j k) false

@@ -1,6 +1,7 @@
 -- A set of lines, as starts: what it holds, when a start is added or removed and when some move.
 use Rattle.std.proofs.Common.{◌≡◌, ℕ, zero, suc, ◌+◌, ◌-◌, ◌<◌, ◌≤◌, Bool, true, false, ◌&&◌, ◌||◌, ltb, leb, eqb, List, [], ◌∷◌, ◌++◌, length, get_or, take, drop, map, insert, refl, sym, ap, ◌∙◌, inl, inr, arith, add-zero, le_refl}
 use Rattle.std.specs.List.Sorted.{IsStrictlyIncreasing}
+use Rattle.std.proofs.Math.Bool.{and-false}
 use Rattle.std.proofs.lemmas.Bool.{cases_lt, cases_eq, false≢true, or_cases, or_left, or_right, and_parts, and_from, eqb-true, eq-eqb, ne_eqb, leb-true, le-leb, lt-leb, ltb-true, lt-ltb, le-ltb}
 use Rattle.std.proofs.lemmas.Bool.Decides.{nat_tests}
 use Rattle.std.proofs.lemmas.List.{get_or-take, get_or-drop, length-take, length-drop, take-append-drop}
@@ -187,7 +188,7 @@ module _ (s : List ℕ) (end line i : ℕ) (sound : ArePartitions s end) (last :
             elim (cases_lt k (line + c)) [
               | inl m ↦
                   rw (parts, low, moved, high, lt-leb (k + 1) line (omega arith), le-ltb line (k + 1 - c) (omega arith), le-ltb k line h, lt-ltb k (line + c) m)
-                  (and_none (leb c (k + 1)))
+                  (and-false (leb c (k + 1)))
               | inr m ↦
                   let e : k + 1 - c ≡ k - c + 1 = omega arith in
                   rw (parts, low, moved, high, lt-leb (k + 1) line (omega arith), lt-ltb line (k + 1 - c) (omega arith), le-ltb k line h, le-ltb k (line + c) m, le-leb c (k + 1) (omega arith), e)
@@ -199,10 +200,6 @@ module _ (s : List ℕ) (end line i : ℕ) (sound : ArePartitions s end) (last :
       or_none true y = refl
       or_none false true = refl
       or_none false false = refl
-
-      and_none : (y : Bool) → (y && false) ≡ false
-      and_none true = refl
-      and_none false = refl
 
 -- a later place has no earlier start
 pub found_later : (s : List ℕ) (a b i j : ℕ) → IsLastAtMost s a i → IsLastAtMost s b j → a ≤ b → i ≤ j

@@ -7,6 +7,7 @@ use Rattle.std.proofs.lemmas.List.Sums.{sum_by-cons}
 use Rattle.std.proofs.lemmas.List.Filters.{length-filter_both}
 use Rattle.ed_model.specs.Rows.{Marker, Row}
 use Rattle.ed_model.specs.Changes.{marker_count, without_markers, line_with_handle}
+use Rattle.ed_model.specs.proved.Changes.{marker_count-cons}
 use Rattle.line_rows.specs.Kept.{row_at, has_handle, first_from}
 use Rattle.document.specs.Changes.{line_it_left}
 
@@ -38,15 +39,12 @@ module _ (handle : ℕ) where
   apart : (markers : List Marker) → hits markers + length (filter (λ m. not (is_it m)) markers) ≡ length markers
   apart markers = length-filter_both is_it (λ m. not (is_it m)) (λ m. refl) markers
 
-  counted : (row : Row) (rows : List Row) → marker_count (row ∷ rows) ≡ length row.markers + marker_count rows
-  counted row rows = sum_by-cons (λ (r : Row). length r.markers) row rows
-
   counted_left : (row : Row) (rows : List Row) → marker_count (without (row ∷ rows)) ≡ length (filter (λ m. not (is_it m)) row.markers) + marker_count (without rows)
   counted_left row rows = sum_by-cons (λ (r : Row). length r.markers) (record row { markers = filter (λ m. not (is_it m)) row.markers }) (without rows)
 
   fewer : (rows : List Row) → marker_count (without rows) ≤ marker_count rows
   fewer [] = omega arith
-  fewer (row ∷ rows) = omega (arith, counted row rows, counted_left row rows, apart row.markers, fewer rows)
+  fewer (row ∷ rows) = omega (arith, marker_count-cons row rows, counted_left row rows, apart row.markers, fewer rows)
 
   sums_alike : (a b c d n : ℕ) → a ≡ n + c → b ≡ n + d → (same : Bool) → (c == d) ≡ same → (a == b) ≡ same
   sums_alike a b c d n p q true e = eq-eqb a b (omega (arith, p, q, eqb-true c d e))
@@ -57,13 +55,13 @@ module _ (handle : ℕ) where
       → cond (not (n == 0)) (Some line) others ≡ left (row ∷ rest) line
   step zero line row rest others none others_are =
       let same : (marker_count (row ∷ rest) == marker_count (without (row ∷ rest))) ≡ (marker_count rest == marker_count (without rest)) =
-      sums_alike (marker_count (row ∷ rest)) (marker_count (without (row ∷ rest))) (marker_count rest) (marker_count (without rest)) (length row.markers) (counted row rest)
+      sums_alike (marker_count (row ∷ rest)) (marker_count (without (row ∷ rest))) (marker_count rest) (marker_count (without rest)) (length row.markers) (marker_count-cons row rest)
       (omega (arith, counted_left row rest, apart row.markers, none)) (marker_count rest == marker_count (without rest)) refl in
       rw (same, none) others_are
   step (suc n) line row rest others some others_are =
       let differ : (marker_count (row ∷ rest) == marker_count (without (row ∷ rest))) ≡ false =
       ne_eqb (marker_count (row ∷ rest)) (marker_count (without (row ∷ rest)))
-      (λ e. omega (arith, e, counted row rest, counted_left row rest, apart row.markers, some, fewer rest)) in
+      (λ e. omega (arith, e, marker_count-cons row rest, counted_left row rest, apart row.markers, some, fewer rest)) in
       let more : (suc n == 0) ≡ false = ne_eqb (suc n) 0 (λ z. omega arith) in
       rw (differ, some, more) refl
 

@@ -22,6 +22,10 @@ pub record Kept : Type 0 where
   pub room : DocumentRoom
   pub spare : ChangeRoom
 
+-- the document without its room
+abbrev pub document_of : Kept → Document
+document_of k = k.document
+
 abbrev pub kept : Document → DocumentRoom → ChangeRoom → Kept
 kept document room spare = record { document = document; room = room; spare = spare }
 

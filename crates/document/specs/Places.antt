@@ -1,13 +1,13 @@
 -- Line starts and indicators of a text by the width of its places.
-use Rattle.std.specs.Prelude.{◌≡◌, ℕ, ◌+◌, ◌≤◌, max, Bool, true, false, List, [], ◌++◌, length, take, drop, replicate, slice_set, Option, Some, None}
+use Rattle.std.specs.Prelude.{◌≡◌, ℕ, ◌+◌, ◌≤◌, max, Bool, true, false, List, [], length, replicate, slice_set, Option, Some, None}
 use Rattle.ed_model.specs.declared.plan.LineEndTypes.{LineEndTypes}
 use Rattle.ed_model.specs.Indicators.{changed_range, filled, indicators_after}
 use Rattle.ed_model.specs.Lines.{line_count}
-use Rattle.ed_model.specs.Steps.{Insert, Delete, edited}
+use Rattle.ed_model.specs.Steps.{Insert, Delete}
 use Rattle.line_index.specs.declared.change.LineChange.{LineChange}
 use Rattle.line_index.specs.declared.edit.LineEdit.{LineEdit}
 use Rattle.line_index.specs.Change.{change_about}
-use Rattle.line_index.specs.Index.{Index, IsIndexOf, IsInsertion, IsDeletion}
+use Rattle.line_index.specs.Index.{Index}
 use Rattle.line_index.specs.Settings.{edits_of_setting}
 use Rattle.decorations.specs.Decorated.{Decorated, AreRunsFor, decorated, nothing_held, values_of}
 use Rattle.document.specs.declared.places.LinesByWidth.{LinesByWidth}
@@ -42,16 +42,6 @@ line_room_in_all i = i.room + length i.starts
 -- there is room for the lines of the text when these line ends count
 abbrev pub LinesFit : LineEndTypes → List ℕ → Index → Type 0
 LinesFit types text i = line_count types text ≤ length i.starts + i.room
-
--- after the insertion, the index is that of the text with the inserted bytes, whatever the text and the bytes
-abbrev pub FollowsInsertion : ℕ → ℕ → List ℕ → Index → Index → Type 0
-FollowsInsertion place count near was now =
-    (old bytes : List ℕ) → IsInsertion place count near old bytes was → IsIndexOf (edited (Insert place bytes) old) now
-
--- after the deletion, the index is that of the text without the deleted bytes, whatever the text
-abbrev pub FollowsDeletion : ℕ → ℕ → List ℕ → Index → Index → Type 0
-FollowsDeletion place count near was now =
-    (old : List ℕ) → IsDeletion place count near old was → IsIndexOf (take place old ++ drop (place + count) old) now
 
 -- the effect on the lines of a step at `place` that replaced text up to `old_end` by text up to `new_end`
 abbrev pub change_between : ℕ → ℕ → ℕ → Index → Index → LineChange

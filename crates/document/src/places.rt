@@ -5,12 +5,12 @@ ghost use Rattle.std.specs.Prelude.{IfOk, OnOk, OnErr, IsOk, Some, None, vec_len
 ghost use Rattle.ed_model.specs.Lines.{line_of, end_of_line};
 ghost use Rattle.std.specs.List.{AllByRecursion};
 ghost use Rattle.ed_model.specs.TextPlans.{at_place};
-ghost use Rattle.line_index.specs.Index.{IsIndexOf, WasInserted, WasDeleted};
+ghost use Rattle.line_index.specs.Index.{IsIndexOf, WasInserted, WasDeleted, FollowsInsertion, FollowsDeletion};
 ghost use Rattle.line_index.specs.Change.{change_since, lines_about};
 ghost use Rattle.line_index.specs.StepEdits.{SmallLines};
 ghost use Rattle.decorations.specs.Decorated.{AreSlotsFor, HaveSlotsOf, values_of, run_about, mask_of};
 ghost use Rattle.document.specs.Kept.{bound_of};
-ghost use Rattle.document.specs.Places.{FollowsInsertion, FollowsDeletion, LinesFit, change_between};
+ghost use Rattle.document.specs.Places.{LinesFit, change_between};
 ghost use Rattle.document.specs.Places.{line_room_in_all, no_indicators, range_of_fill, type_edits};
 ghost use Rattle.document.specs.Places.{AreFilled, ChangeOnlyMemory, GainFillRoom, GainInsertionRoom};
 ghost use Rattle.document.specs.Places.{HaveDeleted, HaveInserted, HaveRunsFor};

@@ -1,12 +1,12 @@
 -- Counts of markers.
 use Rattle.std.proofs.Common.{◌≡◌, ℕ, zero, suc, ◌+◌, ◌<◌, Bool, true, false, cond, List, [], ◌∷◌, ◌++◌, length, get_or, set, refl, ap, sym, arith, length-append}
 use Rattle.std.specs.Prelude.{◌==◌, not, filter, Some, None, slice_index_or}
-use Rattle.std.proofs.lemmas.List.Sums.{sum_by-cons}
 use Rattle.std.proofs.lemmas.Bool.{eqb-true, eqb-false, eq-eqb, ne_eqb, cond-true, cond-false}
 use Rattle.ed_model.specs.Notes.{heard}
 use Rattle.ed_model.specs.Rows.{Row, Marker, fresh_row}
 use Rattle.ed_model.specs.Session.{Document, View}
 use Rattle.ed_model.specs.Changes.{new_markers, with_new_markers, without_markers, marker_count, marker_note, line_with_handle}
+use Rattle.ed_model.specs.proved.Changes.{marker_count-cons}
 use Rattle.document_changes.specs.Lines.{marker_notice}
 
 -- Notes are sent if markers were added or deleted.
@@ -23,16 +23,13 @@ length_new : (handle : ℕ) (ns : List ℕ) → length (new_markers handle ns) �
 length_new handle [] = refl
 length_new handle (n ∷ ns) = ap suc (length_new (handle + 1) ns)
 
-more : (row : Row) (rows : List Row) → marker_count (row ∷ rows) ≡ length row.markers + marker_count rows
-more row rows = sum_by-cons (λ (row : Row). length row.markers) row rows
-
 set_count : (rows : List Row) (line : ℕ) (new : Row) → line < length rows
     → marker_count (set rows line new) + length (get_or rows line fresh_row).markers ≡ marker_count rows + length new.markers
 set_count [] line new h = absurd (omega arith)
-set_count (row ∷ rows) zero new h = let a = more row rows in let b = more new rows in omega arith
+set_count (row ∷ rows) zero new h = let a = marker_count-cons row rows in let b = marker_count-cons new rows in omega arith
 set_count (row ∷ rows) (suc line) new h =
-    let a = more row rows in
-    let b = more row (set rows line new) in
+    let a = marker_count-cons row rows in
+    let b = marker_count-cons row (set rows line new) in
     let rest = set_count rows line new (omega arith) in
     omega arith
 
@@ -81,8 +78,8 @@ left_within handle line (row ∷ rows) h =
         → ((marker_count rows == marker_count (without_markers (λ m. m.handle == handle) rows)) ≡ false → line_with_handle handle (line + 1) rows < line + 1 + length rows)
         → cond b (line_with_handle handle (line + 1) rows) line < line + suc (length rows)
     go true t rest =
-        let a = more row rows in
-        let b = more (record row { markers = filter (λ m. not (m.handle == handle)) row.markers }) (without_markers (λ m. m.handle == handle) rows) in
+        let a = marker_count-cons row rows in
+        let b = marker_count-cons (record row { markers = filter (λ m. not (m.handle == handle)) row.markers }) (without_markers (λ m. m.handle == handle) rows) in
         let own = kept_all handle row.markers (eqb-true (length (filter (λ (m : Marker). m.handle == handle) row.markers)) 0 t) in
         let whole = eqb-false (marker_count (row ∷ rows)) (marker_count (without_markers (λ m. m.handle == handle) (row ∷ rows))) h in
         let behind = rest (ne_eqb (marker_count rows) (marker_count (without_markers (λ m. m.handle == handle) rows)) (λ e. whole (omega arith))) in

@@ -1,5 +1,5 @@
 -- The effect of a change on a document, its views and the notes.
-use Rattle.std.specs.Prelude.{◌≡◌, ◌+◌, ◌++◌, ℕ, List, [], length, map, bit_or, Option}
+use Rattle.std.specs.Prelude.{◌≡◌, ◌+◌, ◌++◌, ℕ, List, length, map, bit_or, Option}
 use Rattle.std.specs.List.{AllByRecursion}
 use Rattle.ed_types.specs.declared.reply.Note.{Note}
 use Rattle.ed_types.specs.Heard.{with_text}
@@ -88,7 +88,3 @@ abbrev pub IsMadeForAnyViews : DocumentChange → Kept → Kept → Type 0
 IsMadeForAnyViews what old new =
     (text : List ℕ) (sender : ℕ) (views : Entries KeptView) (notes : Gathered)
     → IsWatched old.document views → Changes text what sender old new views views notes notes
-
--- the change was made in the document, which reads no text of the message for it
-abbrev pub DocumentIsChanged : DocumentChange → Kept → Kept → Type 0
-DocumentIsChanged what old new = new.document ≡ changed_document [] what old.document

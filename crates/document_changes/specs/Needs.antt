@@ -2,15 +2,13 @@
 use Rattle.std.specs.Prelude.{◌≡◌, ◌≤◌, ◌<◌, ◌+◌, max, ℕ, Bool, true, false, List, [], length, bit_or, Some}
 use Rattle.ed_model.specs.declared.plan.DocumentChange.{DocumentChange}
 use Rattle.ed_model.specs.declared.plan.DocumentChange.TheVariants as change
-use Rattle.ed_model.specs.declared.plan.LineEndTypes.{LineEndTypes}
 use Rattle.ed_model.specs.History.{History}
 use Rattle.ed_model.specs.LinePlans.{numbers_in}
 use Rattle.ed_model.specs.Notes as notes
-use Rattle.ed_model.specs.Session.{View, Document, text_of}
+use Rattle.ed_model.specs.Session.{View, Document}
 use Rattle.line_index.specs.declared.edit.LineEdit.{LineEdit}
 use Rattle.line_index.specs.Edits.{fresh_lines}
-use Rattle.line_index.specs.Settings.{edits_of_setting}
-use Rattle.document.specs.Changes.{CanStyle, container_need}
+use Rattle.document.specs.Changes.{CanStyle, container_need, line_type_edits}
 use Rattle.document.specs.declared.room.DocumentRoom.{DocumentRoom}
 use Rattle.document.specs.Kept.{Kept, ChangeRoom, HasHistoryRoom, IsAtMost, document_room, no_room}
 use Rattle.id_table.specs.Entries.{Entries}
@@ -47,10 +45,6 @@ notes_of_change other h views = 0
 -- how many notes the change has at most in the document as it is kept, with these views of the session
 abbrev pub change_note_need : DocumentChange → Kept → Entries KeptView → ℕ
 change_note_need what k views = notes_of_change what k.document.history (watchers k.document views)
-
--- the edits of the document's lines when these line ends count
-abbrev pub line_type_edits : LineEndTypes → Document → List LineEdit
-line_type_edits types d = edits_of_setting d.line_end_types types (text_of d)
 
 -- there is room for a marker for each bit of the mask
 abbrev pub HasMaskRoom : Kept → ℕ → Type 0
@@ -97,17 +91,9 @@ ReservesAtMost what old new = IsAtMost new.room old.room (room_for old.document 
 abbrev pub ReservesSpare : DocumentChange → Kept → Kept → Type 0
 ReservesSpare what old new = new.spare ≡ spare_for what new.spare.styles old.spare
 
--- the document with room for at least `count` markers
-abbrev pub with_marker_room : ℕ → Kept → Kept
-with_marker_room count k = record k { spare = record k.spare { markers = max k.spare.markers count } }
-
 -- the document with a flag that says whether it stores styles
 abbrev pub with_styles : Bool → Kept → Kept
 with_styles styles k = record k { spare = record k.spare { styles = styles } }
-
--- the document with room for one fill of the indicator
-abbrev pub with_fill_room : ℕ → Kept → Kept
-with_fill_room indicator k = record k { spare = record k.spare { fill = Some indicator } }
 
 -- whether the change needs room in its document
 abbrev pub needs_room : DocumentChange → Bool

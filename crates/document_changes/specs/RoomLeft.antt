@@ -1,10 +1,9 @@
 -- The room that a document has left after a change.
-use Rattle.std.specs.Prelude.{◌≡◌, ◌≤◌, ◌+◌, ◌-◌, ℕ, length, None}
+use Rattle.std.specs.Prelude.{◌≡◌, ◌≤◌, ◌-◌, ℕ, length, None}
 use Rattle.ed_model.specs.declared.plan.DocumentChange.{DocumentChange}
 use Rattle.ed_model.specs.declared.plan.DocumentChange.TheVariants as change
-use Rattle.ed_model.specs.Changes.{marker_count}
 use Rattle.ed_model.specs.LinePlans.{numbers_in}
-use Rattle.document.specs.Kept.{Kept, ChangeRoom, TakesRoom, IsAtMost, no_room}
+use Rattle.document.specs.Kept.{Kept, ChangeRoom, TakesRoom, IsAtMost, no_room, marker_room_in_all}
 use Rattle.document_changes.specs.Needs.{room_for, spare_for}
 
 -- The other room after a change: a marker uses its room, and a fill the room reserved for it. After deleted markers there is room for
@@ -25,7 +24,7 @@ LeavesSpare what old new = new.spare ≡ spare_left what new.spare.markers (spar
 
 -- each deleted marker became room for a marker
 abbrev pub GivesBack : Kept → Kept → Type 0
-GivesBack old new = new.spare.markers + marker_count new.document.rows ≡ old.spare.markers + marker_count old.document.rows
+GivesBack old new = marker_room_in_all new ≡ marker_room_in_all old
 
 -- Deleted markers become room, and nothing else does. So do the markers that are deleted with lines when other line ends count.
 abbrev pub LeavesMarkers : DocumentChange → Kept → Kept → Type 0

@@ -3,10 +3,10 @@
 ghost use Rattle.std.specs.Prelude.{◌≡◌, ◌<◌, [], false, length, Some, IfOk, IsOk, OnOk, OnErr};
 ghost use Rattle.ed_model.specs.declared.plan.DocumentChange.TheVariants as change;
 ghost use Rattle.ed_model.specs.LinePlans.{numbers_in};
-ghost use Rattle.document.specs.Changes.{CanStyle};
+ghost use Rattle.document.specs.Changes.{CanStyle, with_fill_room, with_marker_room};
 ghost use Rattle.document.specs.Kept.{TakesRoom, no_room};
 ghost use Rattle.document_changes.specs.Fit.{IsFitChange};
-ghost use Rattle.document_changes.specs.Needs.{HasMaskRoom, IsReady, ReservesAtMost, ReservesSpare, is_of_types, needs_room, with_fill_room, with_marker_room, with_styles};
+ghost use Rattle.document_changes.specs.Needs.{HasMaskRoom, IsReady, ReservesAtMost, ReservesSpare, is_of_types, needs_room, with_styles};
 
 use document::{Document, DocumentRoom, count_numbers};
 use ed_model::{DocumentChange, LineEndTypes};

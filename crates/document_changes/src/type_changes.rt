@@ -3,9 +3,9 @@
 ghost use Rattle.std.specs.Prelude.{◌≡◌, ◌≤◌};
 ghost use Rattle.ed_model.specs.declared.plan.DocumentChange.TheVariants as change;
 ghost use Rattle.line_index.specs.Edits.{fresh_lines};
+ghost use Rattle.document.specs.Changes.{line_type_edits};
 ghost use Rattle.scene.specs.Scenes.{IsWatched};
 ghost use Rattle.document_changes.specs.Changed.{IsMadeWithoutNotes};
-ghost use Rattle.document_changes.specs.Needs.{line_type_edits};
 ghost use Rattle.document_changes.specs.RoomLeft.{LeavesRoom};
 
 use document::Document;

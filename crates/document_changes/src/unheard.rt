@@ -3,9 +3,9 @@
 ghost use Rattle.std.specs.Prelude.{◌≡◌, ◌<◌, ◌+◌, ◌≤◌, ◌^◌, true, false, length};
 ghost use Rattle.ed_model.specs.declared.plan.DocumentChange.TheVariants as change;
 ghost use Rattle.ed_model.specs.Session.{lines_in};
-ghost use Rattle.document.specs.Changes.{CanStyle};
+ghost use Rattle.document.specs.Changes.{CanStyle, DocumentIsChanged};
 ghost use Rattle.scene.specs.Scenes.{IsWatched};
-ghost use Rattle.document_changes.specs.Changed.{DocumentIsChanged, IsMadeWithoutNotes};
+ghost use Rattle.document_changes.specs.Changed.{IsMadeWithoutNotes};
 ghost use Rattle.document_changes.specs.Fit.{IsFitChange};
 ghost use Rattle.document_changes.specs.Needs.{IsMadeIfReady, is_frequent};
 ghost use Rattle.document_changes.specs.RoomLeft.{LeavesSpare};

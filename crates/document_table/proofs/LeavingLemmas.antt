@@ -3,12 +3,9 @@ use Rattle.std.proofs.Common.{◌≡◌, ◌≢◌, ℕ, ◌==◌, Bool, true, f
 use Rattle.std.specs.Prelude.{◌+◌, length, not, nat_lt, find}
 use Rattle.std.proofs.lemmas.Bool.{eqb-true, ne_eqb}
 use Rattle.ed_model.specs.Session.{Document, references}
-use Rattle.document.specs.Kept.{Kept}
+use Rattle.document.specs.Kept.{Kept, document_of}
 use Rattle.id_table.specs.Entries.{Entry, entry, value_at, with_value_at, without_id}
 use Rattle.document_table.specs.Leaving.{document_in, documents_in, let_go, SameRoom, KeepsRoom}
-
-abbrev pub document_of : Kept → Document
-document_of k = k.document
 
 -- The documents alone.
 

@@ -42,7 +42,7 @@ use Rattle.ed_model.specs.proved.Changes.{changed_id}
 use Rattle.ed_model.specs.proved.Scenes.{edit_made_id}
 use Rattle.ed_model.specs.proved.Requests.{own_document, request_document}
 use Rattle.ed_model.proofs.EarlierTextLemmas.{keeps_same, edits_keep_earlier_texts, undo_keeps_the_texts_before, redo_keeps_the_texts_before, document_changes_keep_earlier_texts, goes_back_at_first, goes_back_afterwards}
-use Rattle.ed_model.proofs.SoundHistory.{fit_in_turn}
+use Rattle.ed_model.specs.proved.Steps.{fit_in_turn}
 use Rattle.ed_model.proofs.SoundScenes.{changes_keep}
 use Rattle.ed_model.proofs.SoundPlans.{plan_fits}
 use Rattle.ed_model.proofs.SoundRuns.{edit_steps_fit, redo_steps_fit, command_sound, new_session_sound}

@@ -11,7 +11,8 @@ use Rattle.ed_model.specs.declared.plan.LineEndTypes.{LineEndTypes}
 use Rattle.ed_model.specs.Requests.{Request, Planned, text, size, line_total, with_argument, argument, text_length, text_range, counted_range, with_line, line_argument, end_or_size}
 use Rattle.ed_model.specs.SoundLaws.{Rise}
 use Rattle.ed_model.specs.PlansFit.{IsFitPlanned}
-use Rattle.ed_model.specs.proved.Elements.{found_all, found_test, all_reverse}
+use Rattle.ed_types.specs.proved.Found.{found_test}
+use Rattle.ed_model.specs.proved.Elements.{found_all, all_reverse}
 use Rattle.ed_model.proofs.SoundLists.{starts_rise}
 
 -- Numbers.

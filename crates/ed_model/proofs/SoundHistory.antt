@@ -11,9 +11,9 @@ use Rattle.ed_model.specs.LineEnds.{after_steps}
 use Rattle.ed_model.specs.UndoPlans.{text_steps}
 use Rattle.ed_model.specs.Performing.{place_behind}
 use Rattle.ed_model.specs.Session.{text_of, limit_of}
-use Rattle.ed_model.specs.InverseLaws.{FitInTurn}
 use Rattle.ed_model.specs.UndoLaws.{CanBeUndone}
 use Rattle.ed_model.specs.SoundLaws.{IsStepOf, IsStepWithin, AreStepsOf, AreStepsWithin, undo_path, redo_path, FitsText, ThePastCanBeUndone, UndoneThenRedoneIsTheSame}
+use Rattle.ed_model.specs.proved.Steps.{fit_in_turn}
 use Rattle.ed_model.proofs.TransactionLemmas.{steps_of_more_changes, steps_of_inverse_changes, steps_of_reversed_changes, inverses_of_inverses, inverses_of_reversed}
 use Rattle.ed_model.proofs.UndoLemmas.{undos_then_redos_give_back_the_text, undos_then_redos_give_back_the_history}
 use Rattle.ed_model.proofs.SoundSteps.{inverse_within, inverse_returns, fit_append, fit_front, fit_back, within_fits, reversed, reversed_is, reversed_within, reversed_returns, fits_range, length_after}
@@ -222,10 +222,6 @@ pub latest_is_last : (cs : List Change) → latest_text_step (reverse cs) ≡ la
 latest_is_last cs = ap latest_text_step (sym (append_nothing (reverse cs))) ∙ latest_of_reversed cs []
 
 -- Undoing all the past.
-
-pub fit_in_turn : (steps : List Step) (text : List ℕ) → AreStepsOf text steps → FitInTurn steps text
-fit_in_turn [] text f = tt
-fit_in_turn (x ∷ xs) text f = (f.0.0, fit_in_turn xs (edited x text) f.1)
 
 can_be_undone : (k : ℕ) (ts : List Transaction) (text : List ℕ) → k ≤ length ts → AreStepsOf text (undo_path ts) → CanBeUndone k ts text
 can_be_undone zero ts text le f = tt

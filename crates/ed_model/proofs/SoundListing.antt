@@ -7,7 +7,7 @@ use Rattle.ed_model.specs.Session.{Document, View, view_at, with_view, in_place_
 use Rattle.ed_model.specs.Changes.{attached_last, held_more, held_less}
 use Rattle.ed_model.specs.SoundLaws.{Rise, IsViewOn, ListsItsViews}
 use Rattle.ed_model.specs.proved.Elements.{all_map, all_weaker, all_append, all_filter}
-use Rattle.ed_model.specs.proved.Finding.{view_id}
+use Rattle.ed_model.specs.proved.Finding.{view_id, in_place_id}
 
 -- Views that change.
 
@@ -107,25 +107,18 @@ lists_attached views d v ds there all =
     all_filter (ListsItsViews (with_view (attached_to d v) views)) (λ (e : Document). nat_lt 0 (references e)) (map (attached_last v.id d.id) ds)
     (all_map (ListsItsViews views) (ListsItsViews (with_view (attached_to d v) views)) (attached_last v.id d.id) (λ e l. go e (e.id == d.id) refl l) ds all)
   where
-    by_test : (w : View) (b : Bool) → (w.id == v.id) ≡ b → (cond b (attached_to d v) w).id ≡ w.id
-    by_test w true t = sym (eqb-true w.id v.id t)
-    by_test w false t = refl
-
-    ids : (w : View) → (in_place_of_view (attached_to d v) w).id ≡ w.id
-    ids w = by_test w (w.id == v.id) refl
-
     others : (document n : ℕ) → (n ≡ v.id → ⊥) → IsViewOn views document n → IsViewOn (with_view (attached_to d v) views) document n
     others document n ne on =
         let is : on.0.id ≡ n = view_id views n on.0 on.1 in
         let no : (on.0.id == v.id) ≡ false = ne_eqb on.0.id v.id (λ p. ne (sym is ∙ p)) in
         let same : in_place_of_view (attached_to d v) on.0 ≡ on.0 = ap (λ b. cond b (attached_to d v) on.0) no in
-        (on.0, view_mapped (in_place_of_view (attached_to d v)) ids views n on.0 on.1 ∙ ap (λ w. Some w) same, on.2)
+        (on.0, view_mapped (in_place_of_view (attached_to d v)) (in_place_id (attached_to d v)) views n on.0 on.1 ∙ ap (λ w. Some w) same, on.2)
 
     itself : IsViewOn (with_view (attached_to d v) views) d.id v.id
     itself =
         let yes : (v.id == v.id) ≡ true = eq-eqb v.id v.id refl in
         let same : in_place_of_view (attached_to d v) v ≡ attached_to d v = ap (λ b. cond b (attached_to d v) v) yes in
-        (attached_to d v, view_mapped (in_place_of_view (attached_to d v)) ids views v.id v there ∙ ap (λ w. Some w) same, refl)
+        (attached_to d v, view_mapped (in_place_of_view (attached_to d v)) (in_place_id (attached_to d v)) views v.id v there ∙ ap (λ w. Some w) same, refl)
 
     go : (e : Document) (b : Bool) → (e.id == d.id) ≡ b → ListsItsViews views e
         → ListsItsViews (with_view (attached_to d v) views) (cond b (record e { views = without v.id e.views ++ v.id ∷ [] }) (left_by v.id e))

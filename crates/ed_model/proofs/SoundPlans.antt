@@ -43,7 +43,8 @@ use Rattle.ed_model.specs.FoldingPlans.{past_line, fold_by, fold_at, levels}
 use Rattle.ed_model.specs.SessionPlans.{document_named, has_document_ids, with_reference, release_of, is_zero, document_options}
 use Rattle.ed_model.specs.SoundLaws.{occurrences, handles_in}
 use Rattle.ed_model.specs.PlansFit.{IsSoundRequest, IsMarkerNumber, IsLineState, IsFitSource, IsFitEdit, IsFitFollow, IsFitPlan, IsFitPlanned, IsRoomFor, IsFitSessionChange, PlansFit}
-use Rattle.ed_model.specs.proved.Elements.{found_all, found_test, all_reverse}
+use Rattle.ed_types.specs.proved.Found.{found_test}
+use Rattle.ed_model.specs.proved.Elements.{found_all, all_reverse}
 use Rattle.ed_model.specs.proved.Finding.{document_id, occurrences_append}
 use Rattle.ed_model.specs.proved.Changes.{length_text}
 use Rattle.ed_model.specs.proved.Requests.{request_document, request_stands}

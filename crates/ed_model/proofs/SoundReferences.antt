@@ -13,7 +13,7 @@ use Rattle.ed_model.specs.Changes.{attached_last, with_attached, attached, with_
 use Rattle.ed_model.specs.Table.{opened, closed, closed_view}
 use Rattle.ed_model.specs.SoundLaws.{Rise, occurrences, IsSound, IsSoundDocument, IsSoundView, StandsOn, ListsItsViews}
 use Rattle.ed_model.specs.proved.Elements.{all_map, all_weaker, all_append}
-use Rattle.ed_model.specs.proved.Finding.{document_id, same_ids, documents_added, views_added, occurrences_append}
+use Rattle.ed_model.specs.proved.Finding.{document_id, with_view_ids, documents_added, views_added, occurrences_append}
 use Rattle.ed_model.proofs.SoundLists.{rise_from, are_line_starts}
 use Rattle.ed_model.proofs.SoundHistory.{fresh_fits}
 use Rattle.ed_model.proofs.SoundMarkers.{one_if, occurrences_cons}
@@ -239,17 +239,13 @@ pub attached_sound : (s : Session) (id : ℕ) (d : Document) (v : View) → IsSo
 unfolding attached_relists
 attached_sound s id d v h there indicator found = record {
   document_ids = living_ids (attached_last v.id d.id) (attached_relists v.id d.id) 0 s.next_document s.documents h.document_ids;
-  view_ids = subst (λ ids. Rise 0 s.next_view ids) (sym (same_ids (in_place_of_view (attached_to d v)) (λ w. ids w (w.id == v.id) refl) s.views)) h.view_ids;
+  view_ids = subst (λ ids. Rise 0 s.next_view ids) (sym (with_view_ids (attached_to d v) s.views)) h.view_ids;
   documents = living_sound s.limits (attached_last v.id d.id) (attached_relists v.id d.id) s.documents h.documents;
   views = all_map (IsSoundView s.documents) (IsSoundView (living (map (attached_last v.id d.id) s.documents))) (in_place_of_view (attached_to d v))
       (λ w k. go w k (w.id == v.id) refl) s.views h.views;
   lists = lists_attached s.views d v s.documents there h.lists;
 }
   where
-    ids : (w : View) (b : Bool) → (w.id == v.id) ≡ b → (cond b (attached_to d v) w).id ≡ w.id
-    ids w true t = sym (eqb-true w.id v.id t)
-    ids w false t = refl
-
     go : (w : View) → IsSoundView s.documents w → (b : Bool) → (w.id == v.id) ≡ b → IsSoundView (living (map (attached_last v.id d.id) s.documents)) (cond b (attached_to d v) w)
     go w k true t =
         let at : document_at s.documents d.id ≡ Some d = ap (document_at s.documents) (document_id s.documents id d found) ∙ found in

@@ -6,7 +6,7 @@ use Rattle.std.proofs.lemmas.Bool.{cond_both, eqb-true, cases_eq}
 use Rattle.ed_model.specs.Session.{Session, Document, View, document_at, view_at, with_document, with_view, in_place_of_view}
 use Rattle.ed_model.specs.SoundLaws.{Rise, IsSound, IsSoundDocument, IsSoundView, StandsOn, ListsItsViews}
 use Rattle.ed_model.specs.proved.Elements.{all_map, all_both, found_all}
-use Rattle.ed_model.specs.proved.Finding.{replaced_found, replaced_other, replaced_all, replaced_ids, same_ids, IsOwner}
+use Rattle.ed_model.specs.proved.Finding.{replaced_found, replaced_other, replaced_all, replaced_ids, same_ids, in_place_id, with_view_ids, IsOwner}
 use Rattle.ed_model.proofs.SoundListing.{lists_mapped, lists_alike}
 
 -- replacing a document, and changing the views on it with it
@@ -51,23 +51,16 @@ pub view_replaced : (s : Session) (d : Document) (new : View) → IsSound s → 
     → IsSound (record s { views = with_view new s.views })
 view_replaced s d new sound found keeps stands = record {
   document_ids = sound.document_ids;
-  view_ids = subst (λ ids. Rise 0 s.next_view ids) (sym (same_ids (in_place_of_view new) ids s.views)) sound.view_ids;
+  view_ids = subst (λ ids. Rise 0 s.next_view ids) (sym (with_view_ids new s.views)) sound.view_ids;
   documents = sound.documents;
   views = all_map (IsSoundView s.documents) (IsSoundView s.documents) (in_place_of_view new)
       (λ v h. cond_both (v.id == new.id) new v (IsSoundView s.documents) (λ _. record { document = d; found = found; stands = stands }) (λ _. h)) s.views sound.views;
-  lists = lists_mapped (in_place_of_view new) ids s.views (λ v e. same_document v e (v.id == new.id) refl) s.documents sound.lists;
+  lists = lists_mapped (in_place_of_view new) (in_place_id new) s.views (λ v e. same_document v e (v.id == new.id) refl) s.documents sound.lists;
 }
   where
     same_document : (v : View) → view_at s.views v.id ≡ Some v → (b : Bool) → (v.id == new.id) ≡ b → (cond b new v).document ≡ v.document
     same_document v e true t = keeps v (ap (view_at s.views) (sym (eqb-true v.id new.id t)) ∙ e)
     same_document v e false t = refl
-
-    by_test : (v : View) (b : Bool) → (v.id == new.id) ≡ b → (cond b new v).id ≡ v.id
-    by_test v true t = sym (eqb-true v.id new.id t)
-    by_test v false t = refl
-
-    ids : (v : View) → (in_place_of_view new v).id ≡ v.id
-    ids v = by_test v (v.id == new.id) refl
 
 -- changing the views with the sender's id
 pub sender_changed : (s : Session) (d : Document) (sender : ℕ) (change : View → View) → IsSound s → document_at s.documents d.id ≡ Some d

@@ -51,6 +51,11 @@ fold_parents levels line = parents_among levels line (reverse (range_with_len 0 
 abbrev pub fold_parent : List ℕ → ℕ → Option ℕ
 fold_parent levels line = find (is_parent_of levels line) (reverse (range_with_len 0 line))
 
+-- the chain that begins with this parent: the parent, and then its own fold parents
+abbrev pub parents_from : List ℕ → Option ℕ → List ℕ
+parents_from levels None = []
+parents_from levels (Some parent) = parent ∷ fold_parents levels parent
+
 -- the line itself if it is a header, otherwise its fold parent
 abbrev pub fold_header : List ℕ → ℕ → Option ℕ
 fold_header levels line = if is_header levels line then Some line else fold_parent levels line

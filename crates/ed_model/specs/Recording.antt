@@ -2,6 +2,8 @@
 use Rattle.std.specs.Prelude.{ℕ, ◌==◌, ◌&&◌, List, [], ◌∷◌, map, filter, flat_map}
 use Rattle.ed_types.specs.Notices.{Notice, Response}
 use Rattle.ed_types.specs.declared.message.Message.{Message}
+use Rattle.ed_types.specs.declared.script.Command.{Command}
+use Rattle.ed_types.specs.declared.script.Command.TheVariants.{SendMessage}
 use Rattle.ed_types.specs.declared.script.Outcome.{Outcome}
 use Rattle.ed_types.specs.declared.script.Outcome.TheVariants.{Opened, Closed, Replied, Refused, Expected}
 use Rattle.ed_model.specs.Notes.{macro_record}
@@ -14,6 +16,10 @@ told_message n = record { number = n.message; w = n.w; l = n.l; text = n.text }
 abbrev pub recorded_messages : ℕ → List Response → List Message
 recorded_messages view replies =
     map told_message (filter (λ (n : Notice). n.code == macro_record && n.view == view) (flat_map (λ (r : Response). r.notes) replies))
+
+-- the command that sends the message to the view
+abbrev pub sent_to : ℕ → Message → Command
+sent_to view message = SendMessage view message
 
 -- the replies among outcomes
 abbrev pub replies_in : List Outcome → List Response

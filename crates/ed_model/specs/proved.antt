@@ -17,3 +17,4 @@ pub mod Neighbours
 pub mod Spelling
 pub mod Texts
 pub mod Reading
+pub mod Folding

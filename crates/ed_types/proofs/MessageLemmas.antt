@@ -1,21 +1,12 @@
 -- Kinds and their numbers.
-use Rattle.std.proofs.Common.{◌≡◌, ℕ, List, [], ◌∷◌, refl, ◌==◌, true, false, Bool, cond, Option, Some, None}
-use Rattle.std.specs.List.{find}
+use Rattle.std.proofs.Common.{◌≡◌, ℕ, List, [], ◌∷◌, refl, ◌==◌, true, Option, Some, None}
 use Rattle.std.specs.Option.{option_or}
 use Rattle.std.proofs.lemmas.Bool.{eqb-true}
 use Rattle.ed_types.specs.declared.kind.Kind.{Kind}
 use Rattle.ed_types.specs.declared.kind.Kind.TheVariants as kinds
 use Rattle.ed_types.specs.Messages.{number_of, kind_of, kind_in, kind_among, groups}
+use Rattle.ed_types.specs.proved.Found.{found_test}
 use Rattle.ed_types.specs.MessagesLaws.{EachKindIsFound, OnlyItsNumberFindsAKind}
-
--- what `find` returns passes the test
-found_or_later : {X : Type 0} (p : X → Bool) (y x : X) (rest : Option X) (b : Bool) → p y ≡ b → (rest ≡ Some x → p x ≡ true) → cond b (Some y) rest ≡ Some x → p x ≡ true
-found_or_later p y x rest true passes later e = let same : y ≡ x = cc in cc
-found_or_later p y x rest false passes later e = later e
-
-pub found_passes : {X : Type 0} (p : X → Bool) (xs : List X) (x : X) → find p xs ≡ Some x → p x ≡ true
-found_passes p [] x e = cc
-found_passes p (y ∷ ys) x e = found_or_later p y x (find p ys) (p y) refl (found_passes p ys x) e
 
 either_found : (a b : Option Kind) (kind : Kind) (P : Type 0) → (a ≡ Some kind → P) → (b ≡ Some kind → P) → option_or a b ≡ Some kind → P
 either_found None b kind P first second e = second e
@@ -25,7 +16,7 @@ found_in_groups : (gs : List (List Kind)) (number : ℕ) (kind : Kind) → kind_
 found_in_groups [] number kind e = cc
 found_in_groups (g ∷ gs) number kind e =
     either_found (kind_among g number) (kind_in gs number) kind ((number_of kind == number) ≡ true)
-    (found_passes (λ k. number_of k == number) g kind) (found_in_groups gs number kind) e
+    (found_test (λ k. number_of k == number) g kind) (found_in_groups gs number kind) e
 
 pub only_its_number_finds_a_kind : OnlyItsNumberFindsAKind
 only_its_number_finds_a_kind number kind e = eqb-true (number_of kind) number (found_in_groups groups number kind e)

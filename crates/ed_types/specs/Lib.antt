@@ -3,3 +3,4 @@ pub mod Messages
 pub mod Notices
 pub mod Heard
 pub mod MessagesLaws
+pub mod proved

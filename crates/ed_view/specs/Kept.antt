@@ -11,6 +11,10 @@ pub record KeptView : Type 0 where
   pub view : View
   pub room : FoldRoom
 
+-- the view without its room
+abbrev pub view_in : KeptView → View
+view_in kept = kept.view
+
 -- how many lines in all may be contracted without an allocation: those that are, and more
 abbrev pub contracted_in_all : KeptView → ℕ
 contracted_in_all kept = contracted_lines kept.view.flags + kept.room.contracted

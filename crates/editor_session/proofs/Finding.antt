@@ -3,9 +3,9 @@ use Rattle.std.proofs.Common.{◌≡◌, ℕ, ◌==◌, Bool, true, false, cond,
 use Rattle.std.specs.Prelude.{if◌then◌else◌}
 use Rattle.ed_model.specs.Session.{View, view_at}
 use Rattle.id_table.specs.Entries.{Entry, value_at}
-use Rattle.ed_view.specs.Kept.{KeptView}
+use Rattle.ed_view.specs.Kept.{KeptView, view_in}
 use Rattle.scene.specs.Scenes.{views_of, AreNamed}
-use Rattle.session_changes.specs.proved.Finding.{view_in, id_of_view, found}
+use Rattle.session_changes.specs.proved.Finding.{id_of_view, found}
 
 -- Where the view of an id is not there, no change of it changes any.
 

@@ -3,6 +3,7 @@ use Rattle.std.proofs.Common.{◌≡◌, ◌&&◌, ◌==◌, ℕ, ℤ, List, [],
 use Rattle.std.specs.Prelude.{Result}
 use Rattle.ed_types.specs.declared.refusal.Refusal.{Refusal}
 use Rattle.ed_types.specs.Notices.{Notice, Response}
+use Rattle.ed_types.specs.proved.Refusals.{refusing}
 use Rattle.ed_model.specs.Session.{Session}
 use Rattle.editor_session.specs.Left.{told, is_value_alone}
 
@@ -18,9 +19,6 @@ refused_told (Err refusal) (Ok value) left made is h = absurd (cc)
 refused_told (Err refusal) (Err other) left made is h =
     let same : other ≡ refusal = cc in
     ap (λ e. Err e) same
-
-abbrev pub refusing : (R : Type 0) → Refusal → Result R Refusal
-refusing R refusal = Err refusal
 
 pub refused_too : {S : Type 0} (says : Result S Refusal) (refusal : Refusal) → IfErr says (λ r. refusing ℤ refusal ≡ Err r) → IfErr says (λ r. refusing Response refusal ≡ Err r)
 refused_too (Ok x) refusal h = tt

@@ -3,13 +3,13 @@ use Rattle.std.proofs.Common.{◌≡◌, ℕ, refl, ap, sym, subst, Some, IfSome
 use Rattle.ed_model.specs.Session.{Document}
 use Rattle.ed_model.specs.SoundLaws.{IsSound}
 use Rattle.id_table.specs.Entries.{Entries, value_at, with_value_at}
-use Rattle.document.specs.Kept.{Kept}
+use Rattle.document.specs.Kept.{Kept, document_of}
 use Rattle.ed_view.specs.Kept.{KeptView}
 use Rattle.scene.specs.Scenes.{AreNamed}
 use Rattle.message_requests.specs.Requested.{session_in, documents_in}
 use Rattle.message_requests.specs.declared.state.SessionState.{SessionState}
 use Rattle.session_changes.specs.Kept.{IsKept, DocumentsAreNamed}
-use Rattle.session_changes.specs.proved.Finding.{document_in, id_of_document, unchanged, named_with}
+use Rattle.session_changes.specs.proved.Finding.{id_of_document, unchanged, named_with}
 use Rattle.editor_session.proofs.Keeping.{kept_with}
 
 -- the documents, with this one under the id
@@ -26,14 +26,14 @@ module _ (s : SessionState) (kept : IsKept s) (id : ℕ) (old new : Kept) (at : 
   said_of_it P h = subst (λ o. IfSome o P) (sym at) h
 
   pub still_named : new.document.id ≡ old.document.id → DocumentsAreNamed (with_one s.documents id new).entries
-  still_named same = named_with document_in id_of_document s.documents.entries id s.documents.next kept.documents kept.sound.document_ids old new at same
+  still_named same = named_with document_of id_of_document s.documents.entries id s.documents.next kept.documents kept.sound.document_ids old new at same
 
   -- Where the model sees no difference between the documents, it sees none between the sessions.
   module _ (views : Entries KeptView) (same : new.document ≡ old.document) (same_views : views ≡ s.views) where
     pub same_session : session_in (with_scene s id new views) ≡ session_in s
     same_session =
         let documents : documents_in (with_one s.documents id new) ≡ documents_in s.documents =
-        unchanged document_in id_of_document s.documents.entries id s.documents.next kept.documents kept.sound.document_ids old new at same in
+        unchanged document_of id_of_document s.documents.entries id s.documents.next kept.documents kept.sound.document_ids old new at same in
         rw (documents, same_views) refl
 
     pub still_kept : IsKept (with_scene s id new views)

@@ -11,7 +11,7 @@ use Rattle.ed_model.specs.SoundLaws.{Rise, IsSoundDocument, ListsItsViews}
 use Rattle.ed_model.specs.Table.{closed, closed_view}
 use Rattle.id_table.specs.Entries.{Rise as IdsRise, Entry, Entries, entry, id_of, value_of, value_at, with_value_at, without_id}
 use Rattle.document.specs.Kept.{Kept}
-use Rattle.ed_view.specs.Kept.{KeptView}
+use Rattle.ed_view.specs.Kept.{KeptView, view_in}
 use Rattle.document_table.specs.Leaving.{documents_in as entries_in, left_over_of, let_go, IsChangedAlike, LeavesTheLiving}
 use Rattle.scene.specs.Scenes.{views_of, AreNamed}
 use Rattle.message_requests.specs.Requested.{session_in, documents_in}
@@ -19,7 +19,7 @@ use Rattle.message_requests.specs.declared.state.SessionState.{SessionState}
 use Rattle.session_changes.specs.Kept.{IsKept, DocumentsAreNamed}
 use Rattle.editor_session.specs.Opening.{document_for, with_view_on_new}
 use Rattle.session_changes.specs.proved.Names.{IsNamedDocument, named_in, named_out, id_at, without_itself, none_listed}
-use Rattle.session_changes.specs.proved.Finding.{view_in, id_of_view, id_of_document, own_at, found_some, found_none, still_named}
+use Rattle.session_changes.specs.proved.Finding.{id_of_view, id_of_document, own_at, found_some, found_none, still_named}
 
 -- Opening.
 

@@ -35,11 +35,11 @@ use Rattle.ed_model.specs.Table.{table, performed, answered as answered_by, with
 use Rattle.ed_model.specs.proved.Elements.{found_all}
 use Rattle.id_table.specs.Entries.{value_at}
 use Rattle.notify.specs.Gathered.{Gathered}
-use Rattle.document.specs.Kept.{Kept}
+use Rattle.document.specs.Kept.{Kept, document_of}
 use Rattle.document.specs.declared.undoing.Direction.{Direction}
 use Rattle.document.specs.Undoing.{changes_of, history_behind}
 use Rattle.document_changes.specs.Fit.{IsFitChange, bytes_read}
-use Rattle.ed_view.specs.Kept.{KeptView}
+use Rattle.ed_view.specs.Kept.{KeptView, view_in}
 use Rattle.scene.specs.Scenes.{views_of, scene_in, AreNamed, StandsIfOn, IsWatched}
 use Rattle.scene.specs.Conversion.{notes_for, bytes_for}
 use Rattle.scene.specs.Undoing.{bits_of}
@@ -52,7 +52,7 @@ use Rattle.editor_session.specs.Planned.{PlannedMessage, IsPlannedAs, IsAskedBy,
 use Rattle.editor_session.specs.Edited.{IsStoredIn, IsTurnedFor, IsPastedFor, IsEditWithin, IsWithin, stored_bytes, TakesWithin}
 use Rattle.editor_session.specs.Edits.{edit_steps, scene_after, Edits}
 use Rattle.editor_session.specs.Doing.{IsDone, Goes, Changes}
-use Rattle.session_changes.specs.proved.Finding.{view_in, id_of_view, document_in, id_of_document, own_at, IsKeptAs, kept_as}
+use Rattle.session_changes.specs.proved.Finding.{id_of_view, id_of_document, own_at, IsKeptAs, kept_as}
 
 -- The scene of a document of a sound session.
 
@@ -199,7 +199,7 @@ pub record AtDocument (s : SessionState) (id : ℕ) (d : Document) : Type 0 wher
   pub is : k.document ≡ d
 
 pub at_document : (s : SessionState) (id : ℕ) (d : Document) → IsKept s → document_at (session_in s).documents id ≡ Some d → AtDocument s id d
-at_document s id d kept there = (let known = kept_as document_in id_of_document s.documents.entries id d kept.documents there in record { k = known.value; at = known.there; is = known.is })
+at_document s id d kept there = (let known = kept_as document_of id_of_document s.documents.entries id d kept.documents there in record { k = known.value; at = known.there; is = known.is })
 
 module _ (s : SessionState) (planned : PlannedMessage) (bytes : List ℕ) (kept : IsKept s) (r : Request) (by : IsAskedBy (session_in s) planned bytes r) where
   pub session_is : r.session ≡ session_in s

@@ -2,11 +2,9 @@
 use Rattle.std.proofs.Common.{◌≡◌, ◌≢◌, ◌⊎◌, inl, inr, ap, sym, refl, arith, Result, Ok, Err, IfErr}
 use Rattle.ed_types.specs.declared.refusal.Refusal.{Refusal}
 use Rattle.ed_types.specs.declared.refusal.Refusal.TheVariants.{OutOfMemory, NoSuchView, UnknownMessage, NoSuchDocument, TooLong, BadArgument, TooMany}
+use Rattle.ed_types.specs.proved.Refusals.{refusing}
 use Rattle.ed_model.specs.Printed.{refusal_number}
 use Rattle.hongpilas_c.specs.Answers.{answered, refused_with}
-
-abbrev refusing : (R : Type 0) → Refusal → Result R Refusal
-refusing R refusal = Err refusal
 
 -- a refusal that is the one stated, or `OutOfMemory` if none is stated, has the number of such a call
 pub refused_as_said : {A : Type 0} (R : Type 0) (says : Result A Refusal) (refusal : Refusal) → IfErr says (λ r. refusing R refusal ≡ Err r) → (refusal ≡ OutOfMemory) ⊎ (says ≡ Err refusal) → refusal_number refusal ≡ refused_with says

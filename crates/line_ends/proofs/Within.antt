@@ -1,6 +1,7 @@
 -- The length of a text during the steps of a conversion.
 use Rattle.std.proofs.Common.{◌≡◌, ℕ, zero, suc, ◌+◌, ◌-◌, ◌<◌, ◌≤◌, Bool, true, false, ◌==◌, ◌||◌, ◌&&◌, List, [], ◌∷◌, ◌++◌, length, min, refl, ap, ◌∙◌, sym, arith, length-append}
 use Rattle.std.specs.Prelude.{nat_le, nat_lt}
+use Rattle.std.proofs.Math.Bool.{and-false}
 use Rattle.std.proofs.Math.Nat.{min-le_left}
 use Rattle.std.proofs.lemmas.Bool.{leb-true, leb-false, le-leb, lt-leb, lt-ltb, ne_eqb, eq-eqb, or_left}
 use Rattle.ed_model.specs.declared.plan.LineEnd.{LineEnd}
@@ -43,11 +44,7 @@ both_within a b limit h = go (nat_le b limit) refl
   where
     go : (x : Bool) → nat_le b limit ≡ x → (nat_le a limit && x) ≡ x
     go true e = let w = leb-true b limit e in ap (λ y. y && true) (le-leb a limit (omega arith))
-    go false e = none (nat_le a limit)
-      where
-        none : (y : Bool) → (y && false) ≡ false
-        none true = refl
-        none false = refl
+    go false e = and-false (nat_le a limit)
 
 both_within' : (a b limit : ℕ) → b ≤ a → (nat_le a limit && nat_le b limit) ≡ nat_le a limit
 both_within' a b limit h = go (nat_le a limit) refl

@@ -4,28 +4,28 @@ use Rattle.std.specs.Prelude.{◌<◌, slice_get, filter, find, Some}
 use Rattle.std.proofs.lemmas.List.{append-nil}
 use Rattle.ed_types.specs.Notices.{Notice}
 use Rattle.ed_types.specs.declared.message.Message.{Message}
-use Rattle.ed_model.specs.Recording.{told_message}
-use Rattle.macro_script.specs.Recorded.{sending, is_recording, sends_for, RecordsAll}
+use Rattle.ed_model.specs.Recording.{told_message, sent_to}
+use Rattle.macro_script.specs.Recorded.{is_recording, sends_for, RecordsAll}
 
 first_is_all : (view : ℕ) (notes : List Notice) → length (map told_message (filter (is_recording view) notes)) ≤ 1
-    → map (sending view) (map told_message (filter (is_recording view) notes)) ≡ sends_for view (find (is_recording view) notes)
+    → map (sent_to view) (map told_message (filter (is_recording view) notes)) ≡ sends_for view (find (is_recording view) notes)
 first_is_all view [] few = refl
 first_is_all view (n ∷ ns) few = go (is_recording view n) few (first_is_all view ns)
   where
-    none : (ms : List Message) → length ms ≤ 0 → map (sending view) ms ≡ []
+    none : (ms : List Message) → length ms ≤ 0 → map (sent_to view) ms ≡ []
     none [] h = refl
     none (m ∷ ms) h = absurd (omega arith)
 
     go : (b : Bool) → length (map told_message (cond b (n ∷ filter (is_recording view) ns) (filter (is_recording view) ns))) ≤ 1
-        → (length (map told_message (filter (is_recording view) ns)) ≤ 1 → map (sending view) (map told_message (filter (is_recording view) ns)) ≡ sends_for view (find (is_recording view) ns))
-        → map (sending view) (map told_message (cond b (n ∷ filter (is_recording view) ns) (filter (is_recording view) ns))) ≡ sends_for view (cond b (Some n) (find (is_recording view) ns))
-    go true few rest = ap (λ ms. sending view (told_message n) ∷ ms) (none (map told_message (filter (is_recording view) ns)) (omega arith))
+        → (length (map told_message (filter (is_recording view) ns)) ≤ 1 → map (sent_to view) (map told_message (filter (is_recording view) ns)) ≡ sends_for view (find (is_recording view) ns))
+        → map (sent_to view) (map told_message (cond b (n ∷ filter (is_recording view) ns) (filter (is_recording view) ns))) ≡ sends_for view (cond b (Some n) (find (is_recording view) ns))
+    go true few rest = ap (λ ms. sent_to view (told_message n) ∷ ms) (none (map told_message (filter (is_recording view) ns)) (omega arith))
     go false few rest = rest few
 
 pub records_all : RecordsAll
 records_all view reply few =
     let same : reply.notes ++ [] ≡ reply.notes = append-nil reply.notes in
-    subst (λ notes. length (map told_message (filter (is_recording view) notes)) ≤ 1 → map (sending view) (map told_message (filter (is_recording view) notes)) ≡ sends_for view (find (is_recording view) reply.notes)) (sym same)
+    subst (λ notes. length (map told_message (filter (is_recording view) notes)) ≤ 1 → map (sent_to view) (map told_message (filter (is_recording view) notes)) ≡ sends_for view (find (is_recording view) reply.notes)) (sym same)
     (first_is_all view reply.notes) few
 
 -- The search for the note, place by place.

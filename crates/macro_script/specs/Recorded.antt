@@ -3,25 +3,19 @@ use Rattle.std.specs.Prelude.{◌≡◌, ◌≤◌, ◌<◌, slice_get, ℕ, ℤ
 use Rattle.ed_types.specs.declared.reply.Note.{Note}
 use Rattle.ed_types.specs.Notices.{Notice, Response}
 use Rattle.ed_types.specs.Heard.{with_text}
-use Rattle.ed_types.specs.declared.message.Message.{Message}
 use Rattle.ed_types.specs.declared.script.Command.{Command}
-use Rattle.ed_types.specs.declared.script.Command.TheVariants.{SendMessage}
 use Rattle.ed_model.specs.Notes.{macro_record}
 use Rattle.ed_model.specs.Listing.{keeps_limits}
-use Rattle.ed_model.specs.Recording.{told_message, recorded_messages}
+use Rattle.ed_model.specs.Recording.{told_message, recorded_messages, sent_to}
 
 -- what a recorder has: its view, and the commands so far
 pub record Recording : Type 0 where
   pub view : ℕ
   pub commands : List Command
 
--- the command that sends the message to the view
-abbrev pub sending : ℕ → Message → Command
-sending view message = SendMessage view message
-
 -- the command that sends the message with this number, these arguments and this text to the view
 abbrev pub send_command : ℕ → ℕ → ℤ → ℤ → List ℕ → Command
-send_command view number w l text = sending view (record { number = number; w = w; l = l; text = text })
+send_command view number w l text = sent_to view (record { number = number; w = w; l = l; text = text })
 
 -- whether the note is the view's notification of a recorded message
 abbrev pub is_recording : ℕ → Notice → Bool
@@ -38,7 +32,7 @@ IsPlaceOf found notes (Some place) = (place < length notes) × (slice_get notes 
 
 abbrev pub sends_for : ℕ → Option Notice → List Command
 sends_for view None = []
-sends_for view (Some n) = sending view (told_message n) ∷ []
+sends_for view (Some n) = sent_to view (told_message n) ∷ []
 
 -- the command that the reply records for the view, if it records one
 abbrev pub recorded_sends : ℕ → Response → List Command
@@ -50,7 +44,7 @@ after_reply r reply = record r { commands = r.commands ++ recorded_sends r.view 
 
 -- the recording after a note with this text: the message that the note tells of is added
 abbrev pub after_note : Recording → Note → List ℕ → Recording
-after_note r note text = record r { commands = r.commands ++ sending r.view (told_message (with_text note text)) ∷ [] }
+after_note r note text = record r { commands = r.commands ++ sent_to r.view (told_message (with_text note text)) ∷ [] }
 
 -- the commands exceed a limit of scripts
 abbrev pub IsTooLong : Recording → Type 0
@@ -61,4 +55,4 @@ IsTooLong r = keeps_limits r.commands ≡ false
 abbrev pub RecordsAll : Type 0
 RecordsAll =
     (view : ℕ) (reply : Response) → length (recorded_messages view (reply ∷ [])) ≤ 1
-    → map (sending view) (recorded_messages view (reply ∷ [])) ≡ recorded_sends view reply
+    → map (sent_to view) (recorded_messages view (reply ∷ [])) ≡ recorded_sends view reply

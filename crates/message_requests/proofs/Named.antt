@@ -8,8 +8,7 @@ use Rattle.ed_model.specs.Session.{Session, Document, document_at}
 use Rattle.ed_model.specs.SoundLaws.{Rise, IsSound}
 use Rattle.ed_model.specs.SessionPlans.{document_named}
 use Rattle.id_table.specs.Entries.{Entry, value_at, value_of}
-use Rattle.document.specs.Kept.{Kept}
-use Rattle.message_requests.specs.Requested.{document_of}
+use Rattle.document.specs.Kept.{Kept, document_of}
 use Rattle.message_requests.specs.proved.Ranges.{outside}
 
 pub named : (entries : List (Entry Kept)) (id : ℕ) → AllByRecursion (λ (e : Entry Kept). e.id ≡ e.value.document.id) entries

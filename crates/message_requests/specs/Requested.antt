@@ -25,9 +25,6 @@ session_in s = record {
   limits = s.limits;
 }
 
-abbrev pub document_of : Kept → Document
-document_of k = k.document
-
 -- each document is kept under its own id
 abbrev pub DocumentsAreNamed : SessionState → Type 0
 DocumentsAreNamed s = AllByRecursion (λ (e : Entry Kept). e.id ≡ e.value.document.id) s.documents.entries

@@ -5,7 +5,7 @@ ghost use Rattle.ed_model.specs.Session.{limit_of, lines_in};
 ghost use Rattle.ed_model.specs.Numbers.{within};
 ghost use Rattle.ed_model.specs.PlansFit.{IsSoundRequest};
 ghost use Rattle.ed_model.specs.SessionPlans.{document_named};
-ghost use Rattle.message_requests.specs.Requested.{document_of};
+ghost use Rattle.document.specs.Kept.{document_of};
 ghost use Rattle.ed_model.specs.Requests.{end_or_size, size, text, line_total, line_at, selection_end, selection_start, target_greatest, target_least};
 ghost use Rattle.ed_model.specs.Characters.{cut_after, cut_before};
 ghost use Rattle.ed_model.specs.FoldingPlans.{levels};

@@ -1,36 +1,22 @@
 -- Fold parents, found line by line, and the number of visible lines before a line.
-use Rattle.std.proofs.Common.{◌≡◌, ℕ, zero, suc, ◌+◌, ◌-◌, ◌<◌, ◌≤◌, Bool, true, false, cond, List, [], ◌∷◌, ◌++◌, length, filter, reverse, unwrap_or, slice_get, Option, Some, None, inl, inr, refl, ap, subst, ◌∙◌, sym, arith, zero-add, append-nil, length-append, nat_lt}
+use Rattle.std.proofs.Common.{◌≡◌, ℕ, zero, suc, ◌+◌, ◌-◌, ◌<◌, ◌≤◌, Bool, true, false, cond, List, [], ◌∷◌, ◌++◌, length, filter, unwrap_or, slice_get, Option, Some, None, inl, inr, refl, ap, subst, ◌∙◌, sym, arith, zero-add, append-nil, length-append, nat_lt}
 use Rattle.std.specs.Prelude.{find}
 use Rattle.std.specs.List.{range_with_len}
 use Rattle.std.proofs.lemmas.Bool.{and_parts, ltb-true, cases_order}
 use Rattle.std.proofs.lemmas.List.Elements.{filter-append}
 use Rattle.std.proofs.lemmas.List.Sums.{count_by_more_yes, count_by_more_no}
 use Rattle.ed_model.specs.Rows.{Flags, fresh_flags}
-use Rattle.ed_model.specs.Folding.{number_at, is_header, is_parent_of, parents_among, is_visible}
+use Rattle.ed_model.specs.Folding.{number_at, is_header, is_parent_of, is_visible}
 use Rattle.ed_model.specs.DisplayLines.{visible_before, visible_lines, line_shown}
+use Rattle.ed_model.specs.proved.Folding.{parent_before, parents_are}
 use Rattle.ed_model.specs.proved.Lists.{slice_get_append_right}
 use Rattle.ed_model.specs.proved.Rising.{range-append, reverse_next}
-use Rattle.run_laws.specs.FoldLaws.{parents_from, FoldParentsAreAChain, FoldParentIsTheNearestHeader, LinesWithoutParent, DisplayLinesCountVisibleLines, VisibleLinesAreShown, HiddenLinesHaveThatBefore}
+use Rattle.run_laws.specs.FoldLaws.{FoldParentsAreAChain, FoldParentIsTheNearestHeader, LinesWithoutParent, DisplayLinesCountVisibleLines, VisibleLinesAreShown, HiddenLinesHaveThatBefore}
 
--- The search for a fold parent goes back from the line.
-
-abbrev parent_before : List ℕ → ℕ → ℕ → Option ℕ
-parent_before levels line m = find (is_parent_of levels line) (reverse (range_with_len 0 m))
-
-among : (levels : List ℕ) (line m : ℕ) → parents_among levels line (reverse (range_with_len 0 m)) ≡ parents_from levels (parent_before levels line m)
-among levels line zero = refl
-among levels line (suc m) =
-    ap (parents_among levels line) (reverse_next m) ∙ go (is_parent_of levels line m) (among levels line m)
-    ∙ sym (ap (λ l. parents_from levels (find (is_parent_of levels line) l)) (reverse_next m))
-  where
-    go : (b : Bool) → parents_among levels line (reverse (range_with_len 0 m)) ≡ parents_from levels (parent_before levels line m)
-        → cond b (m ∷ parents_among levels m (reverse (range_with_len 0 m))) (parents_among levels line (reverse (range_with_len 0 m)))
-        ≡ parents_from levels (cond b (Some m) (parent_before levels line m))
-    go true e = refl
-    go false e = e
+-- The chain of fold parents.
 
 pub fold_parents_are_a_chain : FoldParentsAreAChain
-fold_parents_are_a_chain levels line = among levels line line
+fold_parents_are_a_chain levels line = parents_are levels line
 
 -- The header that is found is the nearest one, and none is found only if there is none.
 

@@ -2,7 +2,7 @@
 use Rattle.std.proofs.Common.{◌≡◌, ℕ, ◌+◌, ◌≤◌, ◌<◌, nat_lt, cond, Bool, true, false, List, [], ◌∷◌, ◌++◌, length, map, refl, ap, ◌∙◌, sym, subst, arith, Option, Some, None, Result, Ok, Err}
 use Rattle.std.specs.Prelude.{◌==◌, find, filter, not, nat_le, ◌||◌, option_map}
 use Rattle.std.specs.Option.{option_or}
-use Rattle.std.proofs.lemmas.Bool.{eqb-true, ne_eqb}
+use Rattle.std.proofs.lemmas.Bool.{ne_eqb}
 use Rattle.std.proofs.lemmas.List.Folds.{find-append}
 use Rattle.ed_types.specs.declared.kind.Kind.{Kind}
 use Rattle.ed_types.specs.declared.message.Message.{Message}
@@ -13,7 +13,7 @@ use Rattle.ed_types.specs.declared.script.Outcome.{Outcome}
 use Rattle.ed_model.specs.declared.plan.SessionChange.TheVariants as session_change
 use Rattle.ed_model.specs.declared.plan.Plan.{Plan}
 use Rattle.ed_model.specs.declared.plan.Plan.TheVariants as plan
-use Rattle.ed_model.specs.Session.{Session, Document, View, document_at, view_at, with_view, new_document, new_view, attached_to}
+use Rattle.ed_model.specs.Session.{Session, Document, View, document_at, view_at, new_document, new_view, attached_to}
 use Rattle.ed_model.specs.Requests.{Request, Planned, text}
 use Rattle.ed_model.specs.Edits.{steps_of}
 use Rattle.ed_model.specs.FoldingPlans.{levels}
@@ -24,7 +24,7 @@ use Rattle.ed_model.specs.TableLaws.{Answered}
 use Rattle.ed_model.specs.Run.{Running, after_command, run_to, outcomes}
 use Rattle.ed_model.specs.SoundLaws.{IsSound, Rise, CommandKeepsSound}
 use Rattle.ed_model.specs.PlansFit.{PlansFit}
-use Rattle.ed_model.specs.proved.Finding.{document_id, ids_of, same_ids}
+use Rattle.ed_model.specs.proved.Finding.{document_id, ids_of, same_ids, with_view_ids}
 use Rattle.ed_model.specs.proved.Changes.{view_after_id, changed_lines_id}
 use Rattle.run_laws.specs.IdLaws.{DocumentIdsNeverComeBack, ViewIdsNeverComeBack, NextIdsNeverFall, OpenedIdsRise, opened_ids}
 use Rattle.run_laws.proofs.Choices.{either}
@@ -59,13 +59,6 @@ none_again s t id on below none = go (document_at t.documents id) refl
 -- the sender alone is changed
 sender_ids : (f : View → View) → ((v : View) → (f v).id ≡ v.id) → (sender : ℕ) (views : List View) → ids_of (map (λ (v : View). cond (v.id == sender) (f v) v) views) ≡ ids_of views
 sender_ids f same sender views = same_ids (λ (v : View). cond (v.id == sender) (f v) v) (sender_keeps (λ (w : View). w.id) f same sender) views
-
-with_view_ids : (new : View) (views : List View) → ids_of (with_view new views) ≡ ids_of views
-with_view_ids new views = same_ids (λ (v : View). cond (v.id == new.id) new v) (λ v. go v (v.id == new.id) refl) views
-  where
-    go : (v : View) (b : Bool) → (v.id == new.id) ≡ b → (cond b new v).id ≡ v.id
-    go v true t = sym (eqb-true v.id new.id t)
-    go v false t = refl
 
 performed_ids : (r : Request) (p : Plan) → ids_of (performed r p).0.views ≡ ids_of r.session.views
 performed_ids r p =

@@ -27,7 +27,7 @@ use Rattle.ed_model.specs.Table.{table, answered, with_recording, plan_of, perfo
 use Rattle.ed_model.specs.TableLaws.{Answered}
 use Rattle.ed_model.specs.SoundLaws.{IsSound}
 use Rattle.ed_model.specs.Session.{attached_to}
-use Rattle.ed_model.specs.Recording.{told_message, recorded_messages, replies_in}
+use Rattle.ed_model.specs.Recording.{told_message, recorded_messages, replies_in, sent_to}
 use Rattle.ed_model.specs.Table.{record_note}
 use Rattle.ed_model.specs.TableLaws.{LeavesSession, QueriesLeaveTheSession}
 use Rattle.ed_model.specs.Run.{Running, starting, after_command, after_message, outcomes, run_to}
@@ -35,7 +35,7 @@ use Rattle.ed_model.specs.SoundLaws.{MessageKeepsSound, IsSoundInEveryStateFrom}
 use Rattle.ed_model.specs.proved.Finding.{view_id, put_found, mapped_found, found_once}
 use Rattle.ed_model.specs.proved.Changes.{view_after_id, changed_lines_id, changed_view_id}
 use Rattle.run_laws.specs.IsolationLaws.{Sending, sent}
-use Rattle.run_laws.specs.MacroLaws.{not_recording, without_recording, sent_to, CanStandBetween, RecordingsCanBeReplayed, RecordsOneAtMost, RepliesRecordOneMessage, RunsRecordOneMessageAReply}
+use Rattle.run_laws.specs.MacroLaws.{not_recording, without_recording, CanStandBetween, RecordingsCanBeReplayed, RecordsOneAtMost, RepliesRecordOneMessage, RunsRecordOneMessageAReply}
 use Rattle.run_laws.proofs.Walks.{step_keeps, sender_keeps, lines_keep, performed_views}
 use Rattle.run_laws.proofs.TableWays.{of_table, table_at, of_any_command}
 use Rattle.run_laws.proofs.PlanShapes.{Leave, KeepsTo, IsShaped, leave_of, plan_is_shaped, recorded_is_not_about_recording}

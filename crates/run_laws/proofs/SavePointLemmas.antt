@@ -28,13 +28,14 @@ use Rattle.ed_model.specs.Changes.{changed_document}
 use Rattle.ed_model.specs.InverseLaws.{Fits, FitInTurn, after_undo, after_redo, UndoMakesItsSteps, RedoMakesItsSteps, UndoThenRedoGivesBackTheText}
 use Rattle.ed_model.specs.UndoLaws.{undone_text, redone_text, BegunStepIsOneTransactionMore, JoinedStepKeepsEarlierTexts, BegunContainerStepIsOneTransactionMore, JoinedContainerStepKeepsEarlierTexts, UndoKeepsEarlierTexts, RedoIsOneTransactionMore, SealsKeepEarlierTexts}
 use Rattle.ed_model.specs.Table.{table, request, with_recording, record_note}
-use Rattle.ed_model.specs.SoundLaws.{IsSound, IsSoundDocument, AreStepsOf, CommandKeepsSound}
+use Rattle.ed_model.specs.SoundLaws.{IsSound, IsSoundDocument, CommandKeepsSound}
 use Rattle.ed_model.specs.PlansFit.{IsSoundRequest, IsFitPlan, PlansFit, EditStepsFit, UndoStepsFit, RedoStepsFit}
 use Rattle.ed_model.specs.Run.{Running, after_command, set_text_message, run_to}
 use Rattle.ed_model.specs.proved.Elements.{found_all}
 use Rattle.ed_model.specs.proved.Finding.{document_id, found_below}
 use Rattle.ed_model.specs.proved.Changes.{text_of_styled}
-use Rattle.ed_model.specs.proved.Histories.{same_length}
+use Rattle.ed_model.specs.proved.Histories.{same_length, sealed_length}
+use Rattle.ed_model.specs.proved.Steps.{fit_in_turn}
 use Rattle.run_laws.specs.MessageKinds.{is_saving}
 use Rattle.run_laws.specs.SavePointLaws.{SetsNoSavePoint, IsCollected, KeepsTheSavePoint, UnmodifiedIsTheSavedText, GetModifyTells}
 use Rattle.run_laws.proofs.Choices.{either}
@@ -223,7 +224,7 @@ module _ (c : Cited) (saved : List ℕ) where
       let new = text_of (after_undo scene).document in
       let past : length h.past ≡ suc (length ts) = ap length some in
       let is_undone : undone h ≡ record h { past = seal_first ts; future = t ∷ h.future } = ap (undone_to h) some in
-      let few : length (seal_first ts) ≡ length ts = length_sealed ts in
+      let few : length (seal_first ts) ≡ length ts = sealed_length ts in
       let back : redone_text 1 (t ∷ h.future) new ≡ now =
       ap (λ (g : History). after_steps (text_steps (redo_changes g)) new) (sym is_undone) ∙ sym (c.redo_made (after_undo scene)) ∙ c.undo_then_redo scene (omega arith) fits in
       let earlier : (j : ℕ) → undone_text j (seal_first ts) new ≡ undone_text (suc j) h.past now = λ j.
@@ -240,10 +241,6 @@ module _ (c : Cited) (saved : List ℕ) where
             ap (λ (j : ℕ). redone_text j (t ∷ h.future) new) n ∙ ap (redone_text (k - length h.past) h.future) back ∙ later k (cases_lt (length h.past) k) was lt past few),
       ))
     where
-      length_sealed : (xs : List Transaction) → length (seal_first xs) ≡ length xs
-      length_sealed [] = refl
-      length_sealed (x ∷ xs) = refl
-
       later : (k : ℕ) → (length scene.document.history.past < k) ⊎ (k ≤ length scene.document.history.past)
           → ((k ≤ length scene.document.history.past → undone_text (length scene.document.history.past - k) scene.document.history.past (text_of scene.document) ≡ saved)
           × (length scene.document.history.past < k → redone_text (k - length scene.document.history.past) scene.document.history.future (text_of scene.document) ≡ saved))
@@ -331,10 +328,6 @@ module _ (c : Cited) (saved : List ℕ) where
   changed_saved bytes (document_change.StyleBytes count) d l answer barred keeps s = subst (λ (now : List ℕ). Saved saved now d.history) (sym (text_of_styled (take count bytes) d)) s
   changed_saved bytes _ d l answer barred keeps s = s
 
-  in_turn : (steps : List Step) (now : List ℕ) → AreStepsOf now steps → FitInTurn steps now
-  in_turn [] now h = tt
-  in_turn (step ∷ steps) now h = (h.0.0, in_turn steps (edited step now) h.1)
-
   -- undo and redo need a transaction
   none_left : (b : Bool) (ts : List Transaction) → ts ≡ [] → (b && nat_lt 0 (length ts)) ≡ true → ⊥
   none_left b ts none may =
@@ -349,7 +342,7 @@ module _ (c : Cited) (saved : List ℕ) where
     where
       go : (b : Bool) → r.document.history.collecting ≡ b → (r.document.history.collecting ≡ true) ⊎ (text_of (own_after r (plan.Edit change value after)) ≡ text_of r.document)
           → SavedIn saved (own_after r (plan.Edit change value after))
-      go true on k = edit_saved (steps_of r change) (scene_of r) on (in_turn (steps_of r change) (text r) (c.edit_fits r change fit.0)) s
+      go true on k = edit_saved (steps_of r change) (scene_of r) on (fit_in_turn (steps_of r change) (text r) (c.edit_fits r change fit.0)) s
       go false off (inl on) = absurd (cc)
       go false off (inr same) =
           let none = (fit_document.history.kept off).0 in
@@ -359,12 +352,12 @@ module _ (c : Cited) (saved : List ℕ) where
     where
       go : (ts : List Transaction) → r.document.history.past ≡ ts → SavedIn saved (own_after r plan.Undo)
       go [] none = absurd (none_left (r.document.history.depth == 0) r.document.history.past none fit.0)
-      go (t ∷ ts) some = undo_saved (scene_of r) t ts some (in_turn _ (text r) (c.undo_fits r sound)) s
+      go (t ∷ ts) some = undo_saved (scene_of r) t ts some (fit_in_turn _ (text r) (c.undo_fits r sound)) s
   own_saved r plan.Redo l barred keeps sound fit_document fit may s = go r.document.history.future refl
     where
       go : (ts : List Transaction) → r.document.history.future ≡ ts → SavedIn saved (own_after r plan.Redo)
       go [] none = absurd (none_left (r.document.history.depth == 0) r.document.history.future none fit.0)
-      go (t ∷ ts) some = redo_saved (scene_of r) t ts some (in_turn _ (text r) (c.redo_fits r sound)) s
+      go (t ∷ ts) some = redo_saved (scene_of r) t ts some (fit_in_turn _ (text r) (c.redo_fits r sound)) s
   own_saved r (plan.ChangeDocument change value) l barred keeps sound fit_document fit may s = changed_saved r.message.text change r.document l value barred keeps s
   own_saved r _ l barred keeps sound fit_document fit may s = s
 

@@ -1,13 +1,8 @@
 -- Fold parents and display lines, stated once more in the way a user expects them.
-use Rattle.std.specs.Prelude.{◌≡◌, ℕ, ◌-◌, ◌<◌, true, false, List, [], ◌∷◌, length, Option, Some, None}
+use Rattle.std.specs.Prelude.{◌≡◌, ℕ, ◌-◌, ◌<◌, true, false, List, length, Some, None}
 use Rattle.ed_model.specs.Rows.{Flags}
-use Rattle.ed_model.specs.Folding.{number_at, is_header, is_parent_of, fold_parent, fold_parents, is_visible}
+use Rattle.ed_model.specs.Folding.{number_at, is_header, is_parent_of, fold_parent, fold_parents, parents_from, is_visible}
 use Rattle.ed_model.specs.DisplayLines.{visible_before, display_line, line_shown}
-
--- the parent, followed by its own fold parents
-abbrev pub parents_from : List ℕ → Option ℕ → List ℕ
-parents_from levels None = []
-parents_from levels (Some parent) = parent ∷ fold_parents levels parent
 
 -- the fold parents of a line are its fold parent, the fold parent of that one, and so on
 abbrev pub FoldParentsAreAChain : Type 0

@@ -6,11 +6,10 @@ use Rattle.ed_types.specs.declared.kind.Kind.{Kind}
 use Rattle.ed_types.specs.declared.kind.Kind.TheVariants.{StartRecord, StopRecord}
 use Rattle.ed_types.specs.declared.message.Message.{Message}
 use Rattle.ed_types.specs.declared.script.Command.{Command}
-use Rattle.ed_types.specs.declared.script.Command.TheVariants.{SendMessage}
 use Rattle.ed_types.specs.Notices.{Response}
 use Rattle.ed_types.specs.Messages.{kind_of, marks_of}
 use Rattle.ed_model.specs.Session.{Session, View}
-use Rattle.ed_model.specs.Recording.{recorded_messages, replies_in}
+use Rattle.ed_model.specs.Recording.{recorded_messages, replies_in, sent_to}
 use Rattle.ed_model.specs.Table.{table}
 use Rattle.ed_model.specs.SoundLaws.{IsSound}
 use Rattle.ed_model.specs.Run.{Running, starting, outcomes, run_to}
@@ -22,9 +21,6 @@ not_recording view v = record v { records = if v.id == view then false else v.re
 
 abbrev pub without_recording : ℕ → Session → Session
 without_recording view s = record s { views = map (not_recording view) s.views }
-
-abbrev pub sent_to : ℕ → Message → Command
-sent_to view m = SendMessage view m
 
 -- the message is a query, or goes to the view and is marked R
 abbrev pub CanStandBetween : ℕ → Sending → Type 0

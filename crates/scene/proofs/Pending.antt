@@ -4,14 +4,11 @@ use Rattle.std.proofs.lemmas.List.{drop_all}
 use Rattle.std.specs.Prelude.{◌==◌, Some, None, find, filter_map, option_map}
 use Rattle.ed_model.specs.Session.{View, view_at}
 use Rattle.id_table.specs.Entries.{Entry, value_at, value_of}
-use Rattle.ed_view.specs.Kept.{KeptView}
+use Rattle.ed_view.specs.Kept.{KeptView, view_in}
 use Rattle.scene.specs.declared.telling.Audience.{Audience}
 use Rattle.scene.specs.declared.telling.Audience.TheVariants.{Everyone, Hearers}
 use Rattle.scene.specs.Scenes.{views_of, AreNamed}
 use Rattle.scene.specs.Hearing.{audience_of, belongs}
-
-abbrev pub view_in : KeptView → View
-view_in k = k.view
 
 -- a view found by the id of its entry is found by its own id
 pub named_view : (entries : List (Entry KeptView)) (id : ℕ) → AreNamed entries → option_map view_in (value_at entries id) ≡ view_at (views_of entries) id

@@ -10,14 +10,13 @@ use Rattle.ed_model.specs.History.{Change, TextStep, ContainerStep}
 use Rattle.ed_model.specs.Session.{Document, View, text_of, watching}
 use Rattle.ed_model.specs.SoundLaws.{AreStepsOf}
 use Rattle.ed_model.specs.UndoPlans.{text_steps}
-use Rattle.ed_model.specs.Changes.{marker_count}
 use Rattle.ed_model.specs.Performing.{Scene, is_last, change_performed, changes_performed, save_point_change}
 use Rattle.id_table.specs.Entries.{Entries, id_of}
 use Rattle.notify.specs.Gathered.{Gathered}
 use Rattle.ed_view.specs.Kept.{KeptView}
 use Rattle.document.specs.declared.undoing.Direction.{Direction}
 use Rattle.document.specs.declared.room.DocumentRoom.{DocumentRoom}
-use Rattle.document.specs.Kept.{Kept, ChangeRoom, HasTextRoom, TakesRoom, IsAtMost, no_room, with_freed}
+use Rattle.document.specs.Kept.{Kept, ChangeRoom, HasTextRoom, TakesRoom, IsAtMost, no_room, with_freed, marker_room_in_all}
 use Rattle.document.specs.Undoing.{changes_of, room_of_change, save_point_told}
 use Rattle.scene.specs.declared.performing.Turn.{Turn}
 use Rattle.scene.specs.Scenes.{scene_in, watchers, fold_room_in_all, IsWatched}
@@ -75,7 +74,7 @@ pub record IsPerformedSoFar (direction : Direction) (rest : List Change) (change
   pub view_room : views'.room ≡ views.room
   pub none_made : IsAtMost (with_freed (freed_by_all rest) now.room) (with_freed (freed_by_all (changes_of direction old.document.history)) old.room) no_room
   pub spare : SpareLeft (changes_of direction old.document.history) rest old.spare now.spare
-  pub markers_in_all : now.spare.markers + marker_count now.document.rows ≡ old.spare.markers + marker_count old.document.rows
+  pub markers_in_all : marker_room_in_all now ≡ marker_room_in_all old
   pub fold_rooms : map fold_room_in_all views'.entries ≡ map fold_room_in_all views.entries
 
 pub performed_none : (direction : Direction) (old : Kept) (views : Entries KeptView) (gathered : Gathered) → CanPerformAll direction old views gathered

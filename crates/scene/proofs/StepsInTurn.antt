@@ -6,14 +6,13 @@ use Rattle.ed_model.specs.declared.plan.LineEnd.{LineEnd}
 use Rattle.ed_model.specs.Steps.{Step, Insert, Delete, step_bytes, edited}
 use Rattle.ed_model.specs.LineEnds.{after_steps, conversion_steps, unwanted_from}
 use Rattle.ed_model.specs.History.{TextStep}
-use Rattle.ed_model.specs.Changes.{marker_count}
 use Rattle.ed_model.specs.Session.{Document, text_of, watching}
 use Rattle.ed_model.specs.Performing.{Scene, step_made, steps_made}
 use Rattle.ed_model.specs.proved.Steps.{bytes_of_edited_cells, length_of_range}
 use Rattle.ed_model.specs.proved.Changes.{length_text}
 use Rattle.document.specs.declared.room.DocumentRoom.{DocumentRoom}
 use Rattle.document.specs.declared.text_step.TextStep.TheVariants as lent
-use Rattle.document.specs.Kept.{Kept, ChangeRoom, HasRoom, TakesRoom, IsAtMost, no_room, with_freed}
+use Rattle.document.specs.Kept.{Kept, ChangeRoom, HasRoom, TakesRoom, with_freed, AddsNoRoomBut, marker_room_in_all}
 use Rattle.document.specs.TextSteps.{bytes_out, need_of}
 use Rattle.id_table.specs.Entries.{Entries}
 use Rattle.ed_view.specs.Kept.{KeptView}
@@ -47,9 +46,9 @@ text_after later s scene after e = ap (λ (x : Scene). text_of x.document) e ∙
 -- a step uses at most the room that it needs, and adds only that of the bytes and markers that it deletes
 pub record StepLeaves (s : Step) (k k' : Kept) (v v' : Entries KeptView) : Type 0 where
   pub text_freed : k.room.text + bytes_out s ≤ k'.room.text + (room_of_step k.document.line_end_types s).text
-  pub none_made : IsAtMost k'.room (with_freed (bytes_out s) k.room) no_room
+  pub none_made : AddsNoRoomBut (bytes_out s) k k'
   pub spare : k'.spare ≡ record k.spare { markers = k'.spare.markers; fill = None }
-  pub markers_in_all : k'.spare.markers + marker_count k'.document.rows ≡ k.spare.markers + marker_count k.document.rows
+  pub markers_in_all : marker_room_in_all k' ≡ marker_room_in_all k
   pub fold_rooms : map fold_room_in_all v'.entries ≡ map fold_room_in_all v.entries
   pub view_room : v'.room ≡ v.room
 

@@ -6,7 +6,6 @@ use Rattle.ed_model.specs.Steps.{Step, Insert, Delete}
 use Rattle.ed_model.specs.LineEnds.{conversion_steps, missing_from, unwanted_from}
 use Rattle.ed_model.specs.History.{Change, TextStep}
 use Rattle.ed_model.specs.Session.{text_of}
-use Rattle.ed_model.specs.Changes.{marker_count}
 use Rattle.ed_model.specs.Performing.{Scene, edit_made, steps_made}
 use Rattle.line_index.specs.RoomLaws.{lines_for_insertion, lines_for_deletion}
 use Rattle.line_ends.specs.Conversion.{IsNextMissing, IsNextUnwanted, completed, missing_in, unwanted_in}
@@ -15,7 +14,7 @@ use Rattle.ed_view.specs.Kept.{KeptView}
 use Rattle.notify.specs.Gathered.{Gathered}
 use Rattle.document.specs.declared.room.DocumentRoom.{DocumentRoom}
 use Rattle.document.specs.declared.text_step.TextStep.{TextStep as Lent}
-use Rattle.document.specs.Kept.{Kept, document_room, no_room, with_freed, HasRoom, IsAtMost}
+use Rattle.document.specs.Kept.{Kept, document_room, no_room, with_freed, HasRoom, IsAtMost, marker_room_in_all}
 use Rattle.scene.specs.declared.need.NoteRoom.{NoteRoom}
 use Rattle.scene.specs.Scenes.{scene_in, kept_scene, watchers, fold_room_in_all, IsWatched}
 use Rattle.scene.specs.Needs.{notes_needed, bytes_needed, notes_for_step, bytes_for_step, notes_of_steps, bytes_of_steps}
@@ -66,7 +65,7 @@ changes_for steps = map (λ (step : Step). TextStep step) steps
 pub record RoomsStay (rest steps : List Step) (before after : Kept) (views views' : Entries KeptView) (notes notes' : Gathered) : Type 0 where
   pub none_made : IsAtMost (with_freed (freed_by_all (changes_for rest)) after.room) (with_freed (freed_by_all (changes_for steps)) before.room) no_room
   pub spare : SpareLeft (changes_for steps) (changes_for rest) before.spare after.spare
-  pub markers_in_all : after.spare.markers + marker_count after.document.rows ≡ before.spare.markers + marker_count before.document.rows
+  pub markers_in_all : marker_room_in_all after ≡ marker_room_in_all before
   pub fold_rooms : map fold_room_in_all views'.entries ≡ map fold_room_in_all views.entries
   pub view_room : views'.room ≡ views.room
   pub note_room : notes'.note_room + length notes'.notes ≡ notes.note_room + length notes.notes

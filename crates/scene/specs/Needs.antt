@@ -9,11 +9,11 @@ use Rattle.id_table.specs.Entries.{Entries}
 use Rattle.ed_view.specs.Kept.{KeptView}
 use Rattle.document.specs.declared.text_step.TextStep.{TextStep}
 use Rattle.document.specs.Kept.{Kept}
+use Rattle.document.specs.TextSteps.{step_on}
 use Rattle.scene.specs.declared.need.NoteRoom.{NoteRoom}
 use Rattle.scene.specs.declared.need.SceneNeed.{SceneNeed}
 use Rattle.scene.specs.Scenes.{watchers}
 use Rattle.scene.specs.Hearing.{step_kinds, user_bits, made_kinds, hearers, bytes_shared}
-use Rattle.scene.specs.StepNotes.{step_on}
 
 abbrev pub note_room : ℕ → ℕ → NoteRoom
 note_room notes bytes = record { notes = notes; bytes = bytes }

@@ -4,13 +4,12 @@ use Rattle.ed_model.specs.Session.{text_of}
 use Rattle.ed_model.specs.SoundLaws.{AreStepsOf}
 use Rattle.ed_model.specs.UndoPlans.{text_steps}
 use Rattle.ed_model.specs.Notes.{bit_if, multi_step}
-use Rattle.ed_model.specs.Changes.{marker_count}
 use Rattle.ed_model.specs.Performing.{changes_performed, save_point_change, transaction_performed}
 use Rattle.id_table.specs.Entries.{Entries, id_of}
 use Rattle.notify.specs.Gathered.{Gathered}
 use Rattle.ed_view.specs.Kept.{KeptView}
 use Rattle.document.specs.declared.undoing.Direction.{Direction}
-use Rattle.document.specs.Kept.{Kept, HasTextRoom, TakesRoom, IsAtMost, no_room, with_freed}
+use Rattle.document.specs.Kept.{Kept, HasTextRoom, TakesRoom, AddsNoRoomBut, marker_room_in_all}
 use Rattle.document.specs.Undoing.{changes_of, history_behind, save_point_told}
 use Rattle.scene.specs.Scenes.{scene_in, kept_scene, watchers, fold_room_in_all, IsWatched}
 use Rattle.scene.specs.Undoing.{bits_of, freed_by_all, fill_behind_all, bytes_of_changes, notes_of_history, room_of_changes, save_point_notes}
@@ -39,9 +38,9 @@ pub record AreAllPerformed (direction : Direction) (k : Kept) (views : Entries K
   pub ids : map id_of views'.entries ≡ map id_of views.entries
   pub next : views'.next ≡ views.next
   pub view_room : views'.room ≡ views.room
-  pub none_made : IsAtMost k'.room (with_freed (freed_by_all (changes_of direction k.document.history)) k.room) no_room
+  pub none_made : AddsNoRoomBut (freed_by_all (changes_of direction k.document.history)) k k'
   pub spare : k'.spare ≡ record k.spare { markers = k'.spare.markers; fill = fill_behind_all k.spare.fill (changes_of direction k.document.history) }
-  pub markers_in_all : k'.spare.markers + marker_count k'.document.rows ≡ k.spare.markers + marker_count k.document.rows
+  pub markers_in_all : marker_room_in_all k' ≡ marker_room_in_all k
   pub fold_rooms : map fold_room_in_all views'.entries ≡ map fold_room_in_all views.entries
 
 -- the changes are steps of the text that fit one after another

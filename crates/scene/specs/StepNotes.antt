@@ -6,27 +6,18 @@ use Rattle.ed_types.specs.Heard.{with_text}
 use Rattle.ed_model.specs.Steps as model
 use Rattle.ed_model.specs.Steps.{step_bytes}
 use Rattle.ed_model.specs.Notes.{heard, range_note, before_note, after_note}
-use Rattle.ed_model.specs.Session.{View, text_of}
+use Rattle.ed_model.specs.Session.{View}
 use Rattle.id_table.specs.Entries.{Entries}
 use Rattle.ed_view.specs.Kept.{KeptView}
 use Rattle.document.specs.declared.text_step.TextStep.{TextStep}
 use Rattle.document.specs.declared.text_step.TextStep.TheVariants.{Insert, Delete}
-use Rattle.document.specs.declared.room.DocumentRoom.{DocumentRoom}
 use Rattle.document.specs.Kept.{Kept}
-use Rattle.document.specs.TextSteps.{step_in, need_of, IsStepOn}
+use Rattle.document.specs.TextSteps.{step_in, step_on, IsStepOn}
 use Rattle.notify.specs.Gathered.{Gathered}
 use Rattle.scene.specs.declared.telling.NoteText.{NoteText}
 use Rattle.scene.specs.declared.telling.NoteText.TheVariants.{Empty, Shared}
 use Rattle.scene.specs.Scenes.{watchers}
 use Rattle.scene.specs.Telling.{with_notes}
-
--- a step of the document, as the model has it: a deletion names its bytes
-abbrev pub step_on : Kept → TextStep → model.Step
-step_on k step = step_in step (text_of k.document)
-
--- the room that a step of the document needs
-abbrev pub need_on : Kept → TextStep → DocumentRoom
-need_on k step = need_of k.document.line_end_types step
 
 abbrev pub place_in : TextStep → ℕ
 place_in (Insert place bytes) = place

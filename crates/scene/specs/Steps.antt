@@ -1,6 +1,6 @@
 -- A step of a document, with its notes and the views that follow: who hears it, the scene after it, and the room that
 -- it takes.
-use Rattle.std.specs.Prelude.{◌≡◌, ℕ, ◌+◌, ◌≤◌, Bool, List, ◌++◌, length}
+use Rattle.std.specs.Prelude.{◌≡◌, ℕ, ◌+◌, Bool, List, ◌++◌, length}
 use Rattle.ed_types.specs.Notices.{Notice}
 use Rattle.ed_model.specs.Steps.{step_bytes}
 use Rattle.ed_model.specs.Performing.{Scene, step_heard, step_made}
@@ -9,11 +9,11 @@ use Rattle.ed_view.specs.Kept.{KeptView}
 use Rattle.notify.specs.Gathered.{Gathered}
 use Rattle.document.specs.declared.text_step.TextStep.{TextStep}
 use Rattle.document.specs.Kept.{Kept}
-use Rattle.document.specs.TextSteps.{bytes_out}
+use Rattle.document.specs.TextSteps.{step_on}
 use Rattle.scene.specs.declared.steps.StepBits.{StepBits}
 use Rattle.scene.specs.Scenes.{kept_scene, watchers}
 use Rattle.scene.specs.Hearing.{hearers, step_kinds, made_kinds, bytes_shared, left_note}
-use Rattle.scene.specs.StepNotes.{step_on, need_on, notes_before}
+use Rattle.scene.specs.StepNotes.{notes_before}
 
 -- how many views that watch hear the step, whose notes have these bits
 abbrev pub step_hearers : StepBits → TextStep → Kept → Entries KeptView → ℕ
@@ -60,7 +60,3 @@ IsHeard bits is_left step k views g k' views' g' = kept_scene k' views' g' ≡ s
 -- the new scene is the old one after the step that a message makes
 abbrev pub IsMade : Bool → TextStep → Kept → Entries KeptView → Gathered → Kept → Entries KeptView → Gathered → Type 0
 IsMade later step k views g k' views' g' = kept_scene k' views' g' ≡ scene_made later step k views g
-
--- the step takes at most the room in the text that it needs, and the bytes that it deletes become room
-abbrev pub FreesDeletedBytes : TextStep → Kept → Kept → Type 0
-FreesDeletedBytes step old new = old.room.text + bytes_out (step_on old step) ≤ new.room.text + (need_on old step).text

@@ -1,5 +1,5 @@
 -- The list of notes after views are notified, and the room that the notes and their texts take.
-use Rattle.std.specs.Prelude.{◌≡◌, ℕ, ◌+◌, ◌-◌, ◌≤◌, List, [], ◌∷◌, ◌++◌, length}
+use Rattle.std.specs.Prelude.{◌≡◌, ℕ, ◌+◌, ◌-◌, ◌≤◌, List, ◌++◌, length}
 use Rattle.ed_types.specs.Notices.{Notice}
 use Rattle.ed_types.specs.declared.reply.Note.{Note}
 use Rattle.ed_model.specs.Session.{View}
@@ -13,10 +13,6 @@ use Rattle.scene.specs.declared.telling.Audience.{Audience}
 use Rattle.scene.specs.declared.telling.NoteText.{NoteText}
 use Rattle.scene.specs.Scenes.{watchers}
 use Rattle.scene.specs.Hearing.{audience_of, with_note_text}
-
--- one note is appended, and takes its room
-abbrev pub with_note : Notice → Gathered → Gathered
-with_note added g = record g { notes = g.notes ++ added ∷ []; note_room = g.note_room - 1 }
 
 -- these notes are appended, and take their room
 abbrev pub with_notes : List Notice → Gathered → Gathered

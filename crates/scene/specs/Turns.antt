@@ -6,7 +6,6 @@ use Rattle.ed_model.specs.History.{History, Change, TextStep, ContainerStep}
 use Rattle.ed_model.specs.InverseLaws.{Fits}
 use Rattle.ed_model.specs.Session.{View, text_of}
 use Rattle.ed_model.specs.Notes.{bit_if, multi_step, heard, before_note, after_note}
-use Rattle.ed_model.specs.Changes.{marker_count}
 use Rattle.ed_model.specs.Performing.{last_bits, changes_lines, change_performed, container_note}
 use Rattle.id_table.specs.Entries.{Entries, id_of}
 use Rattle.notify.specs.Gathered.{Gathered}
@@ -14,7 +13,7 @@ use Rattle.ed_view.specs.Kept.{KeptView}
 use Rattle.document.specs.declared.text_step.TextStep.{TextStep as Lent}
 use Rattle.document.specs.declared.undoing.ChangeOutline.{ChangeOutline}
 use Rattle.document.specs.declared.undoing.Direction.{Direction}
-use Rattle.document.specs.Kept.{Kept, HasTextRoom, TakesRoom, IsAtMost, no_room, with_freed}
+use Rattle.document.specs.Kept.{Kept, HasTextRoom, TakesRoom, AddsNoRoomBut, marker_room_in_all}
 use Rattle.document.specs.TextSteps.{step_in, IsStepOn}
 use Rattle.document.specs.Undoing.{changes_of, outline_of, room_of_change}
 use Rattle.scene.specs.declared.performing.Turn.{Turn}
@@ -83,9 +82,9 @@ pub record IsPerformed (turn : Turn) (lines_changed changed : Bool) (k : Kept) (
   pub ids : map id_of views'.entries ≡ map id_of views.entries
   pub next : views'.next ≡ views.next
   pub view_room : views'.room ≡ views.room
-  pub none_made : IsAtMost k'.room (with_freed (freed_by change) k.room) no_room
+  pub none_made : AddsNoRoomBut (freed_by change) k k'
   pub spare : k'.spare ≡ record k.spare { markers = k'.spare.markers; fill = fill_behind k.spare.fill change }
-  pub markers_in_all : k'.spare.markers + marker_count k'.document.rows ≡ k.spare.markers + marker_count k.document.rows
+  pub markers_in_all : marker_room_in_all k' ≡ marker_room_in_all k
   pub fold_rooms : map fold_room_in_all views'.entries ≡ map fold_room_in_all views.entries
 
 -- the views that hear the step are notified before it is made, and its bytes are shared if any view hears it, which `hears` says

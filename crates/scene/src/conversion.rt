@@ -2,12 +2,12 @@
 
 ghost use Rattle.std.specs.Prelude.{◌≡◌, ◌≤◌, if◌then◌else◌, nat_lt, length, MatchOption};
 ghost use Rattle.ed_model.specs.Session.{text_of};
-ghost use Rattle.document.specs.TextSteps.{IsStepOn};
+ghost use Rattle.document.specs.Kept.{AddsNoRoomBut, marker_room_in_all};
+ghost use Rattle.document.specs.TextSteps.{IsStepOn, need_on};
 ghost use Rattle.line_ends.specs.Conversion.{completed};
 ghost use Rattle.scene.specs.Scenes.{AreNamed, IsWatched, KeepFoldRooms};
-ghost use Rattle.scene.specs.RoomLeft.{AddsNoRoomBut, KeepsSpare, marker_room_in_all};
+ghost use Rattle.scene.specs.RoomLeft.{KeepsSpare};
 ghost use Rattle.scene.specs.Telling.{note_room_in_all};
-ghost use Rattle.scene.specs.StepNotes.{need_on};
 ghost use Rattle.scene.specs.Needs.{leaving_notes};
 ghost use Rattle.scene.specs.Conversion.{CanMakeSteps, capped_room, room_of_many, ConversionIsMade, DeletionsAreLeft, DeletionsAreMade, DeletionsKeepRooms, IsConverted, IsFirstMissing, IsFirstUnwanted, NoneMissing, NoneUnwanted, conversion_fill, conversion_freed, conversion_of, deletions_in, has_steps, insertions_in, notes_for_all, notes_for_conversion, notes_for_many, room_for_all, room_for_conversion, unwanted_steps};
 

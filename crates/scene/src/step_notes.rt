@@ -4,11 +4,11 @@ ghost use Rattle.std.specs.Prelude.{◌≡◌, ◌≤◌, ◌<◌, ◌^◌, true
 ghost use Rattle.ed_model.specs.Steps.{step_bytes};
 ghost use Rattle.ed_model.specs.Numbers.{growth};
 ghost use Rattle.selection.specs.Positions.{movement_of as movement};
-ghost use Rattle.document.specs.TextSteps.{step_in, IsStepOn};
+ghost use Rattle.document.specs.TextSteps.{step_in, IsStepOn, step_on};
 ghost use Rattle.scene.specs.Scenes.{AreNamed};
 ghost use Rattle.scene.specs.Hearing.{before_kind, after_kind};
 ghost use Rattle.scene.specs.Telling.{with_notes, with_shared};
-ghost use Rattle.scene.specs.StepNotes.{place_in, count_in, IsSmallStep, note_text_before, CanTellStep, IsNoteAfter, IsNoteBefore, IsRangeNote, IsStepTold, notes_before, step_on};
+ghost use Rattle.scene.specs.StepNotes.{place_in, count_in, IsSmallStep, note_text_before, CanTellStep, IsNoteAfter, IsNoteBefore, IsRangeNote, IsStepTold, notes_before};
 
 use crate::telling::{Audience, NoteText, tell};
 use document::{Document, TextStep};

@@ -3,9 +3,10 @@
 ghost use Rattle.std.specs.Prelude.{◌≡◌, ◌≤◌, ◌<◌, ◌^◌, List, ℕ, length};
 ghost use Rattle.ed_types.specs.Heard.{with_text};
 ghost use Rattle.ed_model.specs.Notes.{modify_attempt, blank as blank_note};
+ghost use Rattle.notify.specs.Gathered.{with_note};
 ghost use Rattle.scene.specs.Scenes.{watchers, AreNamed};
 ghost use Rattle.scene.specs.Hearing.{belongs, with_note_text, hearers, masks_of};
-ghost use Rattle.scene.specs.Telling.{watching_audience, with_audience_told, with_note, with_told};
+ghost use Rattle.scene.specs.Telling.{watching_audience, with_audience_told, with_told};
 
 use document::Document;
 use ed_types::Note;

@@ -3,11 +3,11 @@
 ghost use Rattle.std.specs.Prelude.{◌≡◌, ◌≤◌, ◌<◌, ◌-◌, ◌==◌, ◌&&◌, ◌||◌, nat_lt, length, map, not};
 ghost use Rattle.ed_model.specs.History.{Change};
 ghost use Rattle.id_table.specs.Entries.{id_of};
-ghost use Rattle.document.specs.Kept.{HasTextRoom, TakesRoom};
+ghost use Rattle.document.specs.Kept.{HasTextRoom, TakesRoom, AddsNoRoomBut, marker_room_in_all};
 ghost use Rattle.document.specs.Undoing.{changes_of, outline_of, save_point_told};
 ghost use Rattle.scene.specs.Scenes.{watchers, AreNamed, IsWatched, KeepFoldRooms};
 ghost use Rattle.scene.specs.Hearing.{masks_of};
-ghost use Rattle.scene.specs.RoomLeft.{AddsNoRoomBut, KeepsSpare, marker_room_in_all};
+ghost use Rattle.scene.specs.RoomLeft.{KeepsSpare};
 ghost use Rattle.scene.specs.Telling.{TakesTextRoom, note_room_in_all};
 ghost use Rattle.scene.specs.Undoing.{free_behind, save_point_notes, capped_room, place_by, IsNoteNeed, history_bytes, history_caret, history_fill, history_freed, history_note_need, history_notes, history_room, none_hears, save_point_count};
 ghost use Rattle.scene.specs.Turns.{turn_of, CanMakeOutlined};

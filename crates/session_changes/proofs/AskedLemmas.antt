@@ -10,8 +10,8 @@ use Rattle.ed_model.specs.Changes.{changed_view, view_change_performed}
 use Rattle.ed_model.specs.proved.Finding.{found_once}
 use Rattle.ed_model.specs.proved.Changes.{changed_view_id}
 use Rattle.ed_view.specs.Folding.{fold_need, is_setting, FitChangesAreWithin, IsWithin, HasFoldRoom}
-use Rattle.ed_view.specs.Kept.{KeptView}
-use Rattle.document.specs.Kept.{Kept}
+use Rattle.ed_view.specs.Kept.{KeptView, view_in}
+use Rattle.document.specs.Kept.{Kept, document_of}
 use Rattle.id_table.specs.Entries.{Entries, value_at}
 use Rattle.scene.specs.Scenes.{views_of}
 use Rattle.message_requests.specs.Requested.{session_in}
@@ -19,7 +19,7 @@ use Rattle.message_requests.specs.declared.state.SessionState.{SessionState}
 use Rattle.session_changes.specs.Kept.{IsKept}
 use Rattle.session_changes.specs.Asked.{IsAsked, CanChangeView}
 use Rattle.session_changes.specs.Folding.{HasFoldRoomAt, levels_of, changed_at, CanChange}
-use Rattle.session_changes.specs.proved.Finding.{view_in, id_of_view, fold_rooms_in, document_in, id_of_document, IsKeptAs, kept_as, own_at, holds_at, one_changes}
+use Rattle.session_changes.specs.proved.Finding.{id_of_view, fold_rooms_in, id_of_document, IsKeptAs, kept_as, own_at, holds_at, one_changes}
 
 module _ (s : SessionState) (document view : ℕ) (r : Request) (kept : IsKept s) (asked : IsAsked (session_in s) document view r) where
   pub view_found : view_at (session_in s).views view ≡ Some r.view
@@ -34,15 +34,15 @@ module _ (s : SessionState) (document view : ℕ) (r : Request) (kept : IsKept s
   pub kept_view : IsKeptAs view_in id_of_view (value_at s.views.entries view) r.view
   kept_view = kept_as view_in id_of_view s.views.entries view r.view kept.views view_found
 
-  pub kept_document : IsKeptAs document_in id_of_document (value_at s.documents.entries document) r.document
-  kept_document = kept_as document_in id_of_document s.documents.entries document r.document kept.documents document_found
+  pub kept_document : IsKeptAs document_of id_of_document (value_at s.documents.entries document) r.document
+  kept_document = kept_as document_of id_of_document s.documents.entries document r.document kept.documents document_found
 
   -- the id has a document, and what holds of the request's document, whatever its room, holds of it
   pub of_document : (P : Kept → Type 0) → ((k : Kept) → k.document ≡ r.document → P k) → IsSomeAnd (value_at s.documents.entries document) P
   of_document P h = subst (λ o. IsSomeAnd o P) (sym kept_document.there) (h kept_document.value kept_document.is)
 
   pub same_document : (k : Kept) → value_at s.documents.entries document ≡ Some k → k.document ≡ r.document
-  same_document k at = let same : k ≡ kept_document.value = some_same k kept_document.value (sym at ∙ kept_document.there) in ap document_in same ∙ kept_document.is
+  same_document k at = let same : k ≡ kept_document.value = some_same k kept_document.value (sym at ∙ kept_document.there) in ap document_of same ∙ kept_document.is
     where
       some_same : (a b : Kept) → Some a ≡ Some b → a ≡ b
       some_same a b e = cc

@@ -8,6 +8,7 @@ use Rattle.ed_model.specs.Session.{Document, references, living, left_by}
 use Rattle.ed_model.specs.SoundLaws.{Rise}
 use Rattle.ed_model.specs.Changes.{attached_last}
 use Rattle.id_table.specs.Entries.{Rise as IdsRise, Entry, Entries, id_of, value_of, value_at, with_value_at, without_id}
+use Rattle.document.specs.Changes.{with_attached_view}
 use Rattle.document.specs.Kept.{Kept}
 use Rattle.document_table.specs.Leaving.{documents_in as entries_in, left_over_of, let_go, IsChangedAlike, LeavesTheLiving}
 use Rattle.message_requests.specs.Requested.{documents_in}
@@ -89,9 +90,6 @@ still_named_left id change stays old left all is = named_out left (subst (AllByR
 one_more : (d : Document) (view : ℕ) (views : List ℕ) → 0 < references (record d { views = views ++ view ∷ [] })
 one_more d view views = omega (arith, length-append views (view ∷ []))
 
-abbrev pub given : ℕ → Document → Document
-given view d = record d { views = d.views ++ view ∷ [] }
-
 abbrev pub after_giving : ℕ → ℕ → Document → Document
 after_giving view to d = if d.id == to then d else left_by view d
 
@@ -100,7 +98,7 @@ module _ (from view to : ℕ) where
   ids_stay [] = refl
   ids_stay (d ∷ ds) = go (d.id == to) (ids_stay ds)
     where
-      go : (b : Bool) → ids_of (with_last to view ds) ≡ ids_of ds → (cond b (given view d) d).id ∷ ids_of (with_last to view ds) ≡ d.id ∷ ids_of ds
+      go : (b : Bool) → ids_of (with_last to view ds) ≡ ids_of ds → (cond b (with_attached_view view d) d).id ∷ ids_of (with_last to view ds) ≡ d.id ∷ ids_of ds
       go true rest = ap (λ ids. d.id ∷ ids) rest
       go false rest = ap (λ ids. d.id ∷ ids) rest
 
@@ -108,7 +106,7 @@ module _ (from view to : ℕ) where
   all_referenced [] all = tt
   all_referenced (d ∷ ds) all = (go (d.id == to) refl, all_referenced ds all.1)
     where
-      go : (b : Bool) → (d.id == to) ≡ b → 0 < references (cond b (given view d) d)
+      go : (b : Bool) → (d.id == to) ≡ b → 0 < references (cond b (with_attached_view view d) d)
       go true t = one_more d view d.views
       go false t = all.0 (λ is. eqb-false d.id to t is)
 
@@ -116,8 +114,8 @@ module _ (from view to : ℕ) where
   all_alike other [] all = tt
   all_alike other (d ∷ ds) all = (go (d.id == to) refl, all_alike other ds all.1)
     where
-      go : (b : Bool) → (d.id == to) ≡ b → ChangesAlike from (left_by view) (after_giving view to) (cond b (given view d) d)
-      go true t = (λ is. absurd (other (sym is ∙ eqb-true d.id to t)), λ _. ap (λ b. cond b (given view d) (left_by view (given view d))) t)
+      go : (b : Bool) → (d.id == to) ≡ b → ChangesAlike from (left_by view) (after_giving view to) (cond b (with_attached_view view d) d)
+      go true t = (λ is. absurd (other (sym is ∙ eqb-true d.id to t)), λ _. ap (λ b. cond b (with_attached_view view d) (left_by view (with_attached_view view d))) t)
       go false t = (λ is. ap (λ b. cond b d (left_by view d)) t, λ elsewhere. ap (λ b. cond b d (left_by view d)) t ∙ all.0 elsewhere)
 
   each_so : from ≢ to → (ds : List Document) → AllByRecursion (λ (d : Document). d.id ≢ from → left_by view d ≡ d) ds → map (after_giving view to) (with_last to view ds) ≡ map (attached_last view to) ds
@@ -126,10 +124,10 @@ module _ (from view to : ℕ) where
       let first = go (d.id == to) refl in let rest = each_so other ds all.1 in
       ap (λ x. x ∷ map (after_giving view to) (with_last to view ds)) first ∙ ap (λ xs. attached_last view to d ∷ xs) rest
     where
-      go : (b : Bool) → (d.id == to) ≡ b → after_giving view to (if d.id == to then given view d else d) ≡ attached_last view to d
+      go : (b : Bool) → (d.id == to) ≡ b → after_giving view to (if d.id == to then with_attached_view view d else d) ≡ attached_last view to d
       go true t =
           let stays : left_by view d ≡ d = all.0 (λ is. other (sym is ∙ eqb-true d.id to t)) in
-          rw t (ap (λ b. cond b (given view d) (left_by view (given view d))) t ∙ ap (given view) (sym stays))
+          rw t (ap (λ b. cond b (with_attached_view view d) (left_by view (with_attached_view view d))) t ∙ ap (with_attached_view view) (sym stays))
       go false t = rw t (ap (λ b. cond b d (left_by view d)) t)
 
   pub passed_on : LeavesTheLiving → (old put left : Entries Kept) → from ≢ to → CanMove old from view to → documents_in put ≡ with_last to view (documents_in old) → DocumentsAreNamed put.entries → put.next ≡ old.next

@@ -20,7 +20,7 @@ use Rattle.ed_model.specs.proved.Limits.{allowed_lengths}
 use Rattle.ed_model.specs.proved.Lines.{few_lines}
 use Rattle.ed_model.specs.proved.Finding.{rise_added}
 use Rattle.ed_model.specs.proved.Elements.{all_added}
-use Rattle.document.specs.Kept.{Kept}
+use Rattle.document.specs.Kept.{Kept, document_of}
 use Rattle.document.specs.declared.kept.Document.{Document as KeptDocument}
 use Rattle.document_table.specs.Leaving.{documents_in as entries_in, let_go, released, LeavesTheLiving}
 use Rattle.ed_view.specs.Folding.{fold_need, HasFoldRoom}
@@ -37,7 +37,7 @@ use Rattle.session_changes.specs.Folding.{HasFoldRoomAt, IsFoldRoomAtMost, IsRoo
 use Rattle.session_changes.specs.Moving.{DocumentsRise, CanMove}
 use Rattle.session_changes.specs.Ready.{IsReady, AwaitsView, IsHeld, HasPlacesAtMost, ArePlacesAtMost}
 use Rattle.session_changes.specs.declared.ready.SessionReady.TheVariants as made
-use Rattle.session_changes.specs.proved.Finding.{document_in, id_of_document, own_at, holds_at, found_some, kept_as, for_replaced, value_replaced, other_replaced}
+use Rattle.session_changes.specs.proved.Finding.{id_of_document, own_at, holds_at, found_some, kept_as, for_replaced, value_replaced, other_replaced}
 use Rattle.session_changes.specs.proved.Names.{without_itself, none_listed}
 use Rattle.session_changes.proofs.AskedLemmas.{of_document, view_found, on_document, document_found, kept_view, kept_document, stands, in_its_place}
 use Rattle.session_changes.proofs.MovingLemmas.{ChangesAlike, living_left}
@@ -134,7 +134,7 @@ pub references_few : (s : SessionState) (r : Request) (id : ℕ) → IsKept s �
 references_few s r id kept is fit =
     let d = fit.0 in
     let at : document_at (session_in s).documents id ≡ Some d = ap (λ (x : Session). document_at x.documents id) (sym is) ∙ fit.1 in
-    let there = kept_as document_in id_of_document s.documents.entries id d kept.documents at in
+    let there = kept_as document_of id_of_document s.documents.entries id d kept.documents at in
     let few : references d < s.limits.refs = subst (λ (x : Session). references d < x.limits.refs) is fit.2 in
     let held : there.value.document.held_by_callers ≡ d.held_by_callers = ap (λ (x : Document). x.held_by_callers) there.is in
     let less : there.value.document.held_by_callers + 1 < 2 ^ 32 = omega (arith, few, held_few s.limits kept.limits, held) in
@@ -181,7 +181,7 @@ pub can_attach : (s : SessionState) (document view to : ℕ) (r : Request) → I
 can_attach s document view to r kept asked fit place =
     let d = fit.0 in
     let at : document_at (session_in s).documents to ≡ Some d = ap (λ (x : Session). document_at x.documents to) (sym asked.session) ∙ fit.1 in
-    let there = kept_as document_in id_of_document s.documents.entries to d kept.documents at in
+    let there = kept_as document_of id_of_document s.documents.entries to d kept.documents at in
     record {
       named = kept.documents;
       rise = kept.sound.document_ids;
@@ -201,7 +201,7 @@ pub attached_so : (old new : SessionState) (view to : ℕ) (v : View) (k : Kept)
 attached_so old new view to v k named at own here documents views next_document next_view clipboard limits =
     let s = session_in old in
     let d = k.document in
-    let found : document_at s.documents to ≡ Some d = found_some document_in id_of_document old.documents.entries to k named at in
+    let found : document_at s.documents to ≡ Some d = found_some document_of id_of_document old.documents.entries to k named at in
     let id : d.id ≡ to = own_at id_of_document s.documents to d found in
     let ds : documents_in new.documents ≡ living (map (attached_last v.id d.id) s.documents) =
     documents ∙ ap (λ n. living (map (attached_last n to) s.documents)) (sym own) ∙ ap (λ n. living (map (attached_last v.id n) s.documents)) (sym id) in

@@ -1,6 +1,7 @@
 -- Where a pattern stands, by what is found in a part of the text.
 use Rattle.std.proofs.Common.{◌≡◌, ℕ, ◌+◌, ◌-◌, ◌<◌, ◌≤◌, min, Bool, true, false, eqb, ◌&&◌, ◌||◌, not, List, ◌++◌, length, map, get_or, take, drop, slice_range, refl, sym, ap, ◌∙◌, subst, arith, inl, inr}
 use Rattle.std.specs.List.{starts_with}
+use Rattle.std.proofs.Math.Bool.{and-true, and-false}
 use Rattle.std.proofs.lemmas.Bool.{cases_Bool, cases_lt, cond-true, eq-eqb, false≢true}
 use Rattle.std.proofs.lemmas.List.{length-take, length-drop, length-append, length-take-le, get_or-take, get_or_append_left, get_or-append_right, ext_get_or, take-append-drop}
 use Rattle.memchr.specs.Find.{OccursAt}
@@ -11,7 +12,7 @@ use Rattle.target_search.specs.Cases.{is_either}
 use Rattle.target_search.specs.Rare.{IsRareOf}
 use Rattle.target_search.specs.declared.rare.RareByte.{RareByte}
 use Rattle.target_search.specs.Found.{stands_at, words_pass, IsPart, NonePasses}
-use Rattle.target_search.proofs.Fronts.{and_assoc, and_both, and_false, and_true, and_first, front_true, front_long, front_reads, front_pieces}
+use Rattle.target_search.proofs.Fronts.{and_assoc, and_both, and_first, front_true, front_long, front_reads, front_pieces}
 
 pub length_part : (xs : List ℕ) (from to : ℕ) → from ≤ to → to ≤ length xs → from + length (slice_range xs from to) ≡ to
 length_part xs from to a b =
@@ -65,13 +66,13 @@ module _ (flags : ℕ) (text pattern : List ℕ) where
   -- a match, by the test of the words and then by that of the bytes
   pub told_by_bytes : (place : ℕ) (s : Bool) → words_pass flags text place (place + length pattern) ≡ true → s ≡ stands_at flags text pattern place → s ≡ is_match flags text pattern place
   told_by_bytes place s words e =
-      e ∙ sym (match_is place ∙ ap (λ w. stands_at flags text pattern place && w) words ∙ and_true (stands_at flags text pattern place))
+      e ∙ sym (match_is place ∙ ap (λ w. stands_at flags text pattern place && w) words ∙ and-true (stands_at flags text pattern place))
 
   pub is_match_at : (place : ℕ) → stands_at flags text pattern place ≡ true → words_pass flags text place (place + length pattern) ≡ true → is_match flags text pattern place ≡ true
   is_match_at place s w = match_is place ∙ and_both _ _ s w
 
   pub words_refuse : (place : ℕ) → words_pass flags text place (place + length pattern) ≡ false → is_match flags text pattern place ≡ false
-  words_refuse place w = match_is place ∙ ap (λ b. stands_at flags text pattern place && b) w ∙ and_false (stands_at flags text pattern place)
+  words_refuse place w = match_is place ∙ ap (λ b. stands_at flags text pattern place && b) w ∙ and-false (stands_at flags text pattern place)
 
   -- read byte by byte
   stands_from_reads : (place : ℕ) → place + length pattern ≤ length text

@@ -1,8 +1,9 @@
 -- What a step and a change keep of a document and of a view.
-use Rattle.std.proofs.Common.{◌≡◌, ℕ, Bool, true, false, cond, List, length, ◌++◌, take, drop, refl}
+use Rattle.std.proofs.Common.{◌≡◌, ℕ, Bool, true, false, cond, List, ◌∷◌, length, ◌+◌, ◌++◌, take, drop, refl}
 use Rattle.std.specs.Prelude.{◌==◌}
 use Rattle.std.proofs.lemmas.Bool.{cond_both}
 use Rattle.std.proofs.lemmas.List.{length-map}
+use Rattle.std.proofs.lemmas.List.Sums.{sum_by-cons}
 use Rattle.ed_model.specs.declared.plan.LineEndTypes.{LineEndTypes}
 use Rattle.ed_model.specs.declared.plan.DocumentChange.{DocumentChange}
 use Rattle.ed_model.specs.declared.plan.DocumentChange.TheVariants as document_change
@@ -10,16 +11,20 @@ use Rattle.ed_model.specs.declared.plan.ViewChange.{ViewChange}
 use Rattle.ed_model.specs.declared.plan.ViewChange.TheVariants as view_change
 use Rattle.ed_model.specs.Text.{Cell, bytes_of}
 use Rattle.ed_model.specs.Carry.{regrouped}
-use Rattle.ed_model.specs.Rows.{flags_together}
+use Rattle.ed_model.specs.Rows.{Row, flags_together}
 use Rattle.ed_model.specs.Steps.{Step}
 use Rattle.ed_model.specs.Session.{Document, View, text_of, keeps_no_styles}
 use Rattle.ed_model.specs.Performing.{moved_view, view_after}
-use Rattle.ed_model.specs.Changes.{restyled, styled, changed_document, changed_lines, changed_view}
+use Rattle.ed_model.specs.Changes.{restyled, styled, marker_count, changed_document, changed_lines, changed_view}
 use Rattle.ed_model.specs.proved.Steps.{bytes_behind_restyled}
 
 -- a text is as long as the list of its cells
 pub length_text : (d : Document) → length (text_of d) ≡ length d.cells
 length_text d = length-map d.cells (λ (c : Cell). c.byte)
+
+-- the markers of one more row
+pub marker_count-cons : (row : Row) (rows : List Row) → marker_count (row ∷ rows) ≡ length row.markers + marker_count rows
+marker_count-cons row rows = sum_by-cons (λ (r : Row). length r.markers) row rows
 
 -- A step of the text.
 

@@ -44,16 +44,7 @@ pub map_where : {X Y : Type 0} (f g : X → Y) (xs : List X) → AllByRecursion 
 map_where f g [] h = refl
 map_where f g (x ∷ xs) h = ap₂ (λ y l. y ∷ l) h.0 (map_where f g xs h.1)
 
--- an element that is found passes the test
-pub found_test : {X : Type 0} (test : X → Bool) (xs : List X) (x : X) → find test xs ≡ Some x → test x ≡ true
-found_test test [] x e = absurd (cc)
-found_test {X} test (y ∷ ys) x e = go (test y) refl e (λ e. found_test test ys x e)
-  where
-    go : (b : Bool) → test y ≡ b → cond b (Some y) (find test ys) ≡ Some x → (find test ys ≡ Some x → test x ≡ true) → test x ≡ true
-    go true t e rest = let same : y ≡ x = cc in subst (λ z. test z ≡ true) same t
-    go false t e rest = rest e
-
--- .. and has what all elements have
+-- an element that is found has what all elements have
 pub found_all : {X : Type 0} (P : X → Type 0) (test : X → Bool) (xs : List X) (x : X) → AllByRecursion P xs → find test xs ≡ Some x → P x
 found_all P test [] x all e = absurd (cc)
 found_all {X} P test (y ∷ ys) x all e = go (test y) e (λ e. found_all P test ys x all.1 e)

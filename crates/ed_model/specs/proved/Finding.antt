@@ -8,9 +8,10 @@ use Rattle.std.proofs.lemmas.List.{map-append}
 use Rattle.std.proofs.lemmas.List.Elements.{filter-append}
 use Rattle.std.proofs.lemmas.List.Folds.{find-append}
 use Rattle.ed_types.specs.declared.limits.Limits.{Limits}
-use Rattle.ed_model.specs.Session.{Document, View, document_at, view_at, with_document, in_place_of_document, living, references}
+use Rattle.ed_model.specs.Session.{Document, View, document_at, view_at, with_document, with_view, in_place_of_document, in_place_of_view, living, references}
 use Rattle.ed_model.specs.SoundLaws.{Rise, occurrences, IsSoundDocument}
-use Rattle.ed_model.specs.proved.Elements.{all_map, found_test, found_all}
+use Rattle.ed_types.specs.proved.Found.{found_test}
+use Rattle.ed_model.specs.proved.Elements.{all_map, found_all}
 
 pub document_id : (documents : List Document) (id : ℕ) (d : Document) → document_at documents id ≡ Some d → d.id ≡ id
 document_id documents id d e = eqb-true d.id id (found_test (λ (d : Document). d.id == id) documents d e)
@@ -114,6 +115,17 @@ ids_of views = map (λ (v : View). v.id) views
 
 pub same_ids : (f : View → View) → ((v : View) → (f v).id ≡ v.id) → (views : List View) → ids_of (map f views) ≡ ids_of views
 same_ids f h views = mapped_ids (λ (v : View). v.id) f h views
+
+-- a view in the place of the one with its id has that id
+pub in_place_id : (new v : View) → (in_place_of_view new v).id ≡ v.id
+in_place_id new v = go (v.id == new.id) refl
+  where
+    go : (b : Bool) → (v.id == new.id) ≡ b → (cond b new v).id ≡ v.id
+    go true t = sym (eqb-true v.id new.id t)
+    go false t = refl
+
+pub with_view_ids : (new : View) (views : List View) → ids_of (with_view new views) ≡ ids_of views
+with_view_ids new views = same_ids (in_place_of_view new) (in_place_id new) views
 
 -- all views with the id are on the document
 abbrev pub IsOwner : ℕ → ℕ → List View → Type 0

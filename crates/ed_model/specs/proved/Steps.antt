@@ -1,9 +1,11 @@
--- The length of the text after a step; the bytes of edited cells; a change of styles changes no byte.
+-- The length of the text after a step; the bytes of edited cells; a change of styles changes no byte; steps fit in turn.
 use Rattle.std.proofs.Common.{ℕ, ◌≡◌, ◌+◌, ◌-◌, ◌≤◌, min, List, [], ◌∷◌, ◌++◌, length, take, drop, slice_range, refl, sym, ap, ◌∙◌, arith}
 use Rattle.std.proofs.lemmas.List.{length-append, length-map, length-take, length-drop, map-append, take-map, drop-map, take-append-drop}
 use Rattle.ed_model.specs.Text.{Cell, bytes_of, plain_cells}
 use Rattle.ed_model.specs.Changes.{restyled}
 use Rattle.ed_model.specs.Steps.{Step, Insert, Delete, edited, edited_cells}
+use Rattle.ed_model.specs.InverseLaws.{FitInTurn}
+use Rattle.ed_model.specs.SoundLaws.{AreStepsOf}
 use Rattle.ed_model.specs.proved.Lists.{length_slice}
 
 -- an insertion lengthens the text by the inserted bytes
@@ -48,3 +50,8 @@ length_of_bytes cells = length-map cells (λ (c : Cell). c.byte)
 
 pub length_of_range : (cells : List Cell) (start count : ℕ) → start + count ≤ length cells → length (slice_range (bytes_of cells) start (start + count)) ≡ count
 length_of_range cells start count h = length_slice (bytes_of cells) start count (omega (arith, length_of_bytes cells))
+
+-- steps of a text fit it, each in its turn
+pub fit_in_turn : (steps : List Step) (text : List ℕ) → AreStepsOf text steps → FitInTurn steps text
+fit_in_turn [] text f = tt
+fit_in_turn (x ∷ xs) text f = (f.0.0, fit_in_turn xs (edited x text) f.1)

@@ -5,9 +5,9 @@ use Rattle.std.specs.List.{AllByRecursion}
 use Rattle.std.proofs.lemmas.Bool.{eqb-true, eqb-false, eq-eqb, ne_eqb}
 use Rattle.ed_model.specs.SoundLaws.{Rise}
 use Rattle.ed_model.specs.Session.{Document, View}
-use Rattle.ed_model.specs.proved.Elements.{found_test, found_all}
+use Rattle.ed_types.specs.proved.Found.{found_test}
+use Rattle.ed_model.specs.proved.Elements.{found_all}
 use Rattle.ed_model.specs.proved.Finding.{found_once}
-use Rattle.document.specs.Kept.{Kept}
 use Rattle.ed_view.specs.Kept.{KeptView, contracted_in_all}
 use Rattle.id_table.specs.Entries.{Entry, entry, value_of, value_at, with_value_at}
 
@@ -197,9 +197,6 @@ module _ {V : Type 0} where
   pub for_replaced : (P : V → Type 0) (entries : List (Entry V)) (id : ℕ) (old new : V) → value_at entries id ≡ Some old → P new → IsSomeAnd (value_at (with_value_at id new entries) id) P
   for_replaced P entries id old new at is = subst (λ o. IsSomeAnd o P) (sym (value_replaced entries id old new at)) is
 
-abbrev pub view_in : KeptView → View
-view_in k = k.view
-
 -- how many hidden lines the view has room for, and how many contracted ones, in all
 abbrev pub fold_rooms_in : KeptView → ℕ × ℕ
 fold_rooms_in k = (k.room.hidden, contracted_in_all k)
@@ -209,9 +206,6 @@ same_fold_rooms k k' hidden contracted = rw (hidden, contracted) refl
 
 abbrev pub id_of_view : View → ℕ
 id_of_view v = v.id
-
-abbrev pub document_in : Kept → Document
-document_in k = k.document
 
 abbrev pub id_of_document : Document → ℕ
 id_of_document d = d.id

@@ -1,6 +1,7 @@
 use Rattle.std.proofs.Common.{sym, ap, ◌∙◌}
 use Rattle.std.specs.Prelude.{option_copied}
-use Rattle.session_changes.specs.proved.Finding.{view_in, id_of_view, found_none}
+use Rattle.ed_view.specs.Kept.{view_in}
+use Rattle.session_changes.specs.proved.Finding.{id_of_view, found_none}
 use Rattle.editor_session.proofs.Attaching.{view_is, document_is, document_is_there}
 use Rattle.editor_session.proofs.attached.look_up.Goals as goal
 

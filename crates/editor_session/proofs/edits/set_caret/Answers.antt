@@ -1,8 +1,8 @@
 use Rattle.std.proofs.Common.{sym, ap, ◌∙◌}
 use Rattle.std.specs.Option.{option_copied_mut}
-use Rattle.ed_view.specs.Kept.{KeptView}
+use Rattle.ed_view.specs.Kept.{KeptView, view_in}
 use Rattle.selection.specs.declared.selections.Selection.{Selection}
-use Rattle.session_changes.specs.proved.Finding.{view_in, id_of_view, changed, named_with}
+use Rattle.session_changes.specs.proved.Finding.{id_of_view, changed, named_with}
 use Rattle.editor_session.proofs.Finding.{no_view_changed}
 use Rattle.editor_session.proofs.edits.set_caret.Goals as goal
 

@@ -2,7 +2,7 @@ use Rattle.std.proofs.Common.{arith, ◌+◌, ◌≡◌, ◌≤◌, SomeIff, ℕ
 use Rattle.ed_types.specs.declared.message.Message.{Message}
 use Rattle.ed_model.specs.Spelling.{spelled_int}
 use Rattle.ed_model.specs.Listing.{listed_command}
-use Rattle.macro_script.specs.Recorded.{sending}
+use Rattle.ed_model.specs.Recording.{sent_to}
 use Rattle.macro_script.proofs.ListedLengths.{length-send}
 use Rattle.macro_script.proofs.lengths.send_len.Goals as goal
 
@@ -16,5 +16,5 @@ returns-in-Some-clause-len c =
     let l-fits : SFits w64 c.args.l = search rules in
     let w = ap (λ z. length (spelled_int z)) (to_z-of_z w-fits) in
     let l = ap (λ z. length (spelled_int z)) (to_z-of_z l-fits) in
-    let whole : 4 + (c.id_len.result + c.id_len-2.result) + (c.number_len.result + c.number_len-2.result) + 3 + c.in-Some.len ≡ length (listed_command (sending c.args.view m)) = omega arith in
+    let whole : 4 + (c.id_len.result + c.id_len-2.result) + (c.number_len.result + c.number_len-2.result) + 3 + c.in-Some.len ≡ length (listed_command (sent_to c.args.view m)) = omega arith in
     subst P whole c.within_limit.ensures

@@ -1,15 +1,16 @@
 use Rattle.std.proofs.Common.{sym, ap, ◌∙◌}
 use Rattle.std.specs.Option.{option_copied_mut}
-use Rattle.session_changes.specs.proved.Finding.{document_in, id_of_document, changed, named_with}
-use Rattle.session_changes.proofs.MovingLemmas.{given}
+use Rattle.document.specs.Kept.{document_of}
+use Rattle.session_changes.specs.proved.Finding.{id_of_document, changed, named_with}
+use Rattle.document.specs.Changes.{with_attached_view}
 use Rattle.session_changes.proofs.moving.put_last.Goals as goal
 
 pub returns-clause-documents : goal.returns-clause-documents
 returns-clause-documents c =
-    changed document_in id_of_document c.args.documents.now.entries c.args.document c.args.documents.now.next c.requires.named c.requires.rise c.in-Some.document.now c.attach_reserved.new.self
-    (sym c.get_mut.ensures.value ∙ ap option_copied_mut c.in-Some.is) (given c.args.view) c.attach_reserved.ensures.document
+    changed document_of id_of_document c.args.documents.now.entries c.args.document c.args.documents.now.next c.requires.named c.requires.rise c.in-Some.document.now c.attach_reserved.new.self
+    (sym c.get_mut.ensures.value ∙ ap option_copied_mut c.in-Some.is) (with_attached_view c.args.view) c.attach_reserved.ensures.document
 
 pub returns-clause-named : goal.returns-clause-named
 returns-clause-named c =
-    named_with document_in id_of_document c.args.documents.now.entries c.args.document c.args.documents.now.next c.requires.named c.requires.rise c.in-Some.document.now c.attach_reserved.new.self
+    named_with document_of id_of_document c.args.documents.now.entries c.args.document c.args.documents.now.next c.requires.named c.requires.rise c.in-Some.document.now c.attach_reserved.new.self
     (sym c.get_mut.ensures.value ∙ ap option_copied_mut c.in-Some.is) (ap id_of_document c.attach_reserved.ensures.document)

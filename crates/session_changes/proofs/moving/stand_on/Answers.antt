@@ -1,7 +1,8 @@
 use Rattle.std.proofs.Common.{sym, ap, ◌∙◌}
 use Rattle.std.specs.Option.{option_copied_mut}
 use Rattle.ed_model.specs.Session.{attached_to}
-use Rattle.session_changes.specs.proved.Finding.{view_in, id_of_view, fold_rooms_in, changed, keeping, named_with, same_fold_rooms}
+use Rattle.ed_view.specs.Kept.{view_in}
+use Rattle.session_changes.specs.proved.Finding.{id_of_view, fold_rooms_in, changed, keeping, named_with, same_fold_rooms}
 use Rattle.session_changes.proofs.moving.stand_on.Goals as goal
 
 pub returns-clause-views : goal.returns-clause-views

@@ -1,19 +1,19 @@
 use Rattle.std.proofs.Common.{sym, ap, ◌∙◌, ◌<◌}
 use Rattle.std.specs.Option.{option_copied_mut}
 use Rattle.std.proofs.lemmas.Result.{on_ok_weaker}
-use Rattle.document.specs.Kept.{Kept}
-use Rattle.session_changes.specs.proved.Finding.{document_in, id_of_document, unchanged, named_with, value_replaced}
+use Rattle.document.specs.Kept.{Kept, document_of}
+use Rattle.session_changes.specs.proved.Finding.{id_of_document, unchanged, named_with, value_replaced}
 use Rattle.session_changes.proofs.SessionLemmas.{for_some, of_some, places_most}
 use Rattle.session_changes.proofs.ready.reserve_view_in.Goals as goal
 
 pub returns-clause-same : goal.returns-clause-same
 returns-clause-same c =
-    unchanged document_in id_of_document c.args.documents.now.entries c.args.document c.args.documents.now.next c.requires.named c.requires.rise c.in-Some.document.now c.reserve_view.new.self
-    (sym c.get_mut.ensures.value ∙ ap option_copied_mut c.in-Some.is) (ap document_in c.reserve_view.ensures.same)
+    unchanged document_of id_of_document c.args.documents.now.entries c.args.document c.args.documents.now.next c.requires.named c.requires.rise c.in-Some.document.now c.reserve_view.new.self
+    (sym c.get_mut.ensures.value ∙ ap option_copied_mut c.in-Some.is) (ap document_of c.reserve_view.ensures.same)
 
 pub returns-clause-named : goal.returns-clause-named
 returns-clause-named c =
-    named_with document_in id_of_document c.args.documents.now.entries c.args.document c.args.documents.now.next c.requires.named c.requires.rise c.in-Some.document.now c.reserve_view.new.self
+    named_with document_of id_of_document c.args.documents.now.entries c.args.document c.args.documents.now.next c.requires.named c.requires.rise c.in-Some.document.now c.reserve_view.new.self
     (sym c.get_mut.ensures.value ∙ ap option_copied_mut c.in-Some.is) (ap (λ (k : Kept). k.document.id) c.reserve_view.ensures.same)
 
 pub returns-clause-ok : goal.returns-clause-ok

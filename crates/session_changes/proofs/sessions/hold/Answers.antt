@@ -1,16 +1,16 @@
 use Rattle.std.proofs.Common.{sym, ap, ◌∙◌}
 use Rattle.std.specs.Option.{option_copied_mut}
-use Rattle.document.specs.Kept.{Kept}
-use Rattle.session_changes.specs.proved.Finding.{document_in, id_of_document, changed, named_with}
+use Rattle.document.specs.Kept.{Kept, document_of}
+use Rattle.session_changes.specs.proved.Finding.{id_of_document, changed, named_with}
 use Rattle.session_changes.proofs.SessionLemmas.{given_more}
 use Rattle.session_changes.proofs.sessions.hold.Goals as goal
 
 pub returns-clause-documents : goal.returns-clause-documents
 returns-clause-documents c =
-    changed document_in id_of_document c.args.documents.now.entries c.args.document c.args.documents.now.next c.requires.named c.requires.rise c.in-Some.document.now c.hold.new.self
-    (sym c.get_mut.ensures.value ∙ ap option_copied_mut c.in-Some.is) given_more (ap document_in c.hold.ensures)
+    changed document_of id_of_document c.args.documents.now.entries c.args.document c.args.documents.now.next c.requires.named c.requires.rise c.in-Some.document.now c.hold.new.self
+    (sym c.get_mut.ensures.value ∙ ap option_copied_mut c.in-Some.is) given_more (ap document_of c.hold.ensures)
 
 pub returns-clause-named : goal.returns-clause-named
 returns-clause-named c =
-    named_with document_in id_of_document c.args.documents.now.entries c.args.document c.args.documents.now.next c.requires.named c.requires.rise c.in-Some.document.now c.hold.new.self
+    named_with document_of id_of_document c.args.documents.now.entries c.args.document c.args.documents.now.next c.requires.named c.requires.rise c.in-Some.document.now c.hold.new.self
     (sym c.get_mut.ensures.value ∙ ap option_copied_mut c.in-Some.is) (ap (λ (k : Kept). k.document.id) c.hold.ensures)

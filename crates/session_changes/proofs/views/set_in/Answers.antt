@@ -2,8 +2,8 @@ use Rattle.std.proofs.Common.{sym, ap, ◌∙◌, []}
 use Rattle.std.specs.Option.{option_copied_mut}
 use Rattle.ed_model.specs.Changes.{changed_view}
 use Rattle.ed_model.specs.proved.Changes.{changed_view_id}
-use Rattle.ed_view.specs.Kept.{KeptView}
-use Rattle.session_changes.specs.proved.Finding.{view_in, id_of_view, fold_rooms_in, changed, keeping, named_with}
+use Rattle.ed_view.specs.Kept.{KeptView, view_in}
+use Rattle.session_changes.specs.proved.Finding.{id_of_view, fold_rooms_in, changed, keeping, named_with}
 use Rattle.session_changes.proofs.AskedLemmas.{setting_rooms}
 use Rattle.session_changes.proofs.views.set_in.Goals as goal
 

@@ -1,13 +1,13 @@
 use Rattle.std.proofs.Common.{rules, ◌≡◌, ◌+◌, ◌≤◌, ◌∷◌, ◌++◌, [], ◌∙◌, ap, sym, true, ℤ, nat_lt, length, SFits, w64, to_z, of_z, to_z-of_z}
 use Rattle.ed_types.specs.declared.script.Command.{Command}
 use Rattle.ed_model.specs.Listing.{listing, listed_command, keeps_limits}
-use Rattle.macro_script.specs.Recorded.{sending}
+use Rattle.ed_model.specs.Recording.{sent_to}
 use Rattle.macro_script.proofs.Adding.{line_added, line_too_long, room_is}
 use Rattle.macro_script.proofs.script.Script.fits_send.Goals as goal
 
 pub returns-in-Some : goal.returns-in-Some
 returns-in-Some c =
-    let send : ℤ → ℤ → Command = λ w l. sending c.args.view (record { number = c.args.number; w = w; l = l; text = c.args.text.now }) in
+    let send : ℤ → ℤ → Command = λ w l. sent_to c.args.view (record { number = c.args.number; w = w; l = l; text = c.args.text.now }) in
     let w-fits : SFits w64 c.args.w = search rules in
     let l-fits : SFits w64 c.args.l = search rules in
     let sent = send (to_z w64 (of_z w64 c.args.w)) (to_z w64 (of_z w64 c.args.l)) in
@@ -24,7 +24,7 @@ returns-in-Some c =
 
 pub returns-in-None : goal.returns-in-None
 returns-in-None c =
-    let send : ℤ → ℤ → Command = λ w l. sending c.args.view (record { number = c.args.number; w = w; l = l; text = c.args.text.now }) in
+    let send : ℤ → ℤ → Command = λ w l. sent_to c.args.view (record { number = c.args.number; w = w; l = l; text = c.args.text.now }) in
     let w-fits : SFits w64 c.args.w = search rules in
     let l-fits : SFits w64 c.args.l = search rules in
     let sent = send (to_z w64 (of_z w64 c.args.w)) (to_z w64 (of_z w64 c.args.l)) in
