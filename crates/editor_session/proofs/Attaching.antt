@@ -1,15 +1,5 @@
 -- The view of an id, and its document.
-use Rattle.std.proofs.Common.{◌≡◌, ℕ, ◌==◌, ap, sym, ◌∙◌, Some, None}
-use Rattle.ed_model.specs.Session.{View, document_at, view_at}
-use Rattle.ed_model.specs.SoundLaws.{IsSoundView}
-use Rattle.ed_model.specs.proved.Elements.{found_all}
-use Rattle.id_table.specs.Entries.{value_at}
-use Rattle.document.specs.Kept.{Kept, document_of}
-use Rattle.ed_view.specs.Kept.{KeptView, view_in}
-use Rattle.message_requests.specs.Requested.{session_in}
-use Rattle.message_requests.specs.declared.state.SessionState.{SessionState}
-use Rattle.session_changes.specs.Kept.{IsKept}
-use Rattle.session_changes.specs.proved.Finding.{id_of_view, id_of_document, found_some, found_none}
+use Rattle.editor_session.proofs.Names.{◌≡◌, ℕ, ◌==◌, ap, sym, ◌∙◌, Some, None, View, document_at, view_at, IsSoundView, found_all, value_at, Kept, KeptView, session_in, SessionState, IsKept, view_in, id_of_view, document_of, id_of_document, found_some, found_none}
 
 module _ (s : SessionState) (view : ℕ) (kept : IsKept s) (v : KeptView) (seen : value_at s.views.entries view ≡ Some v) where
   pub view_is : view_at (session_in s).views view ≡ Some v.view

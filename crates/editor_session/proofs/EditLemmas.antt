@@ -1,40 +1,15 @@
 -- Edits of the text.
-use Rattle.std.proofs.Common.{◌≡◌, ◌⊎◌, inl, inr, ℕ, ℤ, true, false, List, [], ◌∷◌, ◌++◌, length, refl, ap, sym, ◌∙◌, subst, Option, Some, None, IfSome, IsSome, IsSomeAnd}
-use Rattle.std.specs.Prelude.{not}
-use Rattle.std.proofs.lemmas.Bool.{and_parts}
+use Rattle.editor_session.proofs.Names.{◌≡◌, ◌⊎◌, inl, inr, ℕ, ℤ, true, false, List, [], ◌∷◌, ◌++◌, length, refl, ap, sym, ◌∙◌, subst, Option, Some, None, IfSome, IsSome, IsSomeAnd, not, and_parts, Follow, steps_of, has_steps, converted, Scene, session_of, edit_made, followed, EditStepsFit, edit_made_id, Request, Document, Session, text_of, Step, insertion, Entries, value_at, Gathered, Kept, KeptView, kept_scene, views_of, session_in, SessionState, IsKept, IsPastedFor, TakesWithin, is_turned, clipboard_need, taken_along, followed_views, followed_clipboard, Becomes, CanEdit, Edits, MakesEdit, edit_steps, scene_after, takes_nothing_along, IfFree, IsPlannedForSomeValueWithText, StepsFitWidth}
 use Rattle.ed_model.specs.declared.plan.Source.TheVariants as source
 use Rattle.ed_model.specs.declared.plan.Edit.{Edit}
 use Rattle.ed_model.specs.declared.plan.Edit.TheVariants as edit
-use Rattle.ed_model.specs.declared.plan.Follow.{Follow}
 use Rattle.ed_model.specs.declared.plan.Follow.TheVariants as follow
 use Rattle.ed_model.specs.declared.plan.Plan.TheVariants as plan
-use Rattle.ed_model.specs.Edits.{steps_of, has_steps}
-use Rattle.ed_model.specs.LineEnds.{converted}
-use Rattle.ed_model.specs.Performing.{Scene, session_of, edit_made, followed, with_caret, with_target}
-use Rattle.ed_model.specs.PlansFit.{EditStepsFit}
-use Rattle.ed_model.specs.proved.Scenes.{edit_made_id}
-use Rattle.ed_model.specs.Requests.{Request}
-use Rattle.ed_model.specs.Session.{Document, Session, text_of}
-use Rattle.ed_model.specs.Steps.{Step, insertion}
-use Rattle.id_table.specs.Entries.{Entries, value_at}
-use Rattle.notify.specs.Gathered.{Gathered}
-use Rattle.document.specs.Kept.{Kept}
-use Rattle.ed_view.specs.Kept.{KeptView}
-use Rattle.scene.specs.Scenes.{kept_scene, views_of}
-use Rattle.message_requests.specs.Requested.{session_in}
-use Rattle.message_requests.specs.declared.state.SessionState.{SessionState}
-use Rattle.session_changes.specs.Kept.{IsKept}
-use Rattle.editor_session.specs.Edited.{IsPastedFor, TakesWithin, is_turned, clipboard_need, taken_along, followed_views, followed_clipboard, Becomes}
-use Rattle.editor_session.specs.Edits.{CanEdit, Edits, MakesEdit, edit_steps, scene_after}
-use Rattle.editor_session.specs.Plans.{takes_nothing_along}
-use Rattle.editor_session.specs.Planned.{IsAskedBy, planned_message}
-use Rattle.editor_session.specs.Performed.{IfFree, IsPlannedForSomeValueWithText}
-use Rattle.editor_session.specs.Widths.{StepsFitWidth}
 use Rattle.editor_session.proofs.Widths.{steps_fit_width}
 use Rattle.editor_session.proofs.Needing.{no_steps, nothing_along}
 use Rattle.editor_session.proofs.OneDocument.{with_one, said_of_it}
 use Rattle.editor_session.proofs.Replacing.{becomes}
-use Rattle.editor_session.proofs.PlanLemmas.{DoneFor, asked_by, document_here, kept_at, of_kept, for_kept, session_is, takes_here, within_here, limits_here, watched_here, same_steps, edited}
+use Rattle.editor_session.proofs.PlanLemmas.{DoneFor, asked_by, asked_with, document_here, kept_at, of_kept, for_kept, session_is, takes_here, within_here, limits_here, watched_here, same_steps, edited}
 use Rattle.editor_session.proofs.TableWay.{free_plan}
 
 -- The session after an edit and what follows it.
@@ -45,15 +20,9 @@ followed_so : (after : Follow) (view : ℕ) (before taken : List ℕ) (s s' : Se
 followed_so follow.Nothing view before taken s s' between notes' scene done moved clipboard take next_document next_view limits =
     let views : views_of s'.views.entries ≡ scene.views = moved ∙ done.views_after in
     rw (done.documents_after, views, clipboard, next_document, next_view, limits) refl
-followed_so (follow.Caret place) view before taken s s' between notes' scene done moved clipboard take next_document next_view limits =
-    let views : views_of s'.views.entries ≡ with_caret view place scene.views = moved ∙ ap (with_caret view place) done.views_after in
-    rw (done.documents_after, views, clipboard, next_document, next_view, limits) refl
-followed_so (follow.Target start past) view before taken s s' between notes' scene done moved clipboard take next_document next_view limits =
-    let views : views_of s'.views.entries ≡ with_target view start past scene.views = moved ∙ ap (with_target view start past) done.views_after in
-    rw (done.documents_after, views, clipboard, next_document, next_view, limits) refl
-followed_so (follow.Clipboard start count) view before taken s s' between notes' scene done moved clipboard take next_document next_view limits =
-    let views : views_of s'.views.entries ≡ scene.views = moved ∙ done.views_after in
-    let held = clipboard ∙ take in
+followed_so after view before taken s s' between notes' scene done moved clipboard take next_document next_view limits =
+    let views : views_of s'.views.entries ≡ followed_views view after scene.views = moved ∙ ap (followed_views view after) done.views_after in
+    let held = clipboard ∙ ap (λ t. followed_clipboard after t s.clipboard.items) take in
     rw (done.documents_after, views, held, next_document, next_view, limits) refl
 
 -- the document, the views and the notes after the steps of an edit
@@ -91,96 +60,69 @@ turns_nothing : (r : Request) (change : Edit) → not (has_steps (steps_of r cha
 turns_nothing r (edit.Replace start count (source.Clipboard true)) h = inr (inserts_nothing _ start (converted r.document.line_end r.session.clipboard) h)
 turns_nothing r _ h = inl refl
 
-pub for_all : (o : Option Kept) (P : Kept → Type 0) → ((k : Kept) → P k) → IfSome o P
-for_all None P h = tt
-for_all (Some k) P h = h k
-
 -- what the edit puts in of the clipboard, if that is not converted
 pub pasted_none : (change : Edit) (clipboard pasted : List ℕ) (end : _) → is_turned change ≡ false → IsPastedFor change clipboard end pasted
 pasted_none (edit.Replace start count (source.Clipboard true)) clipboard pasted end h = absurd (cc)
 pasted_none _ clipboard pasted end h = tt
 
-pub pasted_so : (change : Edit) (clipboard pasted : List ℕ) (end : _) → pasted ≡ converted end clipboard → IsPastedFor change clipboard end pasted
-pasted_so (edit.Replace start count (source.Clipboard true)) clipboard pasted end h = h
-pasted_so _ clipboard pasted end h = tt
-
 module _ (s : SessionState) (kept : IsKept s) (document view : ℕ) (text : List ℕ) (change : Edit) (after : Follow) where
-  module _ (by_text : IsPlannedForSomeValueWithText (session_in s) document view text (λ value. plan.Edit change value after)) where
+  module _ (sent : IsPlannedForSomeValueWithText (session_in s) document view text (λ value. plan.Edit change value after)) where
     pub edit_there : IsSome (value_at s.documents.entries document)
-    edit_there =
-        let sent = by_text.sent in
-        let planned = planned_message document view (plan.Edit change sent.value after) sent.is_recorded in
-        document_here s planned sent.message.text kept sent.planned.request (asked_by s view sent.message planned sent.planned)
+    edit_there = document_here kept (asked_by sent.sent.planned)
 
     pub edit_takes : IsSomeAnd (value_at s.documents.entries document) (λ k. TakesWithin after (length k.document.cells))
     edit_takes =
-        let sent = by_text.sent in
-        let t = sent.planned in
-        let planned = planned_message document view (plan.Edit change sent.value after) sent.is_recorded in
-        let by = asked_by s view sent.message planned t in
-        for_kept s planned sent.message.text kept t.request by (λ k. TakesWithin after (length k.document.cells)) (takes_here s planned sent.message.text kept t.request by change sent.value after t.fit)
+        let t = sent.sent.planned in
+        let by = asked_by t in
+        for_kept kept by (λ k. TakesWithin after (length k.document.cells)) (takes_here kept by change sent.sent.value after t.fit)
 
     pub can_edit : EditStepsFit → (taken : List ℕ) → IfSome (value_at s.documents.entries document) (λ k. taken ≡ taken_along after (text_of k.document))
         → (pasted : List ℕ) → IfSome (value_at s.documents.entries document) (λ k. IsPastedFor change s.clipboard.items k.document.line_end pasted)
         → IsSomeAnd (value_at s.documents.entries document) (CanEdit change text pasted after taken s)
     can_edit fit taken is pasted turned =
-        let sent = by_text.sent in
-        let t = sent.planned in
-        let r = t.request in
-        let planned = planned_message document view (plan.Edit change sent.value after) sent.is_recorded in
-        let by = subst (λ x. IsAskedBy (session_in s) planned x r) by_text.text_is (asked_by s view sent.message planned t) in
-        let at = kept_at s planned text kept r by in
-        let turned_at = of_kept s planned text kept r by (λ k. IsPastedFor change s.clipboard.items k.document.line_end pasted) turned in
-        for_kept s planned text kept r by (CanEdit change text pasted after taken s)
+        let t = sent.sent.planned in let r = t.request in
+        let by = asked_with t sent.text_is in
+        let at = kept_at kept by in
+        let turned_at = of_kept kept by (λ k. IsPastedFor change s.clipboard.items k.document.line_end pasted) turned in
+        for_kept kept by (CanEdit change text pasted after taken s)
         (record {
-          within = within_here s planned text kept r by at.k at.at t.fit;
-          watched = watched_here s planned text kept r by;
-          wide = subst (λ ss. StepsFitWidth at.k.document ss) (sym (same_steps s planned text kept r by change sent.value after pasted turned_at))
-              (subst (λ d. StepsFitWidth d (steps_of r change)) (sym at.is) (steps_fit_width r (limits_here s planned text kept r by) by.asked.sound (steps_of r change) (fit r change t.fit.0) t.fit.2));
-          take = of_kept s planned text kept r by (λ k. taken ≡ taken_along after (text_of k.document)) is;
+          within = within_here kept by change t.fit.0;
+          watched = watched_here kept by;
+          wide = subst (λ ss. StepsFitWidth at.value.document ss) (sym (same_steps kept by change sent.sent.value after pasted turned_at))
+              (subst (λ d. StepsFitWidth d (steps_of r change)) (sym at.is) (steps_fit_width r (limits_here kept by) by.asked.sound (steps_of r change) (fit r change t.fit.0) t.fit.2));
+          take = of_kept kept by (λ k. taken ≡ taken_along after (text_of k.document)) is;
         })
 
   pub edited_for : (pasted : List ℕ) → IfSome (value_at s.documents.entries document) (λ k. IsPastedFor change s.clipboard.items k.document.line_end pasted)
       → (s' : SessionState) (notes notes' : Gathered) → IfSome (value_at s.documents.entries document) (λ k. Edits view change text pasted after s notes k s' notes')
-      → (value : ℤ) → DoneFor s document view text (plan.Edit change value after) s' notes.notes notes'.notes value []
+      → (value : ℤ) → DoneFor (session_in s) document view text (plan.Edit change value after) s' notes.notes notes'.notes value []
   edited_for pasted turned s' notes notes' done value = λ m is_recorded t text_is.
-      let planned = planned_message document view (plan.Edit change value after) is_recorded in
-      let r = t.request in
-      let by = subst (λ x. IsAskedBy (session_in s) planned x r) text_is (asked_by s view m planned t) in
-      edited s planned text kept r by change value after pasted (of_kept s planned text kept r by (λ k. IsPastedFor change s.clipboard.items k.document.line_end pasted) turned) s' notes notes'
-      (of_kept s planned text kept r by (λ k. Edits view change text pasted after s notes k s' notes') done)
+      let by = asked_with t text_is in
+      edited kept by change value after pasted (of_kept kept by (λ k. IsPastedFor change s.clipboard.items k.document.line_end pasted) turned) s' notes notes'
+      (of_kept kept by (λ k. Edits view change text pasted after s notes k s' notes') done)
 
   -- where the message needs no memory, nothing is converted, nothing is taken along, and there are no steps
 
   pub pasted_free : (P : Type 0) → (is_turned change ≡ false → P) → IfSome (value_at s.documents.entries document) (λ k. converted k.document.line_end s.clipboard.items ≡ [] → P)
       → (value : ℤ) → IfFree (session_in s) document view text (plan.Edit change value after) P
   pasted_free P unturned empty value = λ m is_recorded t text_is free.
-      let planned = planned_message document view (plan.Edit change value after) is_recorded in
       let r = t.request in
-      let by = asked_by s view m planned t in
-      let at = kept_at s planned m.text kept r by in
-      let needs = (free_plan (session_in s) view m planned t free).0 in
-      let parts = and_parts (not (has_steps (steps_of r change))) (takes_nothing_along after) needs in
-      elim (turns_nothing r change parts.0) [
+      let by = asked_by t in
+      elim (turns_nothing r change (and_parts (not (has_steps (steps_of r change))) (takes_nothing_along after) (free_plan t free).0).0) [
         | inl e ↦ unturned e
-        | inr e ↦ of_kept s planned m.text kept r by (λ k. converted k.document.line_end s.clipboard.items ≡ [] → P) empty
-            (ap (λ (d : Document). converted d.line_end s.clipboard.items) at.is ∙ ap (λ (x : Session). converted r.document.line_end x.clipboard) (sym (session_is s planned m.text kept r by)) ∙ e)
+        | inr e ↦ of_kept kept by (λ k. converted k.document.line_end s.clipboard.items ≡ [] → P) empty
+            (ap (λ (d : Document). converted d.line_end s.clipboard.items) (kept_at kept by).is ∙ ap (λ (x : Session). converted r.document.line_end x.clipboard) (sym (session_is kept by)) ∙ e)
       ]
 
   pub taken_free : (P : Type 0) → (clipboard_need after ≡ 0 → P) → (value : ℤ) → IfFree (session_in s) document view text (plan.Edit change value after) P
   taken_free P h value = λ m is_recorded t text_is free.
-      let planned = planned_message document view (plan.Edit change value after) is_recorded in
-      let needs = (free_plan (session_in s) view m planned t free).0 in
-      h (nothing_along after (and_parts (not (has_steps (steps_of t.request change))) (takes_nothing_along after) needs).1)
+      h (nothing_along after (and_parts (not (has_steps (steps_of t.request change))) (takes_nothing_along after) (free_plan t free).0).1)
 
   pub steps_free : (pasted : List ℕ) → IfSome (value_at s.documents.entries document) (λ k. IsPastedFor change s.clipboard.items k.document.line_end pasted)
       → (P : Type 0) → IfSome (value_at s.documents.entries document) (λ k. edit_steps change text s.clipboard.items pasted k.document ≡ [] → P)
       → (value : ℤ) → IfFree (session_in s) document view text (plan.Edit change value after) P
   steps_free pasted turned P here value = λ m is_recorded t text_is free.
-      let planned = planned_message document view (plan.Edit change value after) is_recorded in
-      let r = t.request in
-      let by = subst (λ x. IsAskedBy (session_in s) planned x r) text_is (asked_by s view m planned t) in
-      let needs = (free_plan (session_in s) view m planned t free).0 in
-      let none = no_steps (steps_of r change) (and_parts (not (has_steps (steps_of r change))) (takes_nothing_along after) needs).0 in
-      let turned_at = of_kept s planned text kept r by (λ k. IsPastedFor change s.clipboard.items k.document.line_end pasted) turned in
-      of_kept s planned text kept r by (λ k. edit_steps change text s.clipboard.items pasted k.document ≡ [] → P) here (same_steps s planned text kept r by change value after pasted turned_at ∙ none)
+      let by = asked_with t text_is in
+      let none = no_steps (steps_of t.request change) (and_parts (not (has_steps (steps_of t.request change))) (takes_nothing_along after) (free_plan t free).0).0 in
+      let turned_at = of_kept kept by (λ k. IsPastedFor change s.clipboard.items k.document.line_end pasted) turned in
+      of_kept kept by (λ k. edit_steps change text s.clipboard.items pasted k.document ≡ [] → P) here (same_steps kept by change value after pasted turned_at ∙ none)

@@ -1,11 +1,5 @@
 -- Views that the table has, and that the model finds.
-use Rattle.std.proofs.Common.{◌≡◌, ℕ, ◌==◌, Bool, true, false, cond, List, [], ◌∷◌, map, refl, ap, sym, ◌∙◌, Option, Some, None, option_map, is_some}
-use Rattle.std.specs.Prelude.{if◌then◌else◌}
-use Rattle.ed_model.specs.Session.{View, view_at}
-use Rattle.id_table.specs.Entries.{Entry, value_at}
-use Rattle.ed_view.specs.Kept.{KeptView, view_in}
-use Rattle.scene.specs.Scenes.{views_of, AreNamed}
-use Rattle.session_changes.specs.proved.Finding.{id_of_view, found}
+use Rattle.editor_session.proofs.Names.{◌≡◌, ℕ, ◌==◌, Bool, true, false, cond, List, [], ◌∷◌, map, refl, ap, sym, ◌∙◌, Option, Some, None, option_map, is_some, if◌then◌else◌, View, view_at, Entry, value_at, KeptView, views_of, AreNamed, view_in, id_of_view, found}
 
 -- Where the view of an id is not there, no change of it changes any.
 

@@ -1,37 +1,13 @@
 -- Frequent changes of a document, and undo and redo, without notes.
-use Rattle.std.proofs.Common.{◌≡◌, ℕ, ℤ, Bool, true, false, cond, List, [], refl, ap, sym, subst, ◌∙◌, Option, Some, None, Ok, Err, IfSome, IsSomeAnd}
-use Rattle.std.specs.List.{AllByRecursion}
-use Rattle.std.proofs.lemmas.Bool.{eqb-true}
-use Rattle.ed_types.specs.declared.kind.Kind.{Kind}
+use Rattle.editor_session.proofs.Names.{◌≡◌, ℕ, ℤ, Bool, true, false, cond, List, [], refl, ap, sym, subst, ◌∙◌, Some, None, Ok, Err, IfSome, IsSomeAnd, AllByRecursion, Kind, Message, kind_among, marks_of, EachKindIsFound, changed_document, DocumentChange, Plan, Planned, Session, View, Document, view_at, document_at, quiet, PlansFit, IsSound, MessageKeepsSound, table, request, plan_of, value_at, IsFitChange, frequent_changes, frequent_change_of, is_frequent_change, change_planned, change_asked, transactions, transaction_of, performing, is_performed, session_in, SessionState, AreNamed, IsKept, DocumentsAreNamed, CanBeMade, Changes, IsPlannedAs, unrecorded, no_notes, IsPlannedForSomeValue}
 use Rattle.ed_types.specs.declared.kind.Kind.TheVariants as kinds
-use Rattle.ed_types.specs.declared.message.Message.{Message}
-use Rattle.ed_types.specs.Messages.{number_of, kind_of, kind_among, marks_of}
-use Rattle.ed_types.specs.MessagesLaws.{EachKindIsFound}
-use Rattle.ed_model.specs.Changes.{changed_document}
-use Rattle.ed_model.specs.declared.plan.DocumentChange.{DocumentChange}
-use Rattle.ed_model.specs.declared.plan.Plan.{Plan}
 use Rattle.ed_model.specs.declared.plan.Plan.TheVariants as plan
-use Rattle.ed_model.specs.Requests.{Planned}
-use Rattle.ed_model.specs.Session.{Session, View, Document, view_at, document_at}
-use Rattle.ed_model.specs.Performing.{quiet}
-use Rattle.ed_model.specs.PlansFit.{PlansFit}
-use Rattle.ed_model.specs.SoundLaws.{IsSound, MessageKeepsSound}
-use Rattle.ed_model.specs.Table.{table, request, plan_of}
+use Rattle.std.proofs.lemmas.Option.{IfSome_then}
 use Rattle.ed_model.specs.proved.Changes.{changed_id}
-use Rattle.id_table.specs.Entries.{value_at}
-use Rattle.document_changes.specs.Fit.{IsFitChange}
-use Rattle.message_plans.specs.Frequent.{frequent_changes, frequent_change_of, is_frequent_change, change_planned, change_asked, transactions, transaction_of, performing, is_performed}
-use Rattle.message_requests.specs.Requested.{session_in}
-use Rattle.message_requests.specs.declared.state.SessionState.{SessionState}
-use Rattle.scene.specs.Scenes.{AreNamed}
-use Rattle.session_changes.specs.Kept.{IsKept, DocumentsAreNamed}
-use Rattle.editor_session.specs.Doing.{CanBeMade, Changes}
-use Rattle.editor_session.specs.Planned.{IsPlannedAs, planned_message}
-use Rattle.editor_session.specs.Performed.{unrecorded, no_notes, IsPlannedForSomeValue}
 use Rattle.editor_session.proofs.Keeping.{kept_with}
-use Rattle.editor_session.proofs.PlanLemmas.{DoneFor, answers, kept_by, asked_by, kept_at, for_kept, change_fits, watched_here}
+use Rattle.editor_session.proofs.PlanLemmas.{DoneFor, answers, kept_by, asked_by, kept_at, for_kept, fit_change, limits_here, watched_here}
 use Rattle.editor_session.proofs.PlainChanges.{changed_for}
-use Rattle.editor_session.proofs.Questions.{IsPlain, plain, found_plain, unheard}
+use Rattle.editor_session.proofs.Questions.{IsPlain, plain, found_plain, decoded, unheard}
 use Rattle.editor_session.proofs.TableWay.{is_found}
 use Rattle.editor_session.proofs.ViewPlans.{unrecorded_plan}
 
@@ -48,10 +24,8 @@ module _ (fit : PlansFit) (law : EachKindIsFound) (those : List Kind) (all : All
       → plan_of kind (request s v d m) ≡ Ok what → IsPlannedAs s view m (unrecorded d.id view what)
   plain_plan what sound is found there e =
       let r = request s v d m in
-      let among = found_plain m.number those kind all is in
-      let decoded = subst (λ n. kind_of n ≡ Some kind) (eqb-true (number_of kind) m.number among.1) (law kind) in
-      let reached = is_found s view m v kind d sound found decoded there in
-      unrecorded_plan s d.id view m kind r what reached e refl (unheard v.records (marks_of kind).r among.0.unrecorded) (fit kind r reached.sound)
+      let reached = is_found s view m v kind d sound found (decoded law those all m.number kind is) there in
+      unrecorded_plan s d.id view m kind r what reached e refl (unheard v.records (marks_of kind).r (found_plain m.number those kind all is).0.unrecorded) (fit kind r reached.sound)
 
 planned : (b : Bool) (p : Planned) (what : DocumentChange) (value : ℤ) → cond b (change_planned p) None ≡ Some (what, value) → p ≡ Ok (plan.ChangeDocument what value)
 planned false p what value e = absurd (cc)
@@ -80,27 +54,18 @@ module _ (fit : PlansFit) (law : EachKindIsFound) (s : Session) (view : ℕ) (m 
 module _ (s : SessionState) (kept : IsKept s) (document view : ℕ) (what : DocumentChange) where
   pub can_be_made : IsPlannedForSomeValue (session_in s) document view (plan.ChangeDocument what) → IsSomeAnd (value_at s.documents.entries document) (CanBeMade what s.views)
   can_be_made sent =
-      let t = sent.planned in
-      let r = t.request in
-      let planned = planned_message document view (plan.ChangeDocument what sent.value) sent.is_recorded in
-      let text = sent.message.text in
-      let by = asked_by s view sent.message planned t in
-      let at = kept_at s planned text kept r by in
-      for_kept s planned text kept r by (CanBeMade what s.views)
-      (subst (λ d. IsFitChange d what) (sym at.is) (change_fits s planned text kept r by what sent.value t.fit), watched_here s planned text kept r by)
+      let by = asked_by sent.planned in
+      for_kept kept by (CanBeMade what s.views)
+      (subst (λ d. IsFitChange d what) (sym (kept_at kept by).is) (fit_change sent.planned.request what (limits_here kept by) sent.planned.fit), watched_here kept by)
 
   pub made_for : (s' : SessionState) → IfSome (value_at s.documents.entries document) (λ k. (text : List ℕ) (sender : ℕ) → Changes what sender text k s no_notes s' no_notes)
-      → (value : ℤ) (bytes : List ℕ) → DoneFor s document view bytes (plan.ChangeDocument what value) s' [] [] value []
-  made_for s' done value bytes = changed_for s kept document view bytes what s' no_notes no_notes (at_text (value_at s.documents.entries document) done) value
-    where
-      at_text : (o : Option _) → IfSome o (λ k. (text : List ℕ) (sender : ℕ) → Changes what sender text k s no_notes s' no_notes) → IfSome o (λ k. Changes what view bytes k s no_notes s' no_notes)
-      at_text None h = tt
-      at_text (Some k) h = h bytes view
+      → (value : ℤ) (bytes : List ℕ) → DoneFor (session_in s) document view bytes (plan.ChangeDocument what value) s' [] [] value []
+  made_for s' done value bytes = changed_for s kept document view bytes what s' no_notes no_notes (IfSome_then (value_at s.documents.entries document) done (λ k made. made bytes view)) value
 
   -- the table's answer to a message that asks for the change
   pub made_unheard : (s' : SessionState) → IfSome (value_at s.documents.entries document) (λ k. (text : List ℕ) (sender : ℕ) → Changes what sender text k s no_notes s' no_notes)
       → (m : Message) (value : ℤ) → IsPlannedAs (session_in s) view m (unrecorded document view (plan.ChangeDocument what value)) → table (session_in s) view m ≡ Ok (session_in s', quiet value)
-  made_unheard s' done m value t = answers s document view m.text (plan.ChangeDocument what value) s' [] [] value [] (made_for s' done value m.text) m false t refl refl
+  made_unheard s' done m value t = answers (made_for s' done value m.text) m false t refl refl
 
 -- whether it was made or not
 pub same_id : (what : DocumentChange) (old new : Document) (made : Bool) → (made ≡ true → new ≡ changed_document [] what old) → (made ≡ false → new ≡ old) → new.id ≡ old.id
@@ -109,9 +74,7 @@ same_id what old new false so not = ap (λ (d : Document). d.id) (not refl)
 
 -- what holds of a session goes on holding
 pub kept_unheard : MessageKeepsSound → (s s' : SessionState) (document view : ℕ) (what : DocumentChange) (made : Bool) → IsKept s → IsPlannedForSomeValue (session_in s) document view (plan.ChangeDocument what)
-    → (made ≡ true → (value : ℤ) (bytes : List ℕ) → DoneFor s document view bytes (plan.ChangeDocument what value) s' [] [] value [])
+    → (made ≡ true → (value : ℤ) (bytes : List ℕ) → DoneFor (session_in s) document view bytes (plan.ChangeDocument what value) s' [] [] value [])
     → (made ≡ false → session_in s' ≡ session_in s) → s'.limits ≡ s.limits → DocumentsAreNamed s'.documents.entries → AreNamed s'.views.entries → IsKept s'
-kept_unheard law s s' document view what true kept sent done same limits documents views =
-    kept_by law s document view sent.message.text (plan.ChangeDocument what sent.value) s' [] [] sent.value [] kept (done refl sent.value sent.message.text) sent.message sent.is_recorded sent.planned refl limits documents views
-kept_unheard law s s' document view what false kept sent done same limits documents views =
-    kept_with s s' kept (subst IsSound (sym (same refl)) kept.sound) limits documents views
+kept_unheard law s s' document view what true kept sent done same limits documents views = kept_by law kept (done refl sent.value sent.message.text) sent.planned refl limits documents views
+kept_unheard law s s' document view what false kept sent done same limits documents views = kept_with s s' kept (subst IsSound (sym (same refl)) kept.sound) limits documents views

@@ -1,22 +1,5 @@
 -- Changes of one of the documents of a session.
-use Rattle.std.specs.Prelude.{reverse}
-use Rattle.std.proofs.Common.{◌≡◌, ℕ, List, refl, ap, ◌∙◌, Option, Some, None, IfSome}
-use Rattle.ed_model.specs.Steps.{Step}
-use Rattle.ed_model.specs.Session.{View, with_document}
-use Rattle.ed_model.specs.History.{latest_text_step}
-use Rattle.document.specs.declared.undoing.Direction.{Direction}
-use Rattle.document.specs.Undoing.{changes_of, history_behind}
-use Rattle.id_table.specs.Entries.{Entries, value_at}
-use Rattle.ed_view.specs.Kept.{KeptView}
-use Rattle.scene.specs.Scenes.{kept_scene, views_of}
-use Rattle.message_requests.specs.Requested.{documents_in}
-use Rattle.message_requests.specs.declared.state.SessionState.{SessionState}
-use Rattle.editor_session.specs.Doing.{scene_gone, Goes}
-use Rattle.ed_model.specs.Performing.{place_behind, with_caret, caret_behind}
-use Rattle.notify.specs.Gathered.{Gathered}
-use Rattle.document.specs.Kept.{Kept}
-use Rattle.scene.specs.Undoing.{bits_of, place_behind_any}
-use Rattle.session_changes.specs.Kept.{IsKept}
+use Rattle.editor_session.proofs.Names.{reverse, ◌≡◌, ℕ, List, refl, ap, ◌∙◌, Option, Some, None, IfSome, Step, View, with_document, latest_text_step, Direction, changes_of, history_behind, Entries, value_at, KeptView, kept_scene, views_of, documents_in, SessionState, scene_gone, Goes, place_behind, with_caret, caret_behind, Gathered, Kept, bits_of, place_behind_any, IsKept}
 use Rattle.editor_session.proofs.OneDocument.{with_scene, said_of_it}
 use Rattle.editor_session.proofs.Replacing.{becomes, transaction_keeps_id}
 

@@ -1,17 +1,6 @@
 -- What holds of a session between its calls goes on holding.
-use Rattle.std.proofs.Common.{◌≡◌, ℕ, false, length, refl, ap, sym, ◌∙◌, subst, Ok, Err, IfOk, OnOk, OnErr}
-use Rattle.std.specs.Prelude.{Result, nat_le, nat_lt}
+use Rattle.editor_session.proofs.Names.{◌≡◌, ℕ, false, length, refl, ap, sym, ◌∙◌, subst, Ok, Err, IfOk, OnOk, OnErr, Result, nat_le, nat_lt, Message, Refusal, Response, Session, is_allowed, IsSound, MessageKeepsSound, OpeningKeepsSound, ClosingKeepsSound, table, opened, closed, AreNamed, session_in, SessionState, IsKept, DocumentsAreNamed, Entry, KeptView, length-map}
 use Rattle.std.specs.declared.alloc.AllocError.{AllocError}
-use Rattle.ed_types.specs.declared.message.Message.{Message}
-use Rattle.ed_types.specs.declared.refusal.Refusal.{Refusal}
-use Rattle.ed_types.specs.Notices.{Response}
-use Rattle.ed_model.specs.Session.{Session, is_allowed}
-use Rattle.ed_model.specs.SoundLaws.{IsSound, MessageKeepsSound, OpeningKeepsSound, ClosingKeepsSound}
-use Rattle.ed_model.specs.Table.{table, opened, closed}
-use Rattle.scene.specs.Scenes.{AreNamed}
-use Rattle.message_requests.specs.Requested.{session_in}
-use Rattle.message_requests.specs.declared.state.SessionState.{SessionState}
-use Rattle.session_changes.specs.Kept.{IsKept, DocumentsAreNamed}
 use Rattle.editor_session.specs.Opening.{with_view_on_new}
 
 -- the session after an answer of the table
@@ -23,8 +12,9 @@ kept_with old new kept sound same documents views = record { sound = sound; limi
 
 -- A view opened.
 
-pub opened_is : (s : Session) → nat_le s.limits.views (length s.views) ≡ false → nat_lt s.limits.ids s.next_view ≡ false → nat_lt s.limits.ids s.next_document ≡ false → opened s ≡ Ok (with_view_on_new s, s.next_view)
-opened_is s a b c = rw (a, b, c) refl
+pub opened_is : (s : SessionState) → nat_le s.limits.views (length s.views.entries) ≡ false → nat_lt s.limits.ids s.views.next ≡ false → nat_lt s.limits.ids s.documents.next ≡ false
+    → opened (session_in s) ≡ Ok (with_view_on_new (session_in s), s.views.next)
+opened_is s few b c = let a = ap (nat_le s.limits.views) (length-map s.views.entries (λ (x : Entry KeptView). x.value.view)) ∙ few in rw (a, b, c) refl
 
 pub kept_after_opening : OpeningKeepsSound → (old new : SessionState) (result : Result ℕ AllocError) → IsKept old → opened (session_in old) ≡ Ok (with_view_on_new (session_in old), old.views.next)
     → OnOk result (session_in new ≡ with_view_on_new (session_in old)) → OnErr result (session_in new ≡ session_in old) → new.limits ≡ old.limits → DocumentsAreNamed new.documents.entries → AreNamed new.views.entries → IsKept new

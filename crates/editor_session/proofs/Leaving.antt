@@ -1,10 +1,6 @@
 -- Replies that are left in a place.
-use Rattle.std.proofs.Common.{◌≡◌, ◌&&◌, ◌==◌, ℕ, ℤ, List, [], Bool, true, false, length, sym, subst, ap, Ok, Err, IfErr}
-use Rattle.std.specs.Prelude.{Result}
-use Rattle.ed_types.specs.declared.refusal.Refusal.{Refusal}
-use Rattle.ed_types.specs.Notices.{Notice, Response}
+use Rattle.editor_session.proofs.Names.{◌≡◌, ◌&&◌, ◌==◌, ℕ, ℤ, List, [], Bool, true, false, length, sym, subst, ap, Ok, Err, IfErr, Result, Refusal, Notice, Response, Session}
 use Rattle.ed_types.specs.proved.Refusals.{refusing}
-use Rattle.ed_model.specs.Session.{Session}
 use Rattle.editor_session.specs.Left.{told, is_value_alone}
 
 -- what holds of a refusal that was made holds of what is told

@@ -1,3 +1,4 @@
+pub mod Names
 pub mod Finding
 pub mod Questions
 pub mod TextQuestions
@@ -14,7 +15,6 @@ pub mod ViewPlans
 pub mod OpeningLemmas
 pub mod Needing
 pub mod LendingLemmas
-pub mod WalkLemmas
 pub mod RunLemmas
 pub mod PlainChanges
 pub mod EditLemmas
@@ -22,5 +22,4 @@ pub mod Going
 pub mod Widths
 pub mod Leaving
 pub mod FrequentChanges
-pub mod Targets
 pub mod OtherPlans

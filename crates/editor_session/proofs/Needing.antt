@@ -1,26 +1,10 @@
 -- What is told of needs.
-use Rattle.std.proofs.Common.{◌≡◌, ℕ, ◌+◌, ◌-◌, ◌<◌, ◌≤◌, ◌^◌, true, List, [], ◌∷◌, length, refl, ap, sym, ◌∙◌, subst, arith, Option, Some, None}
-use Rattle.std.specs.Prelude.{filter_map, min, not}
-use Rattle.std.specs.List.{cons_option}
-use Rattle.std.proofs.lemmas.Bool.{eqb-true}
-use Rattle.ed_model.specs.declared.plan.Follow.{Follow}
+use Rattle.editor_session.proofs.Names.{◌≡◌, ℕ, ◌+◌, ◌-◌, ◌<◌, ◌≤◌, ◌^◌, true, List, [], ◌∷◌, length, refl, ap, sym, ◌∙◌, subst, arith, Option, Some, None, filter_map, min, not, cons_option, eqb-true, Follow, has_steps, TextStep, Scene, View, view_at, watching, Step, Insert, Delete, amount_sum, room_sum, no_room, room_of_step, room_of_steps, free_behind, note_room, notes_of_step, bytes_of_step, leaving_count, capped, capped_room, same_room, clipboard_need, takes_nothing_along}
 use Rattle.ed_model.specs.declared.plan.Follow.TheVariants as follow
 use Rattle.ed_model.specs.declared.plan.LineEndTypes.{LineEndTypes}
-use Rattle.ed_model.specs.Edits.{has_steps}
-use Rattle.ed_model.specs.History.{TextStep}
-use Rattle.ed_model.specs.Performing.{Scene}
-use Rattle.ed_model.specs.Session.{View, view_at, watching}
-use Rattle.ed_model.specs.Steps.{Step, Insert, Delete}
-use Rattle.document.specs.Kept.{Kept, HasRoom, amount_sum, room_sum, no_room}
 use Rattle.document.specs.declared.room.DocumentRoom.{DocumentRoom}
-use Rattle.scene.specs.Conversion.{room_of_step, room_of_steps, free_behind, notes_for, bytes_for}
-use Rattle.scene.specs.Needs.{IsCounted, note_room, notes_of_step, bytes_of_step, leaving_count}
-use Rattle.scene.specs.Undoing.{capped, capped_room, capped_notes}
 use Rattle.scene.specs.declared.need.SceneNeed.{SceneNeed}
-use Rattle.scene.specs.proved.Rooms.{same_room}
-use Rattle.editor_session.specs.Edited.{clipboard_need}
-use Rattle.editor_session.specs.Needs.{no_need, need_sum, IsAtLeast, IsEnoughFor, NeedsSteps}
-use Rattle.editor_session.specs.Plans.{takes_nothing_along}
+use Rattle.editor_session.specs.Needs.{no_need, need_sum, IsAtLeast, NeedsSteps}
 
 -- One step.
 
@@ -30,34 +14,29 @@ sum_counted a b h = omega arith
 none_beside : (a : ℕ) → amount_sum a 0 < 2 ^ 64 - 1 → a - 0 + 0 ≤ amount_sum a 0
 none_beside a h = omega arith
 
-pub one_step : (scene : Scene) (step : Step) (room : DocumentRoom) (leaving : ℕ) (need : SceneNeed) → room_of_step scene.document.line_end_types step ≡ room
-    → leaving ≡ leaving_count (watching scene.views scene.document) scene.document.history
-    → need ≡ need_sum (record { notes = note_room (notes_of_step (watching scene.views scene.document) step) (bytes_of_step (watching scene.views scene.document) step); document = room }) (record no_need { notes = note_room leaving 0 })
-    → NeedsSteps (step ∷ []) scene need
-one_step scene step room leaving need is left e = rw e (record {
-  enough = λ c. record {
-    notes_there = (let n = sum_counted (notes_of_step (watching scene.views scene.document) step) leaving c.notes in omega (arith, n, left));
-    bytes_there = (let n = sum_counted (bytes_of_step (watching scene.views scene.document) step) 0 c.note_bytes in omega (arith, n));
-    document_there = subst (λ (x : DocumentRoom). IsAtLeast (room_sum room no_room) (record { text = x.text - 0 + 0; lines = x.lines + 0; insertions = x.insertions + 0; steps = x.steps + 0; bytes = x.bytes + 0 })) (sym is)
-        (record {
-          text = none_beside room.text c.text;
-          lines = sum_counted room.lines 0 c.lines;
-          insertions = sum_counted room.insertions 0 c.insertions;
-          steps = sum_counted room.steps 0 c.steps;
-          bytes = sum_counted room.bytes 0 c.bytes;
-        });
-  };
-  none = λ empty. absurd (cc);
-})
-
--- the same of the two needs that it is the sum of
+-- the need of one step: the sum of its own and of what is needed where the save point is left
 pub one_step_summed : (scene : Scene) (step : Step) (room : DocumentRoom) (leaving : ℕ) (need first extra : SceneNeed) → room_of_step scene.document.line_end_types step ≡ room
     → leaving ≡ leaving_count (watching scene.views scene.document) scene.document.history
     → first ≡ record { notes = note_room (notes_of_step (watching scene.views scene.document) step) (bytes_of_step (watching scene.views scene.document) step); document = room }
     → extra ≡ record no_need { notes = note_room leaving 0 } → need ≡ need_sum first extra → NeedsSteps (step ∷ []) scene need
 one_step_summed scene step room leaving need first extra is left e f sum =
     let base : SceneNeed = record { notes = note_room (notes_of_step (watching scene.views scene.document) step) (bytes_of_step (watching scene.views scene.document) step); document = room } in
-    one_step scene step room leaving need is left (sum ∙ ap (λ n. need_sum n extra) e ∙ ap (λ n. need_sum base n) f)
+    let whole : need ≡ need_sum base (record no_need { notes = note_room leaving 0 }) = sum ∙ ap (λ n. need_sum n extra) e ∙ ap (λ n. need_sum base n) f in
+    rw whole (record {
+      enough = λ c. record {
+        notes_there = (let n = sum_counted (notes_of_step (watching scene.views scene.document) step) leaving c.notes in omega (arith, n, left));
+        bytes_there = (let n = sum_counted (bytes_of_step (watching scene.views scene.document) step) 0 c.note_bytes in omega (arith, n));
+        document_there = subst (λ (x : DocumentRoom). IsAtLeast (room_sum room no_room) (record { text = x.text - 0 + 0; lines = x.lines + 0; insertions = x.insertions + 0; steps = x.steps + 0; bytes = x.bytes + 0 })) (sym is)
+            (record {
+              text = none_beside room.text c.text;
+              lines = sum_counted room.lines 0 c.lines;
+              insertions = sum_counted room.insertions 0 c.insertions;
+              steps = sum_counted room.steps 0 c.steps;
+              bytes = sum_counted room.bytes 0 c.bytes;
+            });
+      };
+      none = λ empty. absurd (cc);
+    })
 
 -- A deletion leaves room for all bytes that it takes out.
 pub frees_all : (start count : ℕ) (bytes : List ℕ) → length bytes ≡ count → count ≤ 2 ^ 64 - 1 → free_behind 0 (TextStep (Delete start bytes)) ≡ count
@@ -160,25 +139,6 @@ watched_few views (id ∷ ids) = go (view_at views id) (watched_few views ids)
     go None h = omega arith
     go (Some v) h = omega arith
 
--- Amounts that are capped.
-
-pub capped_enough : (n b : ℕ) (room : DocumentRoom) → IsCounted (record no_need { notes = capped_notes n b; document = capped_room room }) → IsEnoughFor n b room (record no_need { notes = capped_notes n b; document = capped_room room })
-capped_enough n b room c = record {
-  notes_there = less n c.notes;
-  bytes_there = less b c.note_bytes;
-  document_there = record { text = less room.text c.text; lines = less room.lines c.lines; insertions = less room.insertions c.insertions; steps = less room.steps c.steps; bytes = less room.bytes c.bytes };
-}
-  where
-    less : (x : ℕ) → capped x < 2 ^ 64 - 1 → x ≤ capped x
-    less x h = omega arith
-
-pub conversion_needs : (steps : List Step) (scene : Scene) (need : SceneNeed)
-    → need ≡ record no_need { notes = capped_notes (notes_for steps scene) (bytes_for steps scene); document = capped_room (room_of_steps scene.document.line_end_types steps) } → NeedsSteps steps scene need
-conversion_needs steps scene need e = rw e (record {
-  enough = capped_enough (notes_for steps scene) (bytes_for steps scene) (room_of_steps scene.document.line_end_types steps);
-  none = λ empty. rw empty refl;
-})
-
 -- An edit.
 
 pub no_steps : (ss : List Step) → not (has_steps ss) ≡ true → ss ≡ []
@@ -187,16 +147,4 @@ no_steps (s ∷ ss) h = absurd (cc)
 
 pub nothing_along : (f : Follow) → takes_nothing_along f ≡ true → clipboard_need f ≡ 0
 nothing_along (follow.Clipboard start count) h = eqb-true count 0 h
-nothing_along follow.Nothing h = refl
-nothing_along (follow.Caret place) h = refl
-nothing_along (follow.Target start past) h = refl
-
--- room for more is room for less
-pub less_room : (k : Kept) (a b : DocumentRoom) → HasRoom k a → IsAtLeast a b → HasRoom k b
-less_room k a b h l = (
-  (less b.text a.text k.room.text l.text h.0.0, less b.lines a.lines k.room.lines l.lines h.0.1, less b.insertions a.insertions k.room.insertions l.insertions h.0.2),
-  λ on. (less b.steps a.steps k.room.steps l.steps (h.1 on).0, less b.bytes a.bytes k.room.bytes l.bytes (h.1 on).1),
-)
-  where
-    less : (x y z : ℕ) → x ≤ y → y ≤ z → x ≤ z
-    less x y z p q = omega arith
+nothing_along _ h = refl

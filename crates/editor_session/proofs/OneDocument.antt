@@ -1,15 +1,5 @@
 -- One document of a session changes, and the views with it.
-use Rattle.std.proofs.Common.{◌≡◌, ℕ, refl, ap, sym, subst, Some, IfSome}
-use Rattle.ed_model.specs.Session.{Document}
-use Rattle.ed_model.specs.SoundLaws.{IsSound}
-use Rattle.id_table.specs.Entries.{Entries, value_at, with_value_at}
-use Rattle.document.specs.Kept.{Kept, document_of}
-use Rattle.ed_view.specs.Kept.{KeptView}
-use Rattle.scene.specs.Scenes.{AreNamed}
-use Rattle.message_requests.specs.Requested.{session_in, documents_in}
-use Rattle.message_requests.specs.declared.state.SessionState.{SessionState}
-use Rattle.session_changes.specs.Kept.{IsKept, DocumentsAreNamed}
-use Rattle.session_changes.specs.proved.Finding.{id_of_document, unchanged, named_with}
+use Rattle.editor_session.proofs.Names.{◌≡◌, ℕ, refl, ap, sym, subst, Some, IfSome, Document, IsSound, Entries, value_at, with_value_at, Kept, KeptView, AreNamed, session_in, documents_in, SessionState, IsKept, DocumentsAreNamed, document_of, id_of_document, unchanged, named_with}
 use Rattle.editor_session.proofs.Keeping.{kept_with}
 
 -- the documents, with this one under the id

@@ -1,25 +1,9 @@
 -- Views that are opened and closed.
-use Rattle.std.proofs.Common.{◌≡◌, ◌≢◌, ℕ, ◌+◌, ◌<◌, ◌==◌, Bool, true, false, cond, List, [], ◌∷◌, ◌++◌, map, refl, ap, sym, ◌∙◌, subst, Option, Some, None, Ok, Err, option_map}
-use Rattle.ed_types.specs.declared.refusal.Refusal.TheVariants.{NoSuchView}
-use Rattle.std.specs.Prelude.{nat_lt, not, filter}
-use Rattle.std.specs.List.{AllByRecursion}
-use Rattle.std.proofs.lemmas.Bool.{cond_both}
-use Rattle.std.proofs.lemmas.List.{map-append}
-use Rattle.ed_types.specs.declared.limits.Limits.{Limits}
-use Rattle.ed_model.specs.Session.{Document, View, view_at, new_document, new_view, living, left_by, references}
-use Rattle.ed_model.specs.SoundLaws.{Rise, IsSoundDocument, ListsItsViews}
-use Rattle.ed_model.specs.Table.{closed, closed_view}
-use Rattle.id_table.specs.Entries.{Rise as IdsRise, Entry, Entries, entry, id_of, value_of, value_at, with_value_at, without_id}
-use Rattle.document.specs.Kept.{Kept}
-use Rattle.ed_view.specs.Kept.{KeptView, view_in}
+use Rattle.editor_session.proofs.Names.{◌≡◌, ◌≢◌, ℕ, ◌+◌, ◌<◌, ◌==◌, Bool, true, false, cond, List, [], ◌∷◌, ◌++◌, map, refl, ap, sym, ◌∙◌, subst, Option, Some, None, Ok, Err, option_map, NoSuchView, nat_lt, not, filter, AllByRecursion, cond_both, map-append, Limits, Document, View, view_at, new_document, new_view, living, left_by, references, Rise, IsSoundDocument, ListsItsViews, closed, closed_view, Entry, Entries, entry, id_of, value_of, value_at, with_value_at, without_id, Kept, KeptView, views_of, AreNamed, session_in, SessionState, IsKept, DocumentsAreNamed, view_in, id_of_view, id_of_document, own_at, found_some, found_none, still_named, all_filter}
+use Rattle.id_table.specs.Entries.{Rise as IdsRise}
 use Rattle.document_table.specs.Leaving.{documents_in as entries_in, left_over_of, let_go, IsChangedAlike, LeavesTheLiving}
-use Rattle.scene.specs.Scenes.{views_of, AreNamed}
-use Rattle.message_requests.specs.Requested.{session_in, documents_in}
-use Rattle.message_requests.specs.declared.state.SessionState.{SessionState}
-use Rattle.session_changes.specs.Kept.{IsKept, DocumentsAreNamed}
 use Rattle.editor_session.specs.Opening.{document_for, with_view_on_new}
 use Rattle.session_changes.specs.proved.Names.{IsNamedDocument, named_in, named_out, id_at, without_itself, none_listed}
-use Rattle.session_changes.specs.proved.Finding.{id_of_view, id_of_document, own_at, found_some, found_none, still_named}
 
 -- Opening.
 
@@ -40,10 +24,7 @@ opened_so s documents1 documents2 views1 views2 k v de dn de2 dn2 ve vn ve2 vn2 
     ∙ ap (λ x. old.views ++ x ∷ []) vv in
     let nd : documents2.next ≡ s.documents.next + 1 = dn2 ∙ ap (λ n. n + 1) dn in
     let nv : views2.next ≡ s.views.next + 1 = vn2 ∙ ap (λ n. n + 1) vn in
-    ap (λ x. record old { documents = x; views = views_of views2.entries; next_document = documents2.next; next_view = views2.next }) ds
-    ∙ ap (λ x. record old { documents = old.documents ++ document_for s.views.next s.documents.next ∷ []; views = x; next_document = documents2.next; next_view = views2.next }) vs
-    ∙ ap (λ x. record (with_view_on_new old) { next_document = x; next_view = views2.next }) nd
-    ∙ ap (λ x. record (with_view_on_new old) { next_view = x }) nv
+    rw (ds, vs, nd, nv) refl
 
 -- Closing.
 
@@ -66,13 +47,8 @@ others (e ∷ es) view all =
     go true rest = rest
     go false rest = ap (λ ws. e.value.view ∷ ws) rest
 
-all_without : {V : Type 0} (P : Entry V → Type 0) (id : ℕ) (entries : List (Entry V)) → AllByRecursion P entries → AllByRecursion P (without_id id entries)
-all_without P id [] all = tt
-all_without P id (e ∷ es) all =
-    cond_both (not (e.id == id)) (e ∷ without_id id es) (without_id id es) (AllByRecursion P) (λ _. (all.0, all_without P id es all.1)) (λ _. all_without P id es all.1)
-
 pub others_named : (entries : List (Entry KeptView)) (view : ℕ) → AreNamed entries → AreNamed (without_id view entries)
-others_named entries view all = all_without (λ (e : Entry KeptView). e.id ≡ e.value.view.id) view entries all
+others_named entries view all = all_filter (λ (e : Entry KeptView). e.id ≡ e.value.view.id) (λ (e : Entry KeptView). not (e.id == view)) entries all
 
 -- a document that is not that of a view does not list it
 stays_alike : (views : List View) (v : View) (view : ℕ) (d : Document) → view_at views view ≡ Some v → d.id ≢ v.document → ListsItsViews views d → left_by view d ≡ d
@@ -122,7 +98,7 @@ named_left id view entries all = go (value_at entries id) refl
     go None e = all
     go (Some d) e =
         cond_both (nat_lt 0 (references (left_by view d))) (with_value_at id (left_by view d) entries) (without_id id entries) (AllByRecursion IsNamedDocument)
-        (λ _. still_named (λ x. x) id_of_document entries id (left_by view d) (id_at entries id d all e) all) (λ _. all_without IsNamedDocument id entries all)
+        (λ _. still_named (λ x. x) id_of_document entries id (left_by view d) (id_at entries id d all e) all) (λ _. all_filter IsNamedDocument (λ (e : Entry Document). not (e.id == id)) entries all)
 
 pub still_named_left : (id view : ℕ) (old left : List (Entry Kept)) → DocumentsAreNamed old → entries_in left ≡ let_go id (left_by view) (entries_in old) → DocumentsAreNamed left
 still_named_left id view old left all is = named_out left (subst (AllByRecursion IsNamedDocument) (sym is) (named_left id view (entries_in old) (named_in old all)))
@@ -137,9 +113,5 @@ closed_so law s view v left views kept at is next rest =
     let ds : map (λ (e : Entry Kept). e.value.document) left.entries ≡ living (map (left_by view) old.documents) = living_left law s view v.view left.entries kept found is in
     let vs : views_of views.entries ≡ filter (λ (w : View). not (w.id == view)) old.views = ap (λ (t : Entries KeptView). views_of t.entries) rest ∙ others s.views.entries view kept.views in
     let nv : views.next ≡ s.views.next = ap (λ (t : Entries KeptView). t.next) rest in
-    ap (closed_view old) found
-    ∙ ap (λ n. Ok (record old { documents = living (map (left_by n) old.documents); views = filter (λ (w : View). not (w.id == n)) old.views })) own
-    ∙ ap Ok (ap (λ x. record old { documents = x; views = filter (λ (w : View). not (w.id == view)) old.views }) (sym ds)
-    ∙ ap (λ x. record old { documents = documents_in left; views = x }) (sym vs)
-    ∙ ap (λ x. record old { documents = documents_in left; views = views_of views.entries; next_document = x }) (sym next)
-    ∙ ap (λ x. record old { documents = documents_in left; views = views_of views.entries; next_document = left.next; next_view = x }) (sym nv))
+    rw (ds, vs, next, nv)
+    (ap (closed_view old) found ∙ ap (λ n. Ok (record old { documents = living (map (left_by n) old.documents); views = filter (λ (w : View). not (w.id == n)) old.views })) own)

@@ -1,58 +1,15 @@
 -- What is done is what the plan says.
-use Rattle.std.proofs.Common.{◌≡◌, ℕ, ◌+◌, ◌-◌, ◌^◌, ◌≤◌, ℤ, pos, ◌==◌, Bool, true, false, cond, ◌&&◌, List, [], ◌∷◌, ◌++◌, length, map, refl, ap, sym, ◌∙◌, subst, arith, Some, Ok, IfSome, IsSome, IsSomeAnd, slice_range, append-nil, append_assoc}
-use Rattle.std.specs.Prelude.{nat_lt, reverse}
-use Rattle.std.specs.List.{AllByRecursion}
-use Rattle.ed_types.specs.declared.message.Message.{Message}
-use Rattle.ed_types.specs.Notices.{Notice, Response}
-use Rattle.ed_types.specs.Messages.{marks_of}
+use Rattle.editor_session.proofs.Names.{◌≡◌, ℕ, ◌+◌, ◌-◌, ◌^◌, ◌≤◌, ℤ, pos, ◌==◌, Bool, true, false, cond, ◌&&◌, List, [], ◌∷◌, ◌++◌, length, map, refl, ap, sym, ◌∙◌, subst, arith, Some, Ok, IfSome, IsSome, IsSomeAnd, slice_range, append-nil, append_assoc, nat_lt, reverse, AllByRecursion, Message, Notice, Response, marks_of, Follow, DocumentChange, Limits, Plan, Step, replacement, after_steps, at_save_point, History, Change, TextStep, ContainerStep, latest_text_step, Session, Document, View, is_allowed, view_at, document_at, text_of, with_document, watching, told, modify_attempt, blank, bit_if, multi_step, Request, size, text, steps_of, source_bytes, changed_document, changed_lines, change_told, MessageKeepsSound, IsSoundView, StandsOn, ListsItsViews, IsFitPlan, IsFitDocumentChange, IsFitEdit, IsFitSource, IsFitFollow, Scene, scene_of, session_of, step_made, steps_made, edit_made, sealed_scene, change_performed, changes_performed, transaction_performed, history_performed, caret_behind, is_last, changes_lines, save_point_change, followed, response, styled_text, table, performed, with_recording, record_note, found_all, value_at, Gathered, Kept, Direction, changes_of, history_behind, IsFitChange, bytes_read, KeptView, views_of, scene_in, AreNamed, StandsIfOn, IsWatched, bits_of, session_in, SessionState, IsKept, DocumentsAreNamed, IsAnswered, PlannedMessage, IsPlannedAs, IsAskedBy, recording, first_note, planned_message, IsStoredIn, IsTurnedFor, IsPastedFor, IsEditWithin, stored_bytes, TakesWithin, edit_steps, scene_after, Edits, IsDone, Goes, Changes, view_in, id_of_view, document_of, id_of_document, own_at, IsKeptAs, kept_as}
 use Rattle.ed_model.specs.declared.plan.Source.{Source}
 use Rattle.ed_model.specs.declared.plan.Source.TheVariants as source
 use Rattle.ed_model.specs.declared.plan.Edit.{Edit}
 use Rattle.ed_model.specs.declared.plan.Edit.TheVariants as edit
-use Rattle.ed_model.specs.declared.plan.Follow.{Follow}
 use Rattle.ed_model.specs.declared.plan.Follow.TheVariants as follow
-use Rattle.ed_model.specs.declared.plan.DocumentChange.{DocumentChange}
 use Rattle.ed_model.specs.declared.plan.DocumentChange.TheVariants as change
-use Rattle.ed_model.specs.declared.plan.ViewChange.{ViewChange}
-use Rattle.ed_model.specs.declared.plan.SessionChange.{SessionChange}
-use Rattle.ed_types.specs.declared.limits.Limits.{Limits}
 use Rattle.std.proofs.lemmas.Bool.Decides.{nat_tests}
-use Rattle.session_changes.specs.Asked.{CanChangeView, CanChangeSession}
-use Rattle.ed_model.specs.declared.plan.Plan.{Plan}
 use Rattle.ed_model.specs.declared.plan.Plan.TheVariants as plan
-use Rattle.ed_model.specs.Steps.{Step, replacement}
-use Rattle.ed_model.specs.LineEnds.{after_steps}
-use Rattle.ed_model.specs.History.{at_save_point, History, Change, TextStep, ContainerStep, latest_text_step}
-use Rattle.ed_model.specs.Session.{Session, Document, View, is_allowed, view_at, document_at, text_of, with_document, watching}
-use Rattle.ed_model.specs.Notes.{told, modify_attempt, blank, bit_if, multi_step}
-use Rattle.ed_model.specs.Requests.{Request, size, text}
-use Rattle.ed_model.specs.Edits.{steps_of, source_bytes}
-use Rattle.ed_model.specs.Changes.{changed_document, changed_lines, change_told, view_change_performed, session_changed}
-use Rattle.ed_model.specs.SoundLaws.{MessageKeepsSound, IsSoundView, StandsOn, ListsItsViews}
-use Rattle.ed_model.specs.PlansFit.{IsFitPlan, IsFitDocumentChange, IsFitEdit, IsFitSource, IsFitFollow}
-use Rattle.ed_model.specs.Performing.{Scene, scene_of, session_of, step_made, steps_made, edit_made, sealed_scene, change_performed, changes_performed, transaction_performed, history_performed, caret_behind, is_last, changes_lines, save_point_change, followed, response, styled_text}
-use Rattle.ed_model.specs.Table.{table, performed, answered as answered_by, with_recording, record_note}
-use Rattle.ed_model.specs.proved.Elements.{found_all}
-use Rattle.id_table.specs.Entries.{value_at}
-use Rattle.notify.specs.Gathered.{Gathered}
-use Rattle.document.specs.Kept.{Kept, document_of}
-use Rattle.document.specs.declared.undoing.Direction.{Direction}
-use Rattle.document.specs.Undoing.{changes_of, history_behind}
-use Rattle.document_changes.specs.Fit.{IsFitChange, bytes_read}
-use Rattle.ed_view.specs.Kept.{KeptView, view_in}
-use Rattle.scene.specs.Scenes.{views_of, scene_in, AreNamed, StandsIfOn, IsWatched}
-use Rattle.scene.specs.Conversion.{notes_for, bytes_for}
-use Rattle.scene.specs.Undoing.{bits_of}
-use Rattle.message_requests.specs.Requested.{session_in}
-use Rattle.message_requests.specs.declared.state.SessionState.{SessionState}
-use Rattle.session_changes.specs.Kept.{IsKept, DocumentsAreNamed}
-use Rattle.editor_session.specs.Performed.{IsAnswered}
+use Rattle.ed_model.specs.Table.{answered as answered_by}
 use Rattle.editor_session.proofs.Keeping.{kept_after_message}
-use Rattle.editor_session.specs.Planned.{PlannedMessage, IsPlannedAs, IsAskedBy, recording, first_note, planned_message}
-use Rattle.editor_session.specs.Edited.{IsStoredIn, IsTurnedFor, IsPastedFor, IsEditWithin, IsWithin, stored_bytes, TakesWithin}
-use Rattle.editor_session.specs.Edits.{edit_steps, scene_after, Edits}
-use Rattle.editor_session.specs.Doing.{IsDone, Goes, Changes}
-use Rattle.session_changes.specs.proved.Finding.{id_of_view, id_of_document, own_at, IsKeptAs, kept_as}
 
 -- The scene of a document of a sound session.
 
@@ -81,8 +38,7 @@ abbrev pub telling : List Notice → Scene → Scene
 telling ns scene = record scene { notes = ns ++ scene.notes }
 
 behind : (ns s a b c : List Notice) → (((ns ++ s) ++ a) ++ b) ++ c ≡ ns ++ (((s ++ a) ++ b) ++ c)
-behind [] s a b c = refl
-behind (n ∷ ns) s a b c = ap (λ xs. n ∷ xs) (behind ns s a b c)
+behind ns s a b c = simp append_assoc
 
 step_told : (ns : List Notice) (later : Bool) (step : Step) (scene : Scene) → step_made later step (telling ns scene) ≡ telling ns (step_made later step scene)
 step_told ns later step scene = ap (λ x. (let made = step_made later step scene in record made { notes = x })) (behind ns scene.notes _ _ _)
@@ -150,19 +106,6 @@ edit_within : (r : Request) (change : Edit) → IsFitEdit r change → IsEditWit
 edit_within r (edit.Replace start count from) fit = (fit.0, stored_in r from fit.1)
 edit_within r (edit.ConvertLineEnds to) fit = tt
 
--- a fit plan lies within
-pub fits_within : (r : Request) (what : Plan) → IsFitPlan r what → IsWithin what (size r) (length r.message.text)
-fits_within r (plan.Edit change value after) fit = edit_within r change fit.0
-fits_within r _ fit = tt
-
-pub same_notes : (steps : List Step) (d : Document) (views : List View) (ns : List Notice) → notes_for steps (record { document = d; views = views; notes = ns }) ≡ notes_for steps (record { document = d; views = views; notes = [] })
-same_notes [] d views ns = refl
-same_notes (s ∷ ss) d views ns = refl
-
-pub same_note_bytes : (steps : List Step) (d : Document) (views : List View) (ns : List Notice) → bytes_for steps (record { document = d; views = views; notes = ns }) ≡ bytes_for steps (record { document = d; views = views; notes = [] })
-same_note_bytes [] d views ns = refl
-same_note_bytes (s ∷ ss) d views ns = refl
-
 -- what a fit edit takes to the clipboard lies in the text
 takes_within : (r : Request) (after : ℕ) (f : Follow) → IsFitFollow r after f → TakesWithin f (size r)
 takes_within r after (follow.Clipboard start count) h = h
@@ -193,15 +136,7 @@ read_change r _ h = omega arith
 
 -- A request of a session that is kept.
 
-pub record AtDocument (s : SessionState) (id : ℕ) (d : Document) : Type 0 where
-  pub k : Kept
-  pub at : value_at s.documents.entries id ≡ Some k
-  pub is : k.document ≡ d
-
-pub at_document : (s : SessionState) (id : ℕ) (d : Document) → IsKept s → document_at (session_in s).documents id ≡ Some d → AtDocument s id d
-at_document s id d kept there = (let known = kept_as document_of id_of_document s.documents.entries id d kept.documents there in record { k = known.value; at = known.there; is = known.is })
-
-module _ (s : SessionState) (planned : PlannedMessage) (bytes : List ℕ) (kept : IsKept s) (r : Request) (by : IsAskedBy (session_in s) planned bytes r) where
+module _ {s : SessionState} {planned : PlannedMessage} {bytes : List ℕ} {r : Request} (kept : IsKept s) (by : IsAskedBy (session_in s) planned bytes r) where
   pub session_is : r.session ≡ session_in s
   session_is = by.asked.session
 
@@ -211,15 +146,15 @@ module _ (s : SessionState) (planned : PlannedMessage) (bytes : List ℕ) (kept 
       let there : document_at r.session.documents planned.document ≡ Some r.document = ap (document_at r.session.documents) (sym by.asked.document_id ∙ own) ∙ by.asked.sound.document in
       subst (λ (x : Session). document_at x.documents planned.document ≡ Some r.document) session_is there
 
-  pub kept_at : AtDocument s planned.document r.document
-  kept_at = at_document s planned.document r.document kept document_there
+  pub kept_at : IsKeptAs document_of id_of_document (value_at s.documents.entries planned.document) r.document
+  kept_at = kept_as document_of id_of_document s.documents.entries planned.document r.document kept.documents document_there
 
   -- a fact of the document that is kept
-  pub for_kept : (P : Kept → Type 0) → P kept_at.k → IsSomeAnd (value_at s.documents.entries planned.document) P
-  for_kept P h = subst (λ o. IsSomeAnd o P) (sym kept_at.at) h
+  pub for_kept : (P : Kept → Type 0) → P kept_at.value → IsSomeAnd (value_at s.documents.entries planned.document) P
+  for_kept P h = subst (λ o. IsSomeAnd o P) (sym kept_at.there) h
 
-  pub of_kept : (P : Kept → Type 0) → IfSome (value_at s.documents.entries planned.document) P → P kept_at.k
-  of_kept P h = subst (λ o. IfSome o P) kept_at.at h
+  pub of_kept : (P : Kept → Type 0) → IfSome (value_at s.documents.entries planned.document) P → P kept_at.value
+  of_kept P h = subst (λ o. IfSome o P) kept_at.there h
 
   -- the same, said of the request's document
   pub for_document : (P : Document → Type 0) → P r.document → IsSomeAnd (value_at s.documents.entries planned.document) (λ k. P k.document)
@@ -229,7 +164,7 @@ module _ (s : SessionState) (planned : PlannedMessage) (bytes : List ℕ) (kept 
   of_document P h = subst P kept_at.is (of_kept (λ k. P k.document) h)
 
   pub document_here : IsSome (value_at s.documents.entries planned.document)
-  document_here = subst (λ o. IsSome o) (sym kept_at.at) refl
+  document_here = subst (λ o. IsSome o) (sym kept_at.there) refl
 
   view_kept : IsKeptAs view_in id_of_view (value_at s.views.entries planned.view) r.view
   view_kept =
@@ -243,37 +178,30 @@ module _ (s : SessionState) (planned : PlannedMessage) (bytes : List ℕ) (kept 
   pub for_view : (P : KeptView → Type 0) → ((v : KeptView) → v.view ≡ r.view → P v) → IsSomeAnd (value_at s.views.entries planned.view) P
   for_view P h = subst (λ o. IsSomeAnd o P) (sym view_kept.there) (h view_kept.value view_kept.is)
 
-  pub same_document : (k : Kept) → value_at s.documents.entries planned.document ≡ Some k → r.document ≡ k.document
-  same_document k at =
-      let both : Some kept_at.k ≡ Some k = sym kept_at.at ∙ at in
-      let is : kept_at.k ≡ k = cc in
-      sym kept_at.is ∙ ap (λ (x : Kept). x.document) is
-
-  pub within_here : (k : Kept) → value_at s.documents.entries planned.document ≡ Some k → IsFitPlan r planned.plan → IsWithin planned.plan (length k.document.cells) (length bytes)
-  within_here k at fit =
-      subst (λ (d : Document). IsWithin planned.plan (length d.cells) (length bytes)) (same_document k at) (subst (λ x. IsWithin planned.plan (size r) (length x)) by.message (fits_within r planned.plan fit))
+  pub within_here : (change : Edit) → IsFitEdit r change → IsEditWithin change (length kept_at.value.document.cells) (length bytes)
+  within_here change fit =
+      subst (λ (d : Document). IsEditWithin change (length d.cells) (length bytes)) (sym kept_at.is) (subst (λ x. IsEditWithin change (size r) (length x)) by.message (edit_within r change fit))
 
   pub limits_here : is_allowed r.session.limits ≡ true
   limits_here = subst (λ (x : Session). is_allowed x.limits ≡ true) (sym session_is) kept.limits
 
-  pub watched_here : IsWatched kept_at.k.document s.views
-  watched_here = watched_by s kept_at.k.document kept (subst (λ d. document_at (session_in s).documents d.id ≡ Some d) (sym kept_at.is) (ap (document_at (session_in s).documents) by.asked.document_id ∙ document_there))
+  pub watched_here : IsWatched kept_at.value.document s.views
+  watched_here = watched_by s kept_at.value.document kept (subst (λ d. document_at (session_in s).documents d.id ≡ Some d) (sym kept_at.is) (ap (document_at (session_in s).documents) by.asked.document_id ∙ document_there))
 
   -- nothing is told, and the session stays
   pub answered : (what : Plan) (ns : List Notice) (value : ℤ) (out : List ℕ) → performed r what ≡ (r.session, response value out []) → IsDone r what s ns ns value out
   answered what ns value out e = record { told = []; done = e ∙ ap (λ x. (x, response value out [])) session_is; heard = sym (append-nil ns) }
 
-  pub handed_out : (value : ℤ) (start count : ℕ) (ns : List Notice) (empty out : List ℕ) → empty ≡ [] → IfSome (value_at s.documents.entries planned.document) (λ k. out ≡ empty ++ slice_range (text_of k.document) start (start + count))
+  pub handed_out : (value : ℤ) (start count : ℕ) (ns : List Notice) (out : List ℕ) → IfSome (value_at s.documents.entries planned.document) (λ k. out ≡ slice_range (text_of k.document) start (start + count))
       → IsDone r (plan.HandOut value start count) s ns ns value out
-  handed_out value start count ns empty out e copied =
-      let put : out ≡ slice_range (text r) start (start + count) = of_document (λ d. out ≡ empty ++ slice_range (text_of d) start (start + count)) copied ∙ ap (λ xs. xs ++ slice_range (text r) start (start + count)) e in
-      answered (plan.HandOut value start count) ns value out (ap (λ b. (r.session, response value b [])) (sym put))
+  handed_out value start count ns out copied =
+      answered (plan.HandOut value start count) ns value out (ap (λ b. (r.session, response value b [])) (sym (of_document (λ d. out ≡ slice_range (text_of d) start (start + count)) copied)))
 
-  pub handed_out_styled : (start count : ℕ) (ns : List Notice) (empty out : List ℕ) → empty ≡ [] → IfSome (value_at s.documents.entries planned.document) (λ k. out ≡ empty ++ styled_text (slice_range k.document.cells start (start + count)))
+  pub handed_out_styled : (start count : ℕ) (ns : List Notice) (out : List ℕ) → IfSome (value_at s.documents.entries planned.document) (λ k. out ≡ styled_text (slice_range k.document.cells start (start + count)))
       → IsDone r (plan.HandOutStyled start count) s ns ns (pos (length out)) out
-  handed_out_styled start count ns empty out e copied =
-      let put : out ≡ styled_text (slice_range r.document.cells start (start + count)) = of_document (λ d. out ≡ empty ++ styled_text (slice_range d.cells start (start + count))) copied ∙ ap (λ xs. xs ++ styled_text (slice_range r.document.cells start (start + count))) e in
-      answered (plan.HandOutStyled start count) ns (pos (length out)) out (ap (λ b. (r.session, response (pos (length b)) b [])) (sym put))
+  handed_out_styled start count ns out copied =
+      answered (plan.HandOutStyled start count) ns (pos (length out)) out
+      (ap (λ b. (r.session, response (pos (length b)) b [])) (sym (of_document (λ d. out ≡ styled_text (slice_range d.cells start (start + count))) copied)))
 
   pub attempted : (ns ns' : List Notice) → IfSome (value_at s.documents.entries planned.document) (λ k. ns' ≡ ns ++ told (watching (views_of s.views.entries) k.document) (blank modify_attempt)) → IsDone r plan.Attempt s ns ns' (pos 0) []
   attempted ns ns' put = record {
@@ -283,36 +211,35 @@ module _ (s : SessionState) (planned : PlannedMessage) (bytes : List ℕ) (kept 
   }
 
   -- An edit.
-  pub takes_here : (change : Edit) (value : ℤ) (after : Follow) → IsFitPlan r (plan.Edit change value after) → TakesWithin after (length kept_at.k.document.cells)
+  pub takes_here : (change : Edit) (value : ℤ) (after : Follow) → IsFitPlan r (plan.Edit change value after) → TakesWithin after (length kept_at.value.document.cells)
   takes_here change value after fit = subst (λ (d : Document). TakesWithin after (length d.cells)) (sym kept_at.is) (takes_within r (length (after_steps (steps_of r change) (text r))) after fit.1)
 
-  module _ (change : Edit) (value : ℤ) (after : Follow) (pasted : List ℕ) (turned : IsPastedFor change s.clipboard.items kept_at.k.document.line_end pasted) where
+  module _ (change : Edit) (value : ℤ) (after : Follow) (pasted : List ℕ) (turned : IsPastedFor change s.clipboard.items kept_at.value.document.line_end pasted) where
     pub turned_here : IsPastedFor change r.session.clipboard r.document.line_end pasted
     turned_here =
         subst (λ (x : Session). IsPastedFor change x.clipboard r.document.line_end pasted) (sym session_is)
         (subst (λ (d : Document). IsPastedFor change s.clipboard.items d.line_end pasted) kept_at.is turned)
 
-    pub same_steps : edit_steps change bytes s.clipboard.items pasted kept_at.k.document ≡ steps_of r change
+    pub same_steps : edit_steps change bytes s.clipboard.items pasted kept_at.value.document ≡ steps_of r change
     same_steps =
-        ap (λ x. edit_steps change x s.clipboard.items pasted kept_at.k.document) (sym by.message)
-        ∙ ap (λ (x : Session). edit_steps change r.message.text x.clipboard pasted kept_at.k.document) (sym session_is)
+        ap (λ x. edit_steps change x s.clipboard.items pasted kept_at.value.document) (sym by.message)
+        ∙ ap (λ (x : Session). edit_steps change r.message.text x.clipboard pasted kept_at.value.document) (sym session_is)
         ∙ ap (edit_steps change r.message.text r.session.clipboard pasted) kept_at.is
         ∙ same_edit r change value after pasted turned_here
 
     -- the scene of the request, from these notes on
-    pub same_scene : (ns : List Notice) → scene_in kept_at.k.document s.views.entries ns ≡ record { document = r.document; views = r.session.views; notes = ns }
-    same_scene ns =
-        ap (λ d. scene_in d s.views.entries ns) kept_at.is ∙ ap (λ (x : Session). record { document = r.document; views = x.views; notes = ns }) (sym session_is)
+    pub same_scene : (ns : List Notice) → scene_in kept_at.value.document s.views.entries ns ≡ record { document = r.document; views = r.session.views; notes = ns }
+    same_scene ns = ap (λ d. scene_in d s.views.entries ns) kept_at.is ∙ ap (λ (x : Session). record { document = r.document; views = x.views; notes = ns }) (sym session_is)
 
-    pub edited : (s' : SessionState) (notes notes' : Gathered) → Edits planned.view change bytes pasted after s notes kept_at.k s' notes' → IsDone r (plan.Edit change value after) s' notes.notes notes'.notes value []
+    pub edited : (s' : SessionState) (notes notes' : Gathered) → Edits planned.view change bytes pasted after s notes kept_at.value s' notes' → IsDone r (plan.Edit change value after) s' notes.notes notes'.notes value []
     edited s' notes notes' done =
         let base = edit_made (steps_of r change) (scene_of r) in
-        let scene : scene_after change bytes pasted s notes kept_at.k ≡ telling notes.notes base =
-        ap (λ ss. edit_made ss (scene_in kept_at.k.document s.views.entries notes.notes)) same_steps ∙ ap (edit_made (steps_of r change)) (same_scene notes.notes)
+        let scene : scene_after change bytes pasted s notes kept_at.value ≡ telling notes.notes base =
+        ap (λ ss. edit_made ss (scene_in kept_at.value.document s.views.entries notes.notes)) same_steps ∙ ap (edit_made (steps_of r change)) (same_scene notes.notes)
         ∙ edit_told_from notes.notes (steps_of r change) r.document r.session.views in
         let session : session_in s' ≡ followed r.view.id (text r) after (session_of r.session base) =
         done.session_after
-        ∙ ap (λ (x : Scene). followed planned.view (text_of kept_at.k.document) after (session_of (session_in s) x)) scene
+        ∙ ap (λ (x : Scene). followed planned.view (text_of kept_at.value.document) after (session_of (session_in s) x)) scene
         ∙ ap (λ (d : Document). followed planned.view (text_of d) after (session_of (session_in s) base)) kept_at.is
         ∙ ap (λ (x : Session). followed planned.view (text r) after (session_of x base)) (sym session_is)
         ∙ ap (λ id. followed id (text r) after (session_of r.session base)) (sym by.asked.view_id) in
@@ -321,21 +248,21 @@ module _ (s : SessionState) (planned : PlannedMessage) (bytes : List ℕ) (kept 
   -- Undo and redo.
   module _ (direction : Direction) where
     pub gone : (what : Plan) → performed r what ≡ history_performed r (bits_of direction) (changes_of direction r.document.history) (history_behind direction r.document.history)
-        → (s' : SessionState) (notes notes' : Gathered) → Goes planned.view direction s notes kept_at.k s' notes' → IsDone r what s' notes.notes notes'.notes (pos 0) []
+        → (s' : SessionState) (notes notes' : Gathered) → Goes planned.view direction s notes kept_at.value s' notes' → IsDone r what s' notes.notes notes'.notes (pos 0) []
     gone what is s' notes notes' done =
         let cs = changes_of direction r.document.history in
         let new = history_behind direction r.document.history in
         let base = transaction_performed (bits_of direction) cs new (scene_of r) in
         let at : Document → Session → List Notice → Scene = λ d x ns. transaction_performed (bits_of direction) (changes_of direction d.history) (history_behind direction d.history) (record { document = d; views = x.views; notes = ns }) in
-        let scene : at kept_at.k.document (session_in s) notes.notes ≡ telling notes.notes base =
+        let scene : at kept_at.value.document (session_in s) notes.notes ≡ telling notes.notes base =
         ap (λ d. at d (session_in s) notes.notes) kept_at.is ∙ ap (λ x. at r.document x notes.notes) (sym session_is) ∙ transaction_told_from notes.notes (bits_of direction) cs new r.document r.session.views in
         let after : Session → Scene → ℕ → Document → Session = λ x scene id d. (let t = session_of x scene in record t { views = caret_behind id (latest_text_step (reverse (changes_of direction d.history))) t.views }) in
         let session : session_in s' ≡ after r.session base r.view.id r.document =
-        done.session_after ∙ ap (λ (x : Scene). after (session_in s) x planned.view kept_at.k.document) scene ∙ ap (after (session_in s) base planned.view) kept_at.is
+        done.session_after ∙ ap (λ (x : Scene). after (session_in s) x planned.view kept_at.value.document) scene ∙ ap (after (session_in s) base planned.view) kept_at.is
         ∙ ap (λ x. after x base planned.view r.document) (sym session_is) ∙ ap (λ id. after r.session base id r.document) (sym by.asked.view_id) in
         record { told = base.notes; done = is ∙ ap (λ x. (x, response (pos 0) [] base.notes)) (sym session); heard = done.notes_after ∙ ap (λ (x : Scene). x.notes) scene }
 
-  pub changed : (change : DocumentChange) (value : ℤ) (s' : SessionState) (notes notes' : Gathered) → Changes change planned.view bytes kept_at.k s notes s' notes' → IsDone r (plan.ChangeDocument change value) s' notes.notes notes'.notes value []
+  pub changed : (change : DocumentChange) (value : ℤ) (s' : SessionState) (notes notes' : Gathered) → Changes change planned.view bytes kept_at.value s notes s' notes' → IsDone r (plan.ChangeDocument change value) s' notes.notes notes'.notes value []
   changed change value s' notes notes' done =
       let after : Session → Document → List ℕ → Session = λ t d x. record t { documents = with_document (changed_document x change d) t.documents; views = map (changed_lines change d) t.views } in
       let heard : List View → Document → List ℕ → List Notice = λ views d x. change_told r.view (watching views d) d (changed_document x change d) change in
@@ -346,30 +273,16 @@ module _ (s : SessionState) (planned : PlannedMessage) (bytes : List ℕ) (kept 
       ∙ ap (λ (t : Session). notes.notes ++ heard t.views r.document r.message.text) (sym session_is) in
       record { told = heard r.session.views r.document r.message.text; done = ap (λ x. (x, response value [] (heard r.session.views r.document r.message.text))) (sym session); heard = notes_are }
 
-  -- A change of the view, and of the session.
-
-  pub can_change_view : (change : ViewChange) (value : ℤ) → IsFitPlan r (plan.ChangeView change value) → CanChangeView (session_in s) planned.document planned.view change
-  can_change_view change value fit = record { request = r; asked = by.asked; fit = fit }
-
-  pub view_changed : (change : ViewChange) (value : ℤ) (s' : SessionState) (ns : List Notice) → session_in s' ≡ view_change_performed r change → IsDone r (plan.ChangeView change value) s' ns ns value []
-  view_changed change value s' ns e = record { told = []; done = ap (λ x. (x, response value [] [])) (sym e); heard = sym (append-nil ns) }
-
-  pub can_change_session : (change : SessionChange) (value : ℤ) → IsFitPlan r (plan.ChangeSession change value) → CanChangeSession (session_in s) planned.document planned.view bytes change
-  can_change_session change value fit = record { request = r; asked = by.asked; message = by.message; fit = fit }
-
-  pub session_is_changed : (change : SessionChange) (value : ℤ) (s' : SessionState) (ns : List Notice) → session_in s' ≡ session_changed r change → IsDone r (plan.ChangeSession change value) s' ns ns value []
-  session_is_changed change value s' ns e = record { told = []; done = ap (λ x. (x, response value [] [])) (sym e); heard = sym (append-nil ns) }
-
-  pub change_fits : (change : DocumentChange) (value : ℤ) → IsFitPlan r (plan.ChangeDocument change value) → IsFitChange r.document change
-  change_fits change value fit = fit_change r change limits_here fit
-
 -- The answer to a message.
-module _ (s : SessionState) (view : ℕ) (m : Message) (planned : PlannedMessage) (t : IsPlannedAs (session_in s) view m planned) where
-  pub asked_by : IsAskedBy (session_in s) planned m.text t.request
+module _ {s : Session} {view : ℕ} {m : Message} {planned : PlannedMessage} (t : IsPlannedAs s view m planned) where
+  pub asked_by : IsAskedBy s planned m.text t.request
   asked_by = record {
     asked = record { sound = t.found.sound; session = t.found.session; document_id = sym t.document_id; view_id = t.found.view_id ∙ sym t.view_id };
     message = ap (λ (x : Message). x.text) t.found.message;
   }
+
+  pub asked_with : {bytes : List ℕ} → m.text ≡ bytes → IsAskedBy s planned bytes t.request
+  asked_with text_is = subst (λ x. IsAskedBy s planned x t.request) text_is asked_by
 
   -- the reply, with the note by which it is recorded
   recorded_reply : (reply : Response) → with_recording t.kind t.request reply ≡ record reply { notes = first_note planned.is_recorded view m ++ reply.notes }
@@ -382,7 +295,7 @@ module _ (s : SessionState) (view : ℕ) (m : Message) (planned : PlannedMessage
       go false = refl
 
   pub answered_so : (s' : SessionState) (before after : List Notice) (value : ℤ) (out : List ℕ) → before ≡ first_note planned.is_recorded view m → IsDone t.request planned.plan s' before after value out
-      → table (session_in s) view m ≡ Ok (session_in s', response value out after)
+      → table s view m ≡ Ok (session_in s', response value out after)
   answered_so s' before after value out first done =
       t.found.answer ∙ ap (answered_by t.kind t.request) t.planned
       ∙ ap (λ (x : Session × Response). Ok (x.0, with_recording t.kind t.request x.1)) done.done
@@ -391,22 +304,20 @@ module _ (s : SessionState) (view : ℕ) (m : Message) (planned : PlannedMessage
 
 -- What is done for each message with this text that comes to this plan.
 
-abbrev pub DoneFor : SessionState → ℕ → ℕ → List ℕ → Plan → SessionState → List Notice → List Notice → ℤ → List ℕ → Type 0
+abbrev pub DoneFor : Session → ℕ → ℕ → List ℕ → Plan → SessionState → List Notice → List Notice → ℤ → List ℕ → Type 0
 DoneFor s document view bytes what s' before after value out =
-    (m : Message) (is_recorded : Bool) (t : IsPlannedAs (session_in s) view m (planned_message document view what is_recorded)) → m.text ≡ bytes → IsDone t.request what s' before after value out
+    (m : Message) (is_recorded : Bool) (t : IsPlannedAs s view m (planned_message document view what is_recorded)) → m.text ≡ bytes → IsDone t.request what s' before after value out
 
--- each is answered so
-pub answers : (s : SessionState) (document view : ℕ) (bytes : List ℕ) (what : Plan) (s' : SessionState) (before after : List Notice) (value : ℤ) (out : List ℕ)
-    → DoneFor s document view bytes what s' before after value out → IsAnswered (session_in s) document view bytes what before (session_in s') (response value out after)
-answers s document view bytes what s' before after value out done = λ m is_recorded t text_is first.
-    answered_so s view m (planned_message document view what is_recorded) t s' before after value out first (done m is_recorded t text_is)
+module _ {document view : ℕ} {bytes : List ℕ} {what : Plan} {s' : SessionState} {before after : List Notice} {value : ℤ} {out : List ℕ} where
+  -- each is answered so
+  pub answers : {s : Session} → DoneFor s document view bytes what s' before after value out → IsAnswered s document view bytes what before (session_in s') (response value out after)
+  answers done = λ m is_recorded t text_is first. answered_so t s' before after value out first (done m is_recorded t text_is)
 
--- and the session is sound
-pub kept_by : MessageKeepsSound → (s : SessionState) (document view : ℕ) (bytes : List ℕ) (what : Plan) (s' : SessionState) (before after : List Notice) (value : ℤ) (out : List ℕ) → IsKept s
-    → DoneFor s document view bytes what s' before after value out → (m : Message) (is_recorded : Bool) → IsPlannedAs (session_in s) view m (planned_message document view what is_recorded) → m.text ≡ bytes
-    → s'.limits ≡ s.limits → DocumentsAreNamed s'.documents.entries → AreNamed s'.views.entries → IsKept s'
-kept_by law s document view bytes what s' before after value out kept done m is_recorded t text_is limits documents views =
-    let is = done m is_recorded t text_is in
-    let first = first_note is_recorded view m in
-    kept_after_message law s s' view m (response value out (first ++ is.told)) kept
-    (answered_so s view m (planned_message document view what is_recorded) t s' first (first ++ is.told) value out refl (record { told = is.told; done = is.done; heard = refl })) limits documents views
+  -- and the session is sound
+  pub kept_by : {s : SessionState} {m : Message} {is_recorded : Bool} → MessageKeepsSound → IsKept s → DoneFor (session_in s) document view bytes what s' before after value out
+      → IsPlannedAs (session_in s) view m (planned_message document view what is_recorded) → m.text ≡ bytes → s'.limits ≡ s.limits → DocumentsAreNamed s'.documents.entries → AreNamed s'.views.entries → IsKept s'
+  kept_by {s} {m} {is_recorded} law kept done t text_is limits documents views =
+      let is = done m is_recorded t text_is in
+      let first = first_note is_recorded view m in
+      kept_after_message law s s' view m (response value out (first ++ is.told)) kept
+      (answered_so t s' first (first ++ is.told) value out refl (record { told = is.told; done = is.done; heard = refl })) limits documents views

@@ -1,55 +1,31 @@
 -- Plain questions, and what the table answers to them.
-use Rattle.std.proofs.Common.{◌≡◌, ℕ, ℤ, pos, negsuc, ◌==◌, ◌&&◌, Bool, true, false, cond, List, [], ◌∷◌, refl, ap, subst, ◌∙◌, Option, Some, None, Ok, Err}
-use Rattle.std.specs.Prelude.{IfSome}
-use Rattle.std.specs.List.{AllByRecursion}
-use Rattle.std.proofs.lemmas.Bool.{eqb-true}
-use Rattle.ed_types.specs.declared.kind.Kind.{Kind}
+use Rattle.editor_session.proofs.Names.{◌≡◌, ℕ, ℤ, pos, negsuc, ◌==◌, ◌&&◌, Bool, true, false, cond, List, [], ◌∷◌, refl, ap, subst, ◌∙◌, Option, Some, None, Ok, Err, IfSome, AllByRecursion, eqb-true, Kind, Message, number_of, kind_of, kind_among, marks_of, EachKindIsFound, Request, Planned, answer, answer_number, Session, View, Document, view_at, document_at, quiet, IsSound, IsSoundRequest, table, record_note, table_from_view, table_from_kind, table_from_document, answered, request, plan_of, questions, question_of, is_question, value_planned, value_asked, id_of_view, own_at, with_text, value_from_document, value_from_view, value_from_kind, value_to}
 use Rattle.ed_types.specs.declared.kind.Kind.TheVariants as kinds
-use Rattle.ed_types.specs.declared.message.Message.{Message}
-use Rattle.ed_types.specs.Messages.{number_of, kind_of, kind_among, marks_of}
-use Rattle.ed_types.specs.MessagesLaws.{EachKindIsFound}
 use Rattle.ed_model.specs.declared.plan.Plan.TheVariants as plan
 use Rattle.ed_model.specs.FoldingPlans.{line_shown_at}
-use Rattle.ed_model.specs.Requests.{Request, Planned, answer, answer_number}
 use Rattle.ed_model.specs.TextPlans.{end_of_line_at, start_of_line_at}
-use Rattle.ed_model.specs.Session.{Session, View, Document, view_at, document_at}
-use Rattle.ed_model.specs.Performing.{quiet}
-use Rattle.ed_model.specs.SoundLaws.{IsSound}
-use Rattle.ed_model.specs.PlansFit.{IsSoundRequest}
-use Rattle.ed_model.specs.Table.{table, record_note, table_from_view, table_from_kind, table_from_document, answered, request, plan_of}
-use Rattle.message_plans.specs.Asking.{questions, question_of, is_question, value_planned, value_asked}
-use Rattle.session_changes.specs.proved.Finding.{id_of_view, own_at}
-use Rattle.editor_session.specs.Answers.{with_text}
-use Rattle.editor_session.specs.Asked.{value_from_document, value_from_view, value_from_kind, value_to}
 
 -- A plain question is not recorded, and its plan is that of the same message with another text.
 pub record IsPlain (kind : Kind) : Type 0 where
   pub unrecorded : (marks_of kind).r ≡ false
   pub any_text : (r : Request) (text : List ℕ) → plan_of kind (record r { message = record r.message { text = text } }) ≡ plan_of kind r
 
-end_of_any_text : (r : Request) (text : List ℕ) (w : ℤ) → end_of_line_at (record r { message = record r.message { text = text } }) w ≡ end_of_line_at r w
-end_of_any_text r text (pos n) = refl
-end_of_any_text r text (negsuc n) = refl
-
-start_of_any_text : (r : Request) (text : List ℕ) (w : ℤ) → start_of_line_at (record r { message = record r.message { text = text } }) w ≡ start_of_line_at r w
-start_of_any_text r text (pos n) = refl
-start_of_any_text r text (negsuc n) = refl
-
-shown_of_any_text : (r : Request) (text : List ℕ) (w : ℤ) → line_shown_at (record r { message = record r.message { text = text } }) w ≡ line_shown_at r w
-shown_of_any_text r text (pos n) = refl
-shown_of_any_text r text (negsuc n) = refl
+-- what is the same for each number from 0 on, and for each below, is the same
+by_sign : {X : Type 0} (f g : ℤ → X) → ((n : ℕ) → f (pos n) ≡ g (pos n)) → ((n : ℕ) → f (negsuc n) ≡ g (negsuc n)) → (w : ℤ) → f w ≡ g w
+by_sign f g above below (pos n) = above n
+by_sign f g above below (negsuc n) = below n
 
 pub plain : {kind : Kind} → (marks_of kind).r ≡ false → ((r : Request) (text : List ℕ) → plan_of kind (record r { message = record r.message { text = text } }) ≡ plan_of kind r) → IsPlain kind
 plain u t = record { unrecorded = u; any_text = t }
 
 end_is_plain : IsPlain kinds.GetLineEndPosition
-end_is_plain = plain refl (λ r text. ap answer (end_of_any_text r text r.message.w))
+end_is_plain = plain refl (λ r text. ap answer (by_sign (end_of_line_at (record r { message = record r.message { text = text } })) (end_of_line_at r) (λ n. refl) (λ n. refl) r.message.w))
 
 start_is_plain : IsPlain kinds.PositionFromLine
-start_is_plain = plain refl (λ r text. ap answer (start_of_any_text r text r.message.w))
+start_is_plain = plain refl (λ r text. ap answer (by_sign (start_of_line_at (record r { message = record r.message { text = text } })) (start_of_line_at r) (λ n. refl) (λ n. refl) r.message.w))
 
 shown_is_plain : IsPlain kinds.DocLineFromVisible
-shown_is_plain = plain refl (λ r text. ap answer_number (shown_of_any_text r text r.message.w))
+shown_is_plain = plain refl (λ r text. ap answer_number (by_sign (line_shown_at (record r { message = record r.message { text = text } })) (line_shown_at r) (λ n. refl) (λ n. refl) r.message.w))
 
 -- Each plain question is plain: these by their lemmas, and all others because their plans compute without the text.
 all_plain : AllByRecursion IsPlain questions
@@ -64,9 +40,8 @@ found_plain number (k ∷ ks) kind all e = go (number_of k == number) refl e (λ
     go false t e rest = rest e
 
 -- its number finds it
-decoded : EachKindIsFound → (number : ℕ) (kind : Kind) → question_of number ≡ Some kind → kind_of number ≡ Some kind
-decoded law number kind e =
-    subst (λ n. kind_of n ≡ Some kind) (eqb-true (number_of kind) number (found_plain number questions kind all_plain e).1) (law kind)
+pub decoded : EachKindIsFound → (those : List Kind) → AllByRecursion IsPlain those → (number : ℕ) (kind : Kind) → kind_among those number ≡ Some kind → kind_of number ≡ Some kind
+decoded law those all number kind e = subst (λ n. kind_of n ≡ Some kind) (eqb-true (number_of kind) number (found_plain number those kind all e).1) (law kind)
 
 planned : (b : Bool) (p : Planned) (value : ℤ) → cond b (value_planned p) None ≡ Some value → p ≡ answer value
 planned false p value e = absurd (cc)
@@ -94,7 +69,7 @@ plain_reply law s view m value is text = from_kind (question_of m.number) refl i
     from_view : (kind : Kind) (o : Option View) → question_of m.number ≡ Some kind → value_from_view s kind m o ≡ Some value → table_from_view s (record m { text = text }) o ≡ Ok (s, quiet value)
     from_view kind None asked e = absurd (cc)
     from_view kind (Some v) asked e =
-        ap (table_from_kind s v (record m { text = text })) (decoded law m.number kind asked) ∙ from_document v kind (document_at s.documents v.document) asked e
+        ap (table_from_kind s v (record m { text = text })) (decoded law questions all_plain m.number kind asked) ∙ from_document v kind (document_at s.documents v.document) asked e
 
     from_kind : (o : Option Kind) → question_of m.number ≡ o → value_from_kind s view m o ≡ Some value → table s view (record m { text = text }) ≡ Ok (s, quiet value)
     from_kind None asked e = absurd (cc)

@@ -1,33 +1,25 @@
 -- An edit of one of the documents of a table.
-use Rattle.std.proofs.Common.{◌≡◌, ℕ, ◌==◌, Bool, true, false, cond, List, [], ◌∷◌, length, map, refl, ap, sym, ◌∙◌, subst, Some, IfSome}
-use Rattle.std.specs.Prelude.{nat_lt, if◌then◌else◌}
-use Rattle.ed_model.specs.History.{History, Change, TextStep, ContainerStep}
-use Rattle.ed_model.specs.Notes.{bit_if, multi_step}
-use Rattle.ed_model.specs.Session.{Document, with_document}
-use Rattle.ed_model.specs.Performing.{Scene, change_performed, changes_performed, transaction_performed, is_last, changes_lines}
-use Rattle.id_table.specs.Entries.{Entries, value_at, with_value_at}
-use Rattle.notify.specs.Gathered.{Gathered}
-use Rattle.document.specs.Kept.{Kept, document_of}
-use Rattle.ed_view.specs.Kept.{KeptView}
-use Rattle.scene.specs.Scenes.{scene_in}
-use Rattle.message_requests.specs.Requested.{documents_in}
-use Rattle.session_changes.specs.Kept.{DocumentsAreNamed}
-use Rattle.editor_session.specs.Edited.{Becomes}
-use Rattle.session_changes.specs.proved.Finding.{id_of_document, own_at, found_some, replaced}
+use Rattle.editor_session.proofs.Names.{◌≡◌, ℕ, ◌==◌, Bool, true, false, cond, List, [], ◌∷◌, length, map, refl, ap, sym, ◌∙◌, Some, nat_lt, if◌then◌else◌, History, Change, TextStep, ContainerStep, bit_if, multi_step, Document, with_document, Scene, change_performed, changes_performed, transaction_performed, is_last, changes_lines, Entries, value_at, with_value_at, Gathered, Kept, KeptView, scene_in, documents_in, DocumentsAreNamed, Becomes, document_of, id_of_document, own_at, found_some, replaced}
 
+-- A change of one of the documents of a table.
+
+pub document_put : (documents : Entries Kept) (id : ℕ) (k k' : Kept) (d : Document) → DocumentsAreNamed documents.entries → value_at documents.entries id ≡ Some k → k'.document ≡ d → d.id ≡ k.document.id
+    → documents_in (record documents { entries = with_value_at id k' documents.entries }) ≡ with_document d (documents_in documents)
+document_put documents id k k' d named at is same =
+    let own : k.document.id ≡ id = own_at id_of_document (documents_in documents) id k.document (found_some document_of id_of_document documents.entries id k named at) in
+    replaced document_of id_of_document documents.entries id k' named
+    ∙ ap (λ (x : Document). map (λ (e : Document). if e.id == id then x else e) (documents_in documents)) is
+    ∙ ap (λ n. map (λ (e : Document). if e.id == n then d else e) (documents_in documents)) (sym (same ∙ own))
+
+-- The scene after it stands in the table.
 module _ (documents : Entries Kept) (views' : Entries KeptView) (notes' : Gathered) (id : ℕ) (k k' : Kept) (scene : Scene) (named : DocumentsAreNamed documents.entries) (at : value_at documents.entries id ≡ Some k)
     (made : scene_in k'.document views'.entries notes'.notes ≡ scene) (same : scene.document.id ≡ k.document.id) where
-  pub id_after : k'.document.id ≡ id
-  id_after = ap (λ (x : Scene). x.document.id) made ∙ same ∙ own_at id_of_document (documents_in documents) id k.document (found_some document_of id_of_document documents.entries id k named at)
-
-  replaced_at : documents_in (record documents { entries = with_value_at id k' documents.entries }) ≡ with_document scene.document (documents_in documents)
-  replaced_at =
-      replaced document_of id_of_document documents.entries id k' named
-      ∙ ap (λ n. map (λ (d : Document). if d.id == n then k'.document else d) (documents_in documents)) (sym id_after)
-      ∙ ap (λ (d : Document). with_document d (documents_in documents)) (ap (λ (x : Scene). x.document) made)
-
   pub becomes : Becomes scene documents (record documents { entries = with_value_at id k' documents.entries }) views' notes'
-  becomes = record { documents_after = replaced_at; views_after = ap (λ (x : Scene). x.views) made; notes_after = ap (λ (x : Scene). x.notes) made }
+  becomes = record {
+    documents_after = document_put documents id k k' scene.document named at (ap (λ (x : Scene). x.document) made) same;
+    views_after = ap (λ (x : Scene). x.views) made;
+    notes_after = ap (λ (x : Scene). x.notes) made;
+  }
 
 -- Undo and redo keep the document's id.
 
@@ -42,13 +34,3 @@ changes_keep_id who several lines_changed (ContainerStep token coalesce ∷ cs) 
 
 pub transaction_keeps_id : (who : ℕ) (cs : List Change) (new : History) (scene : Scene) → (transaction_performed who cs new scene).document.id ≡ scene.document.id
 transaction_keeps_id who cs new scene = changes_keep_id who (bit_if (nat_lt 1 (length cs)) multi_step) false cs scene
-
--- A change of one of the documents of a table.
-
-pub document_put : (documents : Entries Kept) (id : ℕ) (k k' : Kept) (d : Document) → DocumentsAreNamed documents.entries → value_at documents.entries id ≡ Some k → k'.document ≡ d → d.id ≡ k.document.id
-    → documents_in (record documents { entries = with_value_at id k' documents.entries }) ≡ with_document d (documents_in documents)
-document_put documents id k k' d named at is same =
-    let own : k.document.id ≡ id = own_at id_of_document (documents_in documents) id k.document (found_some document_of id_of_document documents.entries id k named at) in
-    replaced document_of id_of_document documents.entries id k' named
-    ∙ ap (λ (x : Document). map (λ (e : Document). if e.id == id then x else e) (documents_in documents)) is
-    ∙ ap (λ n. map (λ (e : Document). if e.id == n then d else e) (documents_in documents)) (sym (same ∙ own))

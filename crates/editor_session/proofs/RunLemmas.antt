@@ -1,26 +1,11 @@
 -- What a run makes of a command that is refused.
-use Rattle.std.proofs.Common.{◌≡◌, ◌⊎◌, ◌↔◌, ℕ, pos, refl, ap, sym, ◌∙◌, inl, inr, Some, None, Ok, Err, List, [], ◌∷◌, ◌++◌, take, drop, zero, suc, ◌+◌, slice_get, arith, IfOk, OnOk, IsErr, true, false, ◌||◌, ◌<◌, ◌-◌, length, subst}
-use Rattle.std.specs.Prelude.{◌≢◌, Result, Option, IsOk, IfErr, is_some, nat_le, nat_lt}
-use Rattle.std.proofs.lemmas.Bool.{cond_both}
+use Rattle.editor_session.proofs.Names.{◌≡◌, ◌⊎◌, ◌↔◌, ℕ, pos, refl, ap, sym, ◌∙◌, inl, inr, Some, None, Ok, Err, List, [], ◌∷◌, ◌++◌, take, drop, zero, suc, ◌+◌, slice_get, arith, IfOk, OnOk, IsErr, true, false, ◌||◌, ◌<◌, ◌-◌, length, subst, ◌≢◌, Result, Option, IsOk, IfErr, is_some, nat_le, nat_lt, cond_both, Refusal, OutOfMemory, Kind, Message, kind_of, Response, Session, View, Document, view_at, document_at, IsSound, PlansFit, IsFitPlanned, Request, Planned, opened, closed, closed_view, table, table_from_view, table_from_kind, table_from_document, answered, request, plan_of, Running, outcomes, run_to, after_command, after_message, after_opening, loaded, file_at, set_text_message, AnswersBy, append_assoc}
 use Rattle.std.specs.declared.alloc.AllocError.{AllocError}
-use Rattle.ed_types.specs.declared.refusal.Refusal.{Refusal}
-use Rattle.ed_types.specs.declared.refusal.Refusal.TheVariants.{OutOfMemory}
 use Rattle.ed_types.specs.declared.script.Command.{Command}
 use Rattle.ed_types.specs.declared.script.Command.TheVariants.{OpenView}
 use Rattle.ed_types.specs.declared.script.Outcome.{Outcome}
 use Rattle.ed_types.specs.declared.script.Outcome.TheVariants.{Refused}
-use Rattle.ed_types.specs.declared.kind.Kind.{Kind}
-use Rattle.ed_types.specs.declared.message.Message.{Message}
-use Rattle.ed_types.specs.Messages.{kind_of}
-use Rattle.ed_types.specs.Notices.{Response}
-use Rattle.ed_model.specs.Session.{Session, View, Document, view_at, document_at}
-use Rattle.ed_model.specs.SoundLaws.{IsSound}
-use Rattle.ed_model.specs.PlansFit.{PlansFit, IsFitPlanned}
-use Rattle.ed_model.specs.Requests.{Request, Planned}
-use Rattle.ed_model.specs.Table.{opened, closed, closed_view, table, table_from_view, table_from_kind, table_from_document, answered, request, plan_of}
-use Rattle.ed_model.specs.Run.{Running, outcomes, run_to, after_command, after_message, after_opening, loaded, file_at, set_text_message}
 use Rattle.ed_model.specs.proved.Lists.{drop_at_index}
-use Rattle.editor_session.specs.Answers.{AnswersBy}
 use Rattle.editor_session.proofs.Questions.{sound_request}
 
 pub opened_state : (files : List (List ℕ)) (run : Running) (new : Session) (id : ℕ) → opened run.session ≡ Ok (new, id) →
@@ -81,23 +66,16 @@ IsSaid says answer = IfErr says (λ refusal. answer ≡ Err refusal)
 abbrev pub IsOther : {A : Type 0} → Result A Refusal → Type 0
 IsOther says = IfErr says (λ refusal. refusal ≢ OutOfMemory)
 
--- a run goes on behind a refusal that is said
-pub message_goes_on : (s : Session) (says : Result (Session × Response) Refusal) (refusal came : Refusal) (result : Result Outcome AllocError) →
-    IsOther says → IsSaid {B = Response} says (Err refusal) → (IsErr result ↔ (refusal ≡ OutOfMemory)) → (after_message s says).1 ≡ Refused came → IsOk result
-message_goes_on s (Ok done) refusal came result other said memory e = absurd (cc)
-message_goes_on s (Err x) refusal came result other said memory e =
-    let same : x ≡ refusal = cc in goes_on result refusal memory (subst (λ r. r ≢ OutOfMemory) same other)
-
-pub opening_goes_on : (s : Session) (says : Result (Session × ℕ) Refusal) (refusal came : Refusal) (result : Result Outcome AllocError) →
-    IsOther says → IsSaid {B = ℕ} says (Err refusal) → (IsErr result ↔ (refusal ≡ OutOfMemory)) → (after_opening s says).1 ≡ Refused came → IsOk result
-opening_goes_on s (Ok done) refusal came result other said memory e = absurd (cc)
-opening_goes_on s (Err x) refusal came result other said memory e =
+-- a run goes on behind a refusal that is said; `outcome` is that of what is said
+pub said_goes_on : {A : Type 0} (B : Type 0) (says : Result A Refusal) (refusal came : Refusal) (result : Result Outcome AllocError) (outcome : Result A Refusal → Outcome) → ((done : A) → outcome (Ok done) ≡ Refused came → ⊥) →
+    IsOther says → IsSaid {B = B} says (Err refusal) → (IsErr result ↔ (refusal ≡ OutOfMemory)) → outcome says ≡ Refused came → IsOk result
+said_goes_on B (Ok done) refusal came result outcome never other said memory e = absurd (never done e)
+said_goes_on B (Err x) refusal came result outcome never other said memory e =
     let same : x ≡ refusal = cc in goes_on result refusal memory (subst (λ r. r ≢ OutOfMemory) same other)
 
 -- a view that is not opened: there are too many
 pub opening_is_other : (s : Session) → IsOther (opened s)
-opening_is_other s =
-    cond_both (nat_le s.limits.views (length s.views) || nat_lt s.limits.ids s.next_view || nat_lt s.limits.ids s.next_document) _ _ IsOther (λ _ e. absurd (cc)) (λ _. tt)
+opening_is_other s = cond_both (nat_le s.limits.views (length s.views) || nat_lt s.limits.ids s.next_view || nat_lt s.limits.ids s.next_document) _ _ IsOther (λ _ e. absurd (cc)) (λ _. tt)
 
 -- a message that is refused, and a file that is not loaded
 pub message_is_other : PlansFit → (s : Session) → IsSound s → (view : ℕ) (m : Message) → IsOther (table s view m)
@@ -145,17 +123,13 @@ run_on : (files : List (List ℕ)) (first later : List Command) (run : Running) 
 run_on files [] later run = refl
 run_on files (c ∷ cs) later run = run_on files cs later (after_command files c run).0
 
-join_assoc : {X : Type 0} (xs : List X) (x : X) (ys : List X) → (xs ++ x ∷ []) ++ ys ≡ xs ++ x ∷ ys
-join_assoc [] x ys = refl
-join_assoc (z ∷ zs) x ys = ap (λ ws. z ∷ ws) (join_assoc zs x ys)
-
 pub one_more_outcome : (files : List (List ℕ)) (commands : List Command) (i : ℕ) (c : Command) (now new : Running) (done more all : List Outcome) (o : Outcome) → slice_get commands i ≡ Some c →
     new ≡ (after_command files c now).0 → o ≡ (after_command files c now).1 → more ≡ done ++ o ∷ [] →
     done ++ outcomes files (drop i commands) now ≡ all → more ++ outcomes files (drop (i + 1) commands) new ≡ all
 one_more_outcome files commands i c now new done more all o e state outcome grown h =
     let after : i + 1 ≡ suc i = omega arith in
     let rest = outcomes files (drop (suc i) commands) (after_command files c now).0 in
-    rw (after, grown, state, outcome) (join_assoc done (after_command files c now).1 rest ∙ sym (ap (λ cs. done ++ outcomes files cs now) (drop_at_index i commands c e)) ∙ h)
+    rw (after, grown, state, outcome) (append_assoc done ((after_command files c now).1 ∷ []) rest ∙ sym (ap (λ cs. done ++ outcomes files cs now) (drop_at_index i commands c e)) ∙ h)
 
 pub one_more_state : (files : List (List ℕ)) (commands : List Command) (i : ℕ) (c : Command) (now new end : Running) → slice_get commands i ≡ Some c →
     new ≡ (after_command files c now).0 → run_to files (drop i commands) now ≡ end → run_to files (drop (i + 1) commands) new ≡ end

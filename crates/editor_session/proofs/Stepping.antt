@@ -1,22 +1,9 @@
 -- Steps in turn, out of the room that was made for all of them.
-use Rattle.std.proofs.Common.{zero, suc, ◌≡◌, ◌≢◌, ℕ, ◌+◌, ◌-◌, ◌<◌, ◌≤◌, ◌==◌, Bool, true, false, cond, List, [], ◌∷◌, ◌++◌, length, refl, ap, sym, ◌∙◌, subst, arith, slice_range}
-use Rattle.ed_model.specs.Steps.{Step, Insert, Delete, step_bytes, replacement, insertion, deletion}
-use Rattle.ed_model.specs.History.{History, Transaction, TextStep, sealed_outside_groups, with_last_sealed}
-use Rattle.ed_model.specs.Session.{Document, text_of, watching}
-use Rattle.ed_model.specs.Performing.{Scene, step_made, edit_made, sealed_scene}
-use Rattle.ed_model.specs.proved.Steps.{length_of_range}
+use Rattle.editor_session.proofs.Names.{zero, suc, ◌≡◌, ◌≢◌, ℕ, ◌+◌, ◌-◌, ◌<◌, ◌≤◌, ◌==◌, Bool, true, false, cond, List, [], ◌∷◌, ◌++◌, length, refl, ap, sym, ◌∙◌, subst, arith, slice_range, Step, Insert, Delete, step_bytes, replacement, insertion, deletion, History, Transaction, TextStep, sealed_outside_groups, with_last_sealed, Document, text_of, watching, Scene, step_made, edit_made, sealed_scene, length_of_range, Kept, HasRoom, TakesRoom, Entries, KeptView, Gathered, views_of, scene_in, IsWatched, notes_needed, bytes_needed, NotesAreEnough, BytesAreEnough, SealingNeedsTheSame, room_of_step, room_of_steps, notes_for, bytes_for, appended_collects, deletion_needs, first_room, next_room, eqb-true, eqb-false, nil_from_length}
 use Rattle.document.specs.declared.text_step.TextStep.TheVariants as lent
-use Rattle.document.specs.Kept.{Kept, HasRoom, TakesRoom}
 use Rattle.document.specs.TextSteps.{bytes_out, step_in, need_of}
-use Rattle.id_table.specs.Entries.{Entries}
-use Rattle.ed_view.specs.Kept.{KeptView}
-use Rattle.notify.specs.Gathered.{Gathered}
-use Rattle.scene.specs.Scenes.{views_of, scene_in, IsWatched}
 use Rattle.scene.specs.Hearing.{bytes_shared, made_kinds}
-use Rattle.scene.specs.Needs.{notes_needed, bytes_needed, NotesAreEnough, BytesAreEnough, SealingNeedsTheSame}
-use Rattle.scene.specs.Conversion.{room_of_step, room_of_steps, notes_for, bytes_for}
 use Rattle.scene.specs.proved.Enough.{first_notes, next_notes, first_bytes, next_bytes}
-use Rattle.scene.specs.proved.Rooms.{appended_collects, deletion_needs, first_room, next_room}
 use Rattle.scene.specs.proved.Watched.{watched_with_history}
 
 -- The steps of a replacement.
@@ -31,22 +18,31 @@ deletes_some d start count h some bytes = go (slice_range (text_of d) start (sta
 
 pub deletes_none : (d : Document) (start count : ℕ) → count ≡ 0 → (bytes : List ℕ)
     → replacement start count bytes (text_of d) ≡ insertion start bytes
-deletes_none d start count none bytes = ap (λ gone. deletion start gone ++ insertion start bytes) (empty (slice_range (text_of d) start (start + count)) zero_long)
+deletes_none d start count none bytes = ap (λ gone. deletion start gone ++ insertion start bytes) (nil_from_length (slice_range (text_of d) start (start + count)) zero_long)
   where
     zero_long : length (slice_range (text_of d) start (start + count)) ≡ 0
     zero_long = let e : start + count - start ≡ 0 = omega (arith, none) in rw e refl
-
-    empty : (gone : List ℕ) → length gone ≡ 0 → gone ≡ []
-    empty [] e = refl
-    empty (b ∷ bs) e = absurd (omega (arith, e))
 
 pub inserts_some : (start : ℕ) (bytes : List ℕ) → length bytes ≢ 0 → insertion start bytes ≡ Insert start bytes ∷ []
 inserts_some start [] h = absurd (h refl)
 inserts_some start (b ∷ bs) h = refl
 
 pub inserts_none : (start : ℕ) (bytes : List ℕ) → length bytes ≡ 0 → insertion start bytes ≡ []
-inserts_none start [] h = refl
-inserts_none start (b ∷ bs) h = absurd (omega (arith, h))
+inserts_none start bytes h = ap (insertion start) (nil_from_length bytes h)
+
+pub positive : (n : ℕ) → n ≢ 0 → 0 < n
+positive zero h = absurd (h refl)
+positive (suc n) h = omega arith
+
+-- an insertion alone, and a deletion alone
+module _ (d : Document) (start count : ℕ) (bytes : List ℕ) where
+  pub inserts_alone : count ≡ 0 → false ≡ (length bytes == 0) → replacement start count bytes (text_of d) ≡ Insert start bytes ∷ []
+  inserts_alone none some = deletes_none d start count none bytes ∙ inserts_some start bytes (eqb-false (length bytes) 0 (sym some))
+
+  pub deletes_alone : start + count ≤ length d.cells → count ≢ 0 → true ≡ (length bytes == 0) → replacement start count bytes (text_of d) ≡ Delete start (slice_range (text_of d) start (start + count)) ∷ []
+  deletes_alone range some none =
+      deletes_some d start count range (positive count some) bytes
+      ∙ ap (λ ss. Delete start (slice_range (text_of d) start (start + count)) ∷ ss) (inserts_none start bytes (eqb-true (length bytes) 0 (sym none)))
 
 pub sealed_collects : (h : History) → (sealed_outside_groups h).collecting ≡ h.collecting
 sealed_collects h = go (h.depth == 0) h.past
@@ -63,10 +59,6 @@ sealed_collects h = go (h.depth == 0) h.past
 
 abbrev pub sealed_kept : Kept → Kept
 sealed_kept k = record k { document = (let d = k.document in record d { history = sealed_outside_groups d.history }) }
-
-pub positive : (n : ℕ) → n ≢ 0 → 0 < n
-positive zero h = absurd (h refl)
-positive (suc n) h = omega arith
 
 -- Two steps, between seals.
 module _ (start count : ℕ) (bytes : List ℕ) (k k1 : Kept) (views : Entries KeptView) (notes : Gathered) (range : start + count ≤ length k.document.cells) (some : (0 < count) × (0 < length bytes)) (sealed : k1 ≡ sealed_kept k) where
@@ -102,8 +94,7 @@ module _ (start count : ℕ) (bytes : List ℕ) (k k1 : Kept) (views : Entries K
   shared_first x = bytes_shared (made_kinds false (step_in (lent.Delete start count) (text_of x.document)) x.document.history) (watching (views_of views.entries) x.document) (length (step_bytes (step_in (lent.Delete start count) (text_of x.document))))
 
   pub first_of_two_bytes : BytesAreEnough → SealingNeedsTheSame → bytes_for (replacement start count bytes (text_of k.document)) at_first ≤ notes.text_room → shared_first k1 ≤ notes.text_room
-  first_of_two_bytes law same h =
-      subst (λ x. shared_first x ≤ notes.text_room) (sym sealed) (first_bytes law false gone (come ∷ []) (sealed_scene at_first) notes.text_room (bytes_sealed same h))
+  first_of_two_bytes law same h = subst (λ x. shared_first x ≤ notes.text_room) (sym sealed) (first_bytes law false gone (come ∷ []) (sealed_scene at_first) notes.text_room (bytes_sealed same h))
 
   module _ (k2 : Kept) (views2 : Entries KeptView) (notes2 : Gathered)
       (made : scene_in k2.document views2.entries notes2.notes ≡ step_made false (step_in (lent.Delete start count) (text_of k1.document)) (scene_in k1.document views.entries notes.notes)) where

@@ -1,44 +1,19 @@
 -- The way of a message through the table.
-use Rattle.std.proofs.Common.{◌&&◌, ◌≡◌, ◌≢◌, ℕ, true, false, cond, ◌==◌, List, [], ◌∷◌, ℤ, refl, ap, sym, ◌∙◌, subst, Option, Some, None, Ok, Err}
-use Rattle.std.specs.Prelude.{Result, not, IsOk, IfErr}
-use Rattle.ed_types.specs.declared.message.Message.{Message}
-use Rattle.ed_types.specs.declared.kind.Kind.{Kind}
-use Rattle.ed_types.specs.declared.refusal.Refusal.{Refusal}
-use Rattle.ed_types.specs.declared.refusal.Refusal.TheVariants.{NoSuchView, UnknownMessage, OutOfMemory}
-use Rattle.ed_types.specs.Messages.{kind_of, marks_of}
-use Rattle.ed_model.specs.Session.{Session, View, Document, document_at, view_at, watching}
+use Rattle.editor_session.proofs.Names.{◌&&◌, ◌≡◌, ◌≢◌, ℕ, true, false, cond, ◌==◌, List, [], ◌∷◌, ℤ, refl, ap, sym, ◌∙◌, subst, Option, Some, None, Ok, Err, Result, not, IsOk, IfErr, Message, Kind, Refusal, NoSuchView, UnknownMessage, OutOfMemory, kind_of, marks_of, Session, View, Document, document_at, view_at, watching, IsSound, Request, Planned, IsFitPlan, IsFitPlanned, quiet, Plan, table, record_note, table_from_view, table_from_kind, table_from_document, answered, request, plan_of, id_of_view, own_at, needs_no_fold_room, needs_no_memory, planned_without_memory, is_free, is_free_request, is_free_from_document, is_free_from_kind, is_free_from_view, is_marked_free, is_recorded_by, MarkedMessagesAreFree, PlannedMessage, IsFound, IsPlannedAs, DocumentChange, ViewChange, SessionChange, History, and_parts, not-true}
 use Rattle.ed_model.specs.Rows.{Flags}
-use Rattle.ed_model.specs.SoundLaws.{IsSound}
-use Rattle.ed_model.specs.Requests.{Request, Planned}
-use Rattle.ed_model.specs.PlansFit.{IsFitPlan, IsFitPlanned}
-use Rattle.ed_model.specs.Performing.{quiet}
-use Rattle.ed_model.specs.declared.plan.Plan.{Plan}
 use Rattle.ed_model.specs.declared.plan.Plan.TheVariants as plan
-use Rattle.ed_model.specs.Table.{table, record_note, table_from_view, table_from_kind, table_from_document, answered, request, plan_of}
-use Rattle.session_changes.specs.proved.Finding.{id_of_view, own_at}
-use Rattle.editor_session.specs.Plans.{needs_no_fold_room, needs_no_memory, planned_without_memory, is_free, is_free_request, is_free_from_document, is_free_from_kind, is_free_from_view, is_marked_free, is_recorded_by, MarkedMessagesAreFree}
-use Rattle.editor_session.specs.Planned.{PlannedMessage, IsFound, IsPlannedAs}
 use Rattle.ed_model.specs.FreePlans.{IsFreeDocumentChange, IsFreeViewChange, IsFreeSessionChange, IsFreePlan, IsFreePlanned, MarkedPlansAreFree}
-use Rattle.ed_model.specs.declared.plan.DocumentChange.{DocumentChange}
 use Rattle.ed_model.specs.declared.plan.DocumentChange.TheVariants as document_change
-use Rattle.ed_model.specs.declared.plan.ViewChange.{ViewChange}
 use Rattle.ed_model.specs.declared.plan.ViewChange.TheVariants as view_change
-use Rattle.ed_model.specs.declared.plan.SessionChange.{SessionChange}
 use Rattle.ed_model.specs.declared.plan.SessionChange.TheVariants as session_change
-use Rattle.ed_model.specs.History.{History}
 use Rattle.document_changes.specs.Needs.{needs_room, notes_of_change}
 use Rattle.session_changes.specs.Ready.{takes_memory}
-use Rattle.std.proofs.lemmas.Bool.{and_parts, not-true}
 
 pub no_view : (s : Session) (id : ℕ) (m : Message) → view_at s.views id ≡ None → table s id m ≡ Err NoSuchView
 no_view s id m none = ap (table_from_view s m) none
 
 pub no_kind : (s : Session) (id : ℕ) (m : Message) (v : View) → view_at s.views id ≡ Some v → kind_of m.number ≡ None → table s id m ≡ Err UnknownMessage
 no_kind s id m v found none = ap (table_from_view s m) found ∙ ap (table_from_kind s v m) none
-
-to_document : (s : Session) (id : ℕ) (m : Message) (v : View) (kind : Kind) → view_at s.views id ≡ Some v → kind_of m.number ≡ Some kind →
-    table s id m ≡ table_from_document s v kind m (document_at s.documents v.document)
-to_document s id m v kind found is = ap (table_from_view s m) found ∙ ap (table_from_kind s v m) is
 
 pub is_found : (s : Session) (id : ℕ) (m : Message) (v : View) (kind : Kind) (d : Document) → IsSound s → view_at s.views id ≡ Some v → kind_of m.number ≡ Some kind →
     document_at s.documents v.document ≡ Some d → IsFound s id m kind (request s v d m)
@@ -50,7 +25,7 @@ is_found s id m v kind d sound found is there =
       session = refl;
       view_id = own;
       message = refl;
-      answer = to_document s id m v kind found is ∙ ap (table_from_document s v kind m) there;
+      answer = ap (table_from_view s m) found ∙ ap (table_from_kind s v m) is ∙ ap (table_from_document s v kind m) there;
     }
 
 pub fit_of : {what : Plan} (kind : Kind) (r : Request) → plan_of kind r ≡ Ok what → IsFitPlanned r (plan_of kind r) → IsFitPlan r what
@@ -65,8 +40,8 @@ plain_answer s view m kind r value f planned unheard =
     ∙ ap (λ (x : Session). Ok (x, quiet value)) f.session
 
 -- the table refuses no message that has a plan
-pub with_a_plan : (P : Refusal → Type 0) (s : Session) (view : ℕ) (m m' : Message) (kind : Kind) (r : Request) (what : Plan) → m ≡ m' → IsFound s view m kind r → plan_of kind r ≡ Ok what → IfErr (table s view m') P
-with_a_plan P s view m m' kind r what same f planned = subst (λ t. IfErr t P) (sym (ap (table s view) (sym same) ∙ f.answer ∙ ap (answered kind r) planned)) tt
+pub with_a_plan : (P : Refusal → Type 0) (s : Session) (view : ℕ) (m : Message) (kind : Kind) (r : Request) (what : Plan) → IsFound s view m kind r → plan_of kind r ≡ Ok what → IfErr (table s view m) P
+with_a_plan P s view m kind r what f planned = subst (λ t. IfErr t P) (sym (f.answer ∙ ap (answered kind r) planned)) tt
 
 pub never_refused : {R : Type 0} (result : Result R Refusal) → IsOk result → IfErr result (λ e. e ≢ OutOfMemory)
 never_refused (Ok x) h = tt
@@ -85,8 +60,8 @@ free_found s view m kind r f free =
     let parts = and_parts (planned_without_memory r (plan_of kind r)) (not (r.view.records && (marks_of kind).r)) (sym is ∙ free) in
     (parts.0, not-true (r.view.records && (marks_of kind).r) parts.1)
 
-pub free_plan : (s : Session) (view : ℕ) (m : Message) (planned : PlannedMessage) (t : IsPlannedAs s view m planned) → is_free s view m ≡ true → (needs_no_memory t.request planned.plan ≡ true) × (planned.is_recorded ≡ false)
-free_plan s view m planned t free =
+pub free_plan : {s : Session} {view : ℕ} {m : Message} {planned : PlannedMessage} (t : IsPlannedAs s view m planned) → is_free s view m ≡ true → (needs_no_memory t.request planned.plan ≡ true) × (planned.is_recorded ≡ false)
+free_plan {s} {view} {m} {planned} t free =
     let parts = free_found s view m t.kind t.request t.found free in
     (subst (λ p. planned_without_memory t.request p ≡ true) t.planned parts.0, t.recorded ∙ parts.1)
 

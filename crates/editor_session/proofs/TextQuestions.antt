@@ -1,36 +1,14 @@
 -- Text questions, and what the table answers to them.
-use Rattle.std.proofs.Common.{arith, ◌≡◌, ℕ, ◌+◌, ◌≤◌, Bool, true, false, cond, List, [], ◌∷◌, length, refl, ap, sym, subst, ◌∙◌, Option, Some, None, Ok, Err, slice_range}
-use Rattle.std.specs.Prelude.{IfSome}
-use Rattle.std.specs.List.{AllByRecursion}
-use Rattle.std.proofs.lemmas.Bool.{eqb-true}
-use Rattle.std.proofs.lemmas.List.{length-map}
-use Rattle.ed_model.specs.Text.{Cell}
-use Rattle.ed_types.specs.declared.kind.Kind.{Kind}
-use Rattle.ed_types.specs.declared.message.Message.{Message}
-use Rattle.ed_types.specs.Messages.{number_of, kind_of, marks_of}
-use Rattle.ed_types.specs.MessagesLaws.{EachKindIsFound}
-use Rattle.ed_types.specs.Notices.{Response}
+use Rattle.editor_session.proofs.Names.{arith, ◌≡◌, ℕ, ◌+◌, ◌≤◌, Bool, true, false, cond, List, [], ◌∷◌, length, refl, ap, sym, subst, ◌∙◌, Option, Some, None, Ok, Err, slice_range, IfSome, AllByRecursion, length-map, Cell, Kind, Message, marks_of, EachKindIsFound, Response, Request, Planned, size, Session, View, Document, view_at, document_at, text_of, response, PlansFit, IsSoundRequest, IsFitPlanned, table, record_note, table_from_view, table_from_kind, table_from_document, answered, request, plan_of, text_questions, text_question_of, is_text_question, handed_planned, handed_asked, with_text, reply_handing, reply_from_document, reply_from_view, reply_from_kind, reply_to}
 use Rattle.ed_model.specs.declared.plan.Plan.TheVariants as plan
-use Rattle.ed_model.specs.Requests.{Request, Planned, size}
-use Rattle.ed_model.specs.Session.{Session, View, Document, view_at, document_at, text_of}
-use Rattle.ed_model.specs.Performing.{response}
-use Rattle.ed_model.specs.PlansFit.{PlansFit, IsSoundRequest, IsFitPlanned}
-use Rattle.ed_model.specs.Table.{table, record_note, table_from_view, table_from_kind, table_from_document, answered, request, plan_of}
 use Rattle.ed_model.specs.proved.Lists.{length_slice}
 use Rattle.message_requests.specs.declared.answers.HandedOut.{HandedOut}
 use Rattle.message_requests.specs.HandingOut.{handed_out}
-use Rattle.message_plans.specs.Asking.{text_questions, text_question_of, is_text_question, handed_planned, handed_asked}
-use Rattle.editor_session.specs.Answers.{with_text}
-use Rattle.editor_session.specs.Asked.{reply_handing, reply_from_document, reply_from_view, reply_from_kind, reply_to}
-use Rattle.editor_session.proofs.Questions.{IsPlain, plain, found_plain, unheard}
+use Rattle.editor_session.proofs.Questions.{IsPlain, plain, found_plain, decoded, unheard}
 
 -- they are not recorded, and read no text
 texts_plain : AllByRecursion IsPlain text_questions
 texts_plain = (plain refl (λ r text. refl), (plain refl (λ r text. refl), (plain refl (λ r text. refl), (plain refl (λ r text. refl), (plain refl (λ r text. refl), (plain refl (λ r text. refl), tt))))))
-
-decoded : EachKindIsFound → (number : ℕ) (kind : Kind) → text_question_of number ≡ Some kind → kind_of number ≡ Some kind
-decoded law number kind e =
-    subst (λ n. kind_of n ≡ Some kind) (eqb-true (number_of kind) number (found_plain number text_questions kind texts_plain e).1) (law kind)
 
 planned : (b : Bool) (p : Planned) (h : HandedOut) → cond b (handed_planned p) None ≡ Some h → p ≡ handed_out h
 planned false p h e = absurd (cc)
@@ -65,15 +43,12 @@ text_reply law s view m kind v d h is found there e text =
     let with = request s v d (with_text m text) in
     let p = (found_plain m.number text_questions kind texts_plain is).0 in
     ap (table_from_view s (with_text m text)) found
-    ∙ ap (table_from_kind s v (with_text m text)) (decoded law m.number kind is)
+    ∙ ap (table_from_kind s v (with_text m text)) (decoded law text_questions texts_plain m.number kind is)
     ∙ ap (table_from_document s v kind (with_text m text)) there
     ∙ ap (answered kind with) (p.any_text r text ∙ planned_so kind r h e)
     ∙ ap (λ b. Ok (s, cond b (record (handing d h) { notes = record_note with ∷ [] }) (handing d h))) (unheard v.records (marks_of kind).r p.unrecorded)
 
 -- What a text question comes to, by what is found of it.
-
-pub no_question : (s : Session) (id : ℕ) (m : Message) → text_question_of m.number ≡ None → reply_to s id m ≡ None
-no_question s id m none = ap (reply_from_kind s id m) none
 
 pub asked_of_no_view : (s : Session) (id : ℕ) (m : Message) (kind : Kind) → text_question_of m.number ≡ Some kind → view_at s.views id ≡ None → reply_to s id m ≡ None
 asked_of_no_view s id m kind is none = ap (reply_from_kind s id m) is ∙ ap (reply_from_view s kind m) none
@@ -86,6 +61,6 @@ asked_of s id m kind v d is found there = ap (reply_from_kind s id m) is ∙ ap 
 pub none_promised : (o : Option Response) (P : Response → Type 0) → o ≡ None → IfSome o P
 none_promised o P none = subst (λ o. IfSome o P) (sym none) tt
 
-pub all_promised : (o : Option Response) (P : Response → Type 0) → ((reply : Response) → P reply) → IfSome o P
+pub all_promised : {X : Type 0} (o : Option X) (P : X → Type 0) → ((x : X) → P x) → IfSome o P
 all_promised None P all = tt
-all_promised (Some reply) P all = all reply
+all_promised (Some x) P all = all x

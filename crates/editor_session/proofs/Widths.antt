@@ -1,27 +1,10 @@
 -- A text that keeps to its limit is within the width of its document's places.
-use Rattle.std.proofs.Common.{arith, ◌≡◌, ◌==◌, ℕ, ◌+◌, ◌-◌, ◌≤◌, ◌<◌, ◌^◌, min, nat_le, Bool, true, false, cond, List, [], ◌∷◌, length, refl, ap, sym, subst, slice_range}
-use Rattle.std.proofs.lemmas.Bool.{and_parts, leb-true}
-use Rattle.std.proofs.lemmas.List.{length-take, length-drop, length-map}
-use Rattle.ed_types.specs.declared.limits.Limits.{Limits}
+use Rattle.editor_session.proofs.Names.{arith, ◌≡◌, ◌==◌, ℕ, ◌+◌, ◌-◌, ◌≤◌, ◌<◌, ◌^◌, min, nat_le, Bool, true, false, cond, List, [], ◌∷◌, length, refl, ap, sym, subst, slice_range, and_parts, leb-true, length-take, length-drop, length-map, Limits, stays_within, Change, TextStep, ContainerStep, IsRoomFor, IsSoundRequest, Request, text, Document, is_allowed, is_large, limit_of, text_of, AreStepsOf, IsSoundDocument, Step, Insert, Delete, edited, Cell, length-inserted, length-deleted_within, found_all, FitsWidth, bound_of, changes_for, room_of_steps_beside, capped, capped_room, free_behind, rooms_beside, StepsFitWidth, ChangesFitWidth}
 use Rattle.ed_model.specs.declared.plan.LineEndTypes.{LineEndTypes}
-use Rattle.ed_model.specs.Edits.{stays_within}
-use Rattle.ed_model.specs.History.{Change, TextStep, ContainerStep}
 use Rattle.ed_model.specs.InverseLaws.{Fits}
-use Rattle.ed_model.specs.PlansFit.{IsRoomFor, IsSoundRequest}
-use Rattle.ed_model.specs.Requests.{Request, text}
-use Rattle.ed_model.specs.Session.{Document, is_allowed, is_large, limit_of, text_of}
-use Rattle.ed_model.specs.SoundLaws.{AreStepsOf, IsSoundDocument}
-use Rattle.ed_model.specs.Steps.{Step, Insert, Delete, edited}
-use Rattle.ed_model.specs.Text.{Cell}
 use Rattle.ed_model.specs.UndoPlans.{text_steps}
-use Rattle.ed_model.specs.proved.Steps.{length-inserted, length-deleted_within}
-use Rattle.ed_model.specs.proved.Elements.{found_all}
 use Rattle.ed_model.specs.proved.Limits.{allowed_lengths}
-use Rattle.document.specs.Kept.{Kept, FitsWidth, HasRoom, bound_of, no_room}
 use Rattle.document.specs.declared.room.DocumentRoom.{DocumentRoom}
-use Rattle.scene.specs.Conversion.{changes_for, room_of_steps_beside}
-use Rattle.scene.specs.Undoing.{capped, capped_room, free_behind, rooms_beside}
-use Rattle.editor_session.specs.Widths.{StepsFitWidth, ChangesFitWidth}
 
 -- a deletion's bytes are in the text
 deleted_within : (p : ℕ) (bytes text : List ℕ) → Fits (Delete p bytes) text → p + length bytes ≤ length text
@@ -122,7 +105,3 @@ capped_fits d room need is fits = subst (λ (x : DocumentRoom). FitsWidth d (len
   where
     less : (n x bound : ℕ) → n + x < bound → n + capped x < bound
     less n x bound h = omega arith
-
--- no room is there always
-pub no_room_is_there : (k : Kept) (need : DocumentRoom) → need ≡ no_room → HasRoom k need
-no_room_is_there k need is = subst (λ (x : DocumentRoom). HasRoom k x) (sym is) ((omega arith, omega arith, omega arith), λ on. (omega arith, omega arith))

@@ -5,8 +5,6 @@ use Rattle.ed_model.specs.declared.plan.Source.{Source}
 use Rattle.ed_model.specs.declared.plan.Source.TheVariants as source
 use Rattle.ed_model.specs.declared.plan.Edit.{Edit}
 use Rattle.ed_model.specs.declared.plan.Edit.TheVariants as edit
-use Rattle.ed_model.specs.declared.plan.Plan.{Plan}
-use Rattle.ed_model.specs.declared.plan.Plan.TheVariants as plan
 use Rattle.ed_model.specs.declared.plan.Follow.{Follow}
 use Rattle.ed_model.specs.declared.plan.Follow.TheVariants as follow
 use Rattle.ed_model.specs.LineEnds.{line_end_bytes, converted}
@@ -47,14 +45,10 @@ abbrev pub is_turned : Edit → Bool
 is_turned (edit.Replace start count (source.Clipboard convert)) = convert
 is_turned other = false
 
--- the ranges of an edit, and of a plan, lie in texts of these lengths: the document's, and the message's
+-- the ranges of an edit lie in texts of these lengths: the document's, and the message's
 abbrev pub IsEditWithin : Edit → ℕ → ℕ → Type 0
 IsEditWithin (edit.Replace start count from) size text = (start + count ≤ size) × IsStoredIn from text
 IsEditWithin (edit.ConvertLineEnds to) size text = Unit {0}
-
-abbrev pub IsWithin : Plan → ℕ → ℕ → Type 0
-IsWithin (plan.Edit change value after) size text = IsEditWithin change size text
-IsWithin other size text = Unit {0}
 
 -- the document of a scene stands in the table, and its views and notes are these
 pub record Becomes (scene : Scene) (documents documents' : Entries Kept) (views' : Entries KeptView) (notes' : Gathered) : Type 0 where

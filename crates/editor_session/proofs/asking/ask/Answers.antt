@@ -1,6 +1,4 @@
-use Rattle.std.proofs.Common.{rules, ◌≡◌, sym, None}
-use Rattle.message_plans.specs.Asking.{question_of}
-use Rattle.message_requests.specs.Requested.{session_in}
+use Rattle.editor_session.proofs.Names.{rules, ◌≡◌, sym, None, question_of, session_in}
 use Rattle.editor_session.proofs.Questions.{no_question}
 use Rattle.editor_session.proofs.asking.ask.Goals as goal
 

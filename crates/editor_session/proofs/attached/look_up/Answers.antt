@@ -1,7 +1,4 @@
-use Rattle.std.proofs.Common.{sym, ap, ◌∙◌}
-use Rattle.std.specs.Prelude.{option_copied}
-use Rattle.ed_view.specs.Kept.{view_in}
-use Rattle.session_changes.specs.proved.Finding.{id_of_view, found_none}
+use Rattle.editor_session.proofs.Names.{sym, ap, ◌∙◌, option_copied, view_in, id_of_view, found_none}
 use Rattle.editor_session.proofs.Attaching.{view_is, document_is, document_is_there}
 use Rattle.editor_session.proofs.attached.look_up.Goals as goal
 

@@ -1,16 +1,10 @@
-use Rattle.std.proofs.Common.{rules, ◌≡◌, ◌++◌, ap, ◌∙◌}
-use Rattle.ed_model.specs.Changes.{changed_document, change_told}
-use Rattle.ed_model.specs.Session.{Document}
-use Rattle.scene.specs.Scenes.{watchers}
+use Rattle.editor_session.proofs.Names.{rules, ◌≡◌, ◌++◌, ap, ◌∙◌, changed_document, change_told, Document, watchers}
 use Rattle.editor_session.proofs.changing.change_with_room.Goals as goal
 
 pub returns-clause-told : goal.returns-clause-told
 returns-clause-told c = λ v own.
-    let a = c.args in
-    let views = a.views.now in
-    let old = a.document.now.document in
-    let d = c.reserve_change.new.document.document in
-    let e = c.change_document.ensures in
+    let a = c.args in let views = a.views.now in let old = a.document.now.document in
+    let d = c.reserve_change.new.document.document in let e = c.change_document.ensures in
     let same = c.reserve_change.ensures.same in
     let kept : c.reserve.new.self.notes ≡ a.notes.now.notes = search rules in
     e.notes v own

@@ -1,9 +1,4 @@
-use Rattle.std.proofs.Common.{rules, ◌≡◌, ◌++◌, length, max, sym, ap, subst, ◌∙◌, arith, IfSome}
-use Rattle.std.specs.Prelude.{option_copied}
-use Rattle.ed_model.specs.Notes.{told, modify_attempt, blank}
-use Rattle.ed_model.specs.Session.{watching}
-use Rattle.notify.specs.Gathered.{Gathered}
-use Rattle.scene.specs.Scenes.{views_of}
+use Rattle.editor_session.proofs.Names.{rules, ◌≡◌, ◌++◌, length, max, sym, ap, subst, ◌∙◌, arith, IfSome, option_copied, told, modify_attempt, blank, watching, Gathered, views_of}
 use Rattle.editor_session.proofs.Needing.{watched_few}
 use Rattle.editor_session.proofs.changing.perform_attempt.Goals as goal
 
@@ -16,10 +11,7 @@ attempt-requires-clause-room c =
 
 pub returns-clause-told : goal.returns-clause-told
 returns-clause-told c =
-    let a = c.args in
-    let s = a.state.now in
-    let old = c.in-Some.document.now in
-    let n = c.attempt.new.notes in
+    let a = c.args in let s = a.state.now in let old = c.in-Some.document.now in let n = c.attempt.new.notes in
     let at = sym c.get.ensures ∙ ap option_copied c.in-Some.is in
     let same : c.reserve.new.self.notes ≡ a.notes.now.notes = search rules in
     let put : n.notes ≡ a.notes.now.notes ++ told (watching (views_of s.views.entries) old.document) (blank modify_attempt) =

@@ -1,7 +1,4 @@
-use Rattle.std.proofs.Common.{◌≡◌, [], false, true, sym, subst, ◌∙◌}
-use Rattle.ed_model.specs.declared.plan.Plan.TheVariants as plan
-use Rattle.ed_model.specs.SoundLaws.{IsSound}
-use Rattle.session_changes.specs.Asked.{IsAsked, CanChangeSession}
+use Rattle.editor_session.proofs.Names.{◌≡◌, [], false, true, sym, subst, ◌∙◌, IsSound, IsAsked, CanChangeSession}
 use Rattle.editor_session.proofs.Keeping.{kept_with}
 use Rattle.editor_session.proofs.OtherPlans.{session_fits, session_changed_for, session_free}
 use Rattle.editor_session.proofs.PlanLemmas.{answers, kept_by}
@@ -9,8 +6,7 @@ use Rattle.editor_session.proofs.changing.perform_session_change.Goals as goal
 
 pub change_session-requires-clause-kept : goal.change_session-requires-clause-kept
 change_session-requires-clause-kept c =
-    let s = c.args.state.now in
-    let e = c.prepare_session_change.ensures in
+    let s = c.args.state.now in let e = c.prepare_session_change.ensures in
     kept_with s c.prepare_session_change.new.state c.requires.kept (subst IsSound (sym e.same) c.requires.kept.sound) e.limits e.documents e.views
 
 pub change_session-requires-clause-can : goal.change_session-requires-clause-can
@@ -20,29 +16,20 @@ change_session-requires-clause-can c =
 
 pub returns-clause-answer : goal.returns-clause-answer
 returns-clause-answer c = λ value notes.
-    let a = c.args in
-    let s = a.state.now in
-    let n = c.change_session.new.state in
-    answers s a.document a.view a.text.now (plan.ChangeSession a.change value) n notes notes value []
-    (session_changed_for s c.requires.kept a.document a.view a.text.now a.change n (λ r asked text. c.change_session.ensures.changed r (subst (λ x. IsAsked x a.document a.view r) (sym c.prepare_session_change.ensures.same) asked) text) value notes)
+    let a = c.args in let s = a.state.now in let n = c.change_session.new.state in
+    answers (session_changed_for s c.requires.kept a.document a.view a.text.now a.change n (λ r asked text. c.change_session.ensures.changed r (subst (λ x. IsAsked x a.document a.view r) (sym c.prepare_session_change.ensures.same) asked) text) value notes)
 
 pub returns-clause-kept : goal.returns-clause-kept
 returns-clause-kept c =
-    let a = c.args in
-    let s = a.state.now in
-    let n = c.change_session.new.state in
-    let e = c.change_session.ensures in
-    let f = c.prepare_session_change.ensures in
-    let by_text = c.requires.sent in
-    let sent = by_text.sent in
-    kept_by c.soundness_is_kept.ensures.by_messages s a.document a.view a.text.now (plan.ChangeSession a.change sent.value) n [] [] sent.value [] c.requires.kept
+    let a = c.args in let s = a.state.now in let n = c.change_session.new.state in let e = c.change_session.ensures in
+    let f = c.prepare_session_change.ensures in let by_text = c.requires.sent in let sent = by_text.sent in
+    kept_by c.soundness_is_kept.ensures.by_messages c.requires.kept
     (session_changed_for s c.requires.kept a.document a.view a.text.now a.change n (λ r asked text. e.changed r (subst (λ x. IsAsked x a.document a.view r) (sym f.same) asked) text) sent.value [])
-    sent.message sent.is_recorded sent.planned by_text.text_is (e.limits ∙ f.limits) e.documents e.views
+    sent.planned by_text.text_is (e.limits ∙ f.limits) e.documents e.views
 
 pub returns-in_default-clause-kept : goal.returns-in_default-clause-kept
 returns-in_default-clause-kept c =
-    let s = c.args.state.now in
-    let e = c.prepare_session_change.ensures in
+    let s = c.args.state.now in let e = c.prepare_session_change.ensures in
     kept_with s c.prepare_session_change.new.state c.requires.kept (subst IsSound (sym e.same) c.requires.kept.sound) e.limits e.documents e.views
 
 pub returns-in_default-clause-free : goal.returns-in_default-clause-free

@@ -1,19 +1,12 @@
-use Rattle.std.proofs.Common.{◌≡◌, [], false, true, refl, sym, ap, subst, ◌∙◌}
-use Rattle.std.specs.Option.{option_copied_mut}
-use Rattle.message_requests.specs.declared.state.SessionState.{SessionState}
-use Rattle.editor_session.specs.Edits.{IfNoSteps}
+use Rattle.editor_session.proofs.Names.{◌≡◌, false, true, refl, sym, ap, subst, ◌∙◌, option_copied_mut, SessionState, IfNoSteps}
 use Rattle.editor_session.proofs.EditLemmas.{edit_put, edited_with}
 use Rattle.editor_session.proofs.OneDocument.{with_scene, said_of_it, still_named, same_session}
 use Rattle.editor_session.proofs.editing.edit_making_room.Goals as goal
 
 pub returns-in-Ok-clause-edited : goal.returns-in-Ok-clause-edited
 returns-in-Ok-clause-edited c =
-    let a = c.args in
-    let s = a.state.now in
-    let old = c.in-Some.document.now in
-    let n = c.edit_with_room.new in
-    let e = c.in-Ok.ensures in
-    let f = c.follow_edit in
+    let a = c.args in let s = a.state.now in let old = c.in-Some.document.now in let n = c.edit_with_room.new in
+    let e = c.in-Ok.ensures in let f = c.follow_edit in
     let at = sym c.get_mut.ensures.value ∙ ap option_copied_mut c.in-Some.is in
     let put : SessionState = with_scene s a.document n.document f.new.views in
     let s' : SessionState = record put { clipboard = f.new.clipboard } in
@@ -39,8 +32,7 @@ returns-in-Err-clause-documents c =
 
 pub returns-in-Err-clause-free : goal.returns-in-Err-clause-free
 returns-in-Err-clause-free c =
-    let a = c.args in
-    let s = a.state.now in
+    let a = c.args in let s = a.state.now in
     let at = sym c.get_mut.ensures.value ∙ ap option_copied_mut c.in-Some.is in
     said_of_it s c.requires.kept a.document c.in-Some.document.now c.edit_with_room.new.document at (IfNoSteps a.edit a.text.now s.clipboard.items a.pasted.now (false ≡ true))
     (subst (λ held. IfNoSteps a.edit a.text.now held a.pasted.now (false ≡ true) c.in-Some.document.now) c.deref.ensures.value c.in-Err.ensures.free)

@@ -1,20 +1,13 @@
-use Rattle.std.proofs.Common.{◌≡◌, [], false, true, sym, subst, IfSome}
-use Rattle.ed_model.specs.declared.plan.Plan.TheVariants as plan
-use Rattle.id_table.specs.Entries.{value_at}
-use Rattle.editor_session.specs.Edited.{IsPastedFor}
+use Rattle.editor_session.proofs.Names.{◌≡◌, false, true, sym, subst, IfSome, value_at, IsPastedFor, rules}
 use Rattle.editor_session.proofs.EditLemmas.{edit_there, edit_takes, can_edit, edited_for, pasted_free, taken_free, steps_free}
 use Rattle.editor_session.proofs.PlanLemmas.{answers, kept_by}
 use Rattle.editor_session.proofs.editing.perform_edit.Goals as goal
 
 pub pasted_bytes-requires : goal.pasted_bytes-requires
-pasted_bytes-requires c =
-    let a = c.args in
-    record { there = edit_there a.state.now c.requires.kept a.document a.view a.text.now a.edit a.follow c.requires.sent }
+pasted_bytes-requires c = record { there = edit_there c.args.state.now c.requires.kept c.args.document c.args.view c.args.text.now c.args.edit c.args.follow c.requires.sent }
 
 pub taken_bytes-requires : goal.taken_bytes-requires
-taken_bytes-requires c =
-    let a = c.args in
-    record { can = edit_takes a.state.now c.requires.kept a.document a.view a.text.now a.edit a.follow c.requires.sent }
+taken_bytes-requires c = record { can = edit_takes c.args.state.now c.requires.kept c.args.document c.args.view c.args.text.now c.args.edit c.args.follow c.requires.sent }
 
 pub edit_making_room-requires-clause-can : goal.edit_making_room-requires-clause-can
 edit_making_room-requires-clause-can c =
@@ -22,27 +15,19 @@ edit_making_room-requires-clause-can c =
     let turned = subst (λ x. IfSome (value_at a.state.now.documents.entries a.document) (λ k. IsPastedFor a.edit a.state.now.clipboard.items k.document.line_end x)) (sym c.deref.ensures.value) c.in-Ok.ensures.pasted in
     can_edit a.state.now c.requires.kept a.document a.view a.text.now a.edit a.follow c.requires.sent c.plans_are_fit.ensures.edit_steps c.in-Ok-taken_bytes.taken.items c.in-Ok-taken_bytes.ensures.taken c.deref.result.now turned
 
-pub returns-in-Ok-edit_making_room-clause-answer : goal.returns-in-Ok-edit_making_room-clause-answer
-returns-in-Ok-edit_making_room-clause-answer c = λ value.
-    let a = c.args in
+pub returns-in-Ok-edit_making_room : goal.returns-in-Ok-edit_making_room
+returns-in-Ok-edit_making_room c =
+    let a = c.args in let n = c.edit_making_room.new in let e = c.edit_making_room.ensures in
+    let sent = c.requires.sent in
     let turned = subst (λ x. IfSome (value_at a.state.now.documents.entries a.document) (λ k. IsPastedFor a.edit a.state.now.clipboard.items k.document.line_end x)) (sym c.deref.ensures.value) c.in-Ok.ensures.pasted in
-    let s = a.state.now in
-    let n = c.edit_making_room.new in
-    answers s a.document a.view a.text.now (plan.Edit a.edit value a.follow) n.state a.notes.now.notes n.notes.notes value []
-    (edited_for s c.requires.kept a.document a.view a.text.now a.edit a.follow c.deref.result.now turned n.state a.notes.now n.notes c.in-Ok-edit_making_room.ensures.edited value)
-
-pub returns-in-Ok-edit_making_room-clause-kept : goal.returns-in-Ok-edit_making_room-clause-kept
-returns-in-Ok-edit_making_room-clause-kept c =
-    let a = c.args in
-    let turned = subst (λ x. IfSome (value_at a.state.now.documents.entries a.document) (λ k. IsPastedFor a.edit a.state.now.clipboard.items k.document.line_end x)) (sym c.deref.ensures.value) c.in-Ok.ensures.pasted in
-    let s = a.state.now in
-    let n = c.edit_making_room.new in
-    let e = c.edit_making_room.ensures in
-    let by_text = c.requires.sent in
-    let sent = by_text.sent in
-    kept_by c.soundness_is_kept.ensures.by_messages s a.document a.view a.text.now (plan.Edit a.edit sent.value a.follow) n.state a.notes.now.notes n.notes.notes sent.value [] c.requires.kept
-    (edited_for s c.requires.kept a.document a.view a.text.now a.edit a.follow c.deref.result.now turned n.state a.notes.now n.notes c.in-Ok-edit_making_room.ensures.edited sent.value)
-    sent.message sent.is_recorded sent.planned by_text.text_is e.limits e.documents e.views
+    let done = edited_for a.state.now c.requires.kept a.document a.view a.text.now a.edit a.follow c.deref.result.now turned n.state a.notes.now n.notes c.in-Ok-edit_making_room.ensures.edited in
+    record {
+      answer = λ value. answers (done value);
+      same = search rules;
+      refused = search rules;
+      kept = kept_by c.soundness_is_kept.ensures.by_messages c.requires.kept (done sent.sent.value) sent.sent.planned sent.text_is e.limits e.documents e.views;
+      free = search rules;
+    }
 
 pub returns-clause-free : goal.returns-clause-free
 returns-clause-free c = λ value.

@@ -1,24 +1,15 @@
-use Rattle.std.proofs.Common.{rules, ◌≡◌, ap, ◌∙◌}
-use Rattle.ed_model.specs.Performing.{edit_made, Scene}
-use Rattle.ed_model.specs.Session.{Document, text_of}
-use Rattle.ed_model.specs.Steps.{replacement}
-use Rattle.ed_model.specs.proved.Scenes.{edit_made_id}
-use Rattle.scene.specs.Scenes.{scene_in}
-use Rattle.scene.specs.Conversion.{room_of_steps}
+use Rattle.editor_session.proofs.Names.{rules, ◌≡◌, ap, ◌∙◌, edit_made, Scene, Document, text_of, replacement, edit_made_id, scene_in, room_of_steps}
 use Rattle.editor_session.proofs.Widths.{capped_fits}
 use Rattle.editor_session.proofs.editing.replace_with_room.Goals as goal
 
 pub reserve-requires-2 : goal.reserve-requires-2
 reserve-requires-2 c =
-    let a = c.args in
-    let d = a.document.now.document in
+    let a = c.args in let d = a.document.now.document in
     record { wide = capped_fits d (room_of_steps d.line_end_types (replacement a.start a.count a.bytes.now (text_of d))) c.replacement_need-need.result.document c.replacement_need-need.ensures.document c.requires.wide }
 
 pub returns-clause-scene : goal.returns-clause-scene
 returns-clause-scene c =
-    let a = c.args in
-    let d = a.document.now.document in
-    let views = a.views.now.entries in
+    let a = c.args in let d = a.document.now.document in let views = a.views.now.entries in
     let before : c.reserve.new.self.notes ≡ a.notes.now.notes = search rules in
     c.replace_bytes.ensures.scene
     ∙ ap (λ (x : Document). edit_made (replacement a.start a.count a.bytes.now (text_of x)) (scene_in x views c.reserve.new.self.notes)) c.reserve-2.ensures.same
@@ -26,6 +17,5 @@ returns-clause-scene c =
 
 pub returns-clause-id : goal.returns-clause-id
 returns-clause-id c =
-    let a = c.args in
-    let d = a.document.now.document in
+    let a = c.args in let d = a.document.now.document in
     ap (λ (x : Scene). x.document.id) (returns-clause-scene c) ∙ edit_made_id (replacement a.start a.count a.bytes.now (text_of d)) (scene_in d a.views.now.entries a.notes.now.notes)

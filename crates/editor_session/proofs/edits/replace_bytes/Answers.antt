@@ -1,67 +1,46 @@
-use Rattle.std.proofs.Common.{false, ◌≡◌, ◌+◌, ◌≤◌, length, [], ◌∷◌, sym, ap, subst, ◌∙◌, slice_range}
-use Rattle.std.proofs.lemmas.Bool.{eqb-true, eqb-false}
-use Rattle.ed_model.specs.Steps.{Insert, Delete, replacement}
-use Rattle.ed_model.specs.Performing.{edit_made}
-use Rattle.ed_model.specs.Session.{text_of}
-use Rattle.scene.specs.Scenes.{scene_in}
-use Rattle.scene.specs.Conversion.{notes_for, bytes_for}
+use Rattle.editor_session.proofs.Names.{false, ◌+◌, ◌≤◌, [], sym, ap, subst, ◌∙◌, slice_range, Insert, Delete, edit_made, text_of, scene_in, notes_for, bytes_for}
 use Rattle.scene.specs.proved.Enough.{first_notes, first_bytes}
-use Rattle.editor_session.proofs.Stepping.{deletes_some, deletes_none, inserts_some, inserts_none, positive}
+use Rattle.editor_session.proofs.Stepping.{inserts_alone, deletes_alone}
 use Rattle.editor_session.proofs.edits.replace_bytes.Goals as goal
 
 pub make_step-requires-clause-notes : goal.make_step-requires-clause-notes
 make_step-requires-clause-notes c =
-    let a = c.args in
-    let d = a.document.now.document in
+    let a = c.args in let d = a.document.now.document in
     let scene = scene_in d a.views.now.entries a.notes.now.notes in
-    let is : replacement a.start a.count a.bytes.now (text_of d) ≡ Insert a.start a.bytes.now ∷ [] =
-    deletes_none d a.start a.count c.if-count-eq0.true a.bytes.now ∙ inserts_some a.start a.bytes.now (eqb-false (length a.bytes.now) 0 (sym c.if-is_empty.ensures)) in
+    let is = inserts_alone d a.start a.count a.bytes.now c.if-count-eq0.true c.if-is_empty.ensures in
     first_notes c.needs_are_enough.ensures.notes false (Insert a.start a.bytes.now) [] scene a.notes.now.note_room (subst (λ ss. notes_for ss scene ≤ a.notes.now.note_room) is c.requires.notes)
 
 pub make_step-requires-clause-texts : goal.make_step-requires-clause-texts
 make_step-requires-clause-texts c =
-    let a = c.args in
-    let d = a.document.now.document in
+    let a = c.args in let d = a.document.now.document in
     let scene = scene_in d a.views.now.entries a.notes.now.notes in
-    let is : replacement a.start a.count a.bytes.now (text_of d) ≡ Insert a.start a.bytes.now ∷ [] =
-    deletes_none d a.start a.count c.if-count-eq0.true a.bytes.now ∙ inserts_some a.start a.bytes.now (eqb-false (length a.bytes.now) 0 (sym c.if-is_empty.ensures)) in
+    let is = inserts_alone d a.start a.count a.bytes.now c.if-count-eq0.true c.if-is_empty.ensures in
     first_bytes c.needs_are_enough.ensures.bytes false (Insert a.start a.bytes.now) [] scene a.notes.now.text_room (subst (λ ss. bytes_for ss scene ≤ a.notes.now.text_room) is c.requires.texts)
 
 pub returns-then-count-eq0-clause-scene : goal.returns-then-count-eq0-clause-scene
 returns-then-count-eq0-clause-scene c =
-    let a = c.args in
-    let d = a.document.now.document in
+    let a = c.args in let d = a.document.now.document in
     let scene = scene_in d a.views.now.entries a.notes.now.notes in
-    let is : replacement a.start a.count a.bytes.now (text_of d) ≡ Insert a.start a.bytes.now ∷ [] =
-    deletes_none d a.start a.count c.if-count-eq0.true a.bytes.now ∙ inserts_some a.start a.bytes.now (eqb-false (length a.bytes.now) 0 (sym c.if-is_empty.ensures)) in
+    let is = inserts_alone d a.start a.count a.bytes.now c.if-count-eq0.true c.if-is_empty.ensures in
     c.make_step.ensures.scene ∙ sym (ap (λ ss. edit_made ss scene) is)
 
 pub make_step-requires-then-is_empty-2-clause-notes : goal.make_step-requires-then-is_empty-2-clause-notes
 make_step-requires-then-is_empty-2-clause-notes c =
-    let a = c.args in
-    let d = a.document.now.document in
+    let a = c.args in let d = a.document.now.document in
     let scene = scene_in d a.views.now.entries a.notes.now.notes in
-    let gone = Delete a.start (slice_range (text_of d) a.start (a.start + a.count)) in
-    let is : replacement a.start a.count a.bytes.now (text_of d) ≡ gone ∷ [] =
-    deletes_some d a.start a.count c.requires.range (positive a.count c.if-count-eq0.false) a.bytes.now ∙ ap (λ ss. gone ∷ ss) (inserts_none a.start a.bytes.now (eqb-true (length a.bytes.now) 0 (sym c.if-is_empty-2.ensures))) in
-    first_notes c.needs_are_enough.ensures.notes false gone [] scene a.notes.now.note_room (subst (λ ss. notes_for ss scene ≤ a.notes.now.note_room) is c.requires.notes)
+    let is = deletes_alone d a.start a.count a.bytes.now c.requires.range c.if-count-eq0.false c.if-is_empty-2.ensures in
+    first_notes c.needs_are_enough.ensures.notes false (Delete a.start (slice_range (text_of d) a.start (a.start + a.count))) [] scene a.notes.now.note_room (subst (λ ss. notes_for ss scene ≤ a.notes.now.note_room) is c.requires.notes)
 
 pub make_step-requires-then-is_empty-2-clause-texts : goal.make_step-requires-then-is_empty-2-clause-texts
 make_step-requires-then-is_empty-2-clause-texts c =
-    let a = c.args in
-    let d = a.document.now.document in
+    let a = c.args in let d = a.document.now.document in
     let scene = scene_in d a.views.now.entries a.notes.now.notes in
-    let gone = Delete a.start (slice_range (text_of d) a.start (a.start + a.count)) in
-    let is : replacement a.start a.count a.bytes.now (text_of d) ≡ gone ∷ [] =
-    deletes_some d a.start a.count c.requires.range (positive a.count c.if-count-eq0.false) a.bytes.now ∙ ap (λ ss. gone ∷ ss) (inserts_none a.start a.bytes.now (eqb-true (length a.bytes.now) 0 (sym c.if-is_empty-2.ensures))) in
-    first_bytes c.needs_are_enough.ensures.bytes false gone [] scene a.notes.now.text_room (subst (λ ss. bytes_for ss scene ≤ a.notes.now.text_room) is c.requires.texts)
+    let is = deletes_alone d a.start a.count a.bytes.now c.requires.range c.if-count-eq0.false c.if-is_empty-2.ensures in
+    first_bytes c.needs_are_enough.ensures.bytes false (Delete a.start (slice_range (text_of d) a.start (a.start + a.count))) [] scene a.notes.now.text_room (subst (λ ss. bytes_for ss scene ≤ a.notes.now.text_room) is c.requires.texts)
 
 pub returns-then-is_empty-2-clause-scene : goal.returns-then-is_empty-2-clause-scene
 returns-then-is_empty-2-clause-scene c =
-    let a = c.args in
-    let d = a.document.now.document in
+    let a = c.args in let d = a.document.now.document in
     let scene = scene_in d a.views.now.entries a.notes.now.notes in
-    let gone = Delete a.start (slice_range (text_of d) a.start (a.start + a.count)) in
-    let is : replacement a.start a.count a.bytes.now (text_of d) ≡ gone ∷ [] =
-    deletes_some d a.start a.count c.requires.range (positive a.count c.if-count-eq0.false) a.bytes.now ∙ ap (λ ss. gone ∷ ss) (inserts_none a.start a.bytes.now (eqb-true (length a.bytes.now) 0 (sym c.if-is_empty-2.ensures))) in
+    let is = deletes_alone d a.start a.count a.bytes.now c.requires.range c.if-count-eq0.false c.if-is_empty-2.ensures in
     c.make_step-then-is_empty-2.ensures.scene ∙ sym (ap (λ ss. edit_made ss scene) is)

@@ -3,48 +3,37 @@ use Rattle.editor_session.proofs.edits.replace_some.Goals as goal
 
 pub make_step-requires-clause-notes : goal.make_step-requires-clause-notes
 make_step-requires-clause-notes c =
-    let a = c.args in
-    let law = c.needs_are_enough.ensures in
+    let a = c.args in let law = c.needs_are_enough.ensures in
     first_of_two_notes a.start a.count a.bytes.now a.document.now c.seal_outside_groups.new.self a.views.now a.notes.now c.requires.range c.requires.some c.seal_outside_groups.ensures law.notes law.sealing c.requires.notes
 
 pub make_step-requires-clause-texts : goal.make_step-requires-clause-texts
 make_step-requires-clause-texts c =
-    let a = c.args in
-    let law = c.needs_are_enough.ensures in
+    let a = c.args in let law = c.needs_are_enough.ensures in
     first_of_two_bytes a.start a.count a.bytes.now a.document.now c.seal_outside_groups.new.self a.views.now a.notes.now c.requires.range c.requires.some c.seal_outside_groups.ensures law.bytes law.sealing c.requires.texts
 
 pub make_step-requires-2-clause-room : goal.make_step-requires-2-clause-room
 make_step-requires-2-clause-room c =
-    let a = c.args in
-    let n = c.make_step.new in
+    let a = c.args in let n = c.make_step.new in
     second_room a.start a.count a.bytes.now a.document.now c.seal_outside_groups.new.self a.views.now a.notes.now c.requires.range c.requires.some c.seal_outside_groups.ensures n.document n.views n.notes c.make_step.ensures.scene
     c.requires.room c.make_step.ensures.room_left c.make_step.ensures.text_freed
 
 pub make_step-requires-2-clause-notes : goal.make_step-requires-2-clause-notes
 make_step-requires-2-clause-notes c =
-    let a = c.args in
-    let n = c.make_step.new in
-    let law = c.needs_are_enough.ensures in
+    let a = c.args in let n = c.make_step.new in let law = c.needs_are_enough.ensures in
     second_notes a.start a.count a.bytes.now a.document.now c.seal_outside_groups.new.self a.views.now a.notes.now c.requires.range c.requires.some c.seal_outside_groups.ensures n.document n.views n.notes c.make_step.ensures.scene
     law.notes law.sealing c.requires.notes c.make_step.ensures.note_room_left
 
 pub make_step-requires-2-clause-texts : goal.make_step-requires-2-clause-texts
 make_step-requires-2-clause-texts c =
-    let a = c.args in
-    let n = c.make_step.new in
-    let law = c.needs_are_enough.ensures in
+    let a = c.args in let n = c.make_step.new in let law = c.needs_are_enough.ensures in
     second_bytes a.start a.count a.bytes.now a.document.now c.seal_outside_groups.new.self a.views.now a.notes.now c.requires.range c.requires.some c.seal_outside_groups.ensures n.document n.views n.notes c.make_step.ensures.scene
     law.bytes law.sealing c.requires.texts c.make_step.ensures.text_room_left
 
 pub returns-clause-scene : goal.returns-clause-scene
 returns-clause-scene c =
-    let a = c.args in
-    let n = c.make_step.new in
-    let m = c.make_step-2.new in
+    let a = c.args in let n = c.make_step.new in let m = c.make_step-2.new in
     two_made a.start a.count a.bytes.now a.document.now c.seal_outside_groups.new.self a.views.now a.notes.now c.requires.range c.requires.some c.seal_outside_groups.ensures n.document n.views n.notes c.make_step.ensures.scene
     m.document c.seal_outside_groups-2.new.self m.views m.notes c.make_step-2.ensures.scene c.seal_outside_groups-2.ensures
 
 pub returns-clause-watched : goal.returns-clause-watched
-returns-clause-watched c =
-    let m = c.make_step-2.new in
-    ends_watched m.document c.seal_outside_groups-2.new.self m.views c.seal_outside_groups-2.ensures c.make_step-2.ensures.watched
+returns-clause-watched c = ends_watched c.make_step-2.new.document c.seal_outside_groups-2.new.self c.make_step-2.new.views c.seal_outside_groups-2.ensures c.make_step-2.ensures.watched

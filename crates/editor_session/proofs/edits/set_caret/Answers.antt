@@ -1,25 +1,18 @@
-use Rattle.std.proofs.Common.{sym, ap, ◌∙◌}
-use Rattle.std.specs.Option.{option_copied_mut}
-use Rattle.ed_view.specs.Kept.{KeptView, view_in}
+use Rattle.editor_session.proofs.Names.{sym, ap, ◌∙◌, option_copied_mut, KeptView, view_in, id_of_view, changed, named_with, rules}
 use Rattle.selection.specs.declared.selections.Selection.{Selection}
-use Rattle.session_changes.specs.proved.Finding.{id_of_view, changed, named_with}
 use Rattle.editor_session.proofs.Finding.{no_view_changed}
 use Rattle.editor_session.proofs.edits.set_caret.Goals as goal
 
-pub returns-in-Some-clause-views : goal.returns-in-Some-clause-views
-returns-in-Some-clause-views c =
-    let old = c.in-Some.view.now in
-    changed view_in id_of_view c.args.views.now.entries c.args.view c.args.views.now.next c.requires.named c.requires.rise old c.select.new.self
-    (sym c.get_mut.ensures.value ∙ ap option_copied_mut c.in-Some.is)
-    (λ v. record v { anchor = c.args.place; caret = c.args.place })
-    (ap (λ (k : KeptView). k.view) c.select.ensures ∙ ap (λ (s : Selection). let v = old.view in record v { anchor = s.anchor; caret = s.caret }) c.at.ensures)
-
-pub returns-in-Some-clause-named : goal.returns-in-Some-clause-named
-returns-in-Some-clause-named c =
-    let old = c.in-Some.view.now in
-    named_with view_in id_of_view c.args.views.now.entries c.args.view c.args.views.now.next c.requires.named c.requires.rise old c.select.new.self
-    (sym c.get_mut.ensures.value ∙ ap option_copied_mut c.in-Some.is)
-    (ap (λ (k : KeptView). k.view.id) c.select.ensures)
+pub returns-in-Some : goal.returns-in-Some
+returns-in-Some c =
+    let a = c.args in let old = c.in-Some.view.now in
+    let at = sym c.get_mut.ensures.value ∙ ap option_copied_mut c.in-Some.is in
+    record {
+      views = changed view_in id_of_view a.views.now.entries a.view a.views.now.next c.requires.named c.requires.rise old c.select.new.self at (λ v. record v { anchor = a.place; caret = a.place })
+          (ap (λ (k : KeptView). k.view) c.select.ensures ∙ ap (λ (s : Selection). let v = old.view in record v { anchor = s.anchor; caret = s.caret }) c.at.ensures);
+      named = named_with view_in id_of_view a.views.now.entries a.view a.views.now.next c.requires.named c.requires.rise old c.select.new.self at (ap (λ (k : KeptView). k.view.id) c.select.ensures);
+      next = search rules;
+    }
 
 pub returns-in_default-clause-views : goal.returns-in_default-clause-views
 returns-in_default-clause-views c =

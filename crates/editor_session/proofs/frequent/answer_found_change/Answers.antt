@@ -1,6 +1,4 @@
-use Rattle.std.proofs.Common.{rules, false, Ok, ap, inl, ◌∙◌}
-use Rattle.notify.specs.Gathered.{Gathered}
-use Rattle.message_requests.specs.Requested.{session_in}
+use Rattle.editor_session.proofs.Names.{rules, false, Ok, ap, inl, ◌∙◌, Gathered, session_in}
 use Rattle.editor_session.proofs.frequent.answer_found_change.Goals as goal
 
 pub perform_change-requires-clause-sent : goal.perform_change-requires-clause-sent

@@ -1,6 +1,4 @@
-use Rattle.std.proofs.Common.{rules, ◌≡◌, to_z, of_z, w64, false, refl, ap, ◌∙◌, Ok}
-use Rattle.ed_model.specs.Performing.{quiet}
-use Rattle.message_requests.specs.Requested.{session_in}
+use Rattle.editor_session.proofs.Names.{rules, ◌≡◌, to_z, of_z, w64, false, refl, ap, ◌∙◌, Ok, quiet, session_in}
 use Rattle.editor_session.proofs.frequent.answer_unheard_change.Goals as goal
 
 pub perform_change_unheard-requires-clause-sent : goal.perform_change_unheard-requires-clause-sent

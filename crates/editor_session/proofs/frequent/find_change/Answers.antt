@@ -1,28 +1,18 @@
-use Rattle.std.proofs.Common.{rules, ◌≡◌, to_z, of_z, w64, sym, subst, Some}
+use Rattle.editor_session.proofs.Names.{rules, ◌≡◌, to_z, of_z, w64, sym, subst, Some, IsSoundRequest, request, session_in, change_asked, IsPlannedAs, unrecorded}
 use Rattle.ed_model.specs.declared.plan.Plan.TheVariants as plan
-use Rattle.ed_model.specs.PlansFit.{IsSoundRequest}
-use Rattle.ed_model.specs.Table.{request}
-use Rattle.message_requests.specs.Requested.{session_in}
-use Rattle.message_plans.specs.Frequent.{change_asked}
-use Rattle.editor_session.specs.Planned.{IsPlannedAs}
-use Rattle.editor_session.specs.Performed.{unrecorded}
 use Rattle.editor_session.proofs.FrequentChanges.{frequent_plan}
 use Rattle.editor_session.proofs.Questions.{sound_request}
 use Rattle.editor_session.proofs.frequent.find_change.Goals as goal
 
 pub change_of-requires : goal.change_of-requires
 change_of-requires c =
-    let a = c.args in
-    let f = c.in-Some.found in
+    let a = c.args in let f = c.in-Some.found in
     record { sound = subst IsSoundRequest (sym c.request_to-request.ensures) (sound_request (session_in a.state.now) a.view a.message.now f.view.now.view f.document.now.document c.requires.kept.sound c.in-Some.ensures.view c.in-Some.ensures.document) }
 
 pub returns : goal.returns
 returns c =
-    let a = c.args in
-    let s = session_in a.state.now in
-    let m = a.message.now in
-    let v = c.in-Some.found.view.now.view in
-    let d = c.in-Some.found.document.now.document in
+    let a = c.args in let s = session_in a.state.now in let m = a.message.now in
+    let v = c.in-Some.found.view.now.view in let d = c.in-Some.found.document.now.document in
     let made = c.in-Some-change_of in
     let value = to_z w64 (of_z w64 made.value) in
     let asked : change_asked a.kind (request s v d m) ≡ Some (made.change, value) = subst (λ r. change_asked a.kind r ≡ Some (made.change, value)) c.request_to-request.ensures (search rules) in

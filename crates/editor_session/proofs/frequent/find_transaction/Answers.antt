@@ -1,27 +1,17 @@
-use Rattle.std.proofs.Common.{rules, ◌≡◌, sym, subst, true}
-use Rattle.ed_model.specs.PlansFit.{IsSoundRequest}
-use Rattle.ed_model.specs.Table.{request, plan_of}
-use Rattle.message_requests.specs.Requested.{session_in}
-use Rattle.message_plans.specs.Frequent.{performing, is_performed}
-use Rattle.editor_session.specs.Planned.{IsPlannedAs}
-use Rattle.editor_session.specs.Performed.{unrecorded}
+use Rattle.editor_session.proofs.Names.{rules, ◌≡◌, sym, subst, true, IsSoundRequest, request, plan_of, session_in, performing, is_performed, IsPlannedAs, unrecorded}
 use Rattle.editor_session.proofs.FrequentChanges.{transaction_plan}
 use Rattle.editor_session.proofs.Questions.{sound_request}
 use Rattle.editor_session.proofs.frequent.find_transaction.Goals as goal
 
 pub is_performed-requires : goal.is_performed-requires
 is_performed-requires c =
-    let a = c.args in
-    let f = c.in-Some.found in
+    let a = c.args in let f = c.in-Some.found in
     record { sound = subst IsSoundRequest (sym c.request_to-request.ensures) (sound_request (session_in a.state.now) a.view a.message.now f.view.now.view f.document.now.document c.requires.kept.sound c.in-Some.ensures.view c.in-Some.ensures.document) }
 
 pub returns-then-is_performed : goal.returns-then-is_performed
 returns-then-is_performed c =
-    let a = c.args in
-    let s = session_in a.state.now in
-    let m = a.message.now in
-    let v = c.in-Some.found.view.now.view in
-    let d = c.in-Some.found.document.now.document in
+    let a = c.args in let s = session_in a.state.now in let m = a.message.now in
+    let v = c.in-Some.found.view.now.view in let d = c.in-Some.found.document.now.document in
     let asked : is_performed a.kind (plan_of a.kind (request s v d m)) ≡ true = subst (λ r. is_performed a.kind (plan_of a.kind r) ≡ true) c.request_to-request.ensures (search rules) in
     subst (λ n. IsPlannedAs s a.view m (unrecorded n a.view (performing a.kind))) (sym c.id.ensures)
     (transaction_plan c.plans_are_fit.ensures.in_range c.kinds_and_numbers.ensures.found s a.view m a.kind v d c.requires.kept.sound c.requires.transaction c.in-Some.ensures.view c.in-Some.ensures.document asked)

@@ -1,15 +1,11 @@
-use Rattle.std.proofs.Common.{◌++◌, ◌∷◌, [], ap, sym, ◌∙◌, arith, slice_range}
-use Rattle.ed_model.specs.Performing.{styled_text}
+use Rattle.editor_session.proofs.Names.{◌++◌, ◌∷◌, [], ap, sym, ◌∙◌, arith, slice_range, styled_text}
 use Rattle.editor_session.proofs.Styled.{styled_more, append_two}
 use Rattle.editor_session.proofs.handing_out.append_styled.Goals as goal
 
 pub loop-place-preserved : goal.loop-place-preserved
 loop-place-preserved c =
-    let a = c.args in
-    let l = c.loop-place in
-    let first = c.push_reserved.ensures in
-    let second = c.push_reserved-in-loop-place.ensures in
-    let cells = a.document.now.document.cells in
+    let a = c.args in let l = c.loop-place in let first = c.push_reserved.ensures in
+    let second = c.push_reserved-in-loop-place.ensures in let cells = a.document.now.document.cells in
     record {
       from = omega (arith, l.invariant.from);
       done = second.items ∙ ap (λ xs. xs ++ c.style.result ∷ []) (first.items ∙ ap (λ xs. xs ++ c.byte.result ∷ []) l.invariant.done)

@@ -1,6 +1,4 @@
-use Rattle.std.proofs.Common.{◌≡◌, ◌≤◌, ◌+◌, ◌-◌, ◌*◌, ◌++◌, slice_range}
-use Rattle.std.specs.Prelude.{vec_len, vec_capacity}
-use Rattle.ed_model.specs.Performing.{styled_text}
+use Rattle.editor_session.proofs.Names.{◌≡◌, ◌≤◌, ◌+◌, ◌-◌, ◌*◌, ◌++◌, slice_range, vec_len, vec_capacity, styled_text}
 use Rattle.editor_session.proofs.handing_out.append_styled.Given as goal
 
 abbrev pub invariant-loop-place : goal.invariant-loop-place

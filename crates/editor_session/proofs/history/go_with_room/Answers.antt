@@ -1,9 +1,4 @@
-use Rattle.std.proofs.Common.{rules, ◌≡◌, ap, ◌∙◌}
-use Rattle.ed_model.specs.Performing.{Scene}
-use Rattle.ed_model.specs.Session.{Document}
-use Rattle.document.specs.Undoing.{changes_of, history_behind}
-use Rattle.scene.specs.Scenes.{scene_in}
-use Rattle.scene.specs.Undoing.{bits_of, room_of_changes}
+use Rattle.editor_session.proofs.Names.{rules, ◌≡◌, ap, ◌∙◌, Scene, Document, changes_of, history_behind, scene_in, bits_of, room_of_changes}
 use Rattle.editor_session.proofs.Going.{none_told}
 use Rattle.editor_session.proofs.Replacing.{transaction_keeps_id}
 use Rattle.editor_session.proofs.Widths.{capped_fits}
@@ -11,14 +6,12 @@ use Rattle.editor_session.proofs.history.go_with_room.Goals as goal
 
 pub reserve-requires-2 : goal.reserve-requires-2
 reserve-requires-2 c =
-    let a = c.args in
-    let d = a.document.now.document in
+    let a = c.args in let d = a.document.now.document in
     record { wide = capped_fits d (room_of_changes d.line_end_types (changes_of a.direction d.history)) c.history_need-need.result.document c.history_need-need.ensures.document c.requires.wide }
 
 pub returns-clause-id : goal.returns-clause-id
 returns-clause-id c =
-    let a = c.args in
-    let d = c.reserve-2.new.self.document in
+    let a = c.args in let d = c.reserve-2.new.self.document in
     ap (λ (x : Scene). x.document.id) c.perform_history.ensures.scene
     ∙ transaction_keeps_id (bits_of a.direction) (changes_of a.direction d.history) (history_behind a.direction d.history) (scene_in d a.views.now.entries c.reserve.new.self.notes)
     ∙ ap (λ (x : Document). x.id) c.reserve-2.ensures.same

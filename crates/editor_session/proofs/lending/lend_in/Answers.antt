@@ -1,7 +1,5 @@
 -- The document that lent its bytes is as it was, and so is the table.
-use Rattle.std.proofs.Common.{◌≡◌, refl, ap, sym, ◌∙◌, subst, IfSome, ◌+◌, slice_range}
-use Rattle.std.specs.Option.{option_copied_mut}
-use Rattle.ed_model.specs.Session.{text_of}
+use Rattle.editor_session.proofs.Names.{◌≡◌, refl, ap, sym, ◌∙◌, subst, IfSome, ◌+◌, slice_range, option_copied_mut, text_of}
 use Rattle.editor_session.proofs.LendingLemmas.{lent_back}
 use Rattle.editor_session.proofs.lending.lend_in.Goals as goal
 

@@ -1,42 +1,27 @@
-use Rattle.std.proofs.Common.{length, ◌≡◌, ◌+◌, [], ◌∷◌, sym, ap, subst, ◌∙◌, slice_range, arith}
-use Rattle.std.proofs.lemmas.Bool.{eqb-true, eqb-false}
-use Rattle.ed_model.specs.Steps.{Insert, Delete, replacement}
-use Rattle.ed_model.specs.Session.{text_of, watching}
-use Rattle.ed_model.specs.proved.Steps.{length_of_range}
+use Rattle.editor_session.proofs.Names.{length, ◌≡◌, ◌+◌, [], ◌∷◌, sym, ap, subst, ◌∙◌, slice_range, arith, eqb-false, Insert, Delete, replacement, text_of, watching, length_of_range, scene_in, views_of, note_room, notes_of_step, bytes_of_step, room_of_steps, capped_room, deletion_needs}
 use Rattle.document.specs.TextSteps.{need_of}
 use Rattle.document.specs.declared.text_step.TextStep.TheVariants as lent
-use Rattle.scene.specs.Scenes.{scene_in, views_of}
-use Rattle.scene.specs.Needs.{note_room, notes_of_step, bytes_of_step}
-use Rattle.scene.specs.Conversion.{room_of_steps}
-use Rattle.scene.specs.Undoing.{capped_room}
 use Rattle.scene.specs.declared.need.SceneNeed.{SceneNeed}
 use Rattle.editor_session.specs.Needs.{NeedsSteps}
-use Rattle.scene.specs.proved.Rooms.{deletion_needs}
-use Rattle.editor_session.proofs.Stepping.{deletes_some, deletes_none, inserts_none, inserts_some, positive}
+use Rattle.editor_session.proofs.Stepping.{deletes_some, inserts_some, inserts_alone, deletes_alone, positive}
 use Rattle.editor_session.proofs.Needing.{one_step_summed, one_step_room, two_steps, two_steps_room, frees_all}
 use Rattle.editor_session.proofs.need.replacement_need.Goals as goal
 
 pub returns-then-count-eq0-clause-document : goal.returns-then-count-eq0-clause-document
 returns-then-count-eq0-clause-document c =
-    let a = c.args in
-    let d = a.document.now.document in
-    let types = d.line_end_types in
+    let a = c.args in let d = a.document.now.document in let types = d.line_end_types in
     let come = Insert a.start a.bytes.now in
-    let is : replacement a.start a.count a.bytes.now (text_of d) ≡ come ∷ [] =
-    deletes_none d a.start a.count c.if-count-eq0.true a.bytes.now ∙ inserts_some a.start a.bytes.now (eqb-false (length a.bytes.now) 0 (sym c.if-is_empty.ensures)) in
+    let is = inserts_alone d a.start a.count a.bytes.now c.if-count-eq0.true c.if-is_empty.ensures in
     one_step_room types come c.plus.result c.step_need.result c.of_notes-leaving.result (ap (λ (n : SceneNeed). n.document) c.step_need.ensures) (ap (λ (n : SceneNeed). n.document) c.of_notes-leaving.ensures) c.plus.ensures
     ∙ ap (λ ss. capped_room (room_of_steps types ss)) (sym is)
 
 pub returns-then-is_empty-2 : goal.returns-then-is_empty-2
 returns-then-is_empty-2 c =
-    let a = c.args in
-    let d = a.document.now.document in
-    let types = d.line_end_types in
+    let a = c.args in let d = a.document.now.document in let types = d.line_end_types in
     let scene = scene_in d a.views.now.entries [] in
     let gone = Delete a.start (slice_range (text_of d) a.start (a.start + a.count)) in
     let needs = deletion_needs types d a.start a.count c.requires.range in
-    let is : replacement a.start a.count a.bytes.now (text_of d) ≡ gone ∷ [] =
-    deletes_some d a.start a.count c.requires.range (positive a.count c.if-count-eq0.false) a.bytes.now ∙ ap (λ ss. gone ∷ ss) (inserts_none a.start a.bytes.now (eqb-true (length a.bytes.now) 0 (sym c.if-is_empty-2.ensures))) in
+    let is = deletes_alone d a.start a.count a.bytes.now c.requires.range c.if-count-eq0.false c.if-is_empty-2.ensures in
     record {
       enough = subst (λ ss. NeedsSteps ss scene c.plus-need.result) (sym is)
           (one_step_summed scene gone (need_of types (lent.Delete a.start a.count)) c.leaving_need-2.result c.plus-need.result c.step_need-2.result c.of_notes-leaving-2.result
@@ -48,9 +33,7 @@ returns-then-is_empty-2 c =
 
 pub returns : goal.returns
 returns c =
-    let a = c.args in
-    let d = a.document.now.document in
-    let types = d.line_end_types in
+    let a = c.args in let d = a.document.now.document in let types = d.line_end_types in
     let scene = scene_in d a.views.now.entries [] in
     let bytes = slice_range (text_of d) a.start (a.start + a.count) in
     let gone = Delete a.start bytes in

@@ -1,10 +1,5 @@
-use Rattle.std.proofs.Common.{◌≡◌, sym, ap, subst, ◌∙◌}
-use Rattle.std.specs.Prelude.{option_copied}
-use Rattle.ed_model.specs.Session.{left_by}
-use Rattle.id_table.specs.Entries.{Entries}
-use Rattle.ed_view.specs.Kept.{KeptView}
+use Rattle.editor_session.proofs.Names.{◌≡◌, sym, ap, subst, ◌∙◌, option_copied, left_by, Entries, KeptView, AreNamed}
 use Rattle.document_table.specs.Leaving.{documents_in, let_go}
-use Rattle.scene.specs.Scenes.{AreNamed}
 use Rattle.editor_session.proofs.OpeningLemmas.{not_open, closed_so, still_named_left, others_named}
 use Rattle.editor_session.proofs.opening.close.Goals as goal
 
@@ -22,5 +17,4 @@ pub returns-clause-documents : goal.returns-clause-documents
 returns-clause-documents c = still_named_left c.document.result c.args.view c.args.state.now.documents.entries c.leave.new.self.entries c.requires.kept.documents c.leave.ensures.documents
 
 pub returns-clause-views : goal.returns-clause-views
-returns-clause-views c =
-    subst (λ (t : Entries KeptView). AreNamed t.entries) (sym c.remove.ensures.rest) (others_named c.args.state.now.views.entries c.args.view c.requires.kept.views)
+returns-clause-views c = subst (λ (t : Entries KeptView). AreNamed t.entries) (sym c.remove.ensures.rest) (others_named c.args.state.now.views.entries c.args.view c.requires.kept.views)

@@ -1,14 +1,9 @@
-use Rattle.std.proofs.Common.{rules, ◌≡◌, ◌++◌, ◌∷◌, [], to_z, of_z, w64, ap, ◌∙◌}
-use Rattle.ed_types.specs.Notices.{Notice}
-use Rattle.notify.specs.Gathered.{Gathered}
-use Rattle.editor_session.specs.Answers.{message_with}
-use Rattle.editor_session.specs.Planned.{recording}
+use Rattle.editor_session.proofs.Names.{rules, ◌≡◌, ◌++◌, ◌∷◌, [], to_z, of_z, w64, ap, ◌∙◌, Notice, Gathered, message_with, recording}
 use Rattle.editor_session.proofs.recording.put_record.Goals as goal
 
 pub returns : goal.returns
 returns c =
-    let a = c.args in
-    let m = c.message.inside in
+    let a = c.args in let m = c.message.inside in
     let same : message_with m.number (to_z w64 (of_z w64 m.w)) (to_z w64 (of_z w64 m.l)) m.text.now ≡ message_with m.number m.w m.l m.text.now = search rules in
     ap (λ (g : Gathered). g.notes) c.put.ensures
     ∙ ap (λ (n : Notice). a.notes.now.notes ++ (record n { view = a.view; message = m.number; w = to_z w64 (of_z w64 m.w); l = to_z w64 (of_z w64 m.l) }) ∷ []) (c.blank-note.ensures m.text.now)

@@ -1,5 +1,4 @@
-use Rattle.std.proofs.Common.{rules, Ok, ap, ◌∙◌}
-use Rattle.message_requests.specs.Requested.{session_in}
+use Rattle.editor_session.proofs.Names.{rules, Ok, ap, ◌∙◌, session_in}
 use Rattle.editor_session.proofs.sending.answer_text_question.Goals as goal
 
 pub returns-in-Some-clause-answer : goal.returns-in-Some-clause-answer

@@ -1,4 +1,4 @@
-use Rattle.message_requests.specs.Requested.{session_in}
+use Rattle.editor_session.proofs.Names.{session_in}
 use Rattle.editor_session.proofs.Questions.{answer_as_sent}
 use Rattle.editor_session.proofs.sending.answer_without_notes.Goals as goal
 

@@ -1,14 +1,13 @@
-use Rattle.std.proofs.Common.{rules, ◌≡◌, Some, slice_get}
-use Rattle.editor_session.proofs.WalkLemmas.{at_place}
+use Rattle.editor_session.proofs.Names.{rules, ◌≡◌, Some, slice_get, refl, length}
+use Rattle.std.proofs.lemmas.Option.{slice_get_read}
 use Rattle.editor_session.proofs.RunLemmas.{one_more_outcome, one_more_state, one_more_done}
 use Rattle.editor_session.proofs.run.Run.run.Goals as goal
 
 pub loop-command-preserved : goal.loop-command-preserved
 loop-command-preserved c =
     let i = c.loop-command.command-index in
-    let item : slice_get c.args.commands.now i ≡ Some c.command-item.result = at_place i c.args.commands.now c.command-item.result (search rules) c.command-item.is in
-    let was = c.loop-command.invariant in
-    let state = c.in_ok-outcome.ensures.state in
+    let item : slice_get c.args.commands.now i ≡ Some c.command-item.result = slice_get_read c.args.commands.now (length c.args.commands.now) i c.command-item.result refl (search rules) c.command-item.is in
+    let was = c.loop-command.invariant in let state = c.in_ok-outcome.ensures.state in
     record {
       room = search rules;
       many = search rules;

@@ -1,6 +1,4 @@
-use Rattle.std.proofs.Common.{◌≡◌, ◌≤◌, ◌++◌, take, drop, length}
-use Rattle.std.specs.Prelude.{vec_capacity}
-use Rattle.ed_model.specs.Run.{outcomes, run_to}
+use Rattle.editor_session.proofs.Names.{◌≡◌, ◌≤◌, ◌++◌, take, drop, length, vec_capacity, outcomes, run_to}
 use Rattle.editor_session.proofs.run.Run.run.Given as goal
 
 abbrev pub invariant-loop-command : goal.invariant-loop-command

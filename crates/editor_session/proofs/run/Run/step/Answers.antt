@@ -1,14 +1,8 @@
-use Rattle.std.proofs.Common.{rules, ℕ, ◌≡◌, Some, None, Ok, Err, pos, OnOk, sym, ap, subst, true, false, ◌∙◌}
+use Rattle.editor_session.proofs.Names.{rules, ◌≡◌, Some, None, Ok, Err, pos, OnOk, sym, ap, subst, true, false, ◌∙◌, Response, Running, after_command, loaded, file_at, Session, view_at, IsSound, table, opened, AnswersBy, after_opening, after_message, ℕ}
 use Rattle.ed_types.specs.declared.script.Command.TheVariants.{OpenView, LoadFile, SendMessage}
-use Rattle.ed_types.specs.Notices.{Response}
 use Rattle.ed_types.specs.declared.script.Outcome.TheVariants.{Refused}
-use Rattle.ed_model.specs.Run.{Running, after_command, loaded, file_at}
-use Rattle.ed_model.specs.Session.{Session, view_at}
-use Rattle.ed_model.specs.SoundLaws.{IsSound}
-use Rattle.ed_model.specs.Table.{table, opened}
-use Rattle.editor_session.specs.Answers.{AnswersBy}
 use Rattle.editor_session.specs.Commands.{takes_no_memory}
-use Rattle.editor_session.proofs.RunLemmas.{opened_state, refused_state, refused_outcome, goes_on, closing_refused, IsSaid, message_goes_on, opening_goes_on, opening_is_other, message_is_other, loading_is_other}
+use Rattle.editor_session.proofs.RunLemmas.{opened_state, refused_state, refused_outcome, goes_on, closing_refused, IsSaid, said_goes_on, opening_is_other, message_is_other, loading_is_other}
 use Rattle.editor_session.proofs.run.Run.step.Goals as goal
 
 pub returns-in-Ok-clause-state : goal.returns-in-Ok-clause-state
@@ -20,8 +14,7 @@ returns-in-Ok-clause-state c =
 
 pub returns-in-Err-send-clause-state : goal.returns-in-Err-send-clause-state
 returns-in-Err-send-clause-state c =
-    let p = c.in-SendMessage in
-    let run = c.args.self.now in
+    let p = c.in-SendMessage in let run = c.args.self.now in
     let command : c.args.command.now ≡ SendMessage p.view p.message = search rules in
     let says = table run.session p.view p.message in
     let answer : AnswersBy {R = Response} says run.session c.send.new.self (Err c.in-Err-send.refusal) = search rules in
@@ -30,8 +23,7 @@ returns-in-Err-send-clause-state c =
 
 pub returns-in-Err-send-clause-outcome : goal.returns-in-Err-send-clause-outcome
 returns-in-Err-send-clause-outcome c =
-    let p = c.in-SendMessage in
-    let run = c.args.self.now in
+    let p = c.in-SendMessage in let run = c.args.self.now in
     let command : c.args.command.now ≡ SendMessage p.view p.message = search rules in
     let says = table run.session p.view p.message in
     let answer : AnswersBy {R = Response} says run.session c.send.new.self (Err c.in-Err-send.refusal) = search rules in
@@ -55,14 +47,12 @@ returns-in-Err-load-clause-free c free =
 
 pub returns-in-Err-close_view-clause-free : goal.returns-in-Err-close_view-clause-free
 returns-in-Err-close_view-clause-free c free =
-    let e = c.in-Err-close_view in
-    let r = c.refused-in-Err-close_view in
+    let e = c.in-Err-close_view in let r = c.refused-in-Err-close_view in
     goes_on r.result e.refusal r.ensures.memory (closing_refused c.self.inside.session c.in-CloseView.view e.refusal e.ensures.refused)
 
 pub returns-in-Err-send-clause-free : goal.returns-in-Err-send-clause-free
 returns-in-Err-send-clause-free c free =
-    let e = c.in-Err-send in
-    let r = c.refused-in-Err-send in
+    let e = c.in-Err-send in let r = c.refused-in-Err-send in
     let command : c.args.command.now ≡ SendMessage c.in-SendMessage.view c.in-SendMessage.message = search rules in
     let is_free = subst (λ k. takes_no_memory c.args.self.now.session k ≡ true) command free in
     let own = ap (λ (r : Running). r.session) c.self.view_is in
@@ -73,44 +63,36 @@ returns-in-Err-send-clause-free c free =
 
 pub returns-in-Err-clause-refused : goal.returns-in-Err-clause-refused
 returns-in-Err-clause-refused c came is =
-    let run = c.args.self.now in
-    let e = c.in-Err in
+    let run = c.args.self.now in let e = c.in-Err in
     let command : c.args.command.now ≡ OpenView = search rules in
     let says = opened run.session in
     let said : IsSaid {B = ℕ} says (Err e.refusal) = search rules in
-    opening_goes_on run.session says e.refusal came c.refused.result (opening_is_other run.session) said c.refused.ensures.memory
+    said_goes_on ℕ says e.refusal came c.refused.result (λ t. (after_opening run.session t).1) (λ done e. absurd (cc)) (opening_is_other run.session) said c.refused.ensures.memory
     (subst (λ k. (after_command c.args.files.now k run).1 ≡ Refused came) command is)
 
 pub returns-in-Err-close_view-clause-refused : goal.returns-in-Err-close_view-clause-refused
 returns-in-Err-close_view-clause-refused c came is =
-    let e = c.in-Err-close_view in
-    let r = c.refused-in-Err-close_view in
+    let e = c.in-Err-close_view in let r = c.refused-in-Err-close_view in
     goes_on r.result e.refusal r.ensures.memory (closing_refused c.self.inside.session c.in-CloseView.view e.refusal e.ensures.refused)
 
 pub returns-in-Err-load-clause-refused : goal.returns-in-Err-load-clause-refused
 returns-in-Err-load-clause-refused c came is =
-    let run = c.args.self.now in
-    let e = c.in-Err-load in
-    let r = c.refused-in-Err-load in
-    let p = c.in-LoadFile in
+    let run = c.args.self.now in let e = c.in-Err-load in let r = c.refused-in-Err-load in let p = c.in-LoadFile in
     let command : c.args.command.now ≡ LoadFile p.view p.file = search rules in
     let sound : IsSound run.session = search rules in
     let says = loaded run.session p.view (view_at run.session.views p.view) (file_at c.args.files.now p.file) in
     let said : IsSaid {B = Response} says (Err e.refusal) = search rules in
     let other = loading_is_other c.plans_are_fit.ensures.in_range run.session sound p.view (view_at run.session.views p.view) (file_at c.args.files.now p.file) in
-    message_goes_on run.session says e.refusal came r.result other said r.ensures.memory
+    said_goes_on Response says e.refusal came r.result (λ t. (after_message run.session t).1) (λ done e. absurd (cc)) other said r.ensures.memory
     (subst (λ k. (after_command c.args.files.now k run).1 ≡ Refused came) command is)
 
 pub returns-in-Err-send-clause-refused : goal.returns-in-Err-send-clause-refused
 returns-in-Err-send-clause-refused c came is =
-    let run = c.args.self.now in
-    let e = c.in-Err-send in
-    let r = c.refused-in-Err-send in
-    let p = c.in-SendMessage in
+    let run = c.args.self.now in let e = c.in-Err-send in let r = c.refused-in-Err-send in let p = c.in-SendMessage in
     let command : c.args.command.now ≡ SendMessage p.view p.message = search rules in
     let sound : IsSound run.session = search rules in
     let says = table run.session p.view p.message in
     let own = ap (λ (r : Running). r.session) c.self.view_is in
     let said = subst (λ (s : Session). IsSaid {B = Response} (table s p.view p.message) (Err e.refusal)) own e.ensures.refused in
-    message_goes_on run.session says e.refusal came r.result (message_is_other c.plans_are_fit.ensures.in_range run.session sound p.view p.message) said r.ensures.memory
+    said_goes_on Response says e.refusal came r.result (λ t. (after_message run.session t).1) (λ done e. absurd (cc)) (message_is_other c.plans_are_fit.ensures.in_range run.session sound p.view p.message) said r.ensures.memory
     (subst (λ k. (after_command c.args.files.now k run).1 ≡ Refused came) command is)

@@ -1,10 +1,4 @@
-use Rattle.std.proofs.Common.{rules, ◌≡◌, ℕ, List, [], subst, to_z, of_z, w64, Ok}
-use Rattle.std.specs.Prelude.{IfSome}
-use Rattle.ed_model.specs.Performing.{quiet}
-use Rattle.ed_model.specs.Session.{Session}
-use Rattle.ed_model.specs.Table.{table}
-use Rattle.editor_session.specs.Answers.{message_with}
-use Rattle.editor_session.specs.Asked.{value_to}
+use Rattle.editor_session.proofs.Names.{rules, ◌≡◌, ℕ, List, [], subst, to_z, of_z, w64, Ok, IfSome, quiet, Session, table, message_with, value_to}
 use Rattle.editor_session.proofs.session.Session.ask.Goals as goal
 
 pub returns-clause-value : goal.returns-clause-value

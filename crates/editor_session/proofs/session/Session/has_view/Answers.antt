@@ -1,5 +1,4 @@
-use Rattle.std.proofs.Common.{◌≡◌, subst, ◌∙◌, is_some}
-use Rattle.ed_model.specs.Session.{Session, view_at}
+use Rattle.editor_session.proofs.Names.{◌≡◌, subst, ◌∙◌, is_some, Session, view_at}
 use Rattle.editor_session.proofs.Finding.{some_seen}
 use Rattle.editor_session.proofs.session.Session.has_view.Goals as goal
 

@@ -1,8 +1,4 @@
-use Rattle.std.proofs.Common.{rules, ◌≡◌, ◌≤◌, [], length, subst, to_z, of_z, w64}
-use Rattle.std.specs.Prelude.{IfSome, IsSome, vec_capacity}
-use Rattle.ed_model.specs.Session.{Session}
-use Rattle.editor_session.specs.Answers.{message_with}
-use Rattle.editor_session.specs.Asked.{reply_to}
+use Rattle.editor_session.proofs.Names.{rules, ◌≡◌, ◌≤◌, [], length, subst, to_z, of_z, w64, IfSome, IsSome, vec_capacity, Session, message_with, reply_to}
 use Rattle.editor_session.proofs.session.Session.read.Goals as goal
 
 pub returns-clause-room : goal.returns-clause-room

@@ -1,31 +1,16 @@
-use Rattle.std.proofs.Common.{rules, ◌≡◌, true, subst, to_z, of_z, w64, IfErr, Err}
-use Rattle.ed_types.specs.declared.refusal.Refusal.TheVariants.{OutOfMemory}
-use Rattle.std.specs.Prelude.{◌≢◌}
-use Rattle.ed_model.specs.Session.{Session}
-use Rattle.ed_model.specs.Table.{table}
-use Rattle.message_requests.specs.Requested.{session_in}
-use Rattle.editor_session.specs.Answers.{AnswersBy, message_with}
-use Rattle.editor_session.specs.Plans.{is_free}
+use Rattle.editor_session.proofs.Names.{rules, ◌≡◌, true, subst, to_z, of_z, w64, IfErr, Err, OutOfMemory, ◌≢◌, Session, table, session_in, AnswersBy, message_with, is_free}
 use Rattle.editor_session.proofs.session.Session.send_lent.Goals as goal
 
-pub returns-clause-answer : goal.returns-clause-answer
-returns-clause-answer c =
-    let a = c.args in
-    let same : message_with a.number (to_z w64 (of_z w64 a.w)) (to_z w64 (of_z w64 a.l)) a.text.now ≡ message_with a.number a.w a.l a.text.now = search rules in
-    let new = session_in c.answer_message.new.state in
-    subst (λ (s : Session). AnswersBy (table s a.view (message_with a.number a.w a.l a.text.now)) s new c.answer_message.result) c.self.view_is
-    (subst (λ x. AnswersBy (table (session_in c.self.inside.state) a.view x) (session_in c.self.inside.state) new c.answer_message.result) same c.answer_message.ensures.answer)
-
-pub returns-clause-refused : goal.returns-clause-refused
-returns-clause-refused c =
-    let a = c.args in
-    let same : message_with a.number (to_z w64 (of_z w64 a.w)) (to_z w64 (of_z w64 a.l)) a.text.now ≡ message_with a.number a.w a.l a.text.now = search rules in
-    subst (λ (s : Session). IfErr (table s a.view (message_with a.number a.w a.l a.text.now)) (λ refusal. c.answer_message.result ≡ Err refusal)) c.self.view_is
-    (subst (λ x. IfErr (table (session_in c.self.inside.state) a.view x) (λ refusal. c.answer_message.result ≡ Err refusal)) same c.answer_message.ensures.refused)
-
-pub returns-clause-free : goal.returns-clause-free
-returns-clause-free c =
-    let a = c.args in
-    let same : message_with a.number (to_z w64 (of_z w64 a.w)) (to_z w64 (of_z w64 a.l)) a.text.now ≡ message_with a.number a.w a.l a.text.now = search rules in
-    subst (λ (s : Session). is_free s a.view (message_with a.number a.w a.l a.text.now) ≡ true → IfErr c.answer_message.result (λ refusal. refusal ≢ OutOfMemory)) c.self.view_is
-    (subst (λ x. is_free (session_in c.self.inside.state) a.view x ≡ true → IfErr c.answer_message.result (λ refusal. refusal ≢ OutOfMemory)) same c.answer_message.ensures.free)
+pub returns : goal.returns
+returns c =
+    let a = c.args in let n = c.answer_message in let s = session_in c.self.inside.state in
+    let m = message_with a.number a.w a.l a.text.now in
+    let same : message_with a.number (to_z w64 (of_z w64 a.w)) (to_z w64 (of_z w64 a.l)) a.text.now ≡ m = search rules in
+    record {
+      answer = subst (λ (x : Session). AnswersBy (table x a.view m) x (session_in n.new.state) n.result) c.self.view_is
+          (subst (λ x. AnswersBy (table s a.view x) s (session_in n.new.state) n.result) same n.ensures.answer);
+      refused = subst (λ (x : Session). IfErr (table x a.view m) (λ refusal. n.result ≡ Err refusal)) c.self.view_is
+          (subst (λ x. IfErr (table s a.view x) (λ refusal. n.result ≡ Err refusal)) same n.ensures.refused);
+      free = subst (λ (x : Session). is_free x a.view m ≡ true → IfErr n.result (λ refusal. refusal ≢ OutOfMemory)) c.self.view_is
+          (subst (λ x. is_free s a.view x ≡ true → IfErr n.result (λ refusal. refusal ≢ OutOfMemory)) same n.ensures.free);
+    }
