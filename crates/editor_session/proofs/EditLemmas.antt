@@ -1,5 +1,5 @@
 -- Edits of the text.
-use Rattle.editor_session.proofs.Names.{◌≡◌, ◌⊎◌, inl, inr, ℕ, ℤ, true, false, List, [], ◌∷◌, ◌++◌, length, refl, ap, sym, ◌∙◌, subst, Option, Some, None, IfSome, IsSome, IsSomeAnd, not, and_parts, Follow, steps_of, has_steps, converted, Scene, session_of, edit_made, followed, EditStepsFit, edit_made_id, Request, Document, Session, text_of, Step, insertion, Entries, value_at, Gathered, Kept, KeptView, kept_scene, views_of, session_in, SessionState, IsKept, IsPastedFor, TakesWithin, is_turned, clipboard_need, taken_along, followed_views, followed_clipboard, Becomes, CanEdit, Edits, MakesEdit, edit_steps, scene_after, takes_nothing_along, IfFree, IsPlannedForSomeValueWithText, StepsFitWidth}
+use Rattle.editor_session.proofs.Names.{◌≡◌, ◌⊎◌, inl, inr, ℕ, ℤ, true, false, List, [], ◌∷◌, ◌++◌, length, refl, ap, sym, ◌∙◌, subst, Option, Some, None, IfSome, IsSomeAnd, not, and_parts, Follow, steps_of, has_steps, converted, Scene, session_of, edit_made, followed, EditStepsFit, edit_made_id, Request, Document, Session, text_of, Step, insertion, Entries, value_at, Gathered, Kept, KeptView, kept_scene, views_of, session_in, SessionState, IsKept, IsPastedFor, TakesWithin, is_turned, clipboard_need, taken_along, followed_views, followed_clipboard, Becomes, CanEdit, Edits, MakesEdit, edit_steps, scene_after, takes_nothing_along, IfFree, IsPlannedForSomeValueWithText, StepsFitWidth}
 use Rattle.ed_model.specs.declared.plan.Source.TheVariants as source
 use Rattle.ed_model.specs.declared.plan.Edit.{Edit}
 use Rattle.ed_model.specs.declared.plan.Edit.TheVariants as edit
@@ -7,9 +7,8 @@ use Rattle.ed_model.specs.declared.plan.Follow.TheVariants as follow
 use Rattle.ed_model.specs.declared.plan.Plan.TheVariants as plan
 use Rattle.editor_session.proofs.Widths.{steps_fit_width}
 use Rattle.editor_session.proofs.Needing.{no_steps, nothing_along}
-use Rattle.editor_session.proofs.OneDocument.{with_one, said_of_it}
-use Rattle.editor_session.proofs.Replacing.{becomes}
-use Rattle.editor_session.proofs.PlanLemmas.{DoneFor, asked_by, asked_with, document_here, kept_at, of_kept, for_kept, session_is, takes_here, within_here, limits_here, watched_here, same_steps, edited}
+use Rattle.editor_session.proofs.OneDocument.{with_one, said_of_it, becomes}
+use Rattle.editor_session.proofs.PlanLemmas.{DoneFor, asked_by, asked_with, kept_at, of_kept, for_kept, session_is, takes_here, within_here, limits_here, watched_here, same_steps, edited}
 use Rattle.editor_session.proofs.TableWay.{free_plan}
 
 -- The session after an edit and what follows it.
@@ -67,21 +66,16 @@ pasted_none _ clipboard pasted end h = tt
 
 module _ (s : SessionState) (kept : IsKept s) (document view : ℕ) (text : List ℕ) (change : Edit) (after : Follow) where
   module _ (sent : IsPlannedForSomeValueWithText (session_in s) document view text (λ value. plan.Edit change value after)) where
-    pub edit_there : IsSome (value_at s.documents.entries document)
-    edit_there = document_here kept (asked_by sent.sent.planned)
-
     pub edit_takes : IsSomeAnd (value_at s.documents.entries document) (λ k. TakesWithin after (length k.document.cells))
     edit_takes =
-        let t = sent.sent.planned in
-        let by = asked_by t in
-        for_kept kept by (λ k. TakesWithin after (length k.document.cells)) (takes_here kept by change sent.sent.value after t.fit)
+        let by = asked_by sent.sent.planned in
+        for_kept kept by (λ k. TakesWithin after (length k.document.cells)) (takes_here kept by change sent.sent.value after sent.sent.planned.fit)
 
     pub can_edit : EditStepsFit → (taken : List ℕ) → IfSome (value_at s.documents.entries document) (λ k. taken ≡ taken_along after (text_of k.document))
         → (pasted : List ℕ) → IfSome (value_at s.documents.entries document) (λ k. IsPastedFor change s.clipboard.items k.document.line_end pasted)
         → IsSomeAnd (value_at s.documents.entries document) (CanEdit change text pasted after taken s)
     can_edit fit taken is pasted turned =
-        let t = sent.sent.planned in let r = t.request in
-        let by = asked_with t sent.text_is in
+        let t = sent.sent.planned in let r = t.request in let by = asked_with t sent.text_is in
         let at = kept_at kept by in
         let turned_at = of_kept kept by (λ k. IsPastedFor change s.clipboard.items k.document.line_end pasted) turned in
         for_kept kept by (CanEdit change text pasted after taken s)
@@ -106,8 +100,7 @@ module _ (s : SessionState) (kept : IsKept s) (document view : ℕ) (text : List
   pub pasted_free : (P : Type 0) → (is_turned change ≡ false → P) → IfSome (value_at s.documents.entries document) (λ k. converted k.document.line_end s.clipboard.items ≡ [] → P)
       → (value : ℤ) → IfFree (session_in s) document view text (plan.Edit change value after) P
   pasted_free P unturned empty value = λ m is_recorded t text_is free.
-      let r = t.request in
-      let by = asked_by t in
+      let r = t.request in let by = asked_by t in
       elim (turns_nothing r change (and_parts (not (has_steps (steps_of r change))) (takes_nothing_along after) (free_plan t free).0).0) [
         | inl e ↦ unturned e
         | inr e ↦ of_kept kept by (λ k. converted k.document.line_end s.clipboard.items ≡ [] → P) empty

@@ -22,9 +22,7 @@ room_for Redo r fit = fit.1
 module _ (s : SessionState) (kept : IsKept s) (document view : ℕ) (direction : Direction) where
   pub can_go_once : UndoStepsFit → RedoStepsFit → IsPlannedForSomeValue (session_in s) document view (λ value. going direction) → IsSomeAnd (value_at s.documents.entries document) (CanGoOnceThereIsRoom direction s.views)
   can_go_once undo redo sent =
-      let t = sent.planned in let r = t.request in
-      let by = asked_by t in
-      let at = kept_at kept by in
+      let t = sent.planned in let r = t.request in let by = asked_by t in let at = kept_at kept by in
       for_kept kept by (CanGoOnceThereIsRoom direction s.views)
       (record {
         steps = subst (λ d. AreStepsOf (text_of d) (text_steps (changes_of direction d.history))) (sym at.is) (steps_fit undo redo direction r by.asked.sound);
@@ -50,7 +48,6 @@ module _ {s : Session} {document view : ℕ} {text : List ℕ} where
   attempt_never_free = λ m is_recorded t text_is free. (free_plan t free).0
 
 -- No notes came where there was room for none.
-
 pub none_told : (old between new : Gathered) (notes bytes : ℕ) → between ≡ record old { note_room = max old.note_room notes; text_room = max old.text_room bytes } → new.note_room + length new.notes ≡ between.note_room + length between.notes
     → notes ≡ 0 → old ≡ no_notes → new.notes ≡ []
 none_told old between new notes bytes made left none empty =

@@ -1,7 +1,7 @@
 -- The names of the crates below, and of this crate's definitions, that many proofs cite. Declares nothing.
 pub use Rattle.std.proofs.Common.{◌≡◌, ℕ, ◌==◌, ap, sym, ◌∙◌, Some, None, ◌⊎◌, inl, inr, ℤ, true, false, List, [], ◌∷◌, ◌++◌, length, refl, subst, Option, IfSome, IsSome, IsSomeAnd, Bool, cond, map, option_map, is_some, Ok, Err, ◌+◌, max, arith, pos, OnOk, OnErr, IfOk, ◌&&◌, IfErr, ◌<◌, ◌≤◌, slice_range, ◌-◌, ◌^◌, ◌≢◌, append-nil, append_assoc, negsuc, ◌↔◌, take, drop, zero, suc, slice_get, IsErr, ◌||◌, min, nat_le, rules, to_z, of_z, w64, ◌*◌}
 pub use Rattle.std.specs.Prelude.{not, if◌then◌else◌, Result, reverse, nat_lt, filter_map, filter, IsOk, option_copied, vec_len, vec_capacity}
-pub use Rattle.std.proofs.lemmas.Bool.{and_parts, eqb-true, cond_both, not-true, leb-true, eqb-false}
+pub use Rattle.std.proofs.lemmas.Bool.{and_parts, eqb-true, cond_both, not-true, leb-true, eqb-false, lt-leb, le-leb}
 pub use Rattle.std.specs.List.{AllByRecursion, cons_option}
 pub use Rattle.std.proofs.lemmas.List.{map-append, length-map, length-take, length-drop, nil_from_length, drop-map}
 pub use Rattle.std.specs.Option.{option_copied_mut}

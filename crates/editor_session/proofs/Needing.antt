@@ -54,11 +54,8 @@ pub two_steps : (scene : Scene) (gone : Step) (start count : ℕ) (bytes : List 
     → second ≡ record { notes = note_room (notes_of_step views come) (bytes_of_step views come); document = room_of_step types come }
     → beside ≡ record second { document = record second.document { text = second.document.text - count } } → need ≡ need_sum both beside → NeedsSteps (gone ∷ come ∷ []) scene need
 two_steps scene gone start count bytes leaving need first extra both second beside frees left f e b s n sum =
-    let views = watching scene.views scene.document in
-    let come = Insert start bytes in
-    let types = scene.document.line_end_types in
-    let x = room_of_step types gone in
-    let y = room_of_step types come in
+    let views = watching scene.views scene.document in let come = Insert start bytes in
+    let types = scene.document.line_end_types in let x = room_of_step types gone in let y = room_of_step types come in
     let one : SceneNeed = record { notes = note_room (notes_of_step views gone) (bytes_of_step views gone); document = x } in
     let two : SceneNeed = record { notes = note_room (notes_of_step views come) (bytes_of_step views come); document = y } in
     let sealed : SceneNeed = record no_need { notes = note_room leaving 0 } in
@@ -104,8 +101,7 @@ one_room types step =
 pub two_rooms : (types : LineEndTypes) (gone come : Step) (count : ℕ) → free_behind 0 (TextStep gone) ≡ count
     → let y = room_of_step types come in room_sum (room_sum (room_of_step types gone) no_room) (record y { text = y.text - count }) ≡ capped_room (room_of_steps types (gone ∷ come ∷ []))
 two_rooms types gone come count e =
-    let x = room_of_step types gone in
-    let y = room_of_step types come in
+    let x = room_of_step types gone in let y = room_of_step types come in
     same_room _ _ _ _ _ _ _ _ _ _ (text x.text y.text count (free_behind 0 (TextStep gone)) e) (more x.lines y.lines) (more x.insertions y.insertions) (more x.steps y.steps) (more x.bytes y.bytes)
   where
     text : (a b count free : ℕ) → free ≡ count → amount_sum (amount_sum a 0) (b - count) ≡ capped (a - 0 + (b - free + 0))
@@ -130,7 +126,6 @@ two_steps_room types gone come count need first extra both second beside frees f
     ap (λ (v : SceneNeed). v.document) sum ∙ ap (λ r. room_sum r beside.document) put ∙ ap (λ r. room_sum (room_sum x no_room) r) less ∙ two_rooms types gone come count frees
 
 -- An attempt.
-
 pub watched_few : (views : List View) (ids : List ℕ) → length (filter_map (view_at views) ids) ≤ length ids
 watched_few views [] = omega arith
 watched_few views (id ∷ ids) = go (view_at views id) (watched_few views ids)

@@ -250,8 +250,7 @@ module _ {s : SessionState} {planned : PlannedMessage} {bytes : List ℕ} {r : R
     pub gone : (what : Plan) → performed r what ≡ history_performed r (bits_of direction) (changes_of direction r.document.history) (history_behind direction r.document.history)
         → (s' : SessionState) (notes notes' : Gathered) → Goes planned.view direction s notes kept_at.value s' notes' → IsDone r what s' notes.notes notes'.notes (pos 0) []
     gone what is s' notes notes' done =
-        let cs = changes_of direction r.document.history in
-        let new = history_behind direction r.document.history in
+        let cs = changes_of direction r.document.history in let new = history_behind direction r.document.history in
         let base = transaction_performed (bits_of direction) cs new (scene_of r) in
         let at : Document → Session → List Notice → Scene = λ d x ns. transaction_performed (bits_of direction) (changes_of direction d.history) (history_behind direction d.history) (record { document = d; views = x.views; notes = ns }) in
         let scene : at kept_at.value.document (session_in s) notes.notes ≡ telling notes.notes base =
@@ -303,7 +302,6 @@ module _ {s : Session} {view : ℕ} {m : Message} {planned : PlannedMessage} (t 
       ∙ ap (λ xs. Ok (session_in s', response value out xs)) (sym (done.heard ∙ ap (λ xs. xs ++ done.told) first))
 
 -- What is done for each message with this text that comes to this plan.
-
 abbrev pub DoneFor : Session → ℕ → ℕ → List ℕ → Plan → SessionState → List Notice → List Notice → ℤ → List ℕ → Type 0
 DoneFor s document view bytes what s' before after value out =
     (m : Message) (is_recorded : Bool) (t : IsPlannedAs s view m (planned_message document view what is_recorded)) → m.text ≡ bytes → IsDone t.request what s' before after value out
@@ -317,7 +315,6 @@ module _ {document view : ℕ} {bytes : List ℕ} {what : Plan} {s' : SessionSta
   pub kept_by : {s : SessionState} {m : Message} {is_recorded : Bool} → MessageKeepsSound → IsKept s → DoneFor (session_in s) document view bytes what s' before after value out
       → IsPlannedAs (session_in s) view m (planned_message document view what is_recorded) → m.text ≡ bytes → s'.limits ≡ s.limits → DocumentsAreNamed s'.documents.entries → AreNamed s'.views.entries → IsKept s'
   kept_by {s} {m} {is_recorded} law kept done t text_is limits documents views =
-      let is = done m is_recorded t text_is in
-      let first = first_note is_recorded view m in
+      let is = done m is_recorded t text_is in let first = first_note is_recorded view m in
       kept_after_message law s s' view m (response value out (first ++ is.told)) kept
       (answered_so t s' first (first ++ is.told) value out refl (record { told = is.told; done = is.done; heard = refl })) limits documents views

@@ -12,34 +12,23 @@ pub opened_state : (files : List (List ℕ)) (run : Running) (new : Session) (id
     record { session = new; value = Some (pos id) } ≡ (after_command files OpenView run).0
 opened_state files run new id e = ap (λ o. (after_opening run.session o).0) (sym e)
 
--- a refusal that did not end the run is one that is said, and left the session
-went_on : (says : Result (Session × Response) Refusal) (old session : Session) (refusal : Refusal) (result : Result Outcome AllocError) (Claim : Result Outcome AllocError → Type 0) →
-    ((e : AllocError) → Claim (Err e)) → ((o : Outcome) → says ≡ Err refusal → session ≡ old → result ≡ Ok o → Claim (Ok o)) →
-    AnswersBy {R = Response} says old session (Err refusal) → (IsErr result ↔ (refusal ≡ OutOfMemory)) → Claim result
-went_on says old session refusal (Err e) Claim failed passed answer memory = failed e
-went_on says old session refusal (Ok o) Claim failed passed answer memory = go answer.1
-  where
-    go : (refusal ≡ OutOfMemory) ⊎ (says ≡ Err refusal) → Claim (Ok o)
-    go (inl e) = let bad : false ≡ true = memory.1 e in absurd (cc)
-    go (inr e) = passed o e answer.0 refl
+-- a refusal that did not end the run is one that is said
+said_so : {says : Result (Session × Response) Refusal} {refusal : Refusal} → (refusal ≡ OutOfMemory) ⊎ (says ≡ Err refusal) → ((false ≡ true) ↔ (refusal ≡ OutOfMemory)) → says ≡ Err refusal
+said_so (inl e) memory = let bad : false ≡ true = memory.1 e in absurd (cc)
+said_so (inr e) memory = e
 
 pub refused_state : (run new : Running) (says : Result (Session × Response) Refusal) (session : Session) (refusal : Refusal) (result : Result Outcome AllocError) →
     AnswersBy {R = Response} says run.session session (Err refusal) → (IsErr result ↔ (refusal ≡ OutOfMemory)) →
     OnOk result (new ≡ record { session = session; value = None }) → OnOk result (new ≡ (after_message run.session says).0)
-refused_state run new says session refusal result answer memory state =
-    went_on says run.session session refusal result (λ r. OnOk r (new ≡ record { session = session; value = None }) → OnOk r (new ≡ (after_message run.session says).0))
-    (λ e state. tt)
-    (λ o refused same is state. state ∙ ap (λ s. record { session = s; value = None }) same ∙ ap (λ t. (after_message run.session t).0) (sym refused))
-    answer memory state
+refused_state run new says session refusal (Err e) answer memory state = tt
+refused_state run new says session refusal (Ok o) answer memory state =
+    state ∙ ap (λ s. record { session = s; value = None }) answer.0 ∙ ap (λ t. (after_message run.session t).0) (sym (said_so answer.1 memory))
 
 pub refused_outcome : (run : Running) (says : Result (Session × Response) Refusal) (session : Session) (refusal : Refusal) (result : Result Outcome AllocError) →
     AnswersBy {R = Response} says run.session session (Err refusal) → (IsErr result ↔ (refusal ≡ OutOfMemory)) →
     IfOk result (λ o. o ≡ Refused refusal) → IfOk result (λ o. o ≡ (after_message run.session says).1)
-refused_outcome run says session refusal result answer memory outcome =
-    went_on says run.session session refusal result (λ r. IfOk r (λ o. o ≡ Refused refusal) → IfOk r (λ o. o ≡ (after_message run.session says).1))
-    (λ e outcome. tt)
-    (λ o refused same is outcome. outcome ∙ ap (λ t. (after_message run.session t).1) (sym refused))
-    answer memory outcome
+refused_outcome run says session refusal (Err e) answer memory outcome = tt
+refused_outcome run says session refusal (Ok o) answer memory outcome = outcome ∙ ap (λ t. (after_message run.session t).1) (sym (said_so answer.1 memory))
 
 -- Commands that take no memory.
 

@@ -121,8 +121,7 @@ module _ (start count : ℕ) (bytes : List ℕ) (k k1 : Kept) (views : Entries K
         → k1.room.text + bytes_out (step_in (lent.Delete start count) (text_of k1.document)) ≤ k2.room.text + (need_of k1.document.line_end_types (lent.Delete start count)).text
         → HasRoom k2 (room_of_step k2.document.line_end_types come)
     second_room room left freed =
-        let types = k.document.line_end_types in
-        let is = scene_between between made in
+        let types = k.document.line_end_types in let is = scene_between between made in
         let room' : HasRoom k (room_of_steps types (gone ∷ come ∷ [])) = subst (λ ss. HasRoom k (room_of_steps types ss)) are_two room in
         let at_k : TakesRoom (sealed_kept k).room k2.room (need_of types (lent.Delete start count)) = subst (λ x. TakesRoom x.room k2.room (need_of x.document.line_end_types (lent.Delete start count))) sealed left in
         let left' : TakesRoom k.room k2.room (room_of_step types gone) = subst (λ n. TakesRoom k.room k2.room n) (sym (deletion_needs types k.document start count range)) at_k in

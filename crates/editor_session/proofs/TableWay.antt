@@ -104,9 +104,7 @@ marked_are_free law s view m marked unrecorded = from_view (view_at s.views view
 
     from_document : (v : View) (kind : Kind) (o : Option Document) → (marks_of kind).n ≡ true → (v.records && (marks_of kind).r) ≡ false → is_free_from_document s v kind m o ≡ true
     from_document v kind None n r = refl
-    from_document v kind (Some d) n r =
-        let q = request s v d m in
-        rw (of_plan q (plan_of kind q) (law kind q n), r) refl
+    from_document v kind (Some d) n r = let q = request s v d m in rw (of_plan q (plan_of kind q) (law kind q n), r) refl
 
     from_kind : (v : View) (kind : Option Kind) → is_marked_free kind ≡ true → is_recorded_by (Some v) kind ≡ false → is_free_from_kind s v m kind ≡ true
     from_kind v None n r = refl

@@ -41,8 +41,7 @@ grows types limit free text (TextStep (Insert p bytes) ∷ cs) small steps withi
     put n free len now limit x e h = omega arith
 grows types limit free text (TextStep (Delete p bytes) ∷ cs) small steps within fits =
     let parts = and_parts (nat_le (length text - length bytes) limit) (stays_within limit (length text - length bytes) (text_steps cs)) within in
-    let there = deleted_within p bytes text steps.0.0 in
-    let shorter = length-deleted_within p bytes text there in
+    let there = deleted_within p bytes text steps.0.0 in let shorter = length-deleted_within p bytes text there in
     let now = length (edited (Delete p bytes) text) in
     let more = min (free + length bytes) (2 ^ 64 - 1) in
     gone p (length bytes) free (length text) now limit (2 ^ 64 - 1) (rooms_beside types more cs).text shorter there small fits
@@ -77,8 +76,7 @@ module _ (r : Request) (allowed : is_allowed r.session.limits ≡ true) (sound :
   -- changes whose texts keep to the limit
   pub changes_fit_width : (cs : List Change) → AreStepsOf (text r) (text_steps cs) → IsRoomFor r (text_steps cs) → ChangesFitWidth r.document cs
   changes_fit_width cs steps within =
-      let d = r.document in
-      let limit = limit_of r.session.limits d in
+      let d = r.document in let limit = limit_of r.session.limits d in
       let below = limit_below r.session.limits d allowed in
       let long : length (text_of d) ≡ length d.cells = length-map d.cells (λ (c : Cell). c.byte) in
       let whole = found_all (IsSoundDocument r.session.limits) (λ (x : Document). x.id == r.view.document) r.session.documents d sound.sound.documents sound.document in
@@ -94,8 +92,7 @@ module _ (r : Request) (allowed : is_allowed r.session.limits ≡ true) (sound :
   -- steps whose texts keep to the limit
   pub steps_fit_width : (steps : List Step) → AreStepsOf (text r) steps → IsRoomFor r steps → StepsFitWidth r.document steps
   steps_fit_width steps fit within =
-      let d = r.document in
-      let is = text_steps_of steps in
+      let d = r.document in let is = text_steps_of steps in
       subst (λ x. FitsWidth d (length d.cells + x)) (sym (same_text_room d.line_end_types 0 steps))
       (changes_fit_width (changes_for steps) (subst (λ ss. AreStepsOf (text r) ss) (sym is) fit) (subst (λ ss. IsRoomFor r ss) (sym is) within))
 

@@ -1,6 +1,20 @@
-use Rattle.editor_session.proofs.Names.{sym, ap, ◌∙◌, option_copied, view_in, id_of_view, found_none}
-use Rattle.editor_session.proofs.Attaching.{view_is, document_is, document_is_there}
+use Rattle.editor_session.proofs.Names.{◌≡◌, ℕ, ◌==◌, ap, sym, ◌∙◌, Some, None, View, document_at, view_at, IsSoundView, found_all, value_at, Kept, KeptView, session_in, SessionState, IsKept, view_in, id_of_view, document_of, id_of_document, found_some, found_none, option_copied}
 use Rattle.editor_session.proofs.attached.look_up.Goals as goal
+
+module _ (s : SessionState) (view : ℕ) (kept : IsKept s) (v : KeptView) (seen : value_at s.views.entries view ≡ Some v) where
+  view_is : view_at (session_in s).views view ≡ Some v.view
+  view_is = found_some view_in id_of_view s.views.entries view v kept.views seen
+
+  document_is : (id : ℕ) (k : Kept) → id ≡ v.view.document → value_at s.documents.entries id ≡ Some k → document_at (session_in s).documents v.view.document ≡ Some k.document
+  document_is id k is at = ap (document_at (session_in s).documents) (sym is) ∙ found_some document_of id_of_document s.documents.entries id k kept.documents at
+
+  -- in a sound session it is there
+  document_is_there : (id : ℕ) → id ≡ v.view.document → value_at s.documents.entries id ≡ None → ⊥
+  document_is_there id is none =
+      let sound = found_all (IsSoundView (session_in s).documents) (λ (w : View). w.id == view) (session_in s).views v.view kept.sound.views view_is in
+      let there : document_at (session_in s).documents v.view.document ≡ Some sound.document = sound.found in
+      let gone : document_at (session_in s).documents v.view.document ≡ None = ap (document_at (session_in s).documents) (sym is) ∙ found_none document_of id_of_document s.documents.entries id kept.documents none in
+      absurd (cc)
 
 pub returns-in_default-clause-none : goal.returns-in_default-clause-none
 returns-in_default-clause-none c = found_none view_in id_of_view c.args.state.now.views.entries c.args.view c.requires.kept.views (sym c.get.ensures ∙ ap option_copied c.in_default.is)

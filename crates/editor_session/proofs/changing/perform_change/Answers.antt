@@ -1,7 +1,7 @@
 use Rattle.editor_session.proofs.Names.{◌≡◌, false, true, refl, sym, ap, subst, ◌∙◌, IsSomeAnd, option_copied_mut, CanChangeOnceThereIsRoom, Changes, IfChangeIsFree, rules}
 use Rattle.editor_session.proofs.OneDocument.{with_scene, said_of_it, still_named, same_session, still_kept}
 use Rattle.editor_session.proofs.PlanLemmas.{answers, kept_by}
-use Rattle.editor_session.proofs.PlainChanges.{can_change_once, change_made, changed_for, change_free}
+use Rattle.editor_session.proofs.DocumentChanges.{can_change_once, change_made, changed_for, change_free}
 use Rattle.editor_session.proofs.changing.perform_change.Goals as goal
 
 pub unreachable-requires : goal.unreachable-requires

@@ -1,6 +1,6 @@
 use Rattle.editor_session.proofs.Names.{[], refl, sym, subst, Entries, Kept, DocumentsAreNamed}
 use Rattle.editor_session.proofs.PlanLemmas.{kept_by}
-use Rattle.editor_session.proofs.ViewPlans.{view_fits, light_room, light_answer, view_changed_for}
+use Rattle.editor_session.proofs.OtherPlans.{view_fits, light_room, light_answer, view_changed_for}
 use Rattle.editor_session.proofs.changing.perform_free_change.Goals as goal
 
 pub change_view-requires : goal.change_view-requires

@@ -1,6 +1,8 @@
-use Rattle.editor_session.proofs.Names.{◌≡◌, [], false, true, sym, subst, ◌∙◌, IsSound, IsAsked, CanChangeSession}
+use Rattle.editor_session.proofs.Names.{[], sym, subst, ◌∙◌, IsSound, IsAsked, CanChangeSession, not-true}
 use Rattle.editor_session.proofs.Keeping.{kept_with}
-use Rattle.editor_session.proofs.OtherPlans.{session_fits, session_changed_for, session_free}
+use Rattle.editor_session.proofs.OtherPlans.{session_fits, session_changed_for}
+use Rattle.session_changes.specs.Ready.{takes_memory}
+use Rattle.editor_session.proofs.TableWay.{free_plan}
 use Rattle.editor_session.proofs.PlanLemmas.{answers, kept_by}
 use Rattle.editor_session.proofs.changing.perform_session_change.Goals as goal
 
@@ -33,6 +35,4 @@ returns-in_default-clause-kept c =
     kept_with s c.prepare_session_change.new.state c.requires.kept (subst IsSound (sym e.same) c.requires.kept.sound) e.limits e.documents e.views
 
 pub returns-in_default-clause-free : goal.returns-in_default-clause-free
-returns-in_default-clause-free c = λ value.
-    let a = c.args in
-    session_free a.state.now c.requires.kept a.document a.view a.text.now a.change (false ≡ true) c.in_default.ensures.free value
+returns-in_default-clause-free c = λ value m is_recorded t text_is free. c.in_default.ensures.free (not-true (takes_memory c.args.change) (free_plan t free).0)

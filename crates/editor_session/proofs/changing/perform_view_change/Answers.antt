@@ -1,11 +1,11 @@
 use Rattle.editor_session.proofs.Names.{◌≡◌, [], false, true, refl, sym, subst, ◌∙◌, IsSound, Entries, Kept, IsAsked, CanChangeView, DocumentsAreNamed}
 use Rattle.editor_session.proofs.Keeping.{kept_with}
-use Rattle.editor_session.proofs.PlanLemmas.{answers, kept_by}
-use Rattle.editor_session.proofs.ViewPlans.{view_fits, view_there, view_changed_for, view_free}
+use Rattle.editor_session.proofs.PlanLemmas.{answers, asked_by, view_here, kept_by}
+use Rattle.editor_session.proofs.OtherPlans.{view_fits, view_changed_for, view_free}
 use Rattle.editor_session.proofs.changing.perform_view_change.Goals as goal
 
 pub reserve_view_change-requires-clause-there : goal.reserve_view_change-requires-clause-there
-reserve_view_change-requires-clause-there c = view_there c.args.state.now c.requires.kept c.args.document c.args.view c.args.change c.requires.sent
+reserve_view_change-requires-clause-there c = view_here c.requires.kept (asked_by c.requires.sent.planned)
 
 pub change_view-requires-clause-kept : goal.change_view-requires-clause-kept
 change_view-requires-clause-kept c =

@@ -1,10 +1,10 @@
 use Rattle.editor_session.proofs.Names.{◌≡◌, false, true, sym, subst, IfSome, value_at, IsPastedFor, rules}
-use Rattle.editor_session.proofs.EditLemmas.{edit_there, edit_takes, can_edit, edited_for, pasted_free, taken_free, steps_free}
-use Rattle.editor_session.proofs.PlanLemmas.{answers, kept_by}
+use Rattle.editor_session.proofs.EditLemmas.{edit_takes, can_edit, edited_for, pasted_free, taken_free, steps_free}
+use Rattle.editor_session.proofs.PlanLemmas.{answers, asked_by, document_here, kept_by}
 use Rattle.editor_session.proofs.editing.perform_edit.Goals as goal
 
 pub pasted_bytes-requires : goal.pasted_bytes-requires
-pasted_bytes-requires c = record { there = edit_there c.args.state.now c.requires.kept c.args.document c.args.view c.args.text.now c.args.edit c.args.follow c.requires.sent }
+pasted_bytes-requires c = record { there = document_here c.requires.kept (asked_by c.requires.sent.sent.planned) }
 
 pub taken_bytes-requires : goal.taken_bytes-requires
 taken_bytes-requires c = record { can = edit_takes c.args.state.now c.requires.kept c.args.document c.args.view c.args.text.now c.args.edit c.args.follow c.requires.sent }

@@ -1,6 +1,6 @@
 use Rattle.editor_session.proofs.Names.{rules, ◌≡◌, to_z, of_z, w64, sym, subst, Some, IsSoundRequest, request, session_in, change_asked, IsPlannedAs, unrecorded}
 use Rattle.ed_model.specs.declared.plan.Plan.TheVariants as plan
-use Rattle.editor_session.proofs.FrequentChanges.{frequent_plan}
+use Rattle.editor_session.proofs.DocumentChanges.{frequent_plan}
 use Rattle.editor_session.proofs.Questions.{sound_request}
 use Rattle.editor_session.proofs.frequent.find_change.Goals as goal
 

@@ -1,5 +1,5 @@
 use Rattle.editor_session.proofs.Names.{rules, ◌≡◌, sym, subst, true, IsSoundRequest, request, plan_of, session_in, performing, is_performed, IsPlannedAs, unrecorded}
-use Rattle.editor_session.proofs.FrequentChanges.{transaction_plan}
+use Rattle.editor_session.proofs.DocumentChanges.{transaction_plan}
 use Rattle.editor_session.proofs.Questions.{sound_request}
 use Rattle.editor_session.proofs.frequent.find_transaction.Goals as goal
 

@@ -1,7 +1,6 @@
 use Rattle.editor_session.proofs.Names.{◌++◌, List, [], ℕ, refl, sym, ap, subst, ◌∙◌, IsSomeAnd, option_copied_mut, change_told, Kept, watchers, CanBeMade, Changes, no_notes, ◌≡◌, true, false}
-use Rattle.editor_session.proofs.FrequentChanges.{can_be_made, made_for, made_unheard, same_id, kept_unheard}
+use Rattle.editor_session.proofs.DocumentChanges.{can_be_made, made_for, made_unheard, same_id, kept_unheard, change_made}
 use Rattle.editor_session.proofs.OneDocument.{with_scene, said_of_it, still_named, same_session}
-use Rattle.editor_session.proofs.PlainChanges.{change_made}
 use Rattle.editor_session.proofs.frequent.perform_change_unheard.Goals as goal
 
 pub unreachable-requires : goal.unreachable-requires

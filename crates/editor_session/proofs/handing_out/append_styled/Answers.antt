@@ -1,6 +1,31 @@
-use Rattle.editor_session.proofs.Names.{◌++◌, ◌∷◌, [], ap, sym, ◌∙◌, arith, slice_range, styled_text}
-use Rattle.editor_session.proofs.Styled.{styled_more, append_two}
+use Rattle.editor_session.proofs.Names.{◌≡◌, ℕ, zero, suc, ◌+◌, ◌-◌, ◌≤◌, List, [], ◌∷◌, ◌++◌, map, take, drop, refl, ap, sym, ◌∙◌, arith, Some, slice_get, slice_range, Cell, styles_of, bytes_of, styled_text, append_assoc, drop-map}
+use Rattle.ed_model.specs.proved.Lists.{slice_get_drop}
 use Rattle.editor_session.proofs.handing_out.append_styled.Goals as goal
+
+-- one cell more
+more : (cells : List Cell) (n byte style : ℕ) → slice_get (bytes_of cells) n ≡ Some byte → slice_get (styles_of cells) n ≡ Some style → styled_text (take (suc n) cells) ≡ styled_text (take n cells) ++ byte ∷ style ∷ []
+more [] n byte style b s = absurd (cc)
+more (c ∷ cells) zero byte style b s =
+    let same_byte : c.byte ≡ byte = cc in
+    let same_style : c.style ≡ style = cc in
+    rw (same_byte, same_style) refl
+more (c ∷ cells) (suc n) byte style b s = ap (λ xs. c.byte ∷ c.style ∷ xs) (more cells n byte style b s)
+
+get_behind : (cells : List Cell) (f : Cell → ℕ) (start n place : ℕ) → place ≡ start + n → slice_get (map f (drop start cells)) n ≡ slice_get (map f cells) place
+get_behind cells f start n place e = ap (λ xs. slice_get xs n) (sym (drop-map f start cells)) ∙ slice_get_drop start (map f cells) n place e
+
+styled_more : (cells : List Cell) (start place byte style : ℕ) → start ≤ place → slice_get (bytes_of cells) place ≡ Some byte → slice_get (styles_of cells) place ≡ Some style
+    → styled_text (slice_range cells start (place + 1)) ≡ styled_text (slice_range cells start place) ++ byte ∷ style ∷ []
+styled_more cells start place byte style within b s =
+    let at : place ≡ start + (place - start) = omega arith in
+    let next : place + 1 - start ≡ suc (place - start) = omega arith in
+    ap (λ n. styled_text (take n (drop start cells))) next
+    ∙ more (drop start cells) (place - start) byte style
+    (get_behind cells (λ (c : Cell). c.byte) start (place - start) place at ∙ b)
+    (get_behind cells (λ (c : Cell). c.style) start (place - start) place at ∙ s)
+
+append_two : (xs ys : List ℕ) (a b : ℕ) → ((xs ++ ys) ++ a ∷ []) ++ b ∷ [] ≡ xs ++ (ys ++ a ∷ b ∷ [])
+append_two xs ys a b = simp append_assoc
 
 pub loop-place-preserved : goal.loop-place-preserved
 loop-place-preserved c =

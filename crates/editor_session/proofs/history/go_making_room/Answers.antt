@@ -1,7 +1,29 @@
-use Rattle.editor_session.proofs.Names.{sym, ap, ◌∙◌, option_copied_mut, reverse, latest_text_step, changes_of, views_of}
-use Rattle.editor_session.proofs.Held.{went_at, caret_set, caret_left}
-use Rattle.editor_session.proofs.OneDocument.{still_named, same_session}
+use Rattle.editor_session.proofs.Names.{reverse, ◌≡◌, ℕ, List, refl, ap, ◌∙◌, Option, Some, None, IfSome, Step, View, latest_text_step, Direction, changes_of, history_behind, Entries, value_at, KeptView, kept_scene, views_of, SessionState, scene_gone, Goes, place_behind, with_caret, caret_behind, Gathered, Kept, bits_of, place_behind_any, IsKept, sym, option_copied_mut}
+use Rattle.editor_session.proofs.OneDocument.{with_scene, said_of_it, still_named, same_session, becomes, transaction_keeps_id}
 use Rattle.editor_session.proofs.history.go_making_room.Goals as goal
+
+-- The caret after undo and redo.
+
+caret_set : (view place : ℕ) (latest : Option Step) (views : List View) → Some place ≡ place_behind_any latest → with_caret view place views ≡ caret_behind view latest views
+caret_set view place None views e = absurd (cc)
+caret_set view place (Some step) views e = let same : place ≡ place_behind step = cc in ap (λ p. with_caret view p views) same
+
+caret_left : (view : ℕ) (latest : Option Step) (views : List View) → None ≡ place_behind_any latest → views ≡ caret_behind view latest views
+caret_left view None views e = refl
+caret_left view (Some step) views e = absurd (cc)
+
+-- the session after undo or redo in its document with the id, and after the caret is set
+went_at : (s : SessionState) (kept : IsKept s) (document view : ℕ) (direction : Direction) (old new : Kept) (between views' : Entries KeptView) (notes notes' : Gathered) → value_at s.documents.entries document ≡ Some old
+    → kept_scene new between notes' ≡ scene_gone direction s.views notes old
+    → views_of views'.entries ≡ caret_behind view (latest_text_step (reverse (changes_of direction old.document.history))) (views_of between.entries) → views'.next ≡ s.views.next
+    → IfSome (value_at s.documents.entries document) (λ k. Goes view direction s notes k (with_scene s document new views') notes')
+went_at s kept document view direction old new between views' notes notes' at scene caret next =
+    let put = becomes s.documents between notes' document old new (scene_gone direction s.views notes old) kept.documents at scene
+    (transaction_keeps_id (bits_of direction) (changes_of direction old.document.history) (history_behind direction old.document.history) (kept_scene old s.views notes)) in
+    let latest = latest_text_step (reverse (changes_of direction old.document.history)) in
+    let documents = put.documents_after in
+    let views : views_of views'.entries ≡ caret_behind view latest (scene_gone direction s.views notes old).views = caret ∙ ap (caret_behind view latest) put.views_after in
+    said_of_it s kept document old new at (λ k. Goes view direction s notes k (with_scene s document new views') notes') (record { session_after = rw (documents, views, next) refl; notes_after = put.notes_after })
 
 pub returns-in-Ok-Some-clause-gone : goal.returns-in-Ok-Some-clause-gone
 returns-in-Ok-Some-clause-gone c =

@@ -1,6 +1,6 @@
 use Rattle.editor_session.proofs.Names.{rules, ◌≡◌, ap, ◌∙◌, Scene, Document, changes_of, history_behind, scene_in, bits_of, room_of_changes}
 use Rattle.editor_session.proofs.Going.{none_told}
-use Rattle.editor_session.proofs.Replacing.{transaction_keeps_id}
+use Rattle.editor_session.proofs.OneDocument.{transaction_keeps_id}
 use Rattle.editor_session.proofs.Widths.{capped_fits}
 use Rattle.editor_session.proofs.history.go_with_room.Goals as goal
 

@@ -1,10 +1,20 @@
-use Rattle.editor_session.proofs.Names.{◌≡◌, ◌+◌, ◌<◌, ◌≤◌, length, arith, sym, ap, subst, ◌∙◌, Ok, IfSome, slice_range, text_of, value_at, session_in}
-use Rattle.editor_session.specs.Lent.{lent_range}
-use Rattle.editor_session.proofs.LendingLemmas.{no_view_lends, past_end, range_lent}
+use Rattle.editor_session.proofs.Names.{◌≡◌, ℕ, ◌+◌, ◌<◌, ◌≤◌, true, false, ap, ◌∙◌, arith, Some, length, Ok, Err, slice_range, nat_le, BadArgument, Session, Document, View, document_at, view_at, text_of, value_at, sym, subst, IfSome, session_in, lt-leb, le-leb}
+use Rattle.editor_session.specs.Lent.{lent_range, lent_from, lent_of, lent_if}
 use Rattle.editor_session.proofs.lending.document_with.Goals as goal
 
+-- What is lent, by the table of documents and that of views.
+module _ (s : Session) (view start count : ℕ) (v : View) (d : Document) (seen : view_at s.views view ≡ Some v) (there : document_at s.documents v.document ≡ Some d) where
+  lends_if : lent_range s view start count ≡ lent_if (nat_le (start + count) (length d.cells)) start count d
+  lends_if = ap (lent_from s start count) seen ∙ ap (lent_of start count) there
+
+  past_end : length d.cells < start + count → lent_range s view start count ≡ Err BadArgument
+  past_end h = lends_if ∙ ap (λ b. lent_if b start count d) (lt-leb (start + count) (length d.cells) h)
+
+  range_lent : start + count ≤ length d.cells → lent_range s view start count ≡ Ok (slice_range (text_of d) start (start + count))
+  range_lent h = lends_if ∙ ap (λ b. lent_if b start count d) (le-leb (start + count) (length d.cells) h)
+
 pub returns-in_default-clause-refused : goal.returns-in_default-clause-refused
-returns-in_default-clause-refused c = no_view_lends (session_in c.args.state.now) c.args.view c.args.start c.args.count c.in_default.ensures.none
+returns-in_default-clause-refused c = ap (lent_from (session_in c.args.state.now) c.args.start c.args.count) c.in_default.ensures.none
 
 pub returns-then-length-start-clause-refused : goal.returns-then-length-start-clause-refused
 returns-then-length-start-clause-refused c =

@@ -1,13 +1,13 @@
 -- The document that lent its bytes is as it was, and so is the table.
-use Rattle.editor_session.proofs.Names.{◌≡◌, refl, ap, sym, ◌∙◌, subst, IfSome, ◌+◌, slice_range, option_copied_mut, text_of}
-use Rattle.editor_session.proofs.LendingLemmas.{lent_back}
+use Rattle.editor_session.proofs.Names.{◌≡◌, refl, ap, sym, ◌∙◌, subst, IfSome, ◌+◌, slice_range, option_copied_mut, text_of, staying, document_of, id_of_document}
 use Rattle.editor_session.proofs.lending.lend_in.Goals as goal
 
 pub returns : goal.returns
 returns c =
     let documents = c.args.documents.now in
     let at = sym c.get_mut.ensures.value ∙ ap option_copied_mut c.in-Some.is in
-    let whole = lent_back documents c.args.document c.in-Some.document.now c.lend.follows.lender-at-none c.requires.named c.requires.rise at c.lend.follows.holds-at-none in (
+    let whole = ap (λ es. record documents { entries = es })
+    (staying document_of id_of_document documents.entries c.args.document documents.next c.requires.named c.requires.rise c.in-Some.document.now c.lend.follows.lender-at-none at c.lend.follows.holds-at-none) in (
       (refl, (λ _. tt), whole),
       record {
         back = tt;

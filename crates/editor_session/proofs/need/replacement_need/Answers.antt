@@ -36,8 +36,7 @@ returns c =
     let a = c.args in let d = a.document.now.document in let types = d.line_end_types in
     let scene = scene_in d a.views.now.entries [] in
     let bytes = slice_range (text_of d) a.start (a.start + a.count) in
-    let gone = Delete a.start bytes in
-    let come = Insert a.start a.bytes.now in
+    let gone = Delete a.start bytes in let come = Insert a.start a.bytes.now in
     let views = watching (views_of a.views.now.entries) d in
     let needs = deletion_needs types d a.start a.count c.requires.range in
     let first_is = c.step_need-2.ensures

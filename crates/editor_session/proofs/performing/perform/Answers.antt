@@ -1,9 +1,9 @@
-use Rattle.editor_session.proofs.Names.{rules, pos, refl}
+use Rattle.editor_session.proofs.Names.{rules, pos, refl, Document, length, ◌+◌, ◌≤◌}
 use Rattle.ed_model.specs.declared.plan.Plan.TheVariants as plan
 use Rattle.document.specs.declared.undoing.Direction.TheVariants as direction
 use Rattle.editor_session.proofs.Going.{never_free, attempt_never_free}
-use Rattle.editor_session.proofs.OtherPlans.{sent_there, answer_for, attempted_for, hand_out_range, handed_out_for, hand_out_free, styled_range, styled_for, styled_free, sent_as, answered_as, unfree_as}
-use Rattle.editor_session.proofs.PlanLemmas.{answers}
+use Rattle.editor_session.proofs.OtherPlans.{answer_for, attempted_for, handed_out_for, hand_out_free, styled_for, styled_free, sent_as, answered_as, unfree_as}
+use Rattle.editor_session.proofs.PlanLemmas.{answers, asked_by, document_here, for_document}
 use Rattle.editor_session.proofs.performing.perform.Goals as goal
 
 pub returns-in-Answer-clause-answer : goal.returns-in-Answer-clause-answer
@@ -51,9 +51,7 @@ pub returns-in_err-perform_view_change-in-ChangeView-clause-free : goal.returns-
 returns-in_err-perform_view_change-in-ChangeView-clause-free c = unfree_as c.in-ChangeView.is (c.in_err-perform_view_change-in-ChangeView.ensures.free c.in-ChangeView.value _)
 
 pub perform_attempt-requires-clause-there : goal.perform_attempt-requires-clause-there
-perform_attempt-requires-clause-there c =
-    let a = c.args in
-    sent_there a.state.now c.requires.kept a.document a.view (λ value. plan.Attempt) (sent_as c.in-Attempt.is (λ value. plan.Attempt) (pos 0) refl c.requires.sent).sent
+perform_attempt-requires-clause-there c = document_here c.requires.kept (asked_by (sent_as c.in-Attempt.is (λ value. plan.Attempt) (pos 0) refl c.requires.sent).sent.planned)
 
 pub returns-in_ok-perform_attempt-in-Attempt-clause-answer : goal.returns-in_ok-perform_attempt-in-Attempt-clause-answer
 returns-in_ok-perform_attempt-in-Attempt-clause-answer c =
@@ -83,8 +81,9 @@ returns-in_err-perform_transaction-in-Redo-clause-free c = unfree_as c.in-Redo.i
 
 pub hand_out-requires : goal.hand_out-requires
 hand_out-requires c =
-    let a = c.args in let p = c.in-HandOut in
-    record { range = hand_out_range a.state.now c.requires.kept a.document a.view p.start p.count (sent_as p.is (λ value. plan.HandOut value p.start p.count) p.value refl c.requires.sent).sent }
+    let p = c.in-HandOut in
+    let t = (sent_as p.is (λ value. plan.HandOut value p.start p.count) p.value refl c.requires.sent).sent.planned in
+    record { range = for_document c.requires.kept (asked_by t) (λ (d : Document). p.start + p.count ≤ length d.cells) t.fit }
 
 pub returns-in_ok-handed_out-in-HandOut-clause-answer : goal.returns-in_ok-handed_out-in-HandOut-clause-answer
 returns-in_ok-handed_out-in-HandOut-clause-answer c =
@@ -96,8 +95,9 @@ returns-in_err-handed_out-in-HandOut-clause-free c = unfree_as c.in-HandOut.is (
 
 pub hand_out_styled-requires : goal.hand_out_styled-requires
 hand_out_styled-requires c =
-    let a = c.args in let p = c.in-HandOutStyled in
-    record { range = styled_range a.state.now c.requires.kept a.document a.view p.start p.count (sent_as p.is (λ value. plan.HandOutStyled p.start p.count) (pos 0) refl c.requires.sent).sent }
+    let p = c.in-HandOutStyled in
+    let t = (sent_as p.is (λ value. plan.HandOutStyled p.start p.count) (pos 0) refl c.requires.sent).sent.planned in
+    record { range = for_document c.requires.kept (asked_by t) (λ (d : Document). p.start + p.count ≤ length d.cells) t.fit }
 
 pub returns-in_ok-handed_out-in-HandOutStyled-clause-answer : goal.returns-in_ok-handed_out-in-HandOutStyled-clause-answer
 returns-in_ok-handed_out-in-HandOutStyled-clause-answer c =

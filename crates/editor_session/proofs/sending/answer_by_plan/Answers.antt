@@ -1,6 +1,11 @@
-use Rattle.editor_session.proofs.Names.{◌≡◌, Ok, Err, sym, subst, IfErr, table, session_in}
-use Rattle.editor_session.proofs.Leaving.{refused_too}
+use Rattle.editor_session.proofs.Names.{◌≡◌, ℤ, sym, subst, ap, Ok, Err, IfErr, Result, Refusal, Response, table, session_in}
+use Rattle.ed_types.specs.proved.Refusals.{refusing}
 use Rattle.editor_session.proofs.sending.answer_by_plan.Goals as goal
+
+-- what refuses a value refuses a reply
+refused_too : {S : Type 0} (says : Result S Refusal) (refusal : Refusal) → IfErr says (λ r. refusing ℤ refusal ≡ Err r) → IfErr says (λ r. refusing Response refusal ≡ Err r)
+refused_too (Ok x) refusal h = tt
+refused_too (Err r) refusal h = let same : refusal ≡ r = cc in ap (refusing Response) same
 
 pub returns-in-Ok-clause-refused : goal.returns-in-Ok-clause-refused
 returns-in-Ok-clause-refused c = subst (λ t. IfErr t (λ refusal. Ok c.answer_into_by_plan.new.reply ≡ Err refusal)) (sym c.in-Ok.ensures.answer) tt

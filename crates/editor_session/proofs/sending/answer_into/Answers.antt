@@ -1,7 +1,17 @@
-use Rattle.editor_session.proofs.Names.{◌≡◌, true, Err, sym, subst, ◌≢◌, IfErr, OutOfMemory, Session, table, session_in, AnswersBy, is_free}
+use Rattle.editor_session.proofs.Names.{◌≡◌, ℤ, true, sym, subst, ap, Ok, Err, IfErr, Result, Refusal, Response, Session, ◌≢◌, OutOfMemory, table, session_in, AnswersBy, is_free}
 use Rattle.editor_session.specs.Left.{told}
-use Rattle.editor_session.proofs.Leaving.{err_told, refused_told}
 use Rattle.editor_session.proofs.sending.answer_into.Goals as goal
+
+-- what holds of a refusal that was made holds of what is told
+err_told : (P : Refusal → Type 0) (r : Result ℤ Refusal) (left : Response) (made : Result Response Refusal) → told r left ≡ made → IfErr made P → IfErr r P
+err_told P (Ok value) left made is h = tt
+err_told P (Err refusal) left made is h = subst (λ t. IfErr t P) (sym is) h
+
+refused_told : (says : Result (Session × Response) Refusal) (r : Result ℤ Refusal) (left : Response) (made : Result Response Refusal) → told r left ≡ made
+    → IfErr says (λ refusal. made ≡ Err refusal) → IfErr says (λ refusal. r ≡ Err refusal)
+refused_told (Ok x) r left made is h = tt
+refused_told (Err refusal) (Ok value) left made is h = absurd (cc)
+refused_told (Err refusal) (Err other) left made is h = let same : other ≡ refusal = cc in ap (λ e. Err e) same
 
 pub returns-in-Some : goal.returns-in-Some
 returns-in-Some c =

@@ -5,9 +5,7 @@ pub returns-in-Some-answer_without_notes-clause-answer : goal.returns-in-Some-an
 returns-in-Some-answer_without_notes-clause-answer c = c.in-Some-answer_without_notes.ensures.answer ∙ ap (λ x. Ok (session_in c.answer_without_notes.new.state, x)) (search rules)
 
 pub returns-in-Some-answer_without_notes-clause-refused : goal.returns-in-Some-answer_without_notes-clause-refused
-returns-in-Some-answer_without_notes-clause-refused c =
-    let answer = returns-in-Some-answer_without_notes-clause-answer c in
-    rw answer (search rules)
+returns-in-Some-answer_without_notes-clause-refused c = let answer = returns-in-Some-answer_without_notes-clause-answer c in rw answer (search rules)
 
 pub returns : goal.returns
 returns c =

@@ -2,7 +2,7 @@ use Rattle.editor_session.proofs.Names.{rules, ◌≡◌, false, Ok, Some, ap, �
 use Rattle.ed_model.specs.declared.plan.Plan.TheVariants as plan
 use Rattle.editor_session.proofs.TableWay.{plain_answer}
 use Rattle.std.proofs.lemmas.Option.{cond_some}
-use Rattle.editor_session.proofs.ViewPlans.{unrecorded_plan}
+use Rattle.editor_session.proofs.OtherPlans.{unrecorded_plan}
 use Rattle.editor_session.proofs.target.answer_target_message.Goals as goal
 
 -- the plan that is found is the table's
