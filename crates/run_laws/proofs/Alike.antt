@@ -1,11 +1,5 @@
 -- Two lists of views that are alike: the ids and documents are the same, and the views of documents for which `Own` holds are equal.
-use Rattle.std.proofs.Common.{◌≡◌, ℕ, Bool, true, false, cond, List, [], ◌∷◌, map, refl, ap, sym, ◌∙◌, subst, Option, Some, None}
-use Rattle.std.specs.Prelude.{◌==◌, filter_map}
-use Rattle.std.specs.List.{AllByRecursion, cons_option}
-use Rattle.std.proofs.lemmas.Bool.{eqb-true}
-use Rattle.ed_model.specs.Session.{View, view_at}
-use Rattle.ed_model.specs.SoundLaws.{IsViewOn}
-use Rattle.run_laws.specs.IsolationLaws.{views_on}
+use Rattle.run_laws.proofs.Names.{◌≡◌, ℕ, Bool, true, false, cond, List, [], ◌∷◌, map, refl, ap, sym, ◌∙◌, subst, Option, Some, None, ◌==◌, filter_map, AllByRecursion, cons_option, eqb-true, View, view_at, IsViewOn, views_on}
 
 module _ (Own : ℕ → Type 0) where
   pub record IsAlike (v w : View) : Type 0 where

@@ -1,15 +1,6 @@
 -- Each message marked E makes an attempt to edit a read-only document in which it has something to edit: computed for all kinds at once.
-use Rattle.std.proofs.Common.{◌≡◌, ℕ, Bool, true, false, cond, List, [], ◌∷◌, refl, subst, ◌∙◌, Option, Some, None}
-use Rattle.std.specs.Prelude.{◌==◌, find}
-use Rattle.std.specs.List.{list_all}
-use Rattle.std.specs.Option.{option_or}
-use Rattle.std.proofs.lemmas.Bool.{and_parts}
-use Rattle.ed_types.specs.declared.kind.Kind.{Kind}
-use Rattle.ed_types.specs.Messages.{number_of, marks_of, kind_in, kind_among, groups}
+use Rattle.run_laws.proofs.Names.{◌≡◌, ℕ, Bool, true, false, cond, List, [], ◌∷◌, refl, subst, ◌∙◌, Option, Some, None, ◌==◌, find, list_all, option_or, and_parts, Kind, number_of, marks_of, kind_in, kind_among, groups, Session, table, something_to_edit, with_ones, tells_attempt, MarkedMessagesTellAttempts}
 use Rattle.ed_types.specs.MessagesLaws.{EachKindIsFound}
-use Rattle.ed_model.specs.Session.{Session}
-use Rattle.ed_model.specs.Table.{table}
-use Rattle.run_laws.specs.EditLaws.{something_to_edit, with_ones, tells_attempt, MarkedMessagesTellAttempts}
 
 -- What a test finds for all kinds holds for each kind.
 

@@ -1,23 +1,8 @@
 -- A message that is not marked E leaves every text unchanged, and notifies no view of an attempt.
-use Rattle.std.proofs.Common.{◌≡◌, ℕ, Bool, true, false, cond, List, ◌∷◌, replicate, take, refl, ap, ◌∙◌, subst, Option, Some, None, Ok, Err}
-use Rattle.std.specs.Prelude.{◌≢◌, ◌&&◌}
-use Rattle.std.proofs.lemmas.Bool.{eqb-false, and_parts}
-use Rattle.ed_types.specs.declared.kind.Kind.{Kind}
-use Rattle.ed_types.specs.Notices.{Response}
-use Rattle.ed_types.specs.Messages.{marks_of}
-use Rattle.ed_model.specs.declared.plan.DocumentChange.{DocumentChange}
+use Rattle.run_laws.proofs.Names.{◌≡◌, ℕ, Bool, true, false, cond, List, ◌∷◌, replicate, take, refl, ap, ◌∙◌, subst, Option, Some, None, Ok, Err, ◌≢◌, ◌&&◌, eqb-false, and_parts, Kind, Response, marks_of, DocumentChange, Plan, Session, Document, document_at, text_of, Request, Planned, changed_document, answered, performed, plan_of, request, record_note, Answered, PlansFit, text_of_styled, text_if_there, TextsStay, TellsNoAttempt, OnlyEditsChangeTexts, OnlyEditsTellOfAttempts}
 use Rattle.ed_model.specs.declared.plan.DocumentChange.TheVariants as document_change
-use Rattle.ed_model.specs.declared.plan.Plan.{Plan}
 use Rattle.ed_model.specs.declared.plan.Plan.TheVariants as plan
-use Rattle.ed_model.specs.Session.{Session, Document, document_at, text_of}
 use Rattle.ed_model.specs.Notes as notes
-use Rattle.ed_model.specs.Requests.{Request, Planned}
-use Rattle.ed_model.specs.Changes.{changed_document}
-use Rattle.ed_model.specs.Table.{answered, performed, plan_of, request, record_note}
-use Rattle.ed_model.specs.TableLaws.{Answered}
-use Rattle.ed_model.specs.PlansFit.{PlansFit}
-use Rattle.ed_model.specs.proved.Changes.{text_of_styled}
-use Rattle.run_laws.specs.EditLaws.{text_if_there, TextsStay, TellsNoAttempt, OnlyEditsChangeTexts, OnlyEditsTellOfAttempts}
 use Rattle.run_laws.proofs.TableWays.{of_table}
 use Rattle.run_laws.proofs.PlanShapes.{Leave, may_follow, KeepsTo, IsShaped, leave_of, plan_is_shaped}
 use Rattle.run_laws.proofs.NoteLemmas.{plans_have_codes}

@@ -1,16 +1,8 @@
 -- Fold parents, found line by line, and the number of visible lines before a line.
-use Rattle.std.proofs.Common.{◌≡◌, ℕ, zero, suc, ◌+◌, ◌-◌, ◌<◌, ◌≤◌, Bool, true, false, cond, List, [], ◌∷◌, ◌++◌, length, filter, unwrap_or, slice_get, Option, Some, None, inl, inr, refl, ap, subst, ◌∙◌, sym, arith, zero-add, append-nil, length-append, nat_lt}
-use Rattle.std.specs.Prelude.{find}
-use Rattle.std.specs.List.{range_with_len}
-use Rattle.std.proofs.lemmas.Bool.{and_parts, ltb-true, cases_order}
-use Rattle.std.proofs.lemmas.List.Elements.{filter-append}
-use Rattle.std.proofs.lemmas.List.Sums.{count_by_more_yes, count_by_more_no}
-use Rattle.ed_model.specs.Rows.{Flags, fresh_flags}
+use Rattle.run_laws.proofs.Names.{◌≡◌, ℕ, zero, suc, ◌+◌, ◌-◌, ◌<◌, ◌≤◌, Bool, true, false, cond, List, [], ◌∷◌, ◌++◌, length, filter, unwrap_or, slice_get, Option, Some, None, inl, inr, refl, ap, subst, ◌∙◌, sym, arith, zero-add, append-nil, length-append, nat_lt, find, range_with_len, and_parts, ltb-true, cases_order, filter-append, count_by_more_yes, count_by_more_no, Flags, fresh_flags, slice_get_append_right, range-append, reverse_next}
 use Rattle.ed_model.specs.Folding.{number_at, is_header, is_parent_of, is_visible}
 use Rattle.ed_model.specs.DisplayLines.{visible_before, visible_lines, line_shown}
 use Rattle.ed_model.specs.proved.Folding.{parent_before, parents_are}
-use Rattle.ed_model.specs.proved.Lists.{slice_get_append_right}
-use Rattle.ed_model.specs.proved.Rising.{range-append, reverse_next}
 use Rattle.run_laws.specs.FoldLaws.{FoldParentsAreAChain, FoldParentIsTheNearestHeader, LinesWithoutParent, DisplayLinesCountVisibleLines, VisibleLinesAreShown, HiddenLinesHaveThatBefore}
 
 -- The chain of fold parents.

@@ -1,37 +1,9 @@
 -- How a message changes each document: that of its own view changes by the plan, and the others stay. `Goes` says which changes
 -- are allowed; the views attached to a document, and the number of references that callers hold, do not count.
-use Rattle.std.proofs.Common.{◌≡◌, ℕ, ◌+◌, ◌≤◌, ◌==◌, nat_lt, cond, Bool, true, false, List, [], ◌∷◌, ◌++◌, length, map, refl, ap, ◌∙◌, sym, subst, arith, Option, Some, None, Result, Ok, Err}
-use Rattle.std.specs.Prelude.{option_map, ◌||◌, nat_le}
-use Rattle.std.specs.Option.{option_or}
-use Rattle.std.proofs.lemmas.Bool.{eqb-true, eq-eqb}
-use Rattle.ed_types.specs.declared.kind.Kind.{Kind}
-use Rattle.ed_types.specs.declared.message.Message.{Message}
-use Rattle.ed_types.specs.declared.refusal.Refusal.{Refusal}
-use Rattle.ed_types.specs.declared.refusal.Refusal.TheVariants.{TooMany}
-use Rattle.ed_types.specs.declared.script.Command.{Command}
-use Rattle.ed_types.specs.declared.script.Command.TheVariants.{LoadFile, SendMessage}
-use Rattle.ed_types.specs.declared.script.Outcome.{Outcome}
-use Rattle.ed_types.specs.Notices.{Response}
-use Rattle.ed_types.specs.Messages.{kind_of}
-use Rattle.ed_model.specs.declared.plan.SessionChange.{SessionChange}
+use Rattle.run_laws.proofs.Names.{◌≡◌, ℕ, ◌+◌, ◌≤◌, ◌==◌, nat_lt, cond, Bool, true, false, List, [], ◌∷◌, ◌++◌, length, map, refl, ap, ◌∙◌, sym, subst, arith, Option, Some, None, Result, Ok, Err, option_map, ◌||◌, nat_le, option_or, eqb-true, eq-eqb, Kind, Message, Refusal, TooMany, Command, LoadFile, SendMessage, Outcome, Response, kind_of, SessionChange, Plan, Change, undo_changes, redo_changes, undone, redone, Session, Document, View, document_at, view_at, with_document, living, left_by, new_document, new_view, Request, Planned, text, steps_of, Scene, scene_of, session_of, edit_made, transaction_performed, changes_performed, changed_document, session_changed, with_attached, attached_last, with_new_document, held_more, held_less, table, answered, plan_of, performed, request, opened, closed_view, Answered, IsSound, Rise, IsSoundRequest, IsFitPlan, IsFitPlanned, PlansFit, Running, after_command, set_text_message, document_id, view_id, replaced_found, replaced_other, mapped_found, mapped_ids, living_from, documents_added, added_at, edit_made_id, changed_id}
 use Rattle.ed_model.specs.declared.plan.SessionChange.TheVariants as session_change
-use Rattle.ed_model.specs.declared.plan.Plan.{Plan}
 use Rattle.ed_model.specs.declared.plan.Plan.TheVariants as plan
-use Rattle.ed_model.specs.History.{Change, undo_changes, redo_changes, undone, redone}
-use Rattle.ed_model.specs.Session.{Session, Document, View, document_at, view_at, with_document, living, left_by, new_document, new_view}
 use Rattle.ed_model.specs.Notes as notes
-use Rattle.ed_model.specs.Requests.{Request, Planned, text}
-use Rattle.ed_model.specs.Edits.{steps_of}
-use Rattle.ed_model.specs.Performing.{Scene, scene_of, session_of, edit_made, transaction_performed, changes_performed}
-use Rattle.ed_model.specs.Changes.{changed_document, session_changed, with_attached, attached_last, with_new_document, held_more, held_less}
-use Rattle.ed_model.specs.Table.{table, answered, plan_of, performed, request, opened, closed_view}
-use Rattle.ed_model.specs.TableLaws.{Answered}
-use Rattle.ed_model.specs.SoundLaws.{IsSound, Rise}
-use Rattle.ed_model.specs.PlansFit.{IsSoundRequest, IsFitPlan, IsFitPlanned, PlansFit}
-use Rattle.ed_model.specs.Run.{Running, after_command, set_text_message}
-use Rattle.ed_model.specs.proved.Finding.{document_id, view_id, replaced_found, replaced_other, mapped_found, mapped_ids, living_from, documents_added, added_at}
-use Rattle.ed_model.specs.proved.Scenes.{edit_made_id}
-use Rattle.ed_model.specs.proved.Changes.{changed_id}
 use Rattle.run_laws.proofs.Choices.{either}
 use Rattle.run_laws.proofs.Walks.{changes_views, followed_same}
 use Rattle.run_laws.proofs.TableWays.{of_table, OfMessages, of_each_message, of_command}

@@ -1,15 +1,6 @@
 -- A handle that no marker has is never given again.
-use Rattle.std.proofs.Common.{◌≡◌, ℕ, ◌+◌, ◌≤◌, List, ap, ◌∙◌, sym, subst, arith, Some}
-use Rattle.ed_model.specs.declared.plan.DocumentChange.{DocumentChange}
-use Rattle.ed_model.specs.Steps.{Step}
-use Rattle.ed_model.specs.Session.{Document, document_at, text_of}
-use Rattle.ed_model.specs.Performing.{document_after}
-use Rattle.ed_model.specs.Changes.{changed_document}
-use Rattle.ed_model.specs.SoundLaws.{CommandKeepsSound}
-use Rattle.ed_model.specs.PlansFit.{PlansFit}
+use Rattle.run_laws.proofs.Names.{◌≡◌, ℕ, ◌+◌, ◌≤◌, List, ap, ◌∙◌, sym, subst, arith, Some, DocumentChange, Step, Document, document_at, text_of, document_after, changed_document, CommandKeepsSound, PlansFit, document_id, found_below, changed_id}
 use Rattle.ed_model.specs.HandleLaws.{StepsGiveNoHandle, ChangesGiveNoOldHandle, NextHandlesNeverFall}
-use Rattle.ed_model.specs.proved.Finding.{document_id, found_below}
-use Rattle.ed_model.specs.proved.Changes.{changed_id}
 use Rattle.run_laws.specs.HandleRunLaws.{IsGone, HandlesNeverComeBack}
 use Rattle.run_laws.proofs.Invariants.{run_holds}
 

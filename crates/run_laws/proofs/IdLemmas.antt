@@ -1,31 +1,8 @@
 -- The next ids, and the ids of documents and views, after each command.
-use Rattle.std.proofs.Common.{◌≡◌, ℕ, ◌+◌, ◌≤◌, ◌<◌, nat_lt, cond, Bool, true, false, List, [], ◌∷◌, ◌++◌, length, map, refl, ap, ◌∙◌, sym, subst, arith, Option, Some, None, Result, Ok, Err}
-use Rattle.std.specs.Prelude.{◌==◌, find, filter, not, nat_le, ◌||◌, option_map}
-use Rattle.std.specs.Option.{option_or}
-use Rattle.std.proofs.lemmas.Bool.{ne_eqb}
+use Rattle.run_laws.proofs.Names.{◌≡◌, ℕ, ◌+◌, ◌≤◌, ◌<◌, nat_lt, cond, Bool, true, false, List, [], ◌∷◌, ◌++◌, length, map, refl, ap, ◌∙◌, sym, subst, arith, Option, Some, None, Result, Ok, Err, ◌==◌, find, filter, not, nat_le, ◌||◌, option_map, option_or, ne_eqb, Kind, Message, Refusal, TooMany, Command, Outcome, Plan, Session, Document, View, document_at, view_at, new_document, new_view, attached_to, Request, Planned, text, steps_of, levels, scene_of, session_of, edit_made, followed, view_after, changed_lines, changed_view, with_attached, with_new_document, table, answered, plan_of, performed, request, opened, closed_view, Answered, Running, after_command, run_to, outcomes, IsSound, Rise, CommandKeepsSound, PlansFit, document_id, ids_of, same_ids, with_view_ids, view_after_id, changed_lines_id}
 use Rattle.std.proofs.lemmas.List.Folds.{find-append}
-use Rattle.ed_types.specs.declared.kind.Kind.{Kind}
-use Rattle.ed_types.specs.declared.message.Message.{Message}
-use Rattle.ed_types.specs.declared.refusal.Refusal.{Refusal}
-use Rattle.ed_types.specs.declared.refusal.Refusal.TheVariants.{TooMany}
-use Rattle.ed_types.specs.declared.script.Command.{Command}
-use Rattle.ed_types.specs.declared.script.Outcome.{Outcome}
 use Rattle.ed_model.specs.declared.plan.SessionChange.TheVariants as session_change
-use Rattle.ed_model.specs.declared.plan.Plan.{Plan}
 use Rattle.ed_model.specs.declared.plan.Plan.TheVariants as plan
-use Rattle.ed_model.specs.Session.{Session, Document, View, document_at, view_at, new_document, new_view, attached_to}
-use Rattle.ed_model.specs.Requests.{Request, Planned, text}
-use Rattle.ed_model.specs.Edits.{steps_of}
-use Rattle.ed_model.specs.FoldingPlans.{levels}
-use Rattle.ed_model.specs.Performing.{scene_of, session_of, edit_made, followed, view_after}
-use Rattle.ed_model.specs.Changes.{changed_lines, changed_view, with_attached, with_new_document}
-use Rattle.ed_model.specs.Table.{table, answered, plan_of, performed, request, opened, closed_view}
-use Rattle.ed_model.specs.TableLaws.{Answered}
-use Rattle.ed_model.specs.Run.{Running, after_command, run_to, outcomes}
-use Rattle.ed_model.specs.SoundLaws.{IsSound, Rise, CommandKeepsSound}
-use Rattle.ed_model.specs.PlansFit.{PlansFit}
-use Rattle.ed_model.specs.proved.Finding.{document_id, ids_of, same_ids, with_view_ids}
-use Rattle.ed_model.specs.proved.Changes.{view_after_id, changed_lines_id}
 use Rattle.run_laws.specs.IdLaws.{DocumentIdsNeverComeBack, ViewIdsNeverComeBack, NextIdsNeverFall, OpenedIdsRise, opened_ids}
 use Rattle.run_laws.proofs.Choices.{either}
 use Rattle.run_laws.proofs.Walks.{sender_keeps, followed_same, performed_views}

@@ -1,20 +1,7 @@
 -- An invariant that every change of a document keeps holds for the document in every state of a run.
-use Rattle.std.proofs.Common.{◌≡◌, ℕ, ◌≤◌, nat_lt, Bool, false, List, [], ◌∷◌, length, refl, arith, Option, Some, None}
-use Rattle.ed_types.specs.declared.script.Command.{Command}
-use Rattle.ed_model.specs.declared.plan.DocumentChange.{DocumentChange}
-use Rattle.ed_model.specs.declared.plan.Plan.{Plan}
+use Rattle.run_laws.proofs.Names.{◌≡◌, ℕ, ◌≤◌, nat_lt, Bool, false, List, [], ◌∷◌, length, refl, arith, Option, Some, None, Command, DocumentChange, Plan, Step, History, Change, TextStep, ContainerStep, undo_changes, redo_changes, undone, redone, Session, Document, document_at, Request, steps_of, Scene, scene_of, document_after, changes_performed, change_performed, transaction_performed, changed_document, Running, after_command, run_to, IsSound, CommandKeepsSound, PlansFit}
 use Rattle.ed_model.specs.declared.plan.Plan.TheVariants as plan
-use Rattle.ed_model.specs.Steps.{Step}
-use Rattle.ed_model.specs.History.{History, Change, TextStep, ContainerStep, undo_changes, redo_changes, undone, redone}
 use Rattle.ed_model.specs.Notes as notes
-use Rattle.ed_model.specs.Session.{Session, Document, document_at}
-use Rattle.ed_model.specs.Requests.{Request}
-use Rattle.ed_model.specs.Edits.{steps_of}
-use Rattle.ed_model.specs.Performing.{Scene, scene_of, document_after, changes_performed, change_performed, transaction_performed}
-use Rattle.ed_model.specs.Changes.{changed_document}
-use Rattle.ed_model.specs.Run.{Running, after_command, run_to}
-use Rattle.ed_model.specs.SoundLaws.{IsSound, CommandKeepsSound}
-use Rattle.ed_model.specs.PlansFit.{PlansFit}
 use Rattle.run_laws.proofs.Walks.{edit_kept, changes_kept}
 use Rattle.run_laws.proofs.Going.{IsMadeNew, own_after, From, any_command_from}
 use Rattle.run_laws.proofs.IdLemmas.{next_document_rises}

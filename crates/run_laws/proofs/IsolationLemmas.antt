@@ -1,44 +1,13 @@
 -- Two sessions that agree on a document: messages to its views do the same in both, and other messages leave it alone in each.
-use Rattle.std.proofs.Common.{◌≡◌, ℕ, ◌==◌, nat_lt, cond, Bool, true, false, List, [], ◌∷◌, ◌++◌, length, map, refl, ap, ◌∙◌, sym, subst, Option, Some, None, Ok, Err}
-use Rattle.std.specs.Prelude.{ℤ, pos, bit_or, reverse, option_map, not}
-use Rattle.std.specs.List.{AllByRecursion}
-use Rattle.std.proofs.lemmas.Bool.{eqb-true, eqb-false, not-true, not-false}
+use Rattle.run_laws.proofs.Names.{◌≡◌, ℕ, ◌==◌, nat_lt, cond, Bool, true, false, List, [], ◌∷◌, ◌++◌, length, map, refl, ap, ◌∙◌, sym, subst, Option, Some, None, Ok, Err, ℤ, pos, bit_or, reverse, option_map, not, AllByRecursion, eqb-true, eqb-false, not-true, not-false, Outcome, Replied, Refused, NoSuchView, Kind, Message, Notice, Response, kind_of, Edit, Follow, Plan, growth, Step, replacement, History, Change, TextStep, ContainerStep, undo_changes, redo_changes, undone, redone, latest_text_step, at_save_point, begins_transaction, Session, Document, View, document_at, view_at, with_document, with_view, watching, lines_in, Request, Planned, text, steps_of, source_bytes, converted_if, levels, Scene, scene_of, session_of, document_after, view_after, step_made, sealed_scene, edit_made, followed, with_caret, caret_behind, leaving, change_performed, changes_performed, transaction_performed, save_point_change, history_performed, place_behind, container_note, last_bits, response, changed_document, changed_lines, changed_view, change_told, table, answered, with_recording, plan_of, performed, request, table_from_view, table_from_kind, table_from_document, Answered, IsSound, IsViewOn, ListsItsViews, CommandKeepsSound, Running, starting, after_command, after_message, outcomes, run_to, found_all, document_id, view_id, replaced_found, mapped_found, found_once, IsOwner, view_after_id, changed_lines_id, view_after_document, is_copying, is_about_documents, Sending, sent, shows_other, goes_elsewhere, unless, without_others, own_outcomes, KeepsApart, DocumentsAreApart}
 use Rattle.ed_types.specs.declared.limits.Limits.{Limits}
-use Rattle.ed_types.specs.declared.script.Outcome.{Outcome}
-use Rattle.ed_types.specs.declared.script.Outcome.TheVariants.{Replied, Refused}
-use Rattle.ed_types.specs.declared.refusal.Refusal.TheVariants.{NoSuchView}
-use Rattle.ed_types.specs.declared.kind.Kind.{Kind}
-use Rattle.ed_types.specs.declared.message.Message.{Message}
-use Rattle.ed_types.specs.Notices.{Notice, Response}
-use Rattle.ed_types.specs.Messages.{kind_of}
-use Rattle.ed_model.specs.declared.plan.Edit.{Edit}
 use Rattle.ed_model.specs.declared.plan.Edit.TheVariants as edit
 use Rattle.ed_model.specs.declared.plan.Source.{Source}
 use Rattle.ed_model.specs.declared.plan.Source.TheVariants as source
-use Rattle.ed_model.specs.declared.plan.Follow.{Follow}
 use Rattle.ed_model.specs.declared.plan.Follow.TheVariants as follow
 use Rattle.ed_model.specs.declared.plan.SessionChange.TheVariants as session_change
-use Rattle.ed_model.specs.declared.plan.Plan.{Plan}
 use Rattle.ed_model.specs.declared.plan.Plan.TheVariants as plan
-use Rattle.ed_model.specs.Numbers.{growth}
-use Rattle.ed_model.specs.Steps.{Step, replacement}
-use Rattle.ed_model.specs.History.{History, Change, TextStep, ContainerStep, undo_changes, redo_changes, undone, redone, latest_text_step, at_save_point, begins_transaction}
-use Rattle.ed_model.specs.Session.{Session, Document, View, document_at, view_at, with_document, with_view, watching, lines_in}
 use Rattle.ed_model.specs.Notes as notes
-use Rattle.ed_model.specs.Requests.{Request, Planned, text}
-use Rattle.ed_model.specs.Edits.{steps_of, source_bytes, converted_if}
-use Rattle.ed_model.specs.FoldingPlans.{levels}
-use Rattle.ed_model.specs.Performing.{Scene, scene_of, session_of, document_after, view_after, step_made, sealed_scene, edit_made, followed, with_caret, caret_behind, leaving, change_performed, changes_performed, transaction_performed, save_point_change, history_performed, place_behind, container_note, last_bits, response}
-use Rattle.ed_model.specs.Changes.{changed_document, changed_lines, changed_view, change_told}
-use Rattle.ed_model.specs.Table.{table, answered, with_recording, plan_of, performed, request, table_from_view, table_from_kind, table_from_document}
-use Rattle.ed_model.specs.TableLaws.{Answered}
-use Rattle.ed_model.specs.SoundLaws.{IsSound, IsViewOn, ListsItsViews, CommandKeepsSound}
-use Rattle.ed_model.specs.Run.{Running, starting, after_command, after_message, outcomes, run_to}
-use Rattle.ed_model.specs.proved.Elements.{found_all}
-use Rattle.ed_model.specs.proved.Finding.{document_id, view_id, replaced_found, mapped_found, found_once, IsOwner}
-use Rattle.ed_model.specs.proved.Changes.{view_after_id, changed_lines_id, view_after_document}
-use Rattle.run_laws.specs.MessageKinds.{is_copying, is_about_documents}
-use Rattle.run_laws.specs.IsolationLaws.{Sending, sent, shows_other, goes_elsewhere, unless, without_others, own_outcomes, KeepsApart, DocumentsAreApart}
 use Rattle.run_laws.proofs.Walks.{sender_keeps, lines_keep, edit_related, changes_related}
 use Rattle.run_laws.proofs.TableWays.{of_table}
 use Rattle.run_laws.proofs.Going.{own_id}

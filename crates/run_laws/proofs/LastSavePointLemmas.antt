@@ -1,29 +1,6 @@
 -- The last save point of a run: each document has one, and from it on the law of the save point holds.
-use Rattle.std.proofs.Common.{◌≡◌, ℕ, ◌==◌, Bool, true, false, List, [], ◌∷◌, length, refl, ap, ◌∙◌, sym, subst, inl, inr, Option, Some, None, Err}
-use Rattle.std.specs.Prelude.{◌⊎◌, not, ◌&&◌}
-use Rattle.std.specs.Option.{option_or}
-use Rattle.std.proofs.lemmas.Bool.{eqb-true, eq-eqb, and_parts, or_cases, or_parts}
-use Rattle.ed_types.specs.declared.kind.Kind.{Kind}
-use Rattle.ed_types.specs.declared.kind.Kind.TheVariants.{SetSavePoint, EmptyUndoBuffer}
-use Rattle.ed_types.specs.declared.message.Message.{Message}
-use Rattle.ed_types.specs.declared.refusal.Refusal.TheVariants.{NoSuchDocument}
-use Rattle.ed_types.specs.declared.script.Command.{Command}
-use Rattle.ed_types.specs.declared.script.Command.TheVariants.{SendMessage}
-use Rattle.ed_types.specs.Messages.{kind_of}
+use Rattle.run_laws.proofs.Names.{◌≡◌, ℕ, ◌==◌, Bool, true, false, List, [], ◌∷◌, length, refl, ap, ◌∙◌, sym, subst, inl, inr, Option, Some, None, Err, ◌⊎◌, not, ◌&&◌, option_or, eqb-true, eq-eqb, and_parts, or_cases, or_parts, Kind, SetSavePoint, EmptyUndoBuffer, Message, NoSuchDocument, Command, SendMessage, kind_of, flag, at_save_point, Session, View, Document, view_at, document_at, text_of, new_session, with_document, changed_document, table, request, table_from_view, table_from_kind, table_from_document, answered, plan_of, Answered, IsSound, CommandKeepsSound, NewSessionIsSound, PlansFit, Running, starting, after_command, after_message, run_to, document_id, replaced_found, is_saving, SetsNoSavePoint, KeepsTheSavePoint, UnmodifiedIsTheSavedText, GetModifyTells, text_if_there, text_at}
 use Rattle.ed_model.specs.declared.plan.DocumentChange.TheVariants as document_change
-use Rattle.ed_model.specs.Numbers.{flag}
-use Rattle.ed_model.specs.History.{at_save_point}
-use Rattle.ed_model.specs.Session.{Session, View, Document, view_at, document_at, text_of, new_session, with_document}
-use Rattle.ed_model.specs.Changes.{changed_document}
-use Rattle.ed_model.specs.Table.{table, request, table_from_view, table_from_kind, table_from_document, answered, plan_of}
-use Rattle.ed_model.specs.TableLaws.{Answered}
-use Rattle.ed_model.specs.SoundLaws.{IsSound, CommandKeepsSound, NewSessionIsSound}
-use Rattle.ed_model.specs.PlansFit.{PlansFit}
-use Rattle.ed_model.specs.Run.{Running, starting, after_command, after_message, run_to}
-use Rattle.ed_model.specs.proved.Finding.{document_id, replaced_found}
-use Rattle.run_laws.specs.MessageKinds.{is_saving}
-use Rattle.run_laws.specs.SavePointLaws.{SetsNoSavePoint, KeepsTheSavePoint, UnmodifiedIsTheSavedText, GetModifyTells}
-use Rattle.run_laws.specs.EditLaws.{text_if_there, text_at}
 use Rattle.run_laws.specs.LastSavePointLaws.{is_view_of, is_saving_message, sets_save_point, is_created, gives_save_point, SavePoint, save_point_if, last_save_point, AllIsCollected, HasTextOf, SavedIsUnmodified, UnmodifiedIsTold, UnmodifiedIsTheLastSavedText, ToldUnmodifiedIsTheLastSavedText}
 use Rattle.run_laws.proofs.TableWays.{table_at}
 use Rattle.run_laws.proofs.Going.{From}

@@ -1,27 +1,9 @@
 -- A message that is not about documents leaves the other views, other documents and the clipboard unchanged.
-use Rattle.std.proofs.Common.{◌≡◌, ℕ, ◌==◌, cond, Bool, true, false, List, map, refl, ap, ◌∙◌, sym, subst}
-use Rattle.std.specs.Prelude.{ℤ}
-use Rattle.std.proofs.lemmas.Bool.{eqb-true, and_parts}
-use Rattle.ed_model.specs.declared.plan.Follow.{Follow}
+use Rattle.run_laws.proofs.Names.{◌≡◌, ℕ, ◌==◌, cond, Bool, true, false, List, map, refl, ap, ◌∙◌, sym, subst, ℤ, eqb-true, and_parts, Follow, DocumentChange, SessionChange, Plan, Step, Session, Document, View, document_at, with_view, text_of, regrouped, flags_together, Request, text, steps_of, levels, scene_of, session_of, moved_view, view_after, edit_made, followed, changed_lines, changed_view, session_changed, performed, replaced_other, IsOwner, changed_view_id, changed_view_document}
 use Rattle.ed_model.specs.declared.plan.Follow.TheVariants as follow
-use Rattle.ed_model.specs.declared.plan.DocumentChange.{DocumentChange}
 use Rattle.ed_model.specs.declared.plan.DocumentChange.TheVariants as document_change
-use Rattle.ed_model.specs.declared.plan.SessionChange.{SessionChange}
 use Rattle.ed_model.specs.declared.plan.SessionChange.TheVariants as session_change
-use Rattle.ed_model.specs.declared.plan.Plan.{Plan}
 use Rattle.ed_model.specs.declared.plan.Plan.TheVariants as plan
-use Rattle.ed_model.specs.Steps.{Step}
-use Rattle.ed_model.specs.Session.{Session, Document, View, document_at, with_view, text_of}
-use Rattle.ed_model.specs.Carry.{regrouped}
-use Rattle.ed_model.specs.Rows.{flags_together}
-use Rattle.ed_model.specs.Requests.{Request, text}
-use Rattle.ed_model.specs.Edits.{steps_of}
-use Rattle.ed_model.specs.FoldingPlans.{levels}
-use Rattle.ed_model.specs.Performing.{scene_of, session_of, moved_view, view_after, edit_made, followed}
-use Rattle.ed_model.specs.Changes.{changed_lines, changed_view, session_changed}
-use Rattle.ed_model.specs.Table.{performed}
-use Rattle.ed_model.specs.proved.Finding.{replaced_other, IsOwner}
-use Rattle.ed_model.specs.proved.Changes.{changed_view_id, changed_view_document}
 use Rattle.run_laws.proofs.Walks.{attaches, followed_same, performed_views}
 use Rattle.run_laws.proofs.Going.{own_after, own_id}
 use Rattle.run_laws.proofs.PlanShapes.{Leave, may_follow, KeepsTo}

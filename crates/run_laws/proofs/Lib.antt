@@ -1,4 +1,5 @@
 -- Lemmas on whole runs.
+pub mod Names
 pub mod PlanShapes
 pub mod TableWays
 pub mod Choices

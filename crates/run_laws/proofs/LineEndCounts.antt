@@ -1,15 +1,5 @@
 -- The number of lines of a converted text.
-use Rattle.std.proofs.Common.{◌≡◌, ℕ, zero, suc, ◌+◌, ◌-◌, ◌≤◌, Bool, true, false, cond, ◌==◌, ◌||◌, ◌&&◌, List, [], ◌∷◌, ◌++◌, length, filter, slice_get, refl, ap, ◌∙◌, sym, arith}
-use Rattle.std.specs.Prelude.{not}
-use Rattle.std.specs.List.{range_with_len}
-use Rattle.std.proofs.lemmas.Bool.{and_right, eqb-true, ne_eqb}
-use Rattle.ed_model.specs.declared.plan.LineEnd.{LineEnd}
-use Rattle.ed_model.specs.declared.plan.LineEnd.TheVariants.{CrLf, Cr, Lf}
-use Rattle.ed_model.specs.declared.plan.LineEndTypes.{LineEndTypes}
-use Rattle.ed_model.specs.Lines.{is_line_start, line_count, knows_unicode}
-use Rattle.ed_model.specs.LineEnds.{line_end_bytes, begins_with_line_feed, converted_after, converted}
-use Rattle.ed_model.specs.proved.Lines.{same_start}
-use Rattle.run_laws.specs.LineEndLaws.{HasOnly, LineCountStays}
+use Rattle.run_laws.proofs.Names.{◌≡◌, ℕ, zero, suc, ◌+◌, ◌-◌, ◌≤◌, Bool, true, false, cond, ◌==◌, ◌||◌, ◌&&◌, List, [], ◌∷◌, ◌++◌, length, filter, slice_get, refl, ap, ◌∙◌, sym, arith, not, range_with_len, and_right, eqb-true, ne_eqb, LineEnd, CrLf, Cr, Lf, LineEndTypes, is_line_start, line_count, knows_unicode, line_end_bytes, begins_with_line_feed, converted_after, converted, same_start, HasOnly, LineCountStays}
 use Rattle.run_laws.proofs.LineEndKinds.{only_after, first_byte}
 use Rattle.run_laws.proofs.LineEndLemmas.{by_byte, other_converted}
 

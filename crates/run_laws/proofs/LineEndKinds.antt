@@ -1,21 +1,8 @@
 -- The line ends of a converted text.
-use Rattle.std.proofs.Common.{◌≡◌, ◌⊎◌, ℕ, zero, suc, ◌+◌, ◌-◌, ◌<◌, ◌≤◌, Bool, true, false, cond, ◌==◌, ◌||◌, ◌&&◌, List, [], ◌∷◌, ◌++◌, length, get_or, take, drop, slice_range, inl, inr, refl, ap, subst, ◌∙◌, sym, arith}
-use Rattle.std.specs.Prelude.{not, filter, nat_lt}
-use Rattle.std.proofs.lemmas.Bool.{true≢false, or_cases, or_left, or_right, and_parts, eqb-true, not-true, lt-ltb, cond-true, cases_eq}
+use Rattle.run_laws.proofs.Names.{◌≡◌, ◌⊎◌, ℕ, zero, suc, ◌+◌, ◌-◌, ◌<◌, ◌≤◌, Bool, true, false, cond, ◌==◌, ◌||◌, ◌&&◌, List, [], ◌∷◌, ◌++◌, length, get_or, take, drop, slice_range, inl, inr, refl, ap, subst, ◌∙◌, sym, arith, not, filter, nat_lt, true≢false, or_cases, or_left, or_right, and_parts, eqb-true, not-true, lt-ltb, cond-true, cases_eq, Contains-get_or, LineEnd, CrLf, Cr, Lf, LineEndTypes, stands, is_line_start, line_starts, line_count, start_after_line, line_end_length, end_of_line, line_end_bytes, begins_with_line_feed, converted_after, converted, increasing_at, line_starts_rise, start_from_contains, behind_return, HasOnly, ConvertedHaveOnlyThese, ConvertedLinesEndSo, OtherBytesStay, TextsOfTheKindStay, LastKindCounts, bytes_of_end, ends_in_unicode, is_other}
 use Rattle.std.proofs.lemmas.List.{get_or_default}
-use Rattle.std.proofs.lemmas.List.Elements.{Contains-get_or}
 use Rattle.std.proofs.lemmas.Option.{unwrap_or-slice_get}
-use Rattle.ed_model.specs.declared.plan.LineEnd.{LineEnd}
-use Rattle.ed_model.specs.declared.plan.LineEnd.TheVariants.{CrLf, Cr, Lf}
-use Rattle.ed_model.specs.declared.plan.LineEndTypes.{LineEndTypes}
-use Rattle.ed_model.specs.Text.{stands}
-use Rattle.ed_model.specs.Lines.{is_line_start, line_starts, line_count, start_after_line, line_end_length, end_of_line}
-use Rattle.ed_model.specs.LineEnds.{line_end_bytes, begins_with_line_feed, converted_after, converted}
-use Rattle.ed_model.specs.proved.Rising.{increasing_at}
-use Rattle.ed_model.specs.proved.Lines.{line_starts_rise, start_from_contains}
-use Rattle.ed_model.specs.proved.Conversions.{behind_return}
 use Rattle.run_laws.proofs.LineEndLemmas.{other_converted}
-use Rattle.run_laws.specs.LineEndLaws.{HasOnly, ConvertedHaveOnlyThese, ConvertedLinesEndSo, OtherBytesStay, TextsOfTheKindStay, LastKindCounts, bytes_of_end, ends_in_unicode, is_other}
 
 -- Texts with line ends of one kind: the empty text, one with another byte in front, and one with such a line end in front.
 

@@ -1,15 +1,5 @@
 -- The text after the steps of a conversion: first the missing bytes are inserted, then the unwanted ones are deleted.
-use Rattle.std.proofs.Common.{◌≡◌, ℕ, ◌+◌, Bool, true, false, ◌==◌, ◌||◌, ◌&&◌, List, [], ◌∷◌, ◌++◌, length, refl, ap, subst, ◌∙◌, sym, arith, append_assoc, length-append}
-use Rattle.std.specs.Prelude.{not}
-use Rattle.std.proofs.lemmas.Bool.{true≢false, or_from, and_right, eqb-true}
-use Rattle.std.proofs.lemmas.List.Sums.{fold-append}
-use Rattle.ed_model.specs.declared.plan.LineEnd.{LineEnd}
-use Rattle.ed_model.specs.declared.plan.LineEnd.TheVariants.{CrLf, Cr, Lf}
-use Rattle.ed_model.specs.Steps.{Step, edited}
-use Rattle.ed_model.specs.LineEnds.{begins_with_line_feed, converted_after, converted, missing_from, is_unwanted, unwanted_at, place_after, unwanted_from, after_steps}
-use Rattle.ed_model.specs.proved.Lists.{deleted_between}
-use Rattle.ed_model.specs.proved.Conversions.{put, filled, fills, still_feed}
-use Rattle.run_laws.specs.LineEndLaws.{StepsConvert}
+use Rattle.run_laws.proofs.Names.{◌≡◌, ℕ, ◌+◌, Bool, true, false, ◌==◌, ◌||◌, ◌&&◌, List, [], ◌∷◌, ◌++◌, length, refl, ap, subst, ◌∙◌, sym, arith, append_assoc, length-append, not, true≢false, or_from, and_right, eqb-true, fold-append, LineEnd, CrLf, Cr, Lf, Step, edited, begins_with_line_feed, converted_after, converted, missing_from, is_unwanted, unwanted_at, place_after, unwanted_from, after_steps, deleted_between, put, filled, fills, still_feed, StepsConvert}
 
 -- The deletions: the text without the unwanted bytes, byte by byte.
 

@@ -1,26 +1,9 @@
 -- The document after CONVERTEOLS.
-use Rattle.std.proofs.Common.{◌≡◌, ℕ, false, cond, ◌&&◌, List, ap, subst, ◌∙◌, sym, ℤ, pos, Option, Some, None, Ok, Err}
-use Rattle.std.specs.Prelude.{option_map, nat_le}
-use Rattle.std.proofs.lemmas.Bool.{true≢false, and_parts, cond_both}
-use Rattle.ed_types.specs.declared.kind.Kind.{Kind}
-use Rattle.ed_types.specs.declared.kind.Kind.TheVariants.{ConvertEols}
-use Rattle.ed_types.specs.declared.refusal.Refusal.TheVariants.{TooLong}
-use Rattle.ed_types.specs.Notices.{Response}
-use Rattle.ed_model.specs.declared.plan.LineEnd.{LineEnd}
+use Rattle.run_laws.proofs.Names.{◌≡◌, ℕ, false, cond, ◌&&◌, List, ap, subst, ◌∙◌, sym, ℤ, pos, Option, Some, None, Ok, Err, option_map, nat_le, true≢false, and_parts, cond_both, Kind, ConvertEols, TooLong, Response, LineEnd, Plan, converted, conversion_steps, Session, Document, document_at, with_document, text_of, limit_of, Request, Planned, text, size, with_argument, argument, has_steps, stays_within, edit_plan, scene_of, edit_made, table, answered, plan_of, performed, with_recording, request, document_id, replaced_found, edit_made_id, edit_made_text, ConvertEolsConverts}
 use Rattle.ed_model.specs.declared.plan.Edit.TheVariants as edit
 use Rattle.ed_model.specs.declared.plan.Follow.TheVariants as follow
-use Rattle.ed_model.specs.declared.plan.Plan.{Plan}
 use Rattle.ed_model.specs.declared.plan.Plan.TheVariants as plan
-use Rattle.ed_model.specs.LineEnds.{converted, conversion_steps}
 use Rattle.ed_model.specs.LinePlans.{line_end_kind, convert_eols}
-use Rattle.ed_model.specs.Session.{Session, Document, document_at, with_document, text_of, limit_of}
-use Rattle.ed_model.specs.Requests.{Request, Planned, text, size, with_argument, argument}
-use Rattle.ed_model.specs.Edits.{has_steps, stays_within, edit_plan}
-use Rattle.ed_model.specs.Performing.{scene_of, edit_made}
-use Rattle.ed_model.specs.Table.{table, answered, plan_of, performed, with_recording, request}
-use Rattle.ed_model.specs.proved.Finding.{document_id, replaced_found}
-use Rattle.ed_model.specs.proved.Scenes.{edit_made_id, edit_made_text}
-use Rattle.run_laws.specs.LineEndLaws.{ConvertEolsConverts}
 use Rattle.run_laws.proofs.Choices.{either}
 use Rattle.run_laws.proofs.LineEndLemmas.{steps_convert}
 use Rattle.run_laws.proofs.TableWays.{table_at}

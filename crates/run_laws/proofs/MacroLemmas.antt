@@ -1,41 +1,9 @@
 -- Recordings: a view that records keeps recording, each message is recorded once, and the messages that it recorded can be sent again.
-use Rattle.std.proofs.Common.{◌≡◌, ℕ, ◌==◌, cond, Bool, true, false, List, [], ◌∷◌, ◌++◌, length, map, refl, ap, ◌∙◌, sym, subst, arith, ◌≤◌, inl, inr, Some, Ok, Err}
-use Rattle.std.specs.Prelude.{◌⊎◌, IfOk, ℤ, ◌&&◌, filter, flat_map, option_map}
-use Rattle.std.specs.List.{AllByRecursion}
-use Rattle.std.proofs.lemmas.Bool.{eqb-true, eq-eqb, and_parts}
-use Rattle.ed_types.specs.declared.kind.Kind.TheVariants.{StartRecord, StopRecord}
-use Rattle.ed_types.specs.declared.script.Command.{Command}
-use Rattle.ed_types.specs.declared.script.Outcome.{Outcome}
-use Rattle.ed_types.specs.Messages.{marks_of}
-use Rattle.ed_types.specs.declared.refusal.Refusal.TheVariants.{NoSuchView, UnknownMessage, NoSuchDocument}
-use Rattle.ed_types.specs.declared.kind.Kind.{Kind}
-use Rattle.ed_types.specs.declared.message.Message.{Message}
-use Rattle.ed_types.specs.declared.refusal.Refusal.{Refusal}
-use Rattle.ed_types.specs.Notices.{Notice, Response}
-use Rattle.ed_types.specs.Messages.{kind_of}
-use Rattle.ed_model.specs.declared.plan.ViewChange.{ViewChange}
+use Rattle.run_laws.proofs.Names.{◌≡◌, ℕ, ◌==◌, cond, Bool, true, false, List, [], ◌∷◌, ◌++◌, length, map, refl, ap, ◌∙◌, sym, subst, arith, ◌≤◌, inl, inr, Some, Ok, Err, ◌⊎◌, IfOk, ℤ, ◌&&◌, filter, flat_map, option_map, AllByRecursion, eqb-true, eq-eqb, and_parts, StartRecord, StopRecord, Command, Outcome, marks_of, NoSuchView, UnknownMessage, NoSuchDocument, Kind, Message, Refusal, Notice, Response, kind_of, ViewChange, Plan, Session, Document, View, view_at, with_view, Request, Planned, levels, view_after, changed_lines, changed_view, table, answered, with_recording, plan_of, performed, request, Answered, IsSound, attached_to, record_note, LeavesSession, QueriesLeaveTheSession, Running, starting, after_command, after_message, outcomes, run_to, MessageKeepsSound, IsSoundInEveryStateFrom, view_id, put_found, mapped_found, found_once, view_after_id, changed_lines_id, changed_view_id, Sending, sent, not_recording, without_recording, CanStandBetween, RecordingsCanBeReplayed, RecordsOneAtMost, RepliesRecordOneMessage, RunsRecordOneMessageAReply}
 use Rattle.ed_model.specs.declared.plan.ViewChange.TheVariants as view_change
-use Rattle.ed_model.specs.declared.plan.Plan.{Plan}
 use Rattle.ed_model.specs.declared.plan.Plan.TheVariants as plan
-use Rattle.ed_model.specs.Session.{Session, Document, View, view_at, with_view}
 use Rattle.ed_model.specs.Notes as notes
-use Rattle.ed_model.specs.Requests.{Request, Planned}
-use Rattle.ed_model.specs.FoldingPlans.{levels}
-use Rattle.ed_model.specs.Performing.{view_after}
-use Rattle.ed_model.specs.Changes.{changed_lines, changed_view}
-use Rattle.ed_model.specs.Table.{table, answered, with_recording, plan_of, performed, request}
-use Rattle.ed_model.specs.TableLaws.{Answered}
-use Rattle.ed_model.specs.SoundLaws.{IsSound}
-use Rattle.ed_model.specs.Session.{attached_to}
 use Rattle.ed_model.specs.Recording.{told_message, recorded_messages, replies_in, sent_to}
-use Rattle.ed_model.specs.Table.{record_note}
-use Rattle.ed_model.specs.TableLaws.{LeavesSession, QueriesLeaveTheSession}
-use Rattle.ed_model.specs.Run.{Running, starting, after_command, after_message, outcomes, run_to}
-use Rattle.ed_model.specs.SoundLaws.{MessageKeepsSound, IsSoundInEveryStateFrom}
-use Rattle.ed_model.specs.proved.Finding.{view_id, put_found, mapped_found, found_once}
-use Rattle.ed_model.specs.proved.Changes.{view_after_id, changed_lines_id, changed_view_id}
-use Rattle.run_laws.specs.IsolationLaws.{Sending, sent}
-use Rattle.run_laws.specs.MacroLaws.{not_recording, without_recording, CanStandBetween, RecordingsCanBeReplayed, RecordsOneAtMost, RepliesRecordOneMessage, RunsRecordOneMessageAReply}
 use Rattle.run_laws.proofs.Walks.{step_keeps, sender_keeps, lines_keep, performed_views}
 use Rattle.run_laws.proofs.TableWays.{of_table, table_at, of_any_command}
 use Rattle.run_laws.proofs.PlanShapes.{Leave, KeepsTo, IsShaped, leave_of, plan_is_shaped, recorded_is_not_about_recording}

@@ -1,29 +1,9 @@
 -- The codes of the notes of plans: none is SCN_MACRORECORD, which only the recording adds, and only an attempt has SCN_MODIFYATTEMPTRO.
-use Rattle.std.proofs.Common.{◌≡◌, ℕ, ◌==◌, nat_lt, cond, Bool, true, false, List, [], ◌∷◌, ◌++◌, length, refl, Option, Some, None}
-use Rattle.std.specs.Prelude.{ℤ, pos, negsuc, bit_or, filter, ◌&&◌, slice_index_or}
-use Rattle.std.specs.List.{AllByRecursion}
-use Rattle.ed_types.specs.Notices.{Notice}
-use Rattle.ed_model.specs.declared.plan.DocumentChange.{DocumentChange}
+use Rattle.run_laws.proofs.Names.{◌≡◌, ℕ, ◌==◌, nat_lt, cond, Bool, true, false, List, [], ◌∷◌, ◌++◌, length, refl, Option, Some, None, ℤ, pos, negsuc, bit_or, filter, ◌&&◌, slice_index_or, AllByRecursion, Notice, DocumentChange, Plan, growth, Step, Insert, Delete, History, Change, TextStep, ContainerStep, undo_changes, redo_changes, undone, redone, at_save_point, begins_transaction, text_of, Document, View, watching, lines_in, Request, steps_of, Scene, scene_of, document_after, step_heard, edit_made, leaving, change_performed, changes_performed, save_point_change, history_performed, changed_document, change_told, performed, meets, start_of_line, styles_of, last_bits, container_note, line_note, marker_note, range_notes, line_with_handle, document_row, marker_count, is_same, all_append}
 use Rattle.ed_model.specs.declared.plan.DocumentChange.TheVariants as document_change
-use Rattle.ed_model.specs.declared.plan.Plan.{Plan}
 use Rattle.ed_model.specs.declared.plan.Plan.TheVariants as plan
-use Rattle.ed_model.specs.Numbers.{growth}
-use Rattle.ed_model.specs.Steps.{Step, Insert, Delete}
-use Rattle.ed_model.specs.History.{History, Change, TextStep, ContainerStep, undo_changes, redo_changes, undone, redone, at_save_point, begins_transaction}
-use Rattle.ed_model.specs.Session.{text_of, Document, View, watching, lines_in}
 use Rattle.ed_model.specs.Notes as notes
-use Rattle.ed_model.specs.Requests.{Request}
-use Rattle.ed_model.specs.Edits.{steps_of}
-use Rattle.ed_model.specs.Performing.{Scene, scene_of, document_after, step_heard, edit_made, leaving, change_performed, changes_performed, save_point_change, history_performed}
-use Rattle.ed_model.specs.Changes.{changed_document, change_told}
-use Rattle.ed_model.specs.Table.{performed}
-use Rattle.ed_model.specs.Numbers.{meets}
-use Rattle.ed_model.specs.Lines.{start_of_line}
-use Rattle.ed_model.specs.Text.{styles_of}
 use Rattle.ed_model.specs.Indicators.{changed_range}
-use Rattle.ed_model.specs.Performing.{last_bits, container_note}
-use Rattle.ed_model.specs.Changes.{line_note, marker_note, range_notes, line_with_handle, document_row, marker_count, is_same}
-use Rattle.ed_model.specs.proved.Elements.{all_append}
 use Rattle.run_laws.proofs.Choices.{either}
 use Rattle.run_laws.proofs.Walks.{edit_kept, changes_kept}
 

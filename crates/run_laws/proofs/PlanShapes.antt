@@ -1,28 +1,13 @@
 -- What the plan of each kind of message may do, and what it depends on.
-use Rattle.std.proofs.Common.{◌≡◌, ℕ, Bool, true, false, cond, List, refl, ap, Option, Some, None, Ok, Err}
-use Rattle.std.specs.Prelude.{nat_lt, ◌&&◌}
-use Rattle.ed_types.specs.declared.kind.Kind.{Kind}
+use Rattle.run_laws.proofs.Names.{◌≡◌, ℕ, Bool, true, false, cond, List, refl, ap, Option, Some, None, Ok, Err, nat_lt, ◌&&◌, Kind, OutOfMemory, NoSuchDocument, TooMany, Follow, SessionChange, Plan, View, Document, references, Request, Planned, with_argument, with_line, change_session, fold_by, marks_of, converted, converted_if, plan_of, is_copying, is_about_documents, is_about_recording, is_saving}
 use Rattle.ed_types.specs.declared.kind.Kind.TheVariants as kinds
-use Rattle.ed_types.specs.declared.refusal.Refusal.TheVariants.{OutOfMemory, NoSuchDocument, TooMany}
-use Rattle.ed_model.specs.declared.plan.Follow.{Follow}
 use Rattle.ed_model.specs.declared.plan.Follow.TheVariants as follow
 use Rattle.ed_model.specs.declared.plan.DocumentChange.TheVariants as document_change
 use Rattle.ed_model.specs.declared.plan.ViewChange.TheVariants as view_change
-use Rattle.ed_model.specs.declared.plan.SessionChange.{SessionChange}
 use Rattle.ed_model.specs.declared.plan.SessionChange.TheVariants as session_change
-use Rattle.ed_model.specs.declared.plan.Plan.{Plan}
 use Rattle.ed_model.specs.declared.plan.Plan.TheVariants as plan
-use Rattle.ed_model.specs.Session.{View, Document, references}
-use Rattle.ed_model.specs.Requests.{Request, Planned, with_argument, with_line}
-use Rattle.ed_model.specs.Requests.{change_session}
 use Rattle.ed_model.specs.TargetPlans.{found_target}
-use Rattle.ed_model.specs.FoldingPlans.{fold_by}
 use Rattle.ed_model.specs.SessionPlans.{with_reference, release_of}
-use Rattle.ed_types.specs.Messages.{marks_of}
-use Rattle.ed_model.specs.LineEnds.{converted}
-use Rattle.ed_model.specs.Edits.{converted_if}
-use Rattle.ed_model.specs.Table.{plan_of}
-use Rattle.run_laws.specs.MessageKinds.{is_copying, is_about_documents, is_about_recording, is_saving}
 
 -- The leave of a plan: whether it may edit the text, take bytes to the clipboard, create, attach, hold or release documents,
 -- start or stop a recording, and set a save point.

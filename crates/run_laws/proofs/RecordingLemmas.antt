@@ -1,44 +1,13 @@
 -- Whether a view records depends on nothing else, and nothing else depends on it.
-use Rattle.std.proofs.Common.{◌≡◌, ℕ, ◌==◌, nat_lt, cond, Bool, true, false, List, [], ◌∷◌, length, map, refl, ap, ◌∙◌, sym, subst, Option, Some, None, Ok, Err}
-use Rattle.std.specs.Prelude.{◌+◌, slice_range, reverse, option_map}
-use Rattle.std.proofs.lemmas.Bool.{eq-eqb}
-use Rattle.ed_types.specs.declared.kind.Kind.{Kind}
-use Rattle.ed_types.specs.declared.message.Message.{Message}
-use Rattle.ed_types.specs.Messages.{kind_of}
-use Rattle.ed_model.specs.declared.plan.Edit.{Edit}
+use Rattle.run_laws.proofs.Names.{◌≡◌, ℕ, ◌==◌, nat_lt, cond, Bool, true, false, List, [], ◌∷◌, length, map, refl, ap, ◌∙◌, sym, subst, Option, Some, None, Ok, Err, ◌+◌, slice_range, reverse, option_map, eq-eqb, Kind, Message, kind_of, Edit, Follow, DocumentChange, ViewChange, SessionChange, Plan, Step, History, Change, TextStep, ContainerStep, undo_changes, redo_changes, undone, redone, latest_text_step, sealed_outside_groups, Session, Document, View, document_at, view_at, with_document, with_view, Request, Planned, text, steps_of, levels, Scene, scene_of, session_of, document_after, moved_view, view_after, step_made, sealed_scene, edit_made, followed, with_caret, with_target, caret_behind, change_performed, changes_performed, history_performed, place_behind, changed_lines, changed_view, table, answered, plan_of, performed, request, table_from_view, table_from_kind, table_from_document, Answered, attached_to, new_document, text_of, regrouped, flags_together, replacement, appended, with_attached, with_new_document, session_changed, after_message, view_id, mapped_found, changed_view_id, not_recording}
 use Rattle.ed_model.specs.declared.plan.Edit.TheVariants as edit
 use Rattle.ed_model.specs.declared.plan.Source.TheVariants as source
-use Rattle.ed_model.specs.declared.plan.Follow.{Follow}
 use Rattle.ed_model.specs.declared.plan.Follow.TheVariants as follow
-use Rattle.ed_model.specs.declared.plan.DocumentChange.{DocumentChange}
 use Rattle.ed_model.specs.declared.plan.DocumentChange.TheVariants as document_change
-use Rattle.ed_model.specs.declared.plan.ViewChange.{ViewChange}
 use Rattle.ed_model.specs.declared.plan.ViewChange.TheVariants as view_change
-use Rattle.ed_model.specs.declared.plan.SessionChange.{SessionChange}
 use Rattle.ed_model.specs.declared.plan.SessionChange.TheVariants as session_change
-use Rattle.ed_model.specs.declared.plan.Plan.{Plan}
 use Rattle.ed_model.specs.declared.plan.Plan.TheVariants as plan
-use Rattle.ed_model.specs.Steps.{Step}
-use Rattle.ed_model.specs.History.{History, Change, TextStep, ContainerStep, undo_changes, redo_changes, undone, redone, latest_text_step, sealed_outside_groups}
-use Rattle.ed_model.specs.Session.{Session, Document, View, document_at, view_at, with_document, with_view}
 use Rattle.ed_model.specs.Notes as notes
-use Rattle.ed_model.specs.Requests.{Request, Planned, text}
-use Rattle.ed_model.specs.Edits.{steps_of}
-use Rattle.ed_model.specs.FoldingPlans.{levels}
-use Rattle.ed_model.specs.Performing.{Scene, scene_of, session_of, document_after, moved_view, view_after, step_made, sealed_scene, edit_made, followed, with_caret, with_target, caret_behind, change_performed, changes_performed, history_performed, place_behind}
-use Rattle.ed_model.specs.Changes.{changed_lines, changed_view}
-use Rattle.ed_model.specs.Table.{table, answered, plan_of, performed, request, table_from_view, table_from_kind, table_from_document}
-use Rattle.ed_model.specs.TableLaws.{Answered}
-use Rattle.ed_model.specs.Session.{attached_to, new_document, text_of}
-use Rattle.ed_model.specs.Carry.{regrouped}
-use Rattle.ed_model.specs.Rows.{flags_together}
-use Rattle.ed_model.specs.Steps.{replacement}
-use Rattle.ed_model.specs.History.{appended}
-use Rattle.ed_model.specs.Changes.{with_attached, with_new_document, session_changed}
-use Rattle.ed_model.specs.Run.{after_message}
-use Rattle.ed_model.specs.proved.Finding.{view_id, mapped_found}
-use Rattle.ed_model.specs.proved.Changes.{changed_view_id}
-use Rattle.run_laws.specs.MacroLaws.{not_recording}
 use Rattle.run_laws.proofs.Walks.{edit_related, changes_related}
 use Rattle.run_laws.proofs.PlanShapes.{same_converted, same_plan_recording}
 

@@ -1,43 +1,12 @@
 -- Undo and redo lead back to the text of the save point, whatever changes come between.
-use Rattle.std.proofs.Common.{◌≡◌, ℕ, suc, ◌+◌, ◌-◌, ◌≤◌, ◌<◌, nat_lt, cond, Bool, true, false, List, [], ◌∷◌, length, take, replicate, refl, ap, ◌∙◌, sym, subst, arith, inl, inr, Option, Some, None, Ok}
-use Rattle.std.specs.Prelude.{◌⊎◌, ℤ, pos, ◌==◌, ◌&&◌, ◌||◌, not, nat_le, reverse}
-use Rattle.std.proofs.lemmas.Bool.{cases_lt, eqb-true, eqb-false, leb-true, and_parts, ltb-true}
-use Rattle.ed_types.specs.declared.kind.Kind.{Kind}
-use Rattle.ed_types.specs.declared.kind.Kind.TheVariants.{GetModify, SetText}
-use Rattle.ed_types.specs.declared.message.Message.{Message}
-use Rattle.ed_types.specs.declared.script.Command.{Command}
-use Rattle.ed_types.specs.declared.script.Command.TheVariants.{LoadFile, SendMessage}
-use Rattle.ed_types.specs.Notices.{Response}
-use Rattle.ed_types.specs.Messages.{kind_of, marks_of}
-use Rattle.ed_model.specs.declared.plan.DocumentChange.{DocumentChange}
+use Rattle.run_laws.proofs.Names.{◌≡◌, ℕ, suc, ◌+◌, ◌-◌, ◌≤◌, ◌<◌, nat_lt, cond, Bool, true, false, List, [], ◌∷◌, length, take, replicate, refl, ap, ◌∙◌, sym, subst, arith, inl, inr, Option, Some, None, Ok, ◌⊎◌, ℤ, pos, ◌==◌, ◌&&◌, ◌||◌, not, nat_le, reverse, cases_lt, eqb-true, eqb-false, leb-true, and_parts, ltb-true, Kind, GetModify, SetText, Message, Command, LoadFile, SendMessage, Response, kind_of, marks_of, DocumentChange, Plan, is_number, flag, Step, edited, after_steps, History, Change, Transaction, TextStep, ContainerStep, at_save_point, joins, appended, begins_transaction, reachable, seal_first, sealed_outside_groups, with_container_step, undo_changes, redo_changes, undone, undone_to, redone, redone_from, collecting_set, first_changes, text_steps, Session, Document, View, document_at, view_at, text_of, Request, text, steps_of, Scene, scene_of, document_after, step_made, steps_made, sealed_scene, edit_made, quiet, changed_document, undone_text, redone_text, BegunStepIsOneTransactionMore, JoinedStepKeepsEarlierTexts, BegunContainerStepIsOneTransactionMore, JoinedContainerStepKeepsEarlierTexts, UndoKeepsEarlierTexts, RedoIsOneTransactionMore, SealsKeepEarlierTexts, table, request, with_recording, record_note, IsSound, IsSoundDocument, CommandKeepsSound, IsSoundRequest, IsFitPlan, PlansFit, EditStepsFit, UndoStepsFit, RedoStepsFit, Running, after_command, set_text_message, run_to, found_all, document_id, found_below, text_of_styled, is_saving, SetsNoSavePoint, IsCollected, KeepsTheSavePoint, UnmodifiedIsTheSavedText, GetModifyTells}
 use Rattle.ed_model.specs.declared.plan.DocumentChange.TheVariants as document_change
-use Rattle.ed_model.specs.declared.plan.Plan.{Plan}
 use Rattle.ed_model.specs.declared.plan.Plan.TheVariants as plan
-use Rattle.ed_model.specs.Numbers.{is_number, flag}
-use Rattle.ed_model.specs.Steps.{Step, edited}
 use Rattle.ed_model.specs.StepLaws.{CellsFollowBytes}
-use Rattle.ed_model.specs.LineEnds.{after_steps}
-use Rattle.ed_model.specs.History.{History, Change, Transaction, TextStep, ContainerStep, at_save_point, joins, appended, begins_transaction, reachable, seal_first, sealed_outside_groups, with_container_step, undo_changes, redo_changes, undone, undone_to, redone, redone_from, collecting_set, first_changes}
 use Rattle.ed_model.specs.HistoryLaws.{SameButForSeals, SealsChangeNoChange, GroupBegunChangesNoChange, GroupEndedChangesNoChange, AppendKeepsAllButThePast, AppendJoins, NothingJoinsNone, AppendCounts, NotCollectingAppendsNothing}
-use Rattle.ed_model.specs.UndoPlans.{text_steps}
-use Rattle.ed_model.specs.Session.{Session, Document, View, document_at, view_at, text_of}
-use Rattle.ed_model.specs.Requests.{Request, text}
-use Rattle.ed_model.specs.Edits.{steps_of}
-use Rattle.ed_model.specs.Performing.{Scene, scene_of, document_after, step_made, steps_made, sealed_scene, edit_made, quiet}
-use Rattle.ed_model.specs.Changes.{changed_document}
 use Rattle.ed_model.specs.InverseLaws.{Fits, FitInTurn, after_undo, after_redo, UndoMakesItsSteps, RedoMakesItsSteps, UndoThenRedoGivesBackTheText}
-use Rattle.ed_model.specs.UndoLaws.{undone_text, redone_text, BegunStepIsOneTransactionMore, JoinedStepKeepsEarlierTexts, BegunContainerStepIsOneTransactionMore, JoinedContainerStepKeepsEarlierTexts, UndoKeepsEarlierTexts, RedoIsOneTransactionMore, SealsKeepEarlierTexts}
-use Rattle.ed_model.specs.Table.{table, request, with_recording, record_note}
-use Rattle.ed_model.specs.SoundLaws.{IsSound, IsSoundDocument, CommandKeepsSound}
-use Rattle.ed_model.specs.PlansFit.{IsSoundRequest, IsFitPlan, PlansFit, EditStepsFit, UndoStepsFit, RedoStepsFit}
-use Rattle.ed_model.specs.Run.{Running, after_command, set_text_message, run_to}
-use Rattle.ed_model.specs.proved.Elements.{found_all}
-use Rattle.ed_model.specs.proved.Finding.{document_id, found_below}
-use Rattle.ed_model.specs.proved.Changes.{text_of_styled}
 use Rattle.ed_model.specs.proved.Histories.{same_length, sealed_length}
 use Rattle.ed_model.specs.proved.Steps.{fit_in_turn}
-use Rattle.run_laws.specs.MessageKinds.{is_saving}
-use Rattle.run_laws.specs.SavePointLaws.{SetsNoSavePoint, IsCollected, KeepsTheSavePoint, UnmodifiedIsTheSavedText, GetModifyTells}
 use Rattle.run_laws.proofs.Choices.{either}
 use Rattle.run_laws.proofs.TableWays.{table_at, OfMessages}
 use Rattle.run_laws.proofs.PlanShapes.{Leave, KeepsTo, IsShaped, leave_of, plan_is_shaped}

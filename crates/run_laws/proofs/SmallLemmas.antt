@@ -1,13 +1,5 @@
 -- Refusals and references.
-use Rattle.std.proofs.Common.{◌≡◌, ℕ, ◌+◌, ◌<◌, Bool, true, false, cond, List, [], ◌∷◌, length, subst, arith, Option, Some, None, Result, Ok, Err}
-use Rattle.std.specs.List.{AllByRecursion}
-use Rattle.ed_types.specs.declared.kind.Kind.{Kind}
-use Rattle.ed_types.specs.declared.refusal.Refusal.{Refusal}
-use Rattle.ed_types.specs.declared.refusal.Refusal.TheVariants.{OutOfMemory}
-use Rattle.ed_model.specs.Session.{Session, View, Document, view_at}
-use Rattle.ed_model.specs.Requests.{Request, Planned}
-use Rattle.ed_model.specs.SoundLaws.{IsSound, IsSoundDocument, IsViewOn, ListsItsViews}
-use Rattle.ed_model.specs.Table.{table, answered, plan_of, request, opened, closed_view}
+use Rattle.run_laws.proofs.Names.{◌≡◌, ℕ, ◌+◌, ◌<◌, Bool, true, false, cond, List, [], ◌∷◌, length, subst, arith, Option, Some, None, Result, Ok, Err, AllByRecursion, Kind, Refusal, OutOfMemory, Session, View, Document, view_at, Request, Planned, IsSound, IsSoundDocument, IsViewOn, ListsItsViews, table, answered, plan_of, request, opened, closed_view}
 use Rattle.run_laws.specs.RefusalLaws.{MessagesNeverWantMemory, OpeningNeverWantsMemory, ClosingNeverWantsMemory}
 use Rattle.run_laws.specs.HeldLaws.{WithoutViewsAllAreHeld}
 use Rattle.run_laws.proofs.PlanShapes.{Leave, IsShaped, leave_of, plan_is_shaped}

@@ -1,16 +1,6 @@
 -- A document that keeps no styles: no change gives a cell one.
-use Rattle.std.proofs.Common.{◌≡◌, ℕ, zero, suc, List, [], ◌∷◌, ◌++◌, take, drop, replicate, refl, sym, subst, arith}
-use Rattle.std.specs.List.{AllByRecursion}
-use Rattle.ed_model.specs.declared.plan.DocumentChange.{DocumentChange}
+use Rattle.run_laws.proofs.Names.{◌≡◌, ℕ, zero, suc, List, [], ◌∷◌, ◌++◌, take, drop, replicate, refl, sym, subst, arith, AllByRecursion, DocumentChange, Cell, plain_cells, Step, Insert, Delete, edited_cells, Document, new_session, changed_document, styled, starting, CommandKeepsSound, NewSessionIsSound, PlansFit, all_append}
 use Rattle.ed_model.specs.declared.plan.DocumentChange.TheVariants as change
-use Rattle.ed_model.specs.Text.{Cell, plain_cells}
-use Rattle.ed_model.specs.Steps.{Step, Insert, Delete, edited_cells}
-use Rattle.ed_model.specs.Session.{Document, new_session}
-use Rattle.ed_model.specs.Changes.{changed_document, styled}
-use Rattle.ed_model.specs.Run.{starting}
-use Rattle.ed_model.specs.SoundLaws.{CommandKeepsSound, NewSessionIsSound}
-use Rattle.ed_model.specs.PlansFit.{PlansFit}
-use Rattle.ed_model.specs.proved.Elements.{all_append}
 use Rattle.run_laws.specs.StyleLaws.{HasNoStyles, DocumentsWithoutStylesHaveNone}
 use Rattle.run_laws.proofs.Invariants.{run_holds}
 

@@ -1,20 +1,5 @@
 -- The path of a message through the table, and of a command.
-use Rattle.std.proofs.Common.{◌≡◌, ℕ, List, refl, ap, ◌∙◌, Option, Some, None, Result, Ok, Err}
-use Rattle.std.specs.Prelude.{ℤ}
-use Rattle.ed_types.specs.declared.kind.Kind.{Kind}
-use Rattle.ed_types.specs.declared.message.Message.{Message}
-use Rattle.ed_types.specs.declared.refusal.Refusal.{Refusal}
-use Rattle.ed_types.specs.declared.refusal.Refusal.TheVariants.{NoSuchView, UnknownMessage, NoSuchDocument, BadArgument}
-use Rattle.ed_types.specs.declared.script.Command.{Command}
-use Rattle.ed_types.specs.declared.script.Command.TheVariants.{OpenView, CloseView, LoadFile, SendMessage, Expect}
-use Rattle.ed_types.specs.declared.script.Outcome.{Outcome}
-use Rattle.ed_types.specs.declared.script.Outcome.TheVariants.{Expected}
-use Rattle.ed_types.specs.Notices.{Response}
-use Rattle.ed_types.specs.Messages.{kind_of}
-use Rattle.ed_model.specs.Session.{Session, View, Document, view_at, document_at}
-use Rattle.ed_model.specs.TableLaws.{Answered}
-use Rattle.ed_model.specs.Table.{table, table_from_view, table_from_kind, table_from_document, answered, plan_of, request, opened, closed}
-use Rattle.ed_model.specs.Run.{Running, after_command, after_opening, after_closing, after_message, loaded, file_at, set_text_message, is_met}
+use Rattle.run_laws.proofs.Names.{◌≡◌, ℕ, List, refl, ap, ◌∙◌, Option, Some, None, Result, Ok, Err, ℤ, Kind, Message, Refusal, NoSuchView, UnknownMessage, NoSuchDocument, BadArgument, Command, OpenView, CloseView, LoadFile, SendMessage, Expect, Outcome, Expected, Response, kind_of, Session, View, Document, view_at, document_at, Answered, table, table_from_view, table_from_kind, table_from_document, answered, plan_of, request, opened, closed, Running, after_command, after_opening, after_closing, after_message, loaded, file_at, set_text_message, is_met}
 
 -- If each early refusal has P, and so does the answer of every kind at every view and its document, the answer of the table has P.
 module _ (P : Answered → Type 0) (no_view : P (Err NoSuchView)) (unknown : P (Err UnknownMessage)) (no_document : P (Err NoSuchDocument))

@@ -1,31 +1,9 @@
 -- UNDO and REDO between other commands: each UNDO and REDO is answered, and all other commands leave the document alone.
-use Rattle.std.proofs.Common.{◌≡◌, ℕ, zero, suc, ◌≤◌, ◌<◌, cond, Bool, true, false, List, [], ◌∷◌, length, refl, ap, ◌∙◌, sym, subst, arith, inl, inr, Option, Some, None, Ok, Err}
-use Rattle.ed_types.specs.declared.kind.Kind.{Kind}
-use Rattle.ed_types.specs.declared.kind.Kind.TheVariants.{Undo, Redo}
-use Rattle.ed_types.specs.declared.message.Message.{Message}
-use Rattle.ed_types.specs.declared.refusal.Refusal.TheVariants.{TooLong}
-use Rattle.ed_types.specs.declared.script.Command.{Command}
-use Rattle.ed_types.specs.declared.script.Command.TheVariants.{LoadFile, SendMessage}
-use Rattle.ed_types.specs.declared.script.Outcome.{Outcome}
-use Rattle.ed_types.specs.Notices.{Response}
-use Rattle.ed_types.specs.Messages.{kind_of}
-use Rattle.ed_model.specs.declared.plan.Plan.{Plan}
-use Rattle.ed_model.specs.History.{History, Change, can_undo, can_redo, undo_changes, redo_changes}
+use Rattle.run_laws.proofs.Names.{◌≡◌, ℕ, zero, suc, ◌≤◌, ◌<◌, cond, Bool, true, false, List, [], ◌∷◌, length, refl, ap, ◌∙◌, sym, subst, arith, inl, inr, Option, Some, None, Ok, Err, Kind, Undo, Redo, Message, TooLong, Command, LoadFile, SendMessage, Outcome, Response, kind_of, Plan, History, Change, can_undo, can_redo, undo_changes, redo_changes, Session, View, Document, view_at, document_at, text_of, new_session, limit_of, Request, size, stays_within, act_on_history, text_steps, table, answered, plan_of, request, Answered, LeavesSession, QueriesLeaveTheSession, IsSound, CommandKeepsSound, IsSoundInEveryState, undone_text, PlansFit, Running, starting, after_command, after_message, set_text_message, run_to, found_below, same_document}
 use Rattle.ed_model.specs.declared.plan.Plan.TheVariants as plan
-use Rattle.ed_model.specs.Session.{Session, View, Document, view_at, document_at, text_of, new_session, limit_of}
-use Rattle.ed_model.specs.Requests.{Request, size}
-use Rattle.ed_model.specs.Edits.{stays_within}
-use Rattle.ed_model.specs.UndoPlans.{act_on_history, text_steps}
-use Rattle.ed_model.specs.Table.{table, answered, plan_of, request}
-use Rattle.ed_model.specs.TableLaws.{Answered, LeavesSession, QueriesLeaveTheSession}
-use Rattle.ed_model.specs.SoundLaws.{IsSound, CommandKeepsSound, IsSoundInEveryState}
 use Rattle.ed_model.specs.RunUndoLaws.{UndoGoesBackInEveryRun}
-use Rattle.ed_model.specs.UndoLaws.{undone_text}
 use Rattle.ed_model.specs.UndoMessageLaws.{IsNeverTooLong, UndoIsNeverTooLong, RedoIsNeverTooLong}
 use Rattle.ed_model.specs.RepeatedUndoLaws.{IsLeftAlone, LeavesAlone, MessagesLeaveOtherDocumentsAlone, OpeningLeavesDocumentsAlone, ClosingLeavesDocumentsAlone, AreAnswered, HasText, UndosGoBackThenRedosGoOn, UndoMessagesGoBack}
-use Rattle.ed_model.specs.PlansFit.{PlansFit}
-use Rattle.ed_model.specs.Run.{Running, starting, after_command, after_message, set_text_message, run_to}
-use Rattle.ed_model.specs.proved.Finding.{found_below, same_document}
 use Rattle.run_laws.specs.UndoRunLaws.{Acts, GoesToOthers, GoesAside, Act, UndoGoesBackOverCommands}
 use Rattle.run_laws.proofs.TableWays.{of_table, table_at, OfMessages, of_command}
 use Rattle.run_laws.proofs.IdLemmas.{document_ids_never_come_back, next_document_rises}

@@ -1,27 +1,10 @@
 -- What each step keeps, the steps of a message keep: in a scene, in two scenes, and in the views of a session after a plan.
-use Rattle.std.proofs.Common.{◌≡◌, ℕ, ◌+◌, ◌==◌, nat_lt, cond, Bool, true, false, List, [], ◌∷◌, length, map, refl, sym, subst, Option, Some, None}
-use Rattle.std.specs.Prelude.{ℤ, reverse, slice_range}
-use Rattle.ed_model.specs.declared.plan.Follow.{Follow}
+use Rattle.run_laws.proofs.Names.{◌≡◌, ℕ, ◌+◌, ◌==◌, nat_lt, cond, Bool, true, false, List, [], ◌∷◌, length, map, refl, sym, subst, Option, Some, None, ℤ, reverse, slice_range, Follow, DocumentChange, ViewChange, SessionChange, Plan, regrouped, Flags, flags_together, Step, History, Change, TextStep, ContainerStep, undo_changes, redo_changes, undone, redone, latest_text_step, Session, Document, View, document_at, text_of, with_view, attached_to, new_document, Request, text, steps_of, levels, Scene, scene_of, session_of, moved_view, view_after, step_made, steps_made, sealed_scene, edit_made, followed, with_caret, with_target, caret_behind, change_performed, changes_performed, changes_lines, is_last, history_performed, place_behind, changed_lines, changed_view, with_attached, with_new_document, performed}
 use Rattle.ed_model.specs.declared.plan.Follow.TheVariants as follow
-use Rattle.ed_model.specs.declared.plan.DocumentChange.{DocumentChange}
 use Rattle.ed_model.specs.declared.plan.DocumentChange.TheVariants as document_change
-use Rattle.ed_model.specs.declared.plan.ViewChange.{ViewChange}
-use Rattle.ed_model.specs.declared.plan.SessionChange.{SessionChange}
 use Rattle.ed_model.specs.declared.plan.SessionChange.TheVariants as session_change
-use Rattle.ed_model.specs.declared.plan.Plan.{Plan}
 use Rattle.ed_model.specs.declared.plan.Plan.TheVariants as plan
-use Rattle.ed_model.specs.Carry.{regrouped}
-use Rattle.ed_model.specs.Rows.{Flags, flags_together}
-use Rattle.ed_model.specs.Steps.{Step}
-use Rattle.ed_model.specs.History.{History, Change, TextStep, ContainerStep, undo_changes, redo_changes, undone, redone, latest_text_step}
-use Rattle.ed_model.specs.Session.{Session, Document, View, document_at, text_of, with_view, attached_to, new_document}
 use Rattle.ed_model.specs.Notes as notes
-use Rattle.ed_model.specs.Requests.{Request, text}
-use Rattle.ed_model.specs.Edits.{steps_of}
-use Rattle.ed_model.specs.FoldingPlans.{levels}
-use Rattle.ed_model.specs.Performing.{Scene, scene_of, session_of, moved_view, view_after, step_made, steps_made, sealed_scene, edit_made, followed, with_caret, with_target, caret_behind, change_performed, changes_performed, changes_lines, is_last, history_performed, place_behind}
-use Rattle.ed_model.specs.Changes.{changed_lines, changed_view, with_attached, with_new_document}
-use Rattle.ed_model.specs.Table.{performed}
 use Rattle.run_laws.proofs.Choices.{either}
 
 -- Scenes.
