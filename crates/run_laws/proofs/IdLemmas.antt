@@ -1,32 +1,30 @@
 -- The next ids, and the ids of documents and views, after each command.
-use Rattle.run_laws.proofs.Names.{◌≡◌, ℕ, ◌+◌, ◌≤◌, ◌<◌, nat_lt, cond, Bool, true, false, List, [], ◌∷◌, ◌++◌, length, map, refl, ap, ◌∙◌, sym, subst, arith, Option, Some, None, Result, Ok, Err, ◌==◌, find, filter, not, nat_le, ◌||◌, option_map, option_or, ne_eqb, Kind, Message, Refusal, TooMany, Command, Outcome, Plan, Session, Document, View, document_at, view_at, new_document, new_view, attached_to, Request, Planned, text, steps_of, levels, scene_of, session_of, edit_made, followed, view_after, changed_lines, changed_view, with_attached, with_new_document, table, answered, plan_of, performed, request, opened, closed_view, Answered, Running, after_command, run_to, outcomes, IsSound, Rise, CommandKeepsSound, PlansFit, document_id, ids_of, same_ids, with_view_ids, view_after_id, changed_lines_id}
+use Rattle.run_laws.proofs.Names.{◌≡◌, ℕ, ◌+◌, ◌≤◌, ◌<◌, nat_lt, cond, Bool, true, false, List, [], ◌∷◌, ◌++◌, length, map, refl, ap, ◌∙◌, sym, subst, arith, Option, Some, None, Result, Ok, Err, ◌==◌, find, filter, not, nat_le, ◌||◌, option_map, option_or, ne_eqb, Message, Refusal, TooMany, Command, Outcome, Plan, Session, Document, View, document_at, view_at, new_document, new_view, attached_to, Request, text, steps_of, levels, scene_of, session_of, edit_made, followed, view_after, changed_lines, changed_view, with_attached, with_new_document, table, performed, request, opened, closed_view, Running, after_command, run_to, outcomes, IsSound, Rise, CommandKeepsSound, PlansFit, document_id, ids_of, same_ids, with_view_ids, view_after_id, changed_lines_id, IfOk, IfOk-at_ok, Response}
 use Rattle.std.proofs.lemmas.List.Folds.{find-append}
+use Rattle.run_laws.specs.IdLaws.{DocumentIdsNeverComeBack, ViewIdsNeverComeBack, NextIdsNeverFall, OpenedIdsRise, opened_ids}
 use Rattle.ed_model.specs.declared.plan.SessionChange.TheVariants as session_change
 use Rattle.ed_model.specs.declared.plan.Plan.TheVariants as plan
-use Rattle.run_laws.specs.IdLaws.{DocumentIdsNeverComeBack, ViewIdsNeverComeBack, NextIdsNeverFall, OpenedIdsRise, opened_ids}
 use Rattle.run_laws.proofs.Choices.{either}
 use Rattle.run_laws.proofs.Walks.{sender_keeps, followed_same, performed_views}
-use Rattle.run_laws.proofs.TableWays.{of_table, of_any_command}
-use Rattle.run_laws.proofs.Going.{AllFrom, From, any_command_from}
+use Rattle.run_laws.proofs.TableWays.{of_any_command, of_each_message, of_answer}
+use Rattle.run_laws.proofs.Going.{AllFrom, From, MayGo, command_from}
 
 -- Documents: any change is allowed.
 
 abbrev pub Any : Document → Document → Type 0
 Any d e = Unit {0}
 
-abbrev GoOn : Session → Session → Type 0
-GoOn s t = AllFrom Any (λ d. tt) (λ d e views held_by_callers h. tt) s.next_document s.documents t.documents
+pub command_goes_on : PlansFit → (files : List (List ℕ)) (c : Command) (s : Running) → IsSound s.session → AllFrom Any s.session (after_command files c s).0.session
+command_goes_on fits files c s sound =
+    command_from Any (λ d. tt) (λ d e views held_by_callers h. tt) fits files c s sound (of_each_message (MayGo Any s.session) (λ view m v kind d p sent h fit. tt) c)
 
-pub command_goes_on : PlansFit → (files : List (List ℕ)) (c : Command) (s : Running) → IsSound s.session → GoOn s.session (after_command files c s).0.session
-command_goes_on fits files c s sound = any_command_from Any (λ d. tt) (λ d e views held_by_callers h. tt) fits files c s sound (λ r p. tt)
-
-none_again : (s t : Session) (id : ℕ) → GoOn s t → id < s.next_document → document_at s.documents id ≡ None → document_at t.documents id ≡ None
+none_again : (s t : Session) (id : ℕ) → AllFrom Any s t → id < s.next_document → document_at s.documents id ≡ None → document_at t.documents id ≡ None
 none_again s t id on below none = go (document_at t.documents id) refl
   where
     go : (o : Option Document) → document_at t.documents id ≡ o → o ≡ None
     go None e = refl
     go (Some e) found =
-        let new : From Any (λ d. tt) (λ d e views held_by_callers h. tt) s.next_document None e = subst (λ (o : Option Document). From Any (λ d. tt) (λ d e views held_by_callers h. tt) s.next_document o e) none (on id e found) in
+        let new : From Any s.next_document None e = subst (λ (o : Option Document). From Any s.next_document o e) none (on id e found) in
         let above : s.next_document ≤ e.id = new.0 in
         let same : e.id ≡ id = document_id t.documents id e found in
         absurd (omega arith)
@@ -78,16 +76,8 @@ performed_next r _ = (omega arith, refl)
 performed_keeps : (r : Request) (p : Plan) → Keeps r.session (performed r p).0
 performed_keeps r p = let next = performed_next r p in record { documents = next.0; views = next.1; ids_stay = performed_ids r p }
 
-abbrev AnsweredKeeps : Session → Answered → Type 0
-AnsweredKeeps s (Ok done) = Keeps s done.0
-AnsweredKeeps s (Err refusal) = Unit {0}
-
-answered_keeps : (kind : Kind) (r : Request) (p : Planned) → AnsweredKeeps r.session (answered kind r p)
-answered_keeps kind r (Ok p) = performed_keeps r p
-answered_keeps kind r (Err refusal) = tt
-
-message_keeps : (s : Session) (view : ℕ) (m : Message) → AnsweredKeeps s (table s view m)
-message_keeps s view m = of_table (AnsweredKeeps s) tt tt tt s m view (λ v sees kind is d finds. answered_keeps kind (request s v d m) (plan_of kind (request s v d m)))
+message_keeps : (s : Session) (view : ℕ) (m : Message) (done : Session × Response) → table s view m ≡ Ok done → Keeps s done.0
+message_keeps s view m = of_answer (λ (done : Session × Response). Keeps s done.0) s view m (λ v kind d p sent. performed_keeps (request s v d m) p)
 
 -- Whether a view with an id exists depends only on the ids of the views.
 
@@ -132,15 +122,14 @@ kept_goes : (s t : Session) → Keeps s t → Goes s t
 kept_goes s t h = record { next_document = h.documents; next_view = omega (arith, h.views); gone = λ id below none. none_by_ids s.views t.views id h.ids_stay none }
 
 -- a view that is opened has the next id
-abbrev OpenedGoes : Session → Result (Session × ℕ) Refusal → Type 0
-OpenedGoes s (Ok done) = (done.1 ≡ s.next_view) × (done.0.next_view ≡ s.next_view + 1) × Goes s done.0
-OpenedGoes s (Err refusal) = Unit {0}
+abbrev OpenedGoes : Session → Session × ℕ → Type 0
+OpenedGoes s done = (done.1 ≡ s.next_view) × (done.0.next_view ≡ s.next_view + 1) × Goes s done.0
 
-opening_goes : (s : Session) → OpenedGoes s (opened s)
+opening_goes : (s : Session) → IfOk (opened s) (OpenedGoes s)
 opening_goes s =
     let d = new_document s.next_document 0 in
     let with = with_new_document (record d { views = s.next_view ∷ [] }) s in
-    either (OpenedGoes s) (nat_le s.limits.views (length s.views) || nat_lt s.limits.ids s.next_view || nat_lt s.limits.ids s.next_document) (Err TooMany)
+    either (λ (x : Result (Session × ℕ) Refusal). IfOk x (OpenedGoes s)) (nat_le s.limits.views (length s.views) || nat_lt s.limits.ids s.next_view || nat_lt s.limits.ids s.next_document) (Err TooMany)
     (Ok (record with { views = s.views ++ new_view s.next_view d ∷ []; next_view = s.next_view + 1 }, s.next_view))
     tt (
       refl,
@@ -155,11 +144,10 @@ opening_goes s =
       },
     )
 
-abbrev ClosedGoes : Session → Result Session Refusal → Type 0
-ClosedGoes s (Ok t) = (t.next_view ≡ s.next_view) × Goes s t
-ClosedGoes s (Err refusal) = Unit {0}
+abbrev ClosedGoes : Session → Session → Type 0
+ClosedGoes s t = (t.next_view ≡ s.next_view) × Goes s t
 
-closing_goes : (s : Session) (o : Option View) → ClosedGoes s (closed_view s o)
+closing_goes : (s : Session) (o : Option View) → IfOk (closed_view s o) (ClosedGoes s)
 closing_goes s None = tt
 closing_goes s (Some v) = (refl, record { next_document = omega arith; next_view = omega arith; gone = λ id below none. none_filtered v.id s.views id none })
 
@@ -168,11 +156,11 @@ command_goes files c s =
     let now = s.session in
     of_any_command (λ (x : Running × Outcome). Goes now x.0.session) files s
     (λ refusal. kept_goes now now (keeps_same now))
-    (λ done e. (subst (OpenedGoes now) e (opening_goes now)).2)
-    (λ view t e. (subst (ClosedGoes now) e (closing_goes now (view_at now.views view))).1)
+    (λ done e. (IfOk-at_ok (OpenedGoes now) e (opening_goes now)).2)
+    (λ view t e. (IfOk-at_ok (ClosedGoes now) e (closing_goes now (view_at now.views view))).1)
     (λ value. kept_goes now now (keeps_same now))
     c
-    (λ view m done e. kept_goes now done.0 (subst (AnsweredKeeps now) e (message_keeps now view m)))
+    (λ view m done e. kept_goes now done.0 (message_keeps now view m done e))
 
 pub next_document_rises : (files : List (List ℕ)) (c : Command) (s : Running) → s.session.next_document ≤ (after_command files c s).0.session.next_document
 next_document_rises files c s = (command_goes files c s).next_document
@@ -211,14 +199,14 @@ command_opens files c s os high =
     of_any_command (λ (x : Running × Outcome). x.0.session.next_view ≤ high → Rise x.0.session.next_view high (opened_ids os) → Rise now.next_view high (opened_ids (x.1 ∷ os))) files s
     (λ refusal le rise. rise)
     (λ done e le rise.
-    let k = subst (OpenedGoes now) e (opening_goes now) in
+    let k = IfOk-at_ok (OpenedGoes now) e (opening_goes now) in
     let at : done.1 ≡ now.next_view = k.0 in
     let next : done.0.next_view ≡ now.next_view + 1 = k.1 in
     (omega arith, omega arith, subst (λ n. Rise n high (opened_ids os)) (next ∙ ap (λ n. n + 1) (sym at)) rise))
-    (λ view t e le rise. subst (λ n. Rise n high (opened_ids os)) (subst (ClosedGoes now) e (closing_goes now (view_at now.views view))).0 rise)
+    (λ view t e le rise. subst (λ n. Rise n high (opened_ids os)) (IfOk-at_ok (ClosedGoes now) e (closing_goes now (view_at now.views view))).0 rise)
     (λ value le rise. rise)
     c
-    (λ view m done e le rise. subst (λ n. Rise n high (opened_ids os)) (subst (AnsweredKeeps now) e (message_keeps now view m)).views rise)
+    (λ view m done e le rise. subst (λ n. Rise n high (opened_ids os)) (message_keeps now view m done e).views rise)
 
 pub opened_ids_rise : OpenedIdsRise
 opened_ids_rise files [] s = tt

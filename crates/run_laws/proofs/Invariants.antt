@@ -1,10 +1,11 @@
 -- An invariant that every change of a document keeps holds for the document in every state of a run.
-use Rattle.run_laws.proofs.Names.{◌≡◌, ℕ, ◌≤◌, nat_lt, Bool, false, List, [], ◌∷◌, length, refl, arith, Option, Some, None, Command, DocumentChange, Plan, Step, History, Change, TextStep, ContainerStep, undo_changes, redo_changes, undone, redone, Session, Document, document_at, Request, steps_of, Scene, scene_of, document_after, changes_performed, change_performed, transaction_performed, changed_document, Running, after_command, run_to, IsSound, CommandKeepsSound, PlansFit}
+use Rattle.run_laws.proofs.Names.{◌≡◌, ℕ, ◌≤◌, nat_lt, Bool, false, List, [], ◌∷◌, length, refl, arith, Option, Some, None, Command, DocumentChange, Plan, Step, History, Change, TextStep, ContainerStep, undo_changes, redo_changes, undone, redone, Session, Document, document_at, Request, steps_of, Scene, scene_of, document_after, changes_performed, change_performed, transaction_performed, changed_document, Running, after_command, run_to, IsSound, CommandKeepsSound, PlansFit, request}
 use Rattle.ed_model.specs.declared.plan.Plan.TheVariants as plan
 use Rattle.ed_model.specs.Notes as notes
 use Rattle.run_laws.proofs.Walks.{edit_kept, changes_kept}
-use Rattle.run_laws.proofs.Going.{IsMadeNew, own_after, From, any_command_from}
+use Rattle.run_laws.proofs.Going.{IsMadeNew, own_after, From, command_from, MayGo}
 use Rattle.run_laws.proofs.IdLemmas.{next_document_rises}
+use Rattle.run_laws.proofs.TableWays.{of_each_message}
 
 -- `Holds` holds for a new document, whose id is at least `low`. Steps, changes of the history and all other changes keep it, and
 -- it does not depend on the views and the references of the document.
@@ -34,21 +35,17 @@ module _ (Holds : Document → Type 0) (low : ℕ) (new : (e : Document) → low
   abbrev Stays : Document → Document → Type 0
   Stays d e = Holds d → Holds e
 
-  abbrev stays_same : (d : Document) → Stays d d
-  stays_same d h = h
-
-  abbrev stays_relisted : (d e : Document) (views : List ℕ) (held_by_callers : ℕ) → Stays d e → Stays d (record e { views = views; held_by_callers = held_by_callers })
-  stays_relisted d e views held_by_callers s h = relisted e views held_by_callers (s h)
-
   abbrev pub OfAll : Session → Type 0
   OfAll s = (id : ℕ) (d : Document) → document_at s.documents id ≡ Some d → Holds d
 
   command_holds : PlansFit → (files : List (List ℕ)) (c : Command) (s : Running) → IsSound s.session → low ≤ s.session.next_document → OfAll s.session
       → OfAll (after_command files c s).0.session
   command_holds fits files c s sound le all id e f =
-      go (document_at s.session.documents id) refl (any_command_from Stays stays_same stays_relisted fits files c s sound own_holds id e f)
+      go (document_at s.session.documents id) refl
+      (command_from Stays (λ d h. h) (λ d e views held_by_callers k h. relisted e views held_by_callers (k h)) fits files c s sound
+      (of_each_message (MayGo Stays s.session) (λ view m v kind d p sent h fit. own_holds (request s.session v d m) p) c) id e f)
     where
-      go : (o : Option Document) → document_at s.session.documents id ≡ o → From Stays stays_same stays_relisted s.session.next_document o e → Holds e
+      go : (o : Option Document) → document_at s.session.documents id ≡ o → From Stays s.session.next_document o e → Holds e
       go None found h = let above : s.session.next_document ≤ e.id = h.0 in new e (omega arith) h.1
       go (Some d) found h = h (all id d found)
 

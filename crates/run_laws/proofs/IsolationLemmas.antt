@@ -1,8 +1,8 @@
 -- Two sessions that agree on a document: messages to its views do the same in both, and other messages leave it alone in each.
 use Rattle.run_laws.proofs.Names.{◌≡◌, ℕ, ◌==◌, nat_lt, cond, Bool, true, false, List, [], ◌∷◌, ◌++◌, length, map, refl, ap, ◌∙◌, sym, subst, Option, Some, None, Ok, Err, ℤ, pos, bit_or, reverse, option_map, not, AllByRecursion, eqb-true, eqb-false, not-true, not-false, Outcome, Replied, Refused, NoSuchView, Kind, Message, Notice, Response, kind_of, Edit, Follow, Plan, growth, Step, replacement, History, Change, TextStep, ContainerStep, undo_changes, redo_changes, undone, redone, latest_text_step, at_save_point, begins_transaction, Session, Document, View, document_at, view_at, with_document, with_view, watching, lines_in, Request, Planned, text, steps_of, source_bytes, converted_if, levels, Scene, scene_of, session_of, document_after, view_after, step_made, sealed_scene, edit_made, followed, with_caret, caret_behind, leaving, change_performed, changes_performed, transaction_performed, save_point_change, history_performed, place_behind, container_note, last_bits, response, changed_document, changed_lines, changed_view, change_told, table, answered, with_recording, plan_of, performed, request, table_from_view, table_from_kind, table_from_document, Answered, IsSound, IsViewOn, ListsItsViews, CommandKeepsSound, Running, starting, after_command, after_message, outcomes, run_to, found_all, document_id, view_id, replaced_found, mapped_found, found_once, IsOwner, view_after_id, changed_lines_id, view_after_document, is_copying, is_about_documents, Sending, sent, shows_other, goes_elsewhere, unless, without_others, own_outcomes, KeepsApart, DocumentsAreApart}
 use Rattle.ed_types.specs.declared.limits.Limits.{Limits}
-use Rattle.ed_model.specs.declared.plan.Edit.TheVariants as edit
 use Rattle.ed_model.specs.declared.plan.Source.{Source}
+use Rattle.ed_model.specs.declared.plan.Edit.TheVariants as edit
 use Rattle.ed_model.specs.declared.plan.Source.TheVariants as source
 use Rattle.ed_model.specs.declared.plan.Follow.TheVariants as follow
 use Rattle.ed_model.specs.declared.plan.SessionChange.TheVariants as session_change
@@ -341,34 +341,27 @@ Placed vs ws = AreAlike (λ n. ⊥) vs ws
 message_places : (s : Session) (view : ℕ) (m : Message) → ((kind : Kind) → kind_of m.number ≡ Some kind → is_about_documents kind ≡ false) → IsSound s
     → Placed s.views (after_message s (table s view m)).0.session.views
 message_places s view m barred sound =
-    of_table (λ o. Placed s.views (after_message s o).0.session.views) (all_alike (λ n. ⊥) s.views) (all_alike (λ n. ⊥) s.views) (all_alike (λ n. ⊥) s.views) s m view
-    (λ v sees kind is d finds. go v kind d sees (barred kind is) finds (plan_of kind (request s v d m)) (plan_is_shaped kind (request s v d m)))
-  where
-    go : (v : View) (kind : Kind) (d : Document) → view_at s.views view ≡ Some v → is_about_documents kind ≡ false → document_at s.documents v.document ≡ Some d → (p : Planned) → IsShaped (leave_of kind) p
-        → Placed s.views (after_message s (answered kind (request s v d m) p)).0.session.views
-    go v kind d sees no_documents finds (Err refusal) shaped = all_alike (λ n. ⊥) s.views
-    go v kind d sees no_documents finds (Ok p) shaped =
-        performed_leaves_views (λ n. ⊥) (request s v d m) p (leave_of kind) (λ e. e) no_documents shaped (document_id s.documents v.document d finds) (once_of s view v sound sees)
+    of_table (λ (x : Answered). Placed s.views (after_message s x).0.session.views) (λ refusal other. all_alike (λ n. ⊥) s.views) s view m
+    (λ v kind d p sent.
+    performed_leaves_views (λ n. ⊥) (request s v d m) p (leave_of kind) (λ e. e) (barred kind sent.is) sent.keeps (document_id s.documents v.document d sent.finds)
+    (once_of s view v sound sent.sees))
 
 others_message : (id : ℕ) (s : Session) (view : ℕ) (m : Message)
     → ((kind : Kind) → kind_of m.number ≡ Some kind → (is_about_documents kind ≡ false) × (is_copying kind ≡ false)) → IsSound s
     → ((v : View) → view_at s.views view ≡ Some v → v.document ≡ id → ⊥) → Agree id s (after_message s (table s view m)).0.session
 others_message id s view m barred sound other =
-    of_table (λ o. Agree id s (after_message s o).0.session) (agree_same id s) (agree_same id s) (agree_same id s) s m view
-    (λ v sees kind is d finds. go v kind d sees (barred kind is) finds (plan_of kind (request s v d m)) (plan_is_shaped kind (request s v d m)))
-  where
-    go : (v : View) (kind : Kind) (d : Document) → view_at s.views view ≡ Some v → (is_about_documents kind ≡ false) × (is_copying kind ≡ false) → document_at s.documents v.document ≡ Some d → (p : Planned)
-        → IsShaped (leave_of kind) p → Agree id s (after_message s (answered kind (request s v d m) p)).0.session
-    go v kind d sees none finds (Err refusal) shaped = agree_same id s
-    go v kind d sees none finds (Ok p) shaped =
-        let r = request s v d m in
-        let is = document_id s.documents v.document d finds in
-        record {
-          document = performed_leaves_document r p (leave_of kind) id none.0 shaped (λ e. other v sees (sym is ∙ sym e));
-          views = performed_leaves_views (λ n. n ≡ id) r p (leave_of kind) (other v sees) none.0 shaped is (once_of s view v sound sees);
-          clipboard = performed_leaves_clipboard r p (leave_of kind) none.0 none.1 shaped;
-          limits = performed_leaves_limits r p (leave_of kind) none.0 shaped;
-        }
+    of_table (λ (x : Answered). Agree id s (after_message s x).0.session) (λ refusal other. agree_same id s) s view m
+    (λ v kind d p sent.
+    let r = request s v d m in
+    let none = barred kind sent.is in
+    let is = document_id s.documents v.document d sent.finds in
+    let apart = other v sent.sees in
+    record {
+      document = performed_leaves_document r p (leave_of kind) id none.0 sent.keeps (λ e. apart (sym is ∙ sym e));
+      views = performed_leaves_views (λ n. n ≡ id) r p (leave_of kind) apart none.0 sent.keeps is (once_of s view v sound sent.sees);
+      clipboard = performed_leaves_clipboard r p (leave_of kind) none.0 none.1 sent.keeps;
+      limits = performed_leaves_limits r p (leave_of kind) none.0 sent.keeps;
+    })
 
 -- A message that goes to another document's view still does so after other messages.
 

@@ -1,7 +1,7 @@
 -- The last save point of a run: each document has one, and from it on the law of the save point holds.
 use Rattle.run_laws.proofs.Names.{◌≡◌, ℕ, ◌==◌, Bool, true, false, List, [], ◌∷◌, length, refl, ap, ◌∙◌, sym, subst, inl, inr, Option, Some, None, Err, ◌⊎◌, not, ◌&&◌, option_or, eqb-true, eq-eqb, and_parts, or_cases, or_parts, Kind, SetSavePoint, EmptyUndoBuffer, Message, NoSuchDocument, Command, SendMessage, kind_of, flag, at_save_point, Session, View, Document, view_at, document_at, text_of, new_session, with_document, changed_document, table, request, table_from_view, table_from_kind, table_from_document, answered, plan_of, Answered, IsSound, CommandKeepsSound, NewSessionIsSound, PlansFit, Running, starting, after_command, after_message, run_to, document_id, replaced_found, is_saving, SetsNoSavePoint, KeepsTheSavePoint, UnmodifiedIsTheSavedText, GetModifyTells, text_if_there, text_at}
-use Rattle.ed_model.specs.declared.plan.DocumentChange.TheVariants as document_change
 use Rattle.run_laws.specs.LastSavePointLaws.{is_view_of, is_saving_message, sets_save_point, is_created, gives_save_point, SavePoint, save_point_if, last_save_point, AllIsCollected, HasTextOf, SavedIsUnmodified, UnmodifiedIsTold, UnmodifiedIsTheLastSavedText, ToldUnmodifiedIsTheLastSavedText}
+use Rattle.ed_model.specs.declared.plan.DocumentChange.TheVariants as document_change
 use Rattle.run_laws.proofs.TableWays.{table_at}
 use Rattle.run_laws.proofs.Going.{From}
 use Rattle.run_laws.proofs.IdLemmas.{Any, command_goes_on}
@@ -14,10 +14,6 @@ saving_is SetSavePoint e = inl refl
 saving_is EmptyUndoBuffer e = inr refl
 saving_is _ e = cc
 
--- a document that did not exist before is new
-abbrev NewIfNone : ℕ → Option Document → Document → Type 0
-NewIfNone next o e = From Any (λ d. tt) (λ d f views held_by_callers h. tt) next o e
-
 created_is_unmodified : PlansFit → (files : List (List ℕ)) (c : Command) (s : Running) (id : ℕ) (d : Document) → IsSound s.session
     → is_created (document_at s.session.documents id) (document_at (after_command files c s).0.session.documents id) ≡ true
     → document_at (after_command files c s).0.session.documents id ≡ Some d → at_save_point d.history ≡ true
@@ -26,8 +22,8 @@ created_is_unmodified fits files c s id d sound created there =
   where
     go : (o p : Option Document) → document_at s.session.documents id ≡ o → is_created o p ≡ true → at_save_point d.history ≡ true
     go None p gone e =
-        let new : NewIfNone s.session.next_document None d =
-        subst (λ (o : Option Document). NewIfNone s.session.next_document o d) gone (command_goes_on fits files c s sound id d there) in
+        let new : From Any s.session.next_document None d =
+        subst (λ (o : Option Document). From Any s.session.next_document o d) gone (command_goes_on fits files c s sound id d there) in
         subst (λ (x : Document). at_save_point x.history ≡ true) (sym new.1.1) refl
     go (Some x) p gone e = absurd (cc)
 

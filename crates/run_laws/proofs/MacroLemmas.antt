@@ -1,12 +1,12 @@
 -- Recordings: a view that records keeps recording, each message is recorded once, and the messages that it recorded can be sent again.
-use Rattle.run_laws.proofs.Names.{◌≡◌, ℕ, ◌==◌, cond, Bool, true, false, List, [], ◌∷◌, ◌++◌, length, map, refl, ap, ◌∙◌, sym, subst, arith, ◌≤◌, inl, inr, Some, Ok, Err, ◌⊎◌, IfOk, ℤ, ◌&&◌, filter, flat_map, option_map, AllByRecursion, eqb-true, eq-eqb, and_parts, StartRecord, StopRecord, Command, Outcome, marks_of, NoSuchView, UnknownMessage, NoSuchDocument, Kind, Message, Refusal, Notice, Response, kind_of, ViewChange, Plan, Session, Document, View, view_at, with_view, Request, Planned, levels, view_after, changed_lines, changed_view, table, answered, with_recording, plan_of, performed, request, Answered, IsSound, attached_to, record_note, LeavesSession, QueriesLeaveTheSession, Running, starting, after_command, after_message, outcomes, run_to, MessageKeepsSound, IsSoundInEveryStateFrom, view_id, put_found, mapped_found, found_once, view_after_id, changed_lines_id, changed_view_id, Sending, sent, not_recording, without_recording, CanStandBetween, RecordingsCanBeReplayed, RecordsOneAtMost, RepliesRecordOneMessage, RunsRecordOneMessageAReply}
+use Rattle.run_laws.proofs.Names.{◌≡◌, ℕ, ◌==◌, cond, Bool, true, false, List, [], ◌∷◌, ◌++◌, length, map, refl, ap, ◌∙◌, sym, subst, arith, ◌≤◌, inl, inr, Some, Ok, ◌⊎◌, IfOk, ℤ, ◌&&◌, filter, flat_map, option_map, AllByRecursion, eqb-true, eq-eqb, and_parts, StartRecord, StopRecord, Outcome, marks_of, Kind, Message, Notice, Response, kind_of, ViewChange, Plan, Session, Document, View, view_at, with_view, Request, Planned, levels, view_after, changed_lines, changed_view, table, answered, with_recording, plan_of, performed, request, Answered, IsSound, attached_to, record_note, LeavesSession, QueriesLeaveTheSession, Running, starting, after_command, after_message, outcomes, run_to, MessageKeepsSound, IsSoundInEveryStateFrom, view_id, put_found, mapped_found, found_once, view_after_id, changed_lines_id, changed_view_id, Sending, sent, not_recording, without_recording, CanStandBetween, RecordingsCanBeReplayed, RecordsOneAtMost, RepliesRecordOneMessage, RunsRecordOneMessageAReply, IfOk-at_ok, map-map, map_where, all_weaker}
+use Rattle.ed_model.specs.Recording.{told_message, recorded_messages, replies_in, sent_to}
 use Rattle.ed_model.specs.declared.plan.ViewChange.TheVariants as view_change
 use Rattle.ed_model.specs.declared.plan.Plan.TheVariants as plan
 use Rattle.ed_model.specs.Notes as notes
-use Rattle.ed_model.specs.Recording.{told_message, recorded_messages, replies_in, sent_to}
 use Rattle.run_laws.proofs.Walks.{step_keeps, sender_keeps, lines_keep, performed_views}
-use Rattle.run_laws.proofs.TableWays.{of_table, table_at, of_any_command}
-use Rattle.run_laws.proofs.PlanShapes.{Leave, KeepsTo, IsShaped, leave_of, plan_is_shaped, recorded_is_not_about_recording}
+use Rattle.run_laws.proofs.TableWays.{of_table, table_at, of_any_command, Sent, of_answer}
+use Rattle.run_laws.proofs.PlanShapes.{Leave, KeepsTo, leave_of, recorded_is_not_about_recording}
 use Rattle.run_laws.proofs.NoteLemmas.{NoRecords, plans_tell_no_record}
 use Rattle.run_laws.proofs.RecordingLemmas.{Same, Like, table_after_both}
 
@@ -81,49 +81,44 @@ Stepped view s m x =
     (((os : List Outcome) → recorded_messages view (replies_in ((after_message s x).1 ∷ os)) ≡ recorded_messages view (replies_in os)) × ((after_message s x).0.session ≡ s))
     ⊎ (((os : List Outcome) → recorded_messages view (replies_in ((after_message s x).1 ∷ os)) ≡ m.1 ∷ recorded_messages view (replies_in os)) × (m.0 ≡ view) × Records view (after_message s x).0.session.views)
 
-refused_steps : (view : ℕ) (s : Session) (m : Sending) (refusal : Refusal) → Stepped view s m (Err refusal)
-refused_steps view s m refusal = inl (λ os. refl, refl)
-
-answer_steps : (view : ℕ) (m : Sending) (kind : Kind) (r : Request) (p : Planned) → r.message ≡ m.1 → r.view.id ≡ m.0 → view_at r.session.views m.0 ≡ Some r.view
-    → ((marks_of kind).q ≡ true → LeavesSession r.session (answered kind r p)) → IsShaped (leave_of kind) p
-    → ((marks_of kind).q ≡ true) ⊎ ((m.0 ≡ view) × ((marks_of kind).r ≡ true)) → Records view r.session.views → Stepped view r.session m (answered kind r p)
-answer_steps view m kind r (Err refusal) same is sees leaves shaped may records = refused_steps view r.session m refusal
-answer_steps view m kind r (Ok p) same is sees leaves shaped may records =
-    go ((r.view.records && (marks_of kind).r) && (r.view.id == view)) refl may
+message_steps : QueriesLeaveTheSession → (view : ℕ) (s : Session) (m : Sending) → CanStandBetween view m → Records view s.views → Stepped view s m (table s m.0 m.1)
+message_steps leave view s m may records =
+    of_table (Stepped view s m) (λ refusal other. inl (λ os. refl, refl)) s m.0 m.1
+    (λ v kind d p sent. go v kind d p sent ((v.records && (marks_of kind).r) && (v.id == view)) refl (may kind sent.is))
   where
-    first : (os : List Outcome) → recorded_messages view (replies_in ((after_message r.session (answered kind r (Ok p))).1 ∷ os))
-        ≡ if_recorded ((r.view.records && (marks_of kind).r) && (r.view.id == view)) r.message (recorded_messages view (replies_in os))
-    first os = recorded_first view kind r (performed r p).1 (replies_in os) (plans_tell_no_record r p)
-
-    recording : m.0 ≡ view → r.view.records ≡ true
-    recording to = let here : view_at r.session.views view ≡ Some r.view = ap (view_at r.session.views) (sym to) ∙ sees in let v : records.0 ≡ r.view = cc in ap (λ (x : View). x.records) (sym v) ∙ records.2
-
     all_true : (a b c : Bool) → a ≡ true → b ≡ true → c ≡ true → ((a && b) && c) ≡ true
     all_true a b c e f g = rw (e, f, g) refl
 
-    go : (b : Bool) → ((r.view.records && (marks_of kind).r) && (r.view.id == view)) ≡ b → ((marks_of kind).q ≡ true) ⊎ ((m.0 ≡ view) × ((marks_of kind).r ≡ true)) → Stepped view r.session m (answered kind r (Ok p))
-    go true e k =
-        let parts = and_parts (r.view.records && (marks_of kind).r) (r.view.id == view) e in
-        let inner = and_parts r.view.records (marks_of kind).r parts.0 in
-        let at = eqb-true r.view.id view parts.1 in
-        inr (
-          (λ os. first os ∙ ap (λ b. if_recorded b r.message (recorded_messages view (replies_in os))) e ∙ ap (λ (x : Message). x ∷ recorded_messages view (replies_in os)) same),
-          sym is ∙ at,
-          subst (λ n. Records n (performed r p).0.views) at
-              (performed_records r p (leave_of kind) (recorded_is_not_about_recording kind inner.1) shaped inner.0 (subst (λ n. Records n r.session.views) (sym at) records)),
-        )
-    go false e (inl query) = inl (λ os. first os ∙ ap (λ b. if_recorded b r.message (recorded_messages view (replies_in os))) e, leaves query)
-    go false e (inr to) =
-        let yes = all_true r.view.records (marks_of kind).r (r.view.id == view) (recording to.0) to.1 (eq-eqb r.view.id view (is ∙ to.0)) in absurd (cc)
+    first : (kind : Kind) (r : Request) (p : Plan) (os : List Outcome) (b : Bool) → ((r.view.records && (marks_of kind).r) && (r.view.id == view)) ≡ b
+        → recorded_messages view (replies_in ((after_message r.session (answered kind r (Ok p))).1 ∷ os)) ≡ if_recorded b r.message (recorded_messages view (replies_in os))
+    first kind r p os b e =
+        recorded_first view kind r (performed r p).1 (replies_in os) (plans_tell_no_record r p) ∙ ap (λ x. if_recorded x r.message (recorded_messages view (replies_in os))) e
 
-message_steps : QueriesLeaveTheSession → (view : ℕ) (s : Session) (m : Sending) → CanStandBetween view m → Records view s.views → Stepped view s m (table s m.0 m.1)
-message_steps leave view s m may records =
-    of_table (Stepped view s m) (refused_steps view s m NoSuchView) (refused_steps view s m UnknownMessage) (refused_steps view s m NoSuchDocument) s m.1 m.0
-    (λ v sees kind is d finds.
-    let r = request s v d m.1 in
-    answer_steps view m kind r (plan_of kind r) refl (view_id s.views m.0 v sees) sees
-    (λ query. subst (LeavesSession s) (table_at s m.0 m.1 v kind d sees is finds) (leave s m.0 m.1 kind is query))
-    (plan_is_shaped kind r) (may kind is) records)
+    go : (v : View) (kind : Kind) (d : Document) (p : Plan) → Sent s m.0 m.1 v kind d p → (b : Bool) → ((v.records && (marks_of kind).r) && (v.id == view)) ≡ b
+        → ((marks_of kind).q ≡ true) ⊎ ((m.0 ≡ view) × ((marks_of kind).r ≡ true)) → Stepped view s m (answered kind (request s v d m.1) (Ok p))
+    go v kind d p sent true e k =
+        let r = request s v d m.1 in
+        let parts = and_parts (v.records && (marks_of kind).r) (v.id == view) e in
+        let inner = and_parts v.records (marks_of kind).r parts.0 in
+        let at = eqb-true v.id view parts.1 in
+        inr (
+          (λ os. first kind r p os true e),
+          sym (view_id s.views m.0 v sent.sees) ∙ at,
+          subst (λ n. Records n (performed r p).0.views) at
+              (performed_records r p (leave_of kind) (recorded_is_not_about_recording kind inner.1) sent.keeps inner.0 (subst (λ n. Records n s.views) (sym at) records)),
+        )
+    go v kind d p sent false e (inl query) =
+        let r = request s v d m.1 in
+        inl (
+          (λ os. first kind r p os false e),
+          subst (LeavesSession s) (table_at s m.0 m.1 v kind d sent.sees sent.is sent.finds ∙ ap (answered kind r) sent.plans) (leave s m.0 m.1 kind sent.is query),
+        )
+    go v kind d p sent false e (inr to) =
+        let here : view_at s.views view ≡ Some v = ap (view_at s.views) (sym to.0) ∙ sent.sees in
+        let same : records.0 ≡ v = cc in
+        let on : v.records ≡ true = ap (λ (x : View). x.records) (sym same) ∙ records.2 in
+        let yes = all_true v.records (marks_of kind).r (v.id == view) on to.1 (eq-eqb v.id view (view_id s.views m.0 v sent.sees ∙ to.0)) in
+        absurd (cc)
 
 -- The recorded messages, sent again.
 messages_replayed : QueriesLeaveTheSession → (view : ℕ) (ms : List Sending) (s t : Running) → AllByRecursion (CanStandBetween view) ms → Records view s.session.views → Same view s.session t.session
@@ -160,51 +155,53 @@ record IsSet (s : Session) (view : ℕ) (on : Bool) (t : Session) : Type 0 where
   found : view_at s.views view ≡ Some sender
   same : t ≡ record s { views = with_view (record sender { records = on }) s.views }
 
-abbrev SetBy : Session → ℕ → Bool → Answered → Type 0
-SetBy s view on (Ok done) = IsSet s view on done.0
-SetBy s view on (Err refusal) = Unit {0}
-
-message_sets : (s : Session) (view : ℕ) (m : Message) (on : Bool) → kind_of m.number ≡ Some (cond on StartRecord StopRecord) → SetBy s view on (table s view m)
-message_sets s view m on e =
-    of_table (SetBy s view on) tt tt tt s m view
-    (λ v sees kind is d finds.
-    let same : kind ≡ cond on StartRecord StopRecord = cc in
-    subst (λ (k : Kind). SetBy s view on (answered k (request s v d m) (plan_of k (request s v d m)))) (sym same) (go on v d sees))
+message_sets : (s : Session) (view : ℕ) (m : Message) (on : Bool) (done : Session × Response) → kind_of m.number ≡ Some (cond on StartRecord StopRecord) → table s view m ≡ Ok done
+    → IsSet s view on done.0
+message_sets s view m on done e is =
+    IfOk-at_ok (λ (done : Session × Response). IsSet s view on done.0) is
+    (of_table Sets (λ refusal other. tt) s view m
+    (λ v kind d p sent.
+    let r = request s v d m in
+    let same : kind ≡ cond on StartRecord StopRecord = (let there = sent.is in cc) in
+    subst (λ (o : Planned). Sets (answered kind r o)) sent.plans (subst (λ (k : Kind). Sets (answered k r (plan_of k r))) (sym same) (go on v d sent.sees))))
   where
-    go : (on : Bool) (v : View) (d : Document) → view_at s.views view ≡ Some v
-        → (let k = cond on StartRecord StopRecord in SetBy s view on (answered k (request s v d m) (plan_of k (request s v d m))))
+    Sets : Answered → Type 0
+    Sets x = IfOk x (λ (done : Session × Response). IsSet s view on done.0)
+
+    go : (b : Bool) (v : View) (d : Document) → view_at s.views view ≡ Some v
+        → (let k = cond b StartRecord StopRecord in IfOk (answered k (request s v d m) (plan_of k (request s v d m))) (λ (done : Session × Response). IsSet s view b done.0))
     go true v d sees = record { sender = v; found = sees; same = refl }
     go false v d sees = record { sender = v; found = sees; same = refl }
 
 -- setting whether the view records changes nothing else
 set_like : (view : ℕ) (v : View) (on : Bool) (views : List View) → v.id ≡ view → AllByRecursion (λ (w : View). w.id ≡ view → w ≡ v) views
     → Like view (with_view (record v { records = on }) views) views
-set_like view v on [] is once = refl
-set_like view v on (w ∷ ws) is once =
-    ap (λ x. x ∷ map (not_recording view) (with_view (record v { records = on }) ws)) (go (w.id == v.id) refl) ∙ ap (λ xs. not_recording view w ∷ xs) (set_like view v on ws is once.1)
+set_like view v on views is once =
+    map-map (not_recording view) (λ (w : View). cond (w.id == v.id) (record v { records = on }) w) views
+    ∙ map_where _ (not_recording view) views (all_weaker (λ (w : View). w.id ≡ view → w ≡ v) _ (λ w same. go w same (w.id == v.id) refl) views once)
   where
-    go : (b : Bool) → (w.id == v.id) ≡ b → not_recording view (cond b (record v { records = on }) w) ≡ not_recording view w
-    go true t =
+    go : (w : View) → (w.id ≡ view → w ≡ v) → (b : Bool) → (w.id == v.id) ≡ b → not_recording view (cond b (record v { records = on }) w) ≡ not_recording view w
+    go w once true t =
         let at : (v.id == view) ≡ true = eq-eqb v.id view is in
-        let same : w ≡ v = once.0 (eqb-true w.id v.id t ∙ is) in
+        let same : w ≡ v = once (eqb-true w.id v.id t ∙ is) in
         let flag : cond (v.id == view) false on ≡ cond (v.id == view) false v.records = rw at refl in
         ap (λ b. record v { records = b }) flag ∙ ap (not_recording view) (sym same)
-    go false t = refl
+    go w once false t = refl
 
 -- a view that stops recording does not record
 stopped_is : (view : ℕ) (v : View) (views : List View) → v.id ≡ view → AllByRecursion (λ (w : View). w.id ≡ view → w ≡ v) views
     → map (not_recording view) views ≡ with_view (record v { records = false }) views
-stopped_is view v [] is once = refl
-stopped_is view v (w ∷ ws) is once =
-    ap (λ x. x ∷ map (not_recording view) ws) (go (w.id == v.id) refl) ∙ ap (λ xs. cond (w.id == v.id) (record v { records = false }) w ∷ xs) (stopped_is view v ws is once.1)
+stopped_is view v views is once =
+    map_where (not_recording view) (λ (w : View). cond (w.id == v.id) (record v { records = false }) w) views
+    (all_weaker (λ (w : View). w.id ≡ view → w ≡ v) _ (λ w same. go w same (w.id == v.id) refl) views once)
   where
-    go : (b : Bool) → (w.id == v.id) ≡ b → not_recording view w ≡ cond b (record v { records = false }) w
-    go true t =
+    go : (w : View) → (w.id ≡ view → w ≡ v) → (b : Bool) → (w.id == v.id) ≡ b → not_recording view w ≡ cond b (record v { records = false }) w
+    go w once true t =
         let at : (v.id == view) ≡ true = eq-eqb v.id view is in
-        let same : w ≡ v = once.0 (eqb-true w.id v.id t ∙ is) in
+        let same : w ≡ v = once (eqb-true w.id v.id t ∙ is) in
         let flag : cond (v.id == view) false v.records ≡ false = rw at refl in
         ap (not_recording view) same ∙ ap (λ b. record v { records = b }) flag
-    go false t =
+    go w once false t =
         let no : (w.id == view) ≡ false = ap (λ n. w.id == n) (sym is) ∙ t in
         let flag : cond (w.id == view) false w.records ≡ w.records = rw no refl in
         ap (λ b. record w { records = b }) flag
@@ -230,16 +227,13 @@ ended_same s t u view sound h k =
     ∙ ap (λ vs. record s { views = vs }) (sym k.views ∙ stopped_is view h.sender s.views (view_id s.views view h.sender h.found) (found_once (λ (v : View). v.id) 0 s.next_view s.views view h.sender sound.view_ids h.found))
     ∙ sym h.same
 
-done_sets : (s : Session) (view : ℕ) (on : Bool) (x : Answered) (done : Session × Response) → x ≡ Ok done → SetBy s view on x → IsSet s view on done.0
-done_sets s view on x done e h = subst (SetBy s view on) e h
-
 pub recordings_can_be_replayed : QueriesLeaveTheSession → MessageKeepsSound → IsSoundInEveryStateFrom → RecordingsCanBeReplayed
 recordings_can_be_replayed leave keeps sound_runs s view start stop messages begun ended sound is_start starts may is_stop stops =
-    let set = done_sets s view true (table s view start) begun starts (message_sets s view start true is_start) in
+    let set = message_sets s view start true begun is_start starts in
     let sound_begun : IsSound begun.0 = subst (λ x. IfOk x (λ (done : Session × Response). IsSound done.0)) starts (keeps s view start sound) in
     let between = (run_to [] (map sent messages) (starting begun.0)).session in
     let sound_between = sound_runs [] (map sent messages) (starting begun.0) sound_begun in
-    let unset = done_sets between view false (table between view stop) ended stops (message_sets between view stop false is_stop) in
+    let unset = message_sets between view stop false ended is_stop stops in
     let replayed = messages_replayed leave view messages (starting begun.0) (starting s) may (begun_records s begun.0 view set) (begun_same s begun.0 view sound set) in
     ended_same between ended.0 _ view sound_between unset replayed
 
@@ -249,33 +243,18 @@ one_at_most : (b : Bool) (m : Message) → length (if_recorded b m []) ≤ 1
 one_at_most true m = omega arith
 one_at_most false m = omega arith
 
-abbrev OneIfAnswered : ℕ → Answered → Type 0
-OneIfAnswered view (Ok done) = RecordsOneAtMost view done.1
-OneIfAnswered view (Err refusal) = Unit {0}
-
-answer_records_one : (view : ℕ) (kind : Kind) (r : Request) (p : Planned) → OneIfAnswered view (answered kind r p)
-answer_records_one view kind r (Err refusal) = tt
-answer_records_one view kind r (Ok p) =
-    subst (λ (ms : List Message). length ms ≤ 1) (sym (recorded_first view kind r (performed r p).1 [] (plans_tell_no_record r p)))
-    (one_at_most ((r.view.records && (marks_of kind).r) && (r.view.id == view)) r.message)
-
-table_records_one : (s : Session) (sender view : ℕ) (m : Message) → OneIfAnswered view (table s sender m)
-table_records_one s sender view m =
-    of_table (OneIfAnswered view) tt tt tt s m sender (λ v sees kind is d finds. answer_records_one view kind (request s v d m) (plan_of kind (request s v d m)))
-
 pub replies_record_one_message : RepliesRecordOneMessage
-replies_record_one_message s sender view m done e = subst (OneIfAnswered view) e (table_records_one s sender view m)
-
-abbrev OneEach : ℕ → List Outcome → Type 0
-OneEach view os = AllByRecursion (RecordsOneAtMost view) (replies_in os)
-
-one_after_command : (files : List (List ℕ)) (c : Command) (s : Running) (view : ℕ) (os : List Outcome) → OneEach view os → OneEach view ((after_command files c s).1 ∷ os)
-one_after_command files c s view os rest =
-    of_any_command (λ (x : Running × Outcome). OneEach view (x.1 ∷ os)) files s (λ refusal. rest) (λ done e. rest) (λ closing t e. rest) (λ value. rest) c
-    (λ sender m done e. (subst (OneIfAnswered view) e (table_records_one s.session sender view m), rest))
+replies_record_one_message s sender view m =
+    of_answer (λ (done : Session × Response). RecordsOneAtMost view done.1) s sender m
+    (λ v kind d p sent.
+    let r = request s v d m in
+    subst (λ (ms : List Message). length ms ≤ 1) (sym (recorded_first view kind r (performed r p).1 [] (plans_tell_no_record r p)))
+    (one_at_most ((v.records && (marks_of kind).r) && (v.id == view)) m))
 
 pub runs_record_one_message_a_reply : RunsRecordOneMessageAReply
 runs_record_one_message_a_reply files [] s view = tt
 runs_record_one_message_a_reply files (c ∷ cs) s view =
     let t = (after_command files c s).0 in
-    one_after_command files c s view (outcomes files cs t) (runs_record_one_message_a_reply files cs t view)
+    let rest = runs_record_one_message_a_reply files cs t view in
+    of_any_command (λ (x : Running × Outcome). AllByRecursion (RecordsOneAtMost view) (replies_in (x.1 ∷ outcomes files cs t))) files s
+    (λ refusal. rest) (λ done e. rest) (λ closing t e. rest) (λ value. rest) c (λ sender m done e. (replies_record_one_message s.session sender view m done e, rest))

@@ -43,7 +43,7 @@ pub use Rattle.ed_types.specs.declared.script.Outcome.TheVariants.{Replied, Refu
 pub use Rattle.ed_model.specs.declared.plan.Edit.{Edit}
 pub use Rattle.ed_model.specs.declared.plan.Follow.{Follow}
 pub use Rattle.ed_model.specs.Numbers.{growth, flag, meets, is_number}
-pub use Rattle.ed_model.specs.proved.Elements.{found_all, all_append}
+pub use Rattle.ed_model.specs.proved.Elements.{found_all, all_append, map_where, all_weaker}
 pub use Rattle.run_laws.specs.MessageKinds.{is_copying, is_about_documents, is_saving, is_about_recording}
 pub use Rattle.ed_types.specs.declared.kind.Kind.TheVariants.{SetSavePoint, EmptyUndoBuffer, ConvertEols, StartRecord, StopRecord, GetModify, SetText, Undo, Redo}
 pub use Rattle.run_laws.specs.SavePointLaws.{SetsNoSavePoint, KeepsTheSavePoint, UnmodifiedIsTheSavedText, GetModifyTells, IsCollected}
@@ -61,3 +61,5 @@ pub use Rattle.ed_model.specs.declared.plan.ViewChange.{ViewChange}
 pub use Rattle.run_laws.specs.MacroLaws.{not_recording, without_recording, CanStandBetween, RecordingsCanBeReplayed, RecordsOneAtMost, RepliesRecordOneMessage, RunsRecordOneMessageAReply}
 pub use Rattle.ed_model.specs.UndoPlans.{text_steps, act_on_history}
 pub use Rattle.ed_model.specs.UndoLaws.{undone_text, redone_text, BegunStepIsOneTransactionMore, JoinedStepKeepsEarlierTexts, BegunContainerStepIsOneTransactionMore, JoinedContainerStepKeepsEarlierTexts, UndoKeepsEarlierTexts, RedoIsOneTransactionMore, SealsKeepEarlierTexts}
+pub use Rattle.std.proofs.lemmas.Result.{IfOk-at_ok}
+pub use Rattle.std.proofs.lemmas.Simd.{map-map}

@@ -1,15 +1,15 @@
 -- Undo and redo lead back to the text of the save point, whatever changes come between.
 use Rattle.run_laws.proofs.Names.{◌≡◌, ℕ, suc, ◌+◌, ◌-◌, ◌≤◌, ◌<◌, nat_lt, cond, Bool, true, false, List, [], ◌∷◌, length, take, replicate, refl, ap, ◌∙◌, sym, subst, arith, inl, inr, Option, Some, None, Ok, ◌⊎◌, ℤ, pos, ◌==◌, ◌&&◌, ◌||◌, not, nat_le, reverse, cases_lt, eqb-true, eqb-false, leb-true, and_parts, ltb-true, Kind, GetModify, SetText, Message, Command, LoadFile, SendMessage, Response, kind_of, marks_of, DocumentChange, Plan, is_number, flag, Step, edited, after_steps, History, Change, Transaction, TextStep, ContainerStep, at_save_point, joins, appended, begins_transaction, reachable, seal_first, sealed_outside_groups, with_container_step, undo_changes, redo_changes, undone, undone_to, redone, redone_from, collecting_set, first_changes, text_steps, Session, Document, View, document_at, view_at, text_of, Request, text, steps_of, Scene, scene_of, document_after, step_made, steps_made, sealed_scene, edit_made, quiet, changed_document, undone_text, redone_text, BegunStepIsOneTransactionMore, JoinedStepKeepsEarlierTexts, BegunContainerStepIsOneTransactionMore, JoinedContainerStepKeepsEarlierTexts, UndoKeepsEarlierTexts, RedoIsOneTransactionMore, SealsKeepEarlierTexts, table, request, with_recording, record_note, IsSound, IsSoundDocument, CommandKeepsSound, IsSoundRequest, IsFitPlan, PlansFit, EditStepsFit, UndoStepsFit, RedoStepsFit, Running, after_command, set_text_message, run_to, found_all, document_id, found_below, text_of_styled, is_saving, SetsNoSavePoint, IsCollected, KeepsTheSavePoint, UnmodifiedIsTheSavedText, GetModifyTells}
-use Rattle.ed_model.specs.declared.plan.DocumentChange.TheVariants as document_change
-use Rattle.ed_model.specs.declared.plan.Plan.TheVariants as plan
 use Rattle.ed_model.specs.StepLaws.{CellsFollowBytes}
 use Rattle.ed_model.specs.HistoryLaws.{SameButForSeals, SealsChangeNoChange, GroupBegunChangesNoChange, GroupEndedChangesNoChange, AppendKeepsAllButThePast, AppendJoins, NothingJoinsNone, AppendCounts, NotCollectingAppendsNothing}
 use Rattle.ed_model.specs.InverseLaws.{Fits, FitInTurn, after_undo, after_redo, UndoMakesItsSteps, RedoMakesItsSteps, UndoThenRedoGivesBackTheText}
 use Rattle.ed_model.specs.proved.Histories.{same_length, sealed_length}
 use Rattle.ed_model.specs.proved.Steps.{fit_in_turn}
+use Rattle.ed_model.specs.declared.plan.DocumentChange.TheVariants as document_change
+use Rattle.ed_model.specs.declared.plan.Plan.TheVariants as plan
 use Rattle.run_laws.proofs.Choices.{either}
 use Rattle.run_laws.proofs.TableWays.{table_at, OfMessages}
-use Rattle.run_laws.proofs.PlanShapes.{Leave, KeepsTo, IsShaped, leave_of, plan_is_shaped}
+use Rattle.run_laws.proofs.PlanShapes.{Leave, KeepsTo, leave_of}
 use Rattle.run_laws.proofs.Going.{own_after, AllFrom, From, MayGo, command_from}
 use Rattle.run_laws.proofs.IdLemmas.{document_ids_never_come_back, next_document_rises}
 
@@ -335,34 +335,22 @@ module _ (c : Cited) (saved : List ℕ) where
   abbrev Keeps : ℕ → Document → Document → Type 0
   Keeps id d e = d.id ≡ id → ((d.history.collecting ≡ true) ⊎ (text_of e ≡ text_of d)) → SavedIn saved d → SavedIn saved e
 
-  abbrev keeps_same : (id : ℕ) (d : Document) → Keeps id d d
-  keeps_same id d own may s = s
-
-  abbrev keeps_relisted : (id : ℕ) (d e : Document) (views : List ℕ) (held_by_callers : ℕ) → Keeps id d e → Keeps id d (record e { views = views; held_by_callers = held_by_callers })
-  keeps_relisted id d e views held_by_callers k own may s = k own may s
-
-  abbrev Go : ℕ → Session → Session → Type 0
-  Go id s t = AllFrom (Keeps id) (keeps_same id) (keeps_relisted id) s.next_document s.documents t.documents
-
   message_keeps : (id : ℕ) (s : Session) (view : ℕ) (m : Message)
       → ((v : View) (kind : Kind) → view_at s.views view ≡ Some v → v.document ≡ id → kind_of m.number ≡ Some kind → is_saving kind ≡ false)
-      → MayGo (Keeps id) (keeps_same id) (keeps_relisted id) s view m
-  message_keeps id s view m barred kind r p sent own may saved_there =
-      let h : IsSoundRequest r = sent.0 in
-      let here : r.view.document ≡ id = sym (document_id r.session.documents r.view.document r.document h.document) ∙ own in
-      let shaped : IsShaped (leave_of kind) (Ok p) = subst (IsShaped (leave_of kind)) sent.5 (plan_is_shaped kind r) in
-      own_saved r p (leave_of kind) (barred r.view kind sent.2 here sent.4) shaped h
-      (found_all (IsSoundDocument r.session.limits) (λ (d : Document). d.id == r.view.document) r.session.documents r.document h.sound.documents h.document)
-      sent.6 may saved_there
+      → MayGo (Keeps id) s view m
+  message_keeps id s view m barred v kind d p sent h fit own may saved_there =
+      own_saved (request s v d m) p (leave_of kind) (barred v kind sent.sees (sym (document_id s.documents v.document d sent.finds) ∙ own) sent.is) sent.keeps h
+      (found_all (IsSoundDocument s.limits) (λ (d : Document). d.id == v.document) s.documents d h.sound.documents sent.finds) fit may saved_there
 
   command_goes : (files : List (List ℕ)) (id : ℕ) (command : Command) (s : Running) → IsSound s.session → SetsNoSavePoint id s.session command
-      → Go id s.session (after_command files command s).0.session
-  command_goes files id command s sound none = command_from (Keeps id) (keeps_same id) (keeps_relisted id) c.fits files command s sound (go command none)
+      → AllFrom (Keeps id) s.session (after_command files command s).0.session
+  command_goes files id command s sound none =
+      command_from (Keeps id) (λ d own may s. s) (λ d e views held_by_callers k. k) c.fits files command s sound (go command none)
     where
       set_text_saves_nothing : (bytes : List ℕ) (kind : Kind) → kind_of (set_text_message bytes).number ≡ Some kind → is_saving kind ≡ false
       set_text_saves_nothing bytes kind is = let same : SetText ≡ kind = cc in subst (λ (k : Kind). is_saving k ≡ false) same refl
 
-      go : (command : Command) → SetsNoSavePoint id s.session command → OfMessages (MayGo (Keeps id) (keeps_same id) (keeps_relisted id) s.session) command
+      go : (command : Command) → SetsNoSavePoint id s.session command → OfMessages (MayGo (Keeps id) s.session) command
       go (SendMessage view m) none = message_keeps id s.session view m none
       go (LoadFile view file) none = λ bytes. message_keeps id s.session view (set_text_message bytes) (λ w kind sees on is. set_text_saves_nothing bytes kind is)
       go _ none = tt
@@ -376,7 +364,7 @@ module _ (c : Cited) (saved : List ℕ) where
       (λ x sound_after found_after there_after. run_saved keeps files cs t id x e sound_after found_after there_after kept.2 still)
     where
       go : (o : Option Document) → document_at (after_command files command s).0.session.documents id ≡ o → IsCollected (document_at s.session.documents id) (document_at (after_command files command s).0.session.documents id)
-          → IsSound (after_command files command s).0.session → Go id s.session (after_command files command s).0.session
+          → IsSound (after_command files command s).0.session → AllFrom (Keeps id) s.session (after_command files command s).0.session
           → ((x : Document) → IsSound (after_command files command s).0.session → document_at (after_command files command s).0.session.documents id ≡ Some x → SavedIn saved x → SavedIn saved e) → SavedIn saved e
       go None gone may sound_after on rest =
           let t = (after_command files command s).0 in
@@ -385,8 +373,7 @@ module _ (c : Cited) (saved : List ℕ) where
           let none = document_ids_never_come_back c.fits keeps files cs t id sound_after (omega arith) gone in
           absurd (cc)
       go (Some x) here may sound_after on rest =
-          let from : From (Keeps id) (keeps_same id) (keeps_relisted id) s.session.next_document (Some d) x =
-          subst (λ (o : Option Document). From (Keeps id) (keeps_same id) (keeps_relisted id) s.session.next_document o x) found (on id x here) in
+          let from : From (Keeps id) s.session.next_document (Some d) x = subst (λ (o : Option Document). From (Keeps id) s.session.next_document o x) found (on id x here) in
           let collected : IsCollected (Some d) (Some x) = subst (λ (o : Option Document). IsCollected o (Some x)) found (subst (IsCollected (document_at s.session.documents id)) here may) in
           rest x sound_after here (from (document_id s.session.documents id d found) collected there)
 

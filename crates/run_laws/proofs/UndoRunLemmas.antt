@@ -1,10 +1,10 @@
 -- UNDO and REDO between other commands: each UNDO and REDO is answered, and all other commands leave the document alone.
 use Rattle.run_laws.proofs.Names.{◌≡◌, ℕ, zero, suc, ◌≤◌, ◌<◌, cond, Bool, true, false, List, [], ◌∷◌, length, refl, ap, ◌∙◌, sym, subst, arith, inl, inr, Option, Some, None, Ok, Err, Kind, Undo, Redo, Message, TooLong, Command, LoadFile, SendMessage, Outcome, Response, kind_of, Plan, History, Change, can_undo, can_redo, undo_changes, redo_changes, Session, View, Document, view_at, document_at, text_of, new_session, limit_of, Request, size, stays_within, act_on_history, text_steps, table, answered, plan_of, request, Answered, LeavesSession, QueriesLeaveTheSession, IsSound, CommandKeepsSound, IsSoundInEveryState, undone_text, PlansFit, Running, starting, after_command, after_message, set_text_message, run_to, found_below, same_document}
-use Rattle.ed_model.specs.declared.plan.Plan.TheVariants as plan
 use Rattle.ed_model.specs.RunUndoLaws.{UndoGoesBackInEveryRun}
 use Rattle.ed_model.specs.UndoMessageLaws.{IsNeverTooLong, UndoIsNeverTooLong, RedoIsNeverTooLong}
 use Rattle.ed_model.specs.RepeatedUndoLaws.{IsLeftAlone, LeavesAlone, MessagesLeaveOtherDocumentsAlone, OpeningLeavesDocumentsAlone, ClosingLeavesDocumentsAlone, AreAnswered, HasText, UndosGoBackThenRedosGoOn, UndoMessagesGoBack}
 use Rattle.run_laws.specs.UndoRunLaws.{Acts, GoesToOthers, GoesAside, Act, UndoGoesBackOverCommands}
+use Rattle.ed_model.specs.declared.plan.Plan.TheVariants as plan
 use Rattle.run_laws.proofs.TableWays.{of_table, table_at, OfMessages, of_command}
 use Rattle.run_laws.proofs.IdLemmas.{document_ids_never_come_back, next_document_rises}
 
@@ -71,8 +71,8 @@ LeavesItAlone id s t = (d e : Document) → document_at s.documents id ≡ Some 
 others_alone : MessagesLeaveOtherDocumentsAlone → (id : ℕ) (s : Session) (view : ℕ) (m : Message) → IsSound s → GoesToOthers id s view
     → (done : Session × Response) → table s view m ≡ Ok done → LeavesItAlone id s done.0
 others_alone law id s view m sound others done is =
-    of_table (λ x. x ≡ Ok done → LeavesItAlone id s done.0) (λ e. absurd (cc)) (λ e. absurd (cc)) (λ e. absurd (cc)) s m view
-    (λ v sees kind is_kind c finds e d f found still. law s view m v done sound sees is id d f (λ same. others v sees (sym same)) found still) is
+    of_table (λ (x : Answered). x ≡ Ok done → LeavesItAlone id s done.0) (λ refusal other e. absurd (cc)) s view m
+    (λ v kind c p sent e d f found still. law s view m v done sound sent.sees is id d f (λ same. others v sent.sees (sym same)) found still) is
 
 aside_alone : Cited → (files : List (List ℕ)) (id : ℕ) (c : Command) (s : Running) → IsSound s.session → GoesAside id s.session c → LeavesItAlone id s.session (after_command files c s).0.session
 aside_alone laws files id c s sound aside =
