@@ -1,23 +1,18 @@
 -- Each message marked E makes an attempt to edit a read-only document in which it has something to edit: computed for all kinds at once.
-use Rattle.run_laws.proofs.Names.{◌≡◌, ℕ, Bool, true, false, cond, List, [], ◌∷◌, refl, subst, ◌∙◌, Option, Some, None, ◌==◌, find, list_all, option_or, and_parts, Kind, number_of, marks_of, kind_in, kind_among, groups, Session, table, something_to_edit, with_ones, tells_attempt, MarkedMessagesTellAttempts}
+use Rattle.run_laws.proofs.Names.{◌≡◌, ℕ, Bool, true, cond, List, [], ◌∷◌, refl, subst, ◌∙◌, Option, Some, None, ◌==◌, list_all, option_or, and_parts, Kind, number_of, marks_of, kind_in, kind_among, groups, Session, table, something_to_edit, with_ones, tells_attempt, MarkedMessagesTellAttempts, AllByRecursion, found_all}
 use Rattle.ed_types.specs.MessagesLaws.{EachKindIsFound}
 
 -- What a test finds for all kinds holds for each kind.
 
-of_found : (test sought : Kind → Bool) (ks : List Kind) (kind : Kind) → list_all test ks ≡ true → find sought ks ≡ Some kind → test kind ≡ true
-of_found test sought [] kind all e = absurd (cc)
-of_found test sought (k ∷ ks) kind all e =
-    let parts = and_parts (test k) (list_all test ks) all in go (sought k) e parts.0 (λ f. of_found test sought ks kind parts.1 f)
-  where
-    go : (b : Bool) → cond b (Some k) (find sought ks) ≡ Some kind → test k ≡ true → (find sought ks ≡ Some kind → test kind ≡ true) → test kind ≡ true
-    go true f here later = let same : k ≡ kind = cc in subst (λ (x : Kind). test x ≡ true) same here
-    go false f here later = later f
+all_pass : (test : Kind → Bool) (ks : List Kind) → list_all test ks ≡ true → AllByRecursion (λ (k : Kind). test k ≡ true) ks
+all_pass test [] all = tt
+all_pass test (k ∷ ks) all = let parts = and_parts (test k) (list_all test ks) all in (parts.0, all_pass test ks parts.1)
 
 of_group : (test : Kind → Bool) (gs : List (List Kind)) (number : ℕ) (kind : Kind) → list_all (list_all test) gs ≡ true → kind_in gs number ≡ Some kind → test kind ≡ true
 of_group test [] number kind all e = absurd (cc)
 of_group test (g ∷ gs) number kind all e =
     let parts = and_parts (list_all test g) (list_all (list_all test) gs) all in
-    go (kind_among g number) refl e (of_found test (λ (k : Kind). number_of k == number) g kind parts.0) (of_group test gs number kind parts.1)
+    go (kind_among g number) refl e (found_all (λ (k : Kind). test k ≡ true) (λ (k : Kind). number_of k == number) g kind (all_pass test g parts.0)) (of_group test gs number kind parts.1)
   where
     go : (o : Option Kind) → kind_among g number ≡ o → option_or o (kind_in gs number) ≡ Some kind → (kind_among g number ≡ Some kind → test kind ≡ true)
         → (kind_in gs number ≡ Some kind → test kind ≡ true) → test kind ≡ true

@@ -20,24 +20,20 @@ IsFound levels line m None = (k : ℕ) → k < m → is_parent_of levels line k 
 IsFound levels line m (Some parent) = (parent < m) × (is_parent_of levels line parent ≡ true) × NoneFrom levels line parent m
 
 -- one more line is searched
-found_next : (levels : List ℕ) (line m : ℕ) (b : Bool) (o : Option ℕ) → is_parent_of levels line m ≡ b → IsFound levels line m o → IsFound levels line (suc m) (cond b (Some m) o)
-found_next levels line m true o e h = (omega arith, e, λ k a c. absurd (omega arith))
-found_next levels line m false None e h = λ k c.
+one_more : (P : ℕ → Type 0) (m : ℕ) → P m → ((k : ℕ) → k < m → P k) → (k : ℕ) → k < suc m → P k
+one_more P m here before k h =
     elim (cases_order k m) [
-      | inl same ↦ ap (is_parent_of levels line) same ∙ e
-      | inr (inl less) ↦ h k less
+      | inl same ↦ subst P (sym same) here
+      | inr (inl less) ↦ before k less
       | inr (inr more) ↦ absurd (omega arith)
     ]
-found_next levels line m false (Some parent) e h = (
-  (let before = h.0 in omega arith),
-  h.1,
-  λ k a c.
-      elim (cases_order k m) [
-        | inl same ↦ ap (is_parent_of levels line) same ∙ e
-        | inr (inl less) ↦ h.2 k a less
-        | inr (inr more) ↦ absurd (omega arith)
-      ],
-)
+
+found_next : (levels : List ℕ) (line m : ℕ) (b : Bool) (o : Option ℕ) → is_parent_of levels line m ≡ b → IsFound levels line m o → IsFound levels line (suc m) (cond b (Some m) o)
+found_next levels line m true o e h = (omega arith, e, λ k a c. absurd (omega arith))
+found_next levels line m false None e h = one_more (λ k. is_parent_of levels line k ≡ false) m e h
+found_next levels line m false (Some parent) e h =
+    let before = h.0 in
+    (omega arith, h.1, λ k a c. one_more (λ n. parent < n → is_parent_of levels line n ≡ false) m (λ more. e) (λ n less more. h.2 n more less) k c a)
 
 found : (levels : List ℕ) (line m : ℕ) → IsFound levels line m (parent_before levels line m)
 found levels line zero = λ k h. absurd (omega arith)

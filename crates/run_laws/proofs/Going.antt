@@ -39,6 +39,7 @@ abbrev pub From : (Document → Document → Type 0) → ℕ → Option Document
 From Goes next None e = (next ≤ e.id) × IsMadeNew e
 From Goes next (Some d) e = Goes d e
 
+-- all these documents come so from those of the session
 abbrev AllIn : (Document → Document → Type 0) → Session → List Document → Type 0
 AllIn Goes s es = (id : ℕ) (e : Document) → document_at es id ≡ Some e → From Goes s.next_document (document_at s.documents id) e
 

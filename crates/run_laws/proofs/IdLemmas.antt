@@ -1,5 +1,5 @@
 -- The next ids, and the ids of documents and views, after each command.
-use Rattle.run_laws.proofs.Names.{◌≡◌, ℕ, ◌+◌, ◌≤◌, ◌<◌, nat_lt, cond, Bool, true, false, List, [], ◌∷◌, ◌++◌, length, map, refl, ap, ◌∙◌, sym, subst, arith, Option, Some, None, Result, Ok, Err, ◌==◌, find, filter, not, nat_le, ◌||◌, option_map, option_or, ne_eqb, Message, Refusal, TooMany, Command, Outcome, Plan, Session, Document, View, document_at, view_at, new_document, new_view, attached_to, Request, text, steps_of, levels, scene_of, session_of, edit_made, followed, view_after, changed_lines, changed_view, with_attached, with_new_document, table, performed, request, opened, closed_view, Running, after_command, run_to, outcomes, IsSound, Rise, CommandKeepsSound, PlansFit, document_id, ids_of, same_ids, with_view_ids, view_after_id, changed_lines_id, IfOk, IfOk-at_ok, Response}
+use Rattle.run_laws.proofs.Names.{◌≡◌, ℕ, ◌+◌, ◌≤◌, ◌<◌, nat_lt, cond, Bool, true, false, List, [], ◌∷◌, ◌++◌, length, map, refl, ap, ◌∙◌, sym, subst, arith, Option, Some, None, Result, Ok, Err, ◌==◌, find, filter, not, nat_le, ◌||◌, option_map, option_or, ne_eqb, Message, Refusal, TooMany, Command, Outcome, Plan, Session, Document, View, document_at, view_at, new_document, new_view, attached_to, Request, text, steps_of, levels, scene_of, session_of, edit_made, followed, view_after, changed_lines, changed_view, with_attached, with_new_document, table, performed, request, opened, closed_view, Running, after_command, run_to, outcomes, IsSound, Rise, CommandKeepsSound, PlansFit, document_id, ids_of, same_ids, with_view_ids, view_after_id, changed_lines_id, IfOk, IfOk-at_ok, Response, found_below}
 use Rattle.std.proofs.lemmas.List.Folds.{find-append}
 use Rattle.run_laws.specs.IdLaws.{DocumentIdsNeverComeBack, ViewIdsNeverComeBack, NextIdsNeverFall, OpenedIdsRise, opened_ids}
 use Rattle.ed_model.specs.declared.plan.SessionChange.TheVariants as session_change
@@ -182,6 +182,24 @@ document_ids_never_come_back fits keeps files (c ∷ cs) s id sound below none =
     let first = command_goes files c s in
     document_ids_never_come_back fits keeps files cs t id (keeps files c s sound) (omega (arith, first.next_document))
     (none_again s.session t.session id (command_goes_on fits files c s sound) below none)
+
+-- a document that exists after some commands, and whose id was given before them, existed before them
+pub there_before : PlansFit → CommandKeepsSound → (files : List (List ℕ)) (cs : List Command) (s : Running) (id : ℕ) (x : Document) → IsSound s.session → id < s.session.next_document
+    → document_at (run_to files cs s).session.documents id ≡ Some x → (d : Document) × (document_at s.session.documents id ≡ Some d)
+there_before fits keeps files cs s id x sound below end = go (document_at s.session.documents id) refl
+  where
+    go : (o : Option Document) → document_at s.session.documents id ≡ o → (d : Document) × (document_at s.session.documents id ≡ Some d)
+    go (Some d) there = (d, there)
+    go None gone = let none = document_ids_never_come_back fits keeps files cs s id sound below gone in absurd (cc)
+
+-- .. so a document that exists before a command and after further ones exists between
+pub still_there : PlansFit → CommandKeepsSound → (files : List (List ℕ)) (c : Command) (cs : List Command) (s : Running) (id : ℕ) (d e : Document) → IsSound s.session
+    → document_at s.session.documents id ≡ Some d → document_at (run_to files cs (after_command files c s).0).session.documents id ≡ Some e
+    → (x : Document) × (document_at (after_command files c s).0.session.documents id ≡ Some x)
+still_there fits keeps files c cs s id d e sound found end =
+    let below = found_below 0 s.session.next_document s.session.documents id d sound.document_ids found in
+    let rises = next_document_rises files c s in
+    there_before fits keeps files cs (after_command files c s).0 id e (keeps files c s sound) (omega arith) end
 
 pub view_ids_never_come_back : ViewIdsNeverComeBack
 view_ids_never_come_back files [] s id below none = none

@@ -1,5 +1,5 @@
 -- Two sessions that agree on a document: messages to its views do the same in both, and other messages leave it alone in each.
-use Rattle.run_laws.proofs.Names.{◌≡◌, ℕ, ◌==◌, nat_lt, cond, Bool, true, false, List, [], ◌∷◌, ◌++◌, length, map, refl, ap, ◌∙◌, sym, subst, Option, Some, None, Ok, Err, ℤ, pos, bit_or, reverse, option_map, not, AllByRecursion, eqb-true, eqb-false, not-true, not-false, Outcome, Replied, Refused, NoSuchView, Kind, Message, Notice, Response, kind_of, Edit, Follow, Plan, growth, Step, replacement, History, Change, TextStep, ContainerStep, undo_changes, redo_changes, undone, redone, latest_text_step, at_save_point, begins_transaction, Session, Document, View, document_at, view_at, with_document, with_view, watching, lines_in, Request, Planned, text, steps_of, source_bytes, converted_if, levels, Scene, scene_of, session_of, document_after, view_after, step_made, sealed_scene, edit_made, followed, with_caret, caret_behind, leaving, change_performed, changes_performed, transaction_performed, save_point_change, history_performed, place_behind, container_note, last_bits, response, changed_document, changed_lines, changed_view, change_told, table, answered, with_recording, plan_of, performed, request, table_from_view, table_from_kind, table_from_document, Answered, IsSound, IsViewOn, ListsItsViews, CommandKeepsSound, Running, starting, after_command, after_message, outcomes, run_to, found_all, document_id, view_id, replaced_found, mapped_found, found_once, IsOwner, view_after_id, changed_lines_id, view_after_document, is_copying, is_about_documents, Sending, sent, shows_other, goes_elsewhere, unless, without_others, own_outcomes, KeepsApart, DocumentsAreApart}
+use Rattle.run_laws.proofs.Names.{◌≡◌, ℕ, ◌==◌, nat_lt, cond, Bool, true, false, List, [], ◌∷◌, ◌++◌, length, map, refl, ap, ◌∙◌, sym, subst, Option, Some, None, Ok, Err, ℤ, pos, bit_or, reverse, option_map, not, AllByRecursion, eqb-true, eqb-false, not-true, not-false, Outcome, Replied, Refused, NoSuchView, Kind, Message, Notice, Response, kind_of, Edit, Follow, Plan, growth, Step, replacement, History, Change, TextStep, ContainerStep, undo_changes, redo_changes, undone, redone, latest_text_step, at_save_point, begins_transaction, Session, Document, View, document_at, view_at, with_document, with_view, watching, lines_in, Request, Planned, text, steps_of, source_bytes, converted_if, levels, Scene, scene_of, session_of, document_after, view_after, step_made, sealed_scene, edit_made, followed, with_caret, caret_behind, leaving, change_performed, changes_performed, transaction_performed, save_point_change, history_performed, place_behind, container_note, last_bits, response, changed_document, changed_lines, changed_view, change_told, table, answered, with_recording, plan_of, performed, request, table_from_view, table_from_kind, table_from_document, Answered, IsSound, IsViewOn, ListsItsViews, CommandKeepsSound, Running, starting, after_command, after_message, outcomes, run_to, found_all, document_id, view_id, replaced_found, mapped_found, found_once, IsOwner, view_after_id, changed_lines_id, view_after_document, is_copying, is_about_documents, Sending, sent, shows_other, goes_elsewhere, unless, without_others, own_outcomes, KeepsApart, DocumentsAreApart, changed_lines_document}
 use Rattle.ed_types.specs.declared.limits.Limits.{Limits}
 use Rattle.ed_model.specs.declared.plan.Source.{Source}
 use Rattle.ed_model.specs.declared.plan.Edit.TheVariants as edit
@@ -8,11 +8,11 @@ use Rattle.ed_model.specs.declared.plan.Follow.TheVariants as follow
 use Rattle.ed_model.specs.declared.plan.SessionChange.TheVariants as session_change
 use Rattle.ed_model.specs.declared.plan.Plan.TheVariants as plan
 use Rattle.ed_model.specs.Notes as notes
-use Rattle.run_laws.proofs.Walks.{sender_keeps, lines_keep, edit_related, changes_related}
+use Rattle.run_laws.proofs.Walks.{sender_keeps, edit_related, changes_related}
 use Rattle.run_laws.proofs.TableWays.{of_table}
 use Rattle.run_laws.proofs.Going.{own_id}
 use Rattle.run_laws.proofs.PlanShapes.{Leave, KeepsTo, IsShaped, leave_of, plan_is_shaped, same_plan, same_converted}
-use Rattle.run_laws.proofs.Alike.{IsAlike, AreAlike, alike_same, all_alike, alike_turned, alike_through, alike_both, alike_kept, FoundAlike, found_alike, own_found, none_found, watching_alike, views_on_alike}
+use Rattle.run_laws.proofs.Alike.{IsAlike, AreAlike, alike_same, all_alike, alike_turned, alike_through, alike_both, alike_kept, FoundAlike, found_alike, own_found, none_found, watching_alike, views_on_alike, neither, both}
 use Rattle.run_laws.proofs.LeavingLemmas.{performed_leaves_views, performed_leaves_document, performed_leaves_clipboard, performed_leaves_limits}
 
 abbrev Alike : ℕ → List View → List View → Type 0
@@ -37,9 +37,6 @@ listed_after id f same on views [] all = tt
 listed_after id f same on views (k ∷ ks) all =
     ((f all.0.0, mapped_found (λ (v : View). v.id) f same views k ∙ ap (option_map f) all.0.1, on all.0.0 ∙ all.0.2), listed_after id f same on views ks all.1)
 
-step_alike : (id : ℕ) (step : Step) (d : Document) (vs ws : List View) → Alike id vs ws → Alike id (map (view_after step d) vs) (map (view_after step d) ws)
-step_alike id step d vs ws h = alike_both (λ n. n ≡ id) (view_after step d) (alike_kept (λ n. n ≡ id) (view_after step d) (view_after_id step d) (view_after_document step d)) vs ws h
-
 -- the notes of a step to these views
 abbrev step_told : ℕ → ℕ → List Notice → Step → Document → List Notice → List View → List Notice
 step_told before after between step d earlier views =
@@ -52,8 +49,8 @@ moved_same : (id : ℕ) (step : Step) (a b : Scene) (new : Document) (told : Lis
     (record { document = new; views = map (view_after step a.document) b.views; notes = told (watching b.views a.document) })
 moved_same id step a b new told same h = record {
   document = refl;
-  notes = ap told (watching_alike id a.views b.views a.document.views h.views h.listed);
-  views = step_alike id step a.document a.views b.views h.views;
+  notes = ap told (watching_alike id a.document.views h.views h.listed);
+  views = alike_kept (view_after step a.document) (view_after_id step a.document) (view_after_document step a.document) h.views;
   listed = subst (AllByRecursion (IsViewOn (map (view_after step a.document) a.views) id)) (sym same)
       (listed_after id (view_after step a.document) (view_after_id step a.document) (view_after_document step a.document) a.views a.document.views h.listed);
 }
@@ -70,9 +67,6 @@ sealed_same id a b h =
     subst (λ (x : Scene). SameScenes id (sealed_scene a) (sealed_scene x)) (sym (as_first id a b h))
     (record { document = refl; notes = refl; views = h.views; listed = h.listed })
 
-edit_same : (id : ℕ) (steps : List Step) (a b : Scene) → SameScenes id a b → SameScenes id (edit_made steps a) (edit_made steps b)
-edit_same id steps a b h = edit_related (SameScenes id) (step_same id) (sealed_same id) steps a b h
-
 change_same : (id who several : ℕ) (last lines_changed : Bool) (c : Change) (a b : Scene) → SameScenes id a b
     → SameScenes id (change_performed who several last lines_changed c a) (change_performed who several last lines_changed c b)
 change_same id who several last lines_changed (TextStep step) a b h =
@@ -83,7 +77,7 @@ change_same id who several last lines_changed (ContainerStep token coalesce) a b
     subst (λ (x : Scene). SameScenes id (change_performed who several last lines_changed (ContainerStep token coalesce) a) (change_performed who several last lines_changed (ContainerStep token coalesce) x)) (sym (as_first id a b h))
     (record {
       document = refl;
-      notes = ap (λ (w : List View). a.notes ++ notes.heard w (container_note (bit_or (bit_or who several) (last_bits last lines_changed)) token)) (watching_alike id a.views b.views a.document.views h.views h.listed);
+      notes = ap (λ (w : List View). a.notes ++ notes.heard w (container_note (bit_or (bit_or who several) (last_bits last lines_changed)) token)) (watching_alike id a.document.views h.views h.listed);
       views = h.views;
       listed = h.listed;
     })
@@ -96,7 +90,7 @@ transaction_same id who cs new a b h =
     let y = changes_performed who several false cs b in
     let k : SameScenes id x y = changes_related (SameScenes id) (λ x y same. same.document) (change_same id) who several false cs a b h in
     let heard : watching y.views y.document ≡ watching x.views x.document =
-    ap (watching y.views) k.document ∙ watching_alike id x.views y.views x.document.views k.views k.listed in
+    ap (watching y.views) k.document ∙ watching_alike id x.document.views k.views k.listed in
     record {
       document = ap (λ (d : Document). record d { history = new }) k.document;
       notes = ap (λ (ns : List Notice). ns ++ save_point_change (watching y.views y.document) (at_save_point b.document.history) (at_save_point new)) k.notes
@@ -114,62 +108,58 @@ record Agree (id : ℕ) (s t : Session) : Type 0 where
   limits : t.limits ≡ s.limits
 
 agree_same : (id : ℕ) (s : Session) → Agree id s s
-agree_same id s = record { document = refl; views = all_alike (λ n. n ≡ id) s.views; clipboard = refl; limits = refl }
+agree_same id s = record { document = refl; views = all_alike s.views; clipboard = refl; limits = refl }
 
 -- if a message leaves the document alone in the first session, the session after it still agrees with the second
 agree_left : (id : ℕ) (s u t : Session) → Agree id s u → Agree id s t → Agree id u t
 agree_left id s u t h k = record {
   document = k.document ∙ sym h.document;
-  views = alike_through (λ n. n ≡ id) u.views s.views t.views (alike_turned (λ n. n ≡ id) s.views u.views h.views) k.views;
+  views = alike_through (alike_turned h.views) k.views;
   clipboard = k.clipboard ∙ sym h.clipboard;
   limits = k.limits ∙ sym h.limits;
 }
 
-sender_alike : (id : ℕ) (f : View → View) → ((v : View) → (f v).id ≡ v.id) → ((v : View) → (f v).document ≡ v.document) → (sender : ℕ) (vs ws : List View) → Alike id vs ws
+sender_alike : (id : ℕ) (f : View → View) → ((v : View) → (f v).id ≡ v.id) → ((v : View) → (f v).document ≡ v.document) → (sender : ℕ) {vs ws : List View} → Alike id vs ws
     → Alike id (map (λ (v : View). cond (v.id == sender) (f v) v) vs) (map (λ (v : View). cond (v.id == sender) (f v) v) ws)
-sender_alike id f same on sender vs ws h =
-    let g : View → View = λ (v : View). cond (v.id == sender) (f v) v in
-    alike_both (λ n. n ≡ id) g
-    (alike_kept (λ n. n ≡ id) g (sender_keeps (λ (w : View). w.id) f same sender) (sender_keeps (λ (w : View). w.document) f on sender)) vs ws h
+sender_alike id f same on sender h =
+    alike_kept (λ (v : View). cond (v.id == sender) (f v) v) (sender_keeps (λ (w : View). w.id) f same sender) (sender_keeps (λ (w : View). w.document) f on sender) h
 
-caret_alike : (id sender place : ℕ) (vs ws : List View) → Alike id vs ws → Alike id (with_caret sender place vs) (with_caret sender place ws)
-caret_alike id sender place vs ws h = sender_alike id (λ (v : View). record v { anchor = place; caret = place }) (λ v. refl) (λ v. refl) sender vs ws h
+caret_alike : (id sender place : ℕ) {vs ws : List View} → Alike id vs ws → Alike id (with_caret sender place vs) (with_caret sender place ws)
+caret_alike id sender place h = sender_alike id (λ (v : View). record v { anchor = place; caret = place }) (λ v. refl) (λ v. refl) sender h
 
-behind_alike : (id sender : ℕ) (o : Option Step) (vs ws : List View) → Alike id vs ws → Alike id (caret_behind sender o vs) (caret_behind sender o ws)
-behind_alike id sender None vs ws h = h
-behind_alike id sender (Some step) vs ws h = caret_alike id sender (place_behind step) vs ws h
+behind_alike : (id sender : ℕ) (o : Option Step) {vs ws : List View} → Alike id vs ws → Alike id (caret_behind sender o vs) (caret_behind sender o ws)
+behind_alike id sender None h = h
+behind_alike id sender (Some step) h = caret_alike id sender (place_behind step) h
 
 followed_agree : (id view : ℕ) (before : List ℕ) (after : Follow) (s t : Session) → Agree id s t → Agree id (followed view before after s) (followed view before after t)
 followed_agree id view before follow.Nothing s t h = h
-followed_agree id view before (follow.Caret place) s t h = record { document = h.document; views = caret_alike id view place s.views t.views h.views; clipboard = h.clipboard; limits = h.limits }
+followed_agree id view before (follow.Caret place) s t h = record { document = h.document; views = caret_alike id view place h.views; clipboard = h.clipboard; limits = h.limits }
 followed_agree id view before (follow.Target start past) s t h =
-    record { document = h.document; views = sender_alike id (λ (v : View). record v { target_start = start; target_end = past }) (λ v. refl) (λ v. refl) view s.views t.views h.views; clipboard = h.clipboard; limits = h.limits }
+    record { document = h.document; views = sender_alike id (λ (v : View). record v { target_start = start; target_end = past }) (λ v. refl) (λ v. refl) view h.views; clipboard = h.clipboard; limits = h.limits }
 followed_agree id view before (follow.Clipboard start count) s t h = record { document = h.document; views = h.views; clipboard = refl; limits = h.limits }
 
 -- the same replacement of the document in both sessions
-replaced_agree : (id : ℕ) (s t : Session) (old new new' : Document) → document_at s.documents id ≡ Some old → document_at t.documents id ≡ Some old → new.id ≡ id → new' ≡ new
-    → document_at (with_document new' t.documents) id ≡ document_at (with_document new s.documents) id
-replaced_agree id s t old new new' in_s in_t is same =
-    ap (λ (d : Document). document_at (with_document d t.documents) id) same
-    ∙ replaced_found t.documents id old new is in_t ∙ sym (replaced_found s.documents id old new is in_s)
+replaced_agree : (id : ℕ) (s t : Session) (old new : Document) → Agree id s t → document_at s.documents id ≡ Some old → new.id ≡ id
+    → document_at (with_document new t.documents) id ≡ document_at (with_document new s.documents) id
+replaced_agree id s t old new h found is = replaced_found t.documents id old new is (h.document ∙ found) ∙ sym (replaced_found s.documents id old new is found)
 
 -- scenes that are the same, put back into the two sessions
 scenes_agree : (id : ℕ) (s t : Session) (old : Document) (a b : Scene) → Agree id s t → document_at s.documents id ≡ Some old → a.document.id ≡ id → SameScenes id a b
     → Agree id (session_of s a) (session_of t b)
 scenes_agree id s t old a b h found is same = record {
-  document = replaced_agree id s t old a.document b.document found (h.document ∙ found) is same.document;
+  document = ap (λ (d : Document). document_at (with_document d t.documents) id) same.document ∙ replaced_agree id s t old a.document h found is;
   views = same.views;
   clipboard = h.clipboard;
   limits = h.limits;
 }
 
-put_alike : (id : ℕ) (new : View) (vs ws : List View) → Alike id vs ws → Alike id (with_view new vs) (with_view new ws)
-put_alike id new vs ws h =
-    alike_both (λ n. n ≡ id) (λ (v : View). cond (v.id == new.id) new v)
-    (λ v w k. subst (λ n. IsAlike (λ m. m ≡ id) (cond (v.id == new.id) new v) (cond (n == new.id) new w)) (sym k.id) (go v w (v.id == new.id) k)) vs ws h
+put_alike : (id : ℕ) (new : View) {vs ws : List View} → Alike id vs ws → Alike id (with_view new vs) (with_view new ws)
+put_alike id new h =
+    alike_both (λ (v : View). cond (v.id == new.id) new v)
+    (λ v w k. subst (λ n. IsAlike (λ m. m ≡ id) (cond (v.id == new.id) new v) (cond (n == new.id) new w)) (sym k.id) (go v w (v.id == new.id) k)) h
   where
     go : (v w : View) (b : Bool) → IsAlike (λ n. n ≡ id) v w → IsAlike (λ n. n ≡ id) (cond b new v) (cond b new w)
-    go v w true k = alike_same (λ n. n ≡ id) new
+    go v w true k = alike_same new
     go v w false k = k
 
 -- The same request in the other session.
@@ -198,9 +188,6 @@ record OwnRequest (id : ℕ) (r : Request) : Type 0 where
 scene_same : (id : ℕ) (r : Request) (t : Session) → OwnRequest id r → Agree id r.session t → SameScenes id (scene_of r) (scene_of (at r t))
 scene_same id r t own h = record { document = refl; notes = refl; views = h.views; listed = own.listed }
 
-heard_same : (id : ℕ) (r : Request) (t : Session) → OwnRequest id r → Agree id r.session t → watching t.views r.document ≡ watching r.session.views r.document
-heard_same id r t own h = watching_alike id r.session.views t.views r.document.views h.views own.listed
-
 edit_done : (id : ℕ) (r : Request) (t : Session) (change : Edit) (value : ℤ) (after : Follow) → OwnRequest id r → Agree id r.session t
     → SameDone id (performed r (plan.Edit change value after)) (performed (at r t) (plan.Edit change value after))
 edit_done id r t change value after own h =
@@ -208,7 +195,7 @@ edit_done id r t change value after own h =
     (followed r.view.id (text r) after (session_of t (edit_made steps (scene_of (at r t)))), response value [] (edit_made steps (scene_of (at r t))).notes)) (sym (steps_of_same r t change h.clipboard))
     (let a = edit_made (steps_of r change) (scene_of r) in
     let b = edit_made (steps_of r change) (scene_of (at r t)) in
-    let same : SameScenes id a b = edit_same id (steps_of r change) (scene_of r) (scene_of (at r t)) (scene_same id r t own h) in
+    let same : SameScenes id a b = edit_related (SameScenes id) (step_same id) (sealed_same id) (steps_of r change) (scene_of r) (scene_of (at r t)) (scene_same id r t own h) in
     record {
       reply = ap (λ (ns : List Notice). response value [] ns) same.notes;
       sessions = followed_agree id r.view.id (text r) after (session_of r.session a) (session_of t b)
@@ -226,7 +213,7 @@ history_done id r t who cs new own h is =
       reply = ap (λ (ns : List Notice). response (pos 0) [] ns) same.notes;
       sessions = record {
         document = agree.document;
-        views = behind_alike id r.view.id (latest_text_step (reverse cs)) a.views b.views same.views;
+        views = behind_alike id r.view.id (latest_text_step (reverse cs)) same.views;
         clipboard = h.clipboard;
         limits = h.limits;
       };
@@ -238,22 +225,22 @@ performed_done id r t (plan.HandOut value start count) l barred keeps own h = re
 performed_done id r t (plan.HandOutStyled start count) l barred keeps own h = record { reply = refl; sessions = h }
 performed_done id r t (plan.Edit change value after) l barred keeps own h = edit_done id r t change value after own h
 performed_done id r t plan.Attempt l barred keeps own h =
-    record { reply = ap (λ (w : List View). response (pos 0) [] (notes.told w (notes.blank notes.modify_attempt))) (heard_same id r t own h); sessions = h }
+    record { reply = ap (λ (w : List View). response (pos 0) [] (notes.told w (notes.blank notes.modify_attempt))) (watching_alike id r.document.views h.views own.listed); sessions = h }
 performed_done id r t plan.Undo l barred keeps own h = history_done id r t notes.performed_undo (undo_changes r.document.history) (undone r.document.history) own h (own_id r plan.Undo ∙ own.is)
 performed_done id r t plan.Redo l barred keeps own h = history_done id r t notes.performed_redo (redo_changes r.document.history) (redone r.document.history) own h (own_id r plan.Redo ∙ own.is)
 performed_done id r t (plan.ChangeDocument change value) l barred keeps own h =
     let new = changed_document r.message.text change r.document in
     record {
-      reply = ap (λ (w : List View). response value [] (change_told r.view w r.document new change)) (heard_same id r t own h);
+      reply = ap (λ (w : List View). response value [] (change_told r.view w r.document new change)) (watching_alike id r.document.views h.views own.listed);
       sessions = record {
-        document = replaced_agree id r.session t r.document new new own.found (h.document ∙ own.found) (own_id r (plan.ChangeDocument change value) ∙ own.is) refl;
-        views = alike_both (λ n. n ≡ id) (changed_lines change r.document) (alike_kept (λ n. n ≡ id) (changed_lines change r.document) (changed_lines_id change r.document) (lines_keep (λ (w : View). w.document) (λ w flags. refl) change r.document)) r.session.views t.views h.views;
+        document = replaced_agree id r.session t r.document new h own.found (own_id r (plan.ChangeDocument change value) ∙ own.is);
+        views = alike_kept (changed_lines change r.document) (changed_lines_id change r.document) (changed_lines_document change r.document) h.views;
         clipboard = h.clipboard;
         limits = h.limits;
       };
     }
 performed_done id r t (plan.ChangeView change value) l barred keeps own h =
-    record { reply = refl; sessions = record { document = h.document; views = put_alike id (changed_view (levels r) change r.view) r.session.views t.views h.views; clipboard = h.clipboard; limits = h.limits } }
+    record { reply = refl; sessions = record { document = h.document; views = put_alike id (changed_view (levels r) change r.view) h.views; clipboard = h.clipboard; limits = h.limits } }
 performed_done id r t (plan.ChangeSession (session_change.Copy start count) value) l barred keeps own h =
     record { reply = refl; sessions = record { document = h.document; views = h.views; clipboard = refl; limits = h.limits } }
 performed_done id r t (plan.ChangeSession (session_change.CopyText count) value) l barred keeps own h =
@@ -275,13 +262,10 @@ answered_same id kind r t (Ok p) l barred shaped own h =
     let done = performed_done id r t p l barred shaped own h in
     record { reply = ap (with_recording kind r) done.reply; sessions = done.sessions }
 
-other_session : (s t : Session) → t.clipboard ≡ s.clipboard → t.limits ≡ s.limits → t ≡ record s { documents = t.documents; views = t.views; next_document = t.next_document; next_view = t.next_view }
-other_session s t e f =
-    ap (λ (c : List ℕ). record t { clipboard = c }) e ∙ ap (λ (l : Limits). record t { clipboard = s.clipboard; limits = l }) f
-
 plan_same : (kind : Kind) (r : Request) (t : Session) → is_about_documents kind ≡ false → t.clipboard ≡ r.session.clipboard → t.limits ≡ r.session.limits → plan_of kind (at r t) ≡ plan_of kind r
 plan_same kind r t barred e f =
-    ap (λ (x : Session). plan_of kind (at r x)) (other_session r.session t e f) ∙ same_plan kind r t.documents t.views t.next_document t.next_view barred
+    ap (λ (c : List ℕ). plan_of kind (at r (record t { clipboard = c }))) e ∙ ap (λ (l : Limits). plan_of kind (at r (record t { clipboard = r.session.clipboard; limits = l }))) f
+    ∙ same_plan kind r t.documents t.views t.next_document t.next_view barred
 
 from_document_same : (id : ℕ) (s t : Session) (v : View) (kind : Kind) (m : Message) (o : Option Document) → is_about_documents kind ≡ false → IsSound s → v.document ≡ id → document_at s.documents v.document ≡ o
     → Agree id s t → SameAnswer id (table_from_document s v kind m o) (table_from_document t v kind m o)
@@ -297,17 +281,13 @@ from_document_same id s t v kind m (Some d) barred sound on found h =
     subst (λ (p : Planned). SameAnswer id (answered kind r (plan_of kind r)) (answered kind (at r t) p)) (sym (plan_same kind r t barred h.clipboard h.limits))
     (answered_same id kind r t (plan_of kind r) (leave_of kind) barred (plan_is_shaped kind r) own h)
 
-kind_same : (id : ℕ) (s t : Session) (v : View) (kind : Kind) (m : Message) → is_about_documents kind ≡ false → IsSound s → v.document ≡ id → Agree id s t
-    → SameAnswer id (table_from_document s v kind m (document_at s.documents v.document)) (table_from_document t v kind m (document_at t.documents v.document))
-kind_same id s t v kind m barred sound on h =
-    subst (λ (o : Option Document). SameAnswer id (table_from_document s v kind m (document_at s.documents v.document)) (table_from_document t v kind m o))
-    (sym (ap (document_at t.documents) on ∙ h.document ∙ ap (document_at s.documents) (sym on)))
-    (from_document_same id s t v kind m (document_at s.documents v.document) barred sound on refl h)
-
 from_kind_same : (id : ℕ) (s t : Session) (v : View) (m : Message) (o : Option Kind) → ((kind : Kind) → o ≡ Some kind → is_about_documents kind ≡ false) → IsSound s → v.document ≡ id → Agree id s t
     → SameAnswer id (table_from_kind s v m o) (table_from_kind t v m o)
 from_kind_same id s t v m None barred sound on h = refl
-from_kind_same id s t v m (Some kind) barred sound on h = kind_same id s t v kind m (barred kind refl) sound on h
+from_kind_same id s t v m (Some kind) barred sound on h =
+    subst (λ (o : Option Document). SameAnswer id (table_from_document s v kind m (document_at s.documents v.document)) (table_from_document t v kind m o))
+    (sym (ap (document_at t.documents) on ∙ h.document ∙ ap (document_at s.documents) (sym on)))
+    (from_document_same id s t v kind m (document_at s.documents v.document) (barred kind refl) sound on refl h)
 
 -- a message to a view of the document, or to no view
 own_message : (id : ℕ) (s t : Session) (view : ℕ) (m : Message) → ((kind : Kind) → kind_of m.number ≡ Some kind → is_about_documents kind ≡ false) → IsSound s
@@ -317,10 +297,10 @@ own_message id s t view m barred sound on h = go (view_at s.views view) refl
     go : (o : Option View) → view_at s.views view ≡ o → SameAnswer id (table s view m) (table t view m)
     go None e =
         subst (λ (o : Option View). SameAnswer id (table_from_view s m o) (table t view m)) (sym e)
-        (subst (λ (o : Option View). SameAnswer id (Err NoSuchView) (table_from_view t m o)) (sym (none_found (λ n. n ≡ id) s.views t.views view h.views e)) refl)
+        (subst (λ (o : Option View). SameAnswer id (Err NoSuchView) (table_from_view t m o)) (sym (none_found view h.views e)) refl)
     go (Some v) e =
         subst (λ (o : Option View). SameAnswer id (table_from_view s m o) (table t view m)) (sym e)
-        (subst (λ (o : Option View). SameAnswer id (table_from_kind s v m (kind_of m.number)) (table_from_view t m o)) (sym (own_found (λ n. n ≡ id) s.views t.views view v h.views e (on v e)))
+        (subst (λ (o : Option View). SameAnswer id (table_from_kind s v m (kind_of m.number)) (table_from_view t m o)) (sym (own_found view v h.views e (on v e)))
         (from_kind_same id s t v m (kind_of m.number) barred sound (on v e) h))
 
 -- Messages to views of other documents.
@@ -341,7 +321,7 @@ Placed vs ws = AreAlike (λ n. ⊥) vs ws
 message_places : (s : Session) (view : ℕ) (m : Message) → ((kind : Kind) → kind_of m.number ≡ Some kind → is_about_documents kind ≡ false) → IsSound s
     → Placed s.views (after_message s (table s view m)).0.session.views
 message_places s view m barred sound =
-    of_table (λ (x : Answered). Placed s.views (after_message s x).0.session.views) (λ refusal other. all_alike (λ n. ⊥) s.views) s view m
+    of_table (λ (x : Answered). Placed s.views (after_message s x).0.session.views) (λ refusal other. all_alike s.views) s view m
     (λ v kind d p sent.
     performed_leaves_views (λ n. ⊥) (request s v d m) p (leave_of kind) (λ e. e) (barred kind sent.is) sent.keeps (document_id s.documents v.document d sent.finds)
     (once_of s view v sound sent.sees))
@@ -366,13 +346,11 @@ others_message id s view m barred sound other =
 -- A message that goes to another document's view still does so after other messages.
 
 elsewhere_stays : (id k : ℕ) (vs ws : List View) → Placed vs ws → shows_other id (view_at ws k) ≡ shows_other id (view_at vs k)
-elsewhere_stays id k vs ws h = go (view_at vs k) (view_at ws k) (found_alike (λ n. ⊥) vs ws k h)
+elsewhere_stays id k vs ws h = go (found_alike k h)
   where
-    go : (o p : Option View) → FoundAlike (λ n. ⊥) o p → shows_other id p ≡ shows_other id o
-    go None None f = refl
-    go None (Some w) f = absurd f
-    go (Some v) None f = absurd f
-    go (Some v) (Some w) f = ap (λ n. not (n == id)) f.document
+    go : {o p : Option View} → FoundAlike (λ n. ⊥) o p → shows_other id p ≡ shows_other id o
+    go neither = refl
+    go (both k) = ap (λ n. not (n == id)) k.document
 
 is_own : (id : ℕ) (o : Option View) (v : View) → shows_other id o ≡ false → o ≡ Some v → v.document ≡ id
 is_own id o v e f = eqb-true v.document id (not-false (v.document == id) (ap (shows_other id) (sym f) ∙ e))
@@ -400,7 +378,7 @@ messages_apart keeps first id (m ∷ ms) s t all sound placed h =
     let next = (after_command [] (sent m) s).0 in
     let sound_next : IsSound next.session = keeps [] (sent m) s sound in
     let places = message_places s.session m.0 m.1 (λ kind is. (all.0 kind is).0) sound in
-    let placed_next = alike_through (λ n. ⊥) first.views s.session.views next.session.views placed places in
+    let placed_next = alike_through placed places in
     go (goes_elsewhere first id m) refl (λ u k. messages_apart keeps first id ms next u all.1 sound_next placed_next k)
   where
     go : (b : Bool) → goes_elsewhere first id m ≡ b
@@ -425,5 +403,5 @@ messages_apart keeps first id (m ∷ ms) s t all sound placed h =
 
 pub documents_are_apart : CommandKeepsSound → DocumentsAreApart
 documents_are_apart keeps s id messages sound all =
-    let same = messages_apart keeps s id messages (starting s) (starting s) all sound (all_alike (λ n. ⊥) s.views) (agree_same id s) in
-    (same.outcomes_agree, sym same.sessions.document, views_on_alike id _ _ same.sessions.views)
+    let same = messages_apart keeps s id messages (starting s) (starting s) all sound (all_alike s.views) (agree_same id s) in
+    (same.outcomes_agree, sym same.sessions.document, views_on_alike id same.sessions.views)

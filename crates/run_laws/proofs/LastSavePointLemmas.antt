@@ -76,11 +76,10 @@ set_is_unmodified files _ s id d sets there = absurd (cc)
 pub saved_is_unmodified : PlansFit → SavedIsUnmodified
 saved_is_unmodified fits files c s id d sound gives there =
     let t = (after_command files c s).0 in
-    go (or_cases (is_created (document_at s.session.documents id) (document_at t.session.documents id)) (sets_save_point id s.session c) gives)
-  where
-    go : (is_created (document_at s.session.documents id) (document_at (after_command files c s).0.session.documents id) ≡ true) ⊎ (sets_save_point id s.session c ≡ true) → at_save_point d.history ≡ true
-    go (inl created) = created_is_unmodified fits files c s id d sound created there
-    go (inr sets) = set_is_unmodified files c s id d sets there
+    elim (or_cases (is_created (document_at s.session.documents id) (document_at t.session.documents id)) (sets_save_point id s.session c) gives) [
+      | inl created ↦ created_is_unmodified fits files c s id d sound created there
+      | inr sets ↦ set_is_unmodified files c s id d sets there
+    ]
 
 -- GETMODIFY then answers 0.
 

@@ -22,11 +22,11 @@ module _ (Own : ℕ → Type 0) (sender document : ℕ) (apart : Own document �
   -- views of which one changes only if it is alike afterwards
   changed_leave : (test : View → Bool) (f : View → View) → ((v : View) → IsOnce v → test v ≡ true → IsAlike Own v (f v)) → (views : List View) → IsOwner sender document views
       → AreAlike Own views (map (λ (v : View). cond (test v) (f v) v) views)
-  changed_leave test f h views once = alike_changed Own IsOnce (λ (v : View). cond (test v) (f v) v) (λ v p. go v (test v) refl p) views once
+  changed_leave test f h views once = alike_changed IsOnce (λ (v : View). cond (test v) (f v) v) (λ v p. go v (test v) refl p) views once
     where
       go : (v : View) (b : Bool) → test v ≡ b → IsOnce v → IsAlike Own v (cond b (f v) v)
       go v true t p = h v p t
-      go v false t p = alike_same Own v
+      go v false t p = alike_same v
 
   -- a view of the sender's document may change anything but its id and document
   own_alike : (v w : View) → v.document ≡ document → w.id ≡ v.id → w.document ≡ v.document → IsAlike Own v w
@@ -54,7 +54,7 @@ module _ (Own : ℕ → Type 0) (sender document : ℕ) (apart : Own document �
   lines_leave (document_change.SetLineEndTypes to) d e views once =
       changed_leave (λ (v : View). v.document == d.id) (λ (v : View). record v { flags = regrouped flags_together d.line_end_types to (text_of d) v.flags })
       (λ v p t. own_alike v (record v { flags = regrouped flags_together d.line_end_types to (text_of d) v.flags }) (eqb-true v.document d.id t ∙ e) refl refl) views once
-  lines_leave change d e views once = alike_changed Own IsOnce (changed_lines change d) (λ v p. alike_same Own v) views once
+  lines_leave change d e views once = alike_changed IsOnce (changed_lines change d) (λ v p. alike_same v) views once
 
 -- the views after a plan that is not about documents
 pub performed_leaves_views : (Own : ℕ → Type 0) (r : Request) (p : Plan) (l : Leave) → (Own r.view.document → ⊥) → l.documents ≡ false → KeepsTo l p → r.document.id ≡ r.view.document
@@ -72,11 +72,11 @@ performed_leaves_views Own r p l apart barred keeps e once =
     with_view_leaves Own r.view.id r.view.document apart (changed_view (levels r) what r.view) r.session.views (changed_view_id (levels r) what r.view)
     (changed_view_document (levels r) what r.view) once)
     (λ what value d is yes h. absurd (attaches_none l what value barred (subst (KeepsTo l) is keeps) yes))
-    (all_alike Own r.session.views)
+    (all_alike r.session.views)
   where
     further : (vs ws : List View) → AreAlike Own r.session.views vs → (IsOwner r.view.id r.view.document vs → AreAlike Own vs ws) → AreAlike Own r.session.views ws
     further vs ws h k =
-        alike_through Own r.session.views vs ws h (k (kept_on Own (λ n m. n ≡ r.view.id → m ≡ r.view.document) r.session.views vs h once))
+        alike_through h (k (kept_on (λ n m. n ≡ r.view.id → m ≡ r.view.document) h once))
 
 -- a change of the session that is not about documents changes the clipboard alone
 session_leaves : (r : Request) (what : SessionChange) (value : ℤ) (l : Leave) → l.documents ≡ false → KeepsTo l (plan.ChangeSession what value)

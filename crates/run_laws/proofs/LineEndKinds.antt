@@ -11,34 +11,33 @@ only_in_none CrLf = (refl, λ p. refl)
 only_in_none Cr = λ p. refl
 only_in_none Lf = λ p. refl
 
+-- each CR has an LF just behind it, and each LF a CR just before it
+in_pairs : (text : List ℕ) → stands 10 text 0 ≡ false → ((p : ℕ) → stands 13 text p ≡ stands 10 text (suc p)) → HasOnly CrLf text
+in_pairs text first pairs = (first, λ p. let next : suc p ≡ p + 1 = omega arith in pairs p ∙ ap (stands 10 text) next)
+
+pair_at : (text : List ℕ) → HasOnly CrLf text → (p : ℕ) → stands 13 text p ≡ stands 10 text (suc p)
+pair_at text only p = let next : p + 1 ≡ suc p = omega arith in only.1 p ∙ ap (stands 10 text) next
+
 nowhere : (byte b : ℕ) (text : List ℕ) → (b == byte) ≡ false → ((p : ℕ) → stands byte text p ≡ false) → (p : ℕ) → stands byte (b ∷ text) p ≡ false
 nowhere byte b text e h zero = e
 nowhere byte b text e h (suc p) = h p
 
 only_behind_other : (to : LineEnd) (b : ℕ) (text : List ℕ) → (b == 10) ≡ false → (b == 13) ≡ false → HasOnly to text → HasOnly to (b ∷ text)
-only_behind_other CrLf b text e n h = (e, in_pairs)
+only_behind_other CrLf b text e n h = in_pairs (b ∷ text) e pairs
   where
-    in_pairs : (p : ℕ) → stands 13 (b ∷ text) p ≡ stands 10 (b ∷ text) (p + 1)
-    in_pairs zero =
-        let one : zero + 1 ≡ suc zero = omega arith in
-        n ∙ sym h.0 ∙ ap (stands 10 (b ∷ text)) (sym one)
-    in_pairs (suc p) =
-        let next : suc p + 1 ≡ suc (p + 1) = omega arith in
-        h.1 p ∙ ap (stands 10 (b ∷ text)) (sym next)
+    pairs : (p : ℕ) → stands 13 (b ∷ text) p ≡ stands 10 text p
+    pairs zero = n ∙ sym h.0
+    pairs (suc p) = pair_at text h p
 only_behind_other Cr b text e n h = nowhere 10 b text e h
 only_behind_other Lf b text e n h = nowhere 13 b text n h
 
 only_behind_end : (to : LineEnd) (text : List ℕ) → HasOnly to text → HasOnly to (line_end_bytes to ++ text)
-only_behind_end CrLf text h = (refl, in_pairs)
+only_behind_end CrLf text h = in_pairs (13 ∷ 10 ∷ text) refl pairs
   where
-    in_pairs : (p : ℕ) → stands 13 (13 ∷ 10 ∷ text) p ≡ stands 10 (13 ∷ 10 ∷ text) (p + 1)
-    in_pairs zero = let one : zero + 1 ≡ suc zero = omega arith in ap (stands 10 (13 ∷ 10 ∷ text)) (sym one)
-    in_pairs (suc zero) =
-        let two : suc zero + 1 ≡ suc (suc zero) = omega arith in
-        sym h.0 ∙ ap (stands 10 (13 ∷ 10 ∷ text)) (sym two)
-    in_pairs (suc (suc p)) =
-        let next : suc (suc p) + 1 ≡ suc (suc (p + 1)) = omega arith in
-        h.1 p ∙ ap (stands 10 (13 ∷ 10 ∷ text)) (sym next)
+    pairs : (p : ℕ) → stands 13 (13 ∷ 10 ∷ text) p ≡ stands 10 (10 ∷ text) p
+    pairs zero = refl
+    pairs (suc zero) = sym h.0
+    pairs (suc (suc p)) = pair_at text h p
 only_behind_end Cr text h = nowhere 10 13 text refl h
 only_behind_end Lf text h = nowhere 13 10 text refl h
 
@@ -86,37 +85,31 @@ abbrev EndsBefore : List ℕ → ℕ → Bool
 EndsBefore text p = stands 10 text (p - 1) || (stands 13 text (p - 1) && not (stands 10 text p))
 
 ends_so : (to : LineEnd) (text : List ℕ) → HasOnly to text → (p : ℕ) → 0 < p → EndsBefore text p ≡ true → EndsSo to text p
-ends_so Cr text only p h e =
-    elim (or_cases (stands 10 text (p - 1)) (stands 13 text (p - 1) && not (stands 10 text p)) e) [
-      | inl feed ↦ absurd (true≢false (sym feed ∙ only (p - 1)))
-      | inr rest ↦
-          let return : stands 13 text (p - 1) ≡ true = (and_parts (stands 13 text (p - 1)) (not (stands 10 text p)) rest).0 in
-          let no_feed : stands 10 text (p - 1) ≡ false = only (p - 1) in
-          by_length Cr text p 1 (omega arith) (rw (no_feed, return) refl) (one_there 13 text (p - 1) return)
-    ]
-ends_so Lf text only p h e =
-    elim (or_cases (stands 10 text (p - 1)) (stands 13 text (p - 1) && not (stands 10 text p)) e) [
-      | inl feed ↦
-          let no_return : stands 13 text (p - 2) ≡ false = only (p - 2) in
-          by_length Lf text p 1 (omega arith) (rw (feed, no_return) refl) (one_there 10 text (p - 1) feed)
-      | inr rest ↦ absurd (true≢false (sym (and_parts (stands 13 text (p - 1)) (not (stands 10 text p)) rest).0 ∙ only (p - 1)))
-    ]
-ends_so CrLf text only p h e =
-    elim (or_cases (stands 10 text (p - 1)) (stands 13 text (p - 1) && not (stands 10 text p)) e) [
-      | inl feed ↦
-          elim (cases_eq (p - 1) 0) [
-            | inl first ↦ absurd (true≢false (sym feed ∙ ap (stands 10 text) first ∙ only.0))
-            | inr later ↦
-                let one : p - 2 + 1 ≡ p - 1 = omega arith in
-                let next : p - 1 ≡ suc (p - 2) = omega arith in
-                let return : stands 13 text (p - 2) ≡ true = only.1 (p - 2) ∙ ap (stands 10 text) one ∙ feed in
-                by_length CrLf text p 2 (omega arith) (rw (feed, return) refl) (both_there text (p - 2) return (ap (stands 10 text) (sym next) ∙ feed))
-          ]
-      | inr rest ↦
-          let parts = and_parts (stands 13 text (p - 1)) (not (stands 10 text p)) rest in
-          let one : p - 1 + 1 ≡ p = omega arith in
-          absurd (true≢false (sym parts.0 ∙ only.1 (p - 1) ∙ ap (stands 10 text) one ∙ not-true (stands 10 text p) parts.1))
-    ]
+ends_so to text only p h e = go to only (or_cases (stands 10 text (p - 1)) (stands 13 text (p - 1) && not (stands 10 text p)) e)
+  where
+    go : (to : LineEnd) → HasOnly to text → (stands 10 text (p - 1) ≡ true) ⊎ ((stands 13 text (p - 1) && not (stands 10 text p)) ≡ true) → EndsSo to text p
+    go Cr only (inl feed) = absurd (true≢false (sym feed ∙ only (p - 1)))
+    go Cr only (inr rest) =
+        let return : stands 13 text (p - 1) ≡ true = (and_parts (stands 13 text (p - 1)) (not (stands 10 text p)) rest).0 in
+        let no_feed : stands 10 text (p - 1) ≡ false = only (p - 1) in
+        by_length Cr text p 1 (omega arith) (rw (no_feed, return) refl) (one_there 13 text (p - 1) return)
+    go Lf only (inl feed) =
+        let no_return : stands 13 text (p - 2) ≡ false = only (p - 2) in
+        by_length Lf text p 1 (omega arith) (rw (feed, no_return) refl) (one_there 10 text (p - 1) feed)
+    go Lf only (inr rest) = absurd (true≢false (sym (and_parts (stands 13 text (p - 1)) (not (stands 10 text p)) rest).0 ∙ only (p - 1)))
+    go CrLf only (inl feed) =
+        elim (cases_eq (p - 1) 0) [
+          | inl first ↦ absurd (true≢false (sym feed ∙ ap (stands 10 text) first ∙ only.0))
+          | inr later ↦
+              let next : suc (p - 2) ≡ p - 1 = omega arith in
+              let behind : stands 10 text (suc (p - 2)) ≡ true = ap (stands 10 text) next ∙ feed in
+              let return : stands 13 text (p - 2) ≡ true = pair_at text only (p - 2) ∙ behind in
+              by_length CrLf text p 2 (omega arith) (rw (feed, return) refl) (both_there text (p - 2) return behind)
+        ]
+    go CrLf only (inr rest) =
+        let parts = and_parts (stands 13 text (p - 1)) (not (stands 10 text p)) rest in
+        let next : suc (p - 1) ≡ p = omega arith in
+        absurd (true≢false (sym parts.0 ∙ pair_at text only (p - 1) ∙ ap (stands 10 text) next ∙ not-true (stands 10 text p) parts.1))
 
 -- Each line but the last.
 
@@ -217,41 +210,23 @@ feeds_stay (b ∷ bs) only = go (b == 10) (b == 13) refl refl (feeds_stay bs (λ
     go true false e n rest = ap (λ l. 10 ∷ l) rest ∙ ap (λ c. c ∷ bs) (sym (eqb-true b 10 e))
     go false false e n rest = ap (λ l. b ∷ l) rest
 
--- the text after a byte that is no CR, and after a CRLF, has only line ends of the kind too
-only_in_rest : (b : ℕ) (text : List ℕ) → (b == 13) ≡ false → HasOnly CrLf (b ∷ text) → HasOnly CrLf text
-only_in_rest b text n only = (
-  (let one : zero + 1 ≡ suc zero = omega arith in sym (only.1 zero ∙ ap (stands 10 (b ∷ text)) one) ∙ n),
-  λ p. let next : suc p + 1 ≡ suc (p + 1) = omega arith in only.1 (suc p) ∙ ap (stands 10 (b ∷ text)) next,
-)
-
-only_behind_both : (text : List ℕ) → HasOnly CrLf (13 ∷ 10 ∷ text) → HasOnly CrLf text
-only_behind_both text only = (
-  (let two : suc zero + 1 ≡ suc (suc zero) = omega arith in sym (only.1 (suc zero) ∙ ap (stands 10 (13 ∷ 10 ∷ text)) two)),
-  λ p. let next : suc (suc p) + 1 ≡ suc (suc (p + 1)) = omega arith in only.1 (suc (suc p)) ∙ ap (stands 10 (13 ∷ 10 ∷ text)) next,
-)
-
 both_stay : (text : List ℕ) → HasOnly CrLf text → converted_after false CrLf text ≡ text
 both_stay [] only = refl
-both_stay (b ∷ []) only =
-    let one : zero + 1 ≡ suc zero = omega arith in
-    other_converted false CrLf b [] only.0 (only.1 zero ∙ ap (stands 10 (b ∷ [])) one)
-both_stay (b ∷ c ∷ bs) only =
-    go (b == 13) (c == 10) refl refl (λ h. both_stay bs (only_behind_both bs h)) (λ h. both_stay (c ∷ bs) h)
+both_stay (b ∷ []) only = other_converted false CrLf b [] only.0 (pair_at (b ∷ []) only zero)
+both_stay (b ∷ c ∷ bs) only = go (b == 13) (c == 10) refl refl (both_stay bs) (both_stay (c ∷ bs))
   where
-    go : (x y : Bool) → (b == 13) ≡ x → (c == 10) ≡ y
-        → (HasOnly CrLf (13 ∷ 10 ∷ bs) → converted_after false CrLf bs ≡ bs)
-        → (HasOnly CrLf (c ∷ bs) → converted_after false CrLf (c ∷ bs) ≡ c ∷ bs)
-        → converted_after false CrLf (b ∷ c ∷ bs) ≡ b ∷ c ∷ bs
+    go : (x y : Bool) → (b == 13) ≡ x → (c == 10) ≡ y → (HasOnly CrLf bs → converted_after false CrLf bs ≡ bs)
+        → (HasOnly CrLf (c ∷ bs) → converted_after false CrLf (c ∷ bs) ≡ c ∷ bs) → converted_after false CrLf (b ∷ c ∷ bs) ≡ b ∷ c ∷ bs
     go true true n e both rest =
-        let pair : HasOnly CrLf (13 ∷ 10 ∷ bs) → converted_after false CrLf (13 ∷ 10 ∷ bs) ≡ 13 ∷ 10 ∷ bs = λ h. ap (λ l. 13 ∷ 10 ∷ l) (both h) in
+        let pair : HasOnly CrLf (13 ∷ 10 ∷ bs) → converted_after false CrLf (13 ∷ 10 ∷ bs) ≡ 13 ∷ 10 ∷ bs = λ h.
+        ap (λ l. 13 ∷ 10 ∷ l) (both (in_pairs bs (sym (pair_at (13 ∷ 10 ∷ bs) h 1)) (λ p. pair_at (13 ∷ 10 ∷ bs) h (suc (suc p))))) in
         subst (λ (x : ℕ). HasOnly CrLf (x ∷ c ∷ bs) → converted_after false CrLf (x ∷ c ∷ bs) ≡ x ∷ c ∷ bs) (sym (eqb-true b 13 n))
         (subst (λ (y : ℕ). HasOnly CrLf (13 ∷ y ∷ bs) → converted_after false CrLf (13 ∷ y ∷ bs) ≡ 13 ∷ y ∷ bs) (sym (eqb-true c 10 e)) pair)
         only
-    go true false n e both rest =
-        let one : zero + 1 ≡ suc zero = omega arith in
-        absurd (true≢false (sym n ∙ only.1 zero ∙ ap (stands 10 (b ∷ c ∷ bs)) one ∙ e))
+    go true false n e both rest = absurd (true≢false (sym n ∙ pair_at (b ∷ c ∷ bs) only zero ∙ e))
     go false y n e both rest =
-        other_converted false CrLf b (c ∷ bs) only.0 n ∙ ap (λ l. b ∷ l) (rest (only_in_rest b (c ∷ bs) n only))
+        other_converted false CrLf b (c ∷ bs) only.0 n
+        ∙ ap (λ l. b ∷ l) (rest (in_pairs (c ∷ bs) (sym (pair_at (b ∷ c ∷ bs) only zero) ∙ n) (λ p. pair_at (b ∷ c ∷ bs) only (suc p))))
 
 pub texts_of_the_kind_stay : TextsOfTheKindStay
 texts_of_the_kind_stay CrLf text only = both_stay text only

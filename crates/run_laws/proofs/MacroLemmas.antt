@@ -86,9 +86,6 @@ message_steps leave view s m may records =
     of_table (Stepped view s m) (λ refusal other. inl (λ os. refl, refl)) s m.0 m.1
     (λ v kind d p sent. go v kind d p sent ((v.records && (marks_of kind).r) && (v.id == view)) refl (may kind sent.is))
   where
-    all_true : (a b c : Bool) → a ≡ true → b ≡ true → c ≡ true → ((a && b) && c) ≡ true
-    all_true a b c e f g = rw (e, f, g) refl
-
     first : (kind : Kind) (r : Request) (p : Plan) (os : List Outcome) (b : Bool) → ((r.view.records && (marks_of kind).r) && (r.view.id == view)) ≡ b
         → recorded_messages view (replies_in ((after_message r.session (answered kind r (Ok p))).1 ∷ os)) ≡ if_recorded b r.message (recorded_messages view (replies_in os))
     first kind r p os b e =
@@ -117,7 +114,7 @@ message_steps leave view s m may records =
         let here : view_at s.views view ≡ Some v = ap (view_at s.views) (sym to.0) ∙ sent.sees in
         let same : records.0 ≡ v = cc in
         let on : v.records ≡ true = ap (λ (x : View). x.records) (sym same) ∙ records.2 in
-        let yes = all_true v.records (marks_of kind).r (v.id == view) on to.1 (eq-eqb v.id view (view_id s.views m.0 v sent.sees ∙ to.0)) in
+        let yes : ((v.records && (marks_of kind).r) && (v.id == view)) ≡ true = rw (on, to.1, eq-eqb v.id view (view_id s.views m.0 v sent.sees ∙ to.0)) refl in
         absurd (cc)
 
 -- The recorded messages, sent again.

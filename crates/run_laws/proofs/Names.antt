@@ -18,7 +18,7 @@ pub use Rattle.ed_model.specs.Requests.{Request, Planned, text, size, with_argum
 pub use Rattle.ed_model.specs.Changes.{changed_document, session_changed, with_attached, attached_last, with_new_document, held_more, held_less, changed_lines, changed_view, change_told, line_note, marker_note, range_notes, line_with_handle, document_row, marker_count, is_same, styled}
 pub use Rattle.ed_model.specs.TableLaws.{Answered, LeavesSession, QueriesLeaveTheSession}
 pub use Rattle.ed_model.specs.PlansFit.{PlansFit, IsSoundRequest, IsFitPlan, IsFitPlanned, EditStepsFit, UndoStepsFit, RedoStepsFit}
-pub use Rattle.ed_model.specs.proved.Changes.{text_of_styled, changed_id, view_after_id, changed_lines_id, view_after_document, changed_view_id, changed_view_document}
+pub use Rattle.ed_model.specs.proved.Changes.{text_of_styled, changed_id, view_after_id, changed_lines_id, view_after_document, changed_view_id, changed_view_document, changed_lines_document}
 pub use Rattle.std.proofs.lemmas.List.Elements.{filter-append, Contains-get_or}
 pub use Rattle.std.proofs.lemmas.List.Sums.{count_by_more_yes, count_by_more_no, fold-append}
 pub use Rattle.ed_model.specs.Rows.{Flags, fresh_flags, flags_together}

@@ -1,10 +1,8 @@
 -- The codes of the notes of plans: none is SCN_MACRORECORD, which only the recording adds, and only an attempt has SCN_MODIFYATTEMPTRO.
-use Rattle.run_laws.proofs.Names.{◌≡◌, ℕ, ◌==◌, nat_lt, cond, Bool, true, false, List, [], ◌∷◌, ◌++◌, length, refl, Option, Some, None, ℤ, pos, negsuc, bit_or, filter, ◌&&◌, slice_index_or, AllByRecursion, Notice, DocumentChange, Plan, growth, Step, Insert, Delete, History, Change, TextStep, ContainerStep, undo_changes, redo_changes, undone, redone, at_save_point, begins_transaction, text_of, Document, View, watching, lines_in, Request, steps_of, Scene, scene_of, document_after, step_heard, edit_made, leaving, change_performed, changes_performed, save_point_change, history_performed, changed_document, change_told, performed, meets, start_of_line, styles_of, last_bits, container_note, line_note, marker_note, range_notes, line_with_handle, document_row, marker_count, is_same, all_append}
+use Rattle.run_laws.proofs.Names.{◌≡◌, ℕ, ◌==◌, nat_lt, cond, Bool, true, false, List, [], ◌∷◌, ◌++◌, length, refl, Option, Some, None, ℤ, bit_or, filter, AllByRecursion, Notice, DocumentChange, Plan, growth, Step, Insert, Delete, History, Change, TextStep, ContainerStep, undo_changes, redo_changes, undone, redone, at_save_point, begins_transaction, Document, View, watching, lines_in, Request, steps_of, Scene, scene_of, document_after, step_heard, edit_made, leaving, change_performed, changes_performed, save_point_change, history_performed, changed_document, change_told, performed, meets, last_bits, container_note, range_notes, all_append}
 use Rattle.ed_model.specs.declared.plan.DocumentChange.TheVariants as document_change
 use Rattle.ed_model.specs.declared.plan.Plan.TheVariants as plan
 use Rattle.ed_model.specs.Notes as notes
-use Rattle.ed_model.specs.Indicators.{changed_range}
-use Rattle.run_laws.proofs.Choices.{either}
 use Rattle.run_laws.proofs.Walks.{edit_kept, changes_kept}
 
 -- If the codes that plans use have the property, and the code of an attempt has
@@ -23,25 +21,27 @@ module _ (Code : ℕ → Type 0) (needed : Code notes.style_needed) (reached : C
   codes_heard : (views : List View) (n : Notice) → HasCode n → HaveCodes (notes.heard views n)
   codes_heard views n h = codes_told (filter (λ (v : View). meets v.mask n.kind) views) n h
 
-  before_has_code : (bits : ℕ) (step : Step) → HasCode (notes.before_note bits step)
-  before_has_code bits (Insert p bytes) = modified
-  before_has_code bits (Delete p bytes) = modified
-
-  after_has_code : (bits : ℕ) (lines : ℤ) (step : Step) → HasCode (notes.after_note bits lines step)
-  after_has_code bits lines (Insert p bytes) = modified
-  after_has_code bits lines (Delete p bytes) = modified
+  step_has_code : (before after : ℕ) (lines : ℤ) (step : Step) → HasCode (notes.before_note before step) × HasCode (notes.after_note after lines step)
+  step_has_code before after lines (Insert p bytes) = (modified, modified)
+  step_has_code before after lines (Delete p bytes) = (modified, modified)
 
   codes_step : (before after : ℕ) (between : List Notice) (step : Step) (scene : Scene) → HaveCodes scene.notes → HaveCodes between → HaveCodes (step_heard before after between step scene).notes
   codes_step before after between step scene h k =
       let views = watching scene.views scene.document in
       let b = notes.before_note before step in
-      let a = notes.after_note after (growth (lines_in scene.document) (lines_in (document_after step scene.document))) step in
+      let lines = growth (lines_in scene.document) (lines_in (document_after step scene.document)) in
+      let a = notes.after_note after lines step in
+      let both = step_has_code before after lines step in
       all_append HasCode (scene.notes ++ notes.heard views b ++ between) (notes.heard views a)
-      (all_append HasCode (scene.notes ++ notes.heard views b) between (all_append HasCode scene.notes (notes.heard views b) h (codes_heard views b (before_has_code before step))) k)
-      (codes_heard views a (after_has_code after (growth (lines_in scene.document) (lines_in (document_after step scene.document))) step))
+      (all_append HasCode (scene.notes ++ notes.heard views b) between (all_append HasCode scene.notes (notes.heard views b) h (codes_heard views b both.0)) k)
+      (codes_heard views a both.1)
+
+  codes_either : (b : Bool) (ms ns : List Notice) → HaveCodes ms → HaveCodes ns → HaveCodes (cond b ms ns)
+  codes_either true ms ns h k = h
+  codes_either false ms ns h k = k
 
   codes_leaving : (views : List View) (h : History) → HaveCodes (leaving views h)
-  codes_leaving views h = either HaveCodes (h.collecting && at_save_point h) (notes.told views (notes.blank notes.save_point_left)) [] (codes_told views (notes.blank notes.save_point_left) left) tt
+  codes_leaving views h = search (codes_either, codes_told, left)
 
   codes_edit : (steps : List Step) (scene : Scene) → HaveCodes scene.notes → HaveCodes (edit_made steps scene).notes
   codes_edit steps scene h =
@@ -70,46 +70,16 @@ module _ (Code : ℕ → Type 0) (needed : Code notes.style_needed) (reached : C
       (changes_kept (λ (x : Scene). HaveCodes x.notes) codes_performed who (notes.bit_if (nat_lt 1 (length cs)) notes.multi_step) false cs (scene_of r) tt)
       (codes_save_point (watching done.views done.document) (at_save_point r.document.history) (at_save_point new))
 
-  codes_if : (b : Bool) (ns : List Notice) → HaveCodes ns → HaveCodes (cond b [] ns)
-  codes_if true ns h = tt
-  codes_if false ns h = h
-
   codes_range : (kind : ℕ) (range : Option (ℕ × ℕ)) (views : List View) → HaveCodes (range_notes kind range views)
   codes_range kind None views = tt
   codes_range kind (Some range) views = codes_heard views (notes.range_note (bit_or kind notes.performed_user) range.0 range.1) modified
 
-  codes_marker : (line : ℕ) (old new : Document) (views : List View) → HaveCodes (marker_note line old new views)
-  codes_marker line old new views =
-      let n = line_note notes.change_marker line in
-      let told : Notice = record n { position = pos (start_of_line old.line_end_types (text_of old) line) } in
-      codes_if (marker_count old.rows == marker_count new.rows) (notes.heard views told) (codes_heard views told modified)
+  ruleset codes = (codes_leaving, codes_range, codes_either, codes_heard, codes_told)
 
+  -- the notes of a change; the second line is checked for each of the other changes
   codes_change : (sender : View) (views : List View) (old new : Document) (what : DocumentChange) → HaveCodes (change_told sender views old new what)
-  codes_change sender views old new document_change.SetSavePoint = codes_told views (notes.blank notes.save_point_reached) reached
-  codes_change sender views old new (document_change.AppendContainer token coalesce) = codes_leaving views old.history
-  codes_change sender views old new (document_change.AddMarker line number) = codes_marker line old new views
-  codes_change sender views old new (document_change.AddMarkers line mask) = codes_marker line old new views
-  codes_change sender views old new (document_change.DeleteMarker line number) = codes_marker line old new views
-  codes_change sender views old new (document_change.DeleteMarkers number) =
-      let n = notes.change_note notes.change_marker in
-      let told : Notice = record n { line = negsuc 0 } in
-      codes_if (marker_count old.rows == marker_count new.rows) (notes.heard views told) (codes_heard views told modified)
-  codes_change sender views old new (document_change.DeleteHandle handle) = codes_marker (line_with_handle handle 0 old.rows) old new views
-  codes_change sender views old new (document_change.SetLevel line level) =
-      let n = line_note notes.change_fold line in
-      let told : Notice = record n { now = pos level; prev = pos (document_row old line).level } in
-      codes_if ((document_row old line).level == level) (notes.heard views told) (codes_heard views told modified)
-  codes_change sender views old new (document_change.SetState line state) =
-      let told = line_note notes.change_line_state line in
-      codes_if (is_same (document_row old line).state state) (notes.heard views told) (codes_heard views told modified)
-  codes_change sender views old new (document_change.StyleRun count style) = codes_range notes.change_style (changed_range (styles_of old.cells) (styles_of new.cells)) views
-  codes_change sender views old new (document_change.StyleBytes count) = codes_range notes.change_style (changed_range (styles_of old.cells) (styles_of new.cells)) views
-  codes_change sender views old new (document_change.NeedStyle start past) =
-      let n = notes.blank notes.style_needed in
-      let told : Notice = record n { position = pos past } in
-      codes_told (sender ∷ []) told needed
-  codes_change sender views old new (document_change.FillIndicator indicator start count value) = codes_range notes.change_indicator (changed_range (slice_index_or old.indicators indicator []) (slice_index_or new.indicators indicator [])) views
-  codes_change sender views old new _ = tt
+  codes_change sender views old new document_change.SetSavePoint = search codes
+  codes_change sender views old new _ = search codes
 
   pub plans_have_codes : (r : Request) (p : Plan) → (p ≡ plan.Attempt → Code notes.modify_attempt) → HaveCodes (performed r p).1.notes
   plans_have_codes r (plan.Edit change value after) attempt = codes_edit (steps_of r change) (scene_of r) tt

@@ -18,32 +18,28 @@ module _ (view : ℕ) where
   abbrev pub Like : List View → List View → Type 0
   Like vs ws = map quiet vs ≡ map quiet ws
 
-  commuted : (f h : View → View) → ((v : View) → quiet (f v) ≡ h (quiet v)) → (vs : List View) → map quiet (map f vs) ≡ map h (map quiet vs)
-  commuted f h same [] = refl
-  commuted f h same (v ∷ vs) = ap (λ x. x ∷ map quiet (map f vs)) (same v) ∙ ap (λ xs. h (quiet v) ∷ xs) (commuted f h same vs)
-
+  -- a change of both lists, which does not depend on whether the view records
   like_both : (f g h : View → View) → ((v : View) → quiet (f v) ≡ h (quiet v)) → ((v : View) → quiet (g v) ≡ h (quiet v)) → (vs ws : List View) → Like vs ws → Like (map f vs) (map g ws)
-  like_both f g h left right vs ws e = commuted f h left vs ∙ ap (map h) e ∙ sym (commuted g h right ws)
+  like_both f g h left right vs ws e = commuted f left vs ∙ ap (map h) e ∙ sym (commuted g right ws)
+    where
+      commuted : (f : View → View) → ((v : View) → quiet (f v) ≡ h (quiet v)) → (vs : List View) → map quiet (map f vs) ≡ map h (map quiet vs)
+      commuted f same [] = refl
+      commuted f same (v ∷ vs) = ap (λ x. x ∷ map quiet (map f vs)) (same v) ∙ ap (λ xs. h (quiet v) ∷ xs) (commuted f same vs)
+
+  -- a choice between a view and its change
+  chosen_quiet : (b : Bool) (x y v : View) → quiet x ≡ y → quiet (cond b x v) ≡ cond b y (quiet v)
+  chosen_quiet true x y v same = same
+  chosen_quiet false x y v same = refl
 
   step_quiet : (step : Step) (d : Document) (v : View) → quiet (view_after step d v) ≡ view_after step d (quiet v)
-  step_quiet step d v = go (v.document == d.id)
-    where
-      go : (b : Bool) → quiet (cond b (moved_view step d v) v) ≡ cond b (moved_view step d (quiet v)) (quiet v)
-      go true = refl
-      go false = refl
-
-  sender_quiet : (f : View → View) → ((v : View) → quiet (f v) ≡ f (quiet v)) → (sender : ℕ) (v : View) → quiet (cond (v.id == sender) (f v) v) ≡ cond (v.id == sender) (f (quiet v)) (quiet v)
-  sender_quiet f same sender v = go (v.id == sender)
-    where
-      go : (b : Bool) → quiet (cond b (f v) v) ≡ cond b (f (quiet v)) (quiet v)
-      go true = same v
-      go false = refl
+  step_quiet step d v = chosen_quiet (v.document == d.id) (moved_view step d v) (moved_view step d (quiet v)) v refl
 
   sender_like : (f : View → View) → ((v : View) → quiet (f v) ≡ f (quiet v)) → (sender : ℕ) (vs ws : List View) → Like vs ws
       → Like (map (λ (v : View). cond (v.id == sender) (f v) v) vs) (map (λ (v : View). cond (v.id == sender) (f v) v) ws)
   sender_like f same sender vs ws e =
       let g : View → View = λ (v : View). cond (v.id == sender) (f v) v in
-      like_both g g g (sender_quiet f same sender) (sender_quiet f same sender) vs ws e
+      let alike : (v : View) → quiet (g v) ≡ g (quiet v) = λ v. chosen_quiet (v.id == sender) (f v) (f (quiet v)) v (same v) in
+      like_both g g g alike alike vs ws e
 
   caret_like : (sender place : ℕ) (vs ws : List View) → Like vs ws → Like (with_caret sender place vs) (with_caret sender place ws)
   caret_like sender place vs ws e = sender_like (λ (v : View). record v { anchor = place; caret = place }) (λ v. refl) sender vs ws e
@@ -55,21 +51,14 @@ module _ (view : ℕ) where
   put_like : (new new' : View) (vs ws : List View) → quiet new ≡ quiet new' → new'.id ≡ new.id → Like vs ws → Like (with_view new vs) (with_view new' ws)
   put_like new new' vs ws same id e =
       like_both (λ (v : View). cond (v.id == new.id) new v) (λ (v : View). cond (v.id == new'.id) new' v) (λ (v : View). cond (v.id == new.id) (quiet new) v)
-      (λ v. go new v (v.id == new.id) refl)
-      (λ v. ap (λ n. quiet (cond (v.id == n) new' v)) id ∙ go new' v (v.id == new.id) (sym same))
+      (λ v. chosen_quiet (v.id == new.id) new (quiet new) v refl)
+      (λ v. ap (λ n. quiet (cond (v.id == n) new' v)) id ∙ chosen_quiet (v.id == new.id) new' (quiet new) v (sym same))
       vs ws e
-    where
-      go : (x v : View) (b : Bool) → quiet x ≡ quiet new → quiet (cond b x v) ≡ cond b (quiet new) (quiet v)
-      go x v true is = is
-      go x v false is = refl
 
   lines_quiet : (change : DocumentChange) (d : Document) (v : View) → quiet (changed_lines change d v) ≡ changed_lines change d (quiet v)
-  lines_quiet (document_change.SetLineEndTypes to) d v = go (v.document == d.id)
-    where
-      go : (b : Bool) → quiet (cond b (record v { flags = regrouped flags_together d.line_end_types to (text_of d) v.flags }) v)
-          ≡ cond b (let w = quiet v in record w { flags = regrouped flags_together d.line_end_types to (text_of d) v.flags }) (quiet v)
-      go true = refl
-      go false = refl
+  lines_quiet (document_change.SetLineEndTypes to) d v =
+      let flags = regrouped flags_together d.line_end_types to (text_of d) v.flags in
+      chosen_quiet (v.document == d.id) (record v { flags = flags }) (let w = quiet v in record w { flags = flags }) v refl
   lines_quiet _ d v = refl
 
   -- Two scenes of one document that differ only in which views record, and in the notes.
@@ -91,9 +80,6 @@ module _ (view : ℕ) where
   sealed_scenes : (a b : Scene) → Scenes a b → Scenes (sealed_scene a) (sealed_scene b)
   sealed_scenes a b h = record { document = ap (λ (d : Document). record d { history = sealed_outside_groups d.history }) h.document; views = h.views }
 
-  edit_scenes : (steps : List Step) (a b : Scene) → Scenes a b → Scenes (edit_made steps a) (edit_made steps b)
-  edit_scenes steps a b h = edit_related Scenes step_scenes sealed_scenes steps a b h
-
   change_scenes : (who several : ℕ) (last lines_changed : Bool) (c : Change) (a b : Scene) → Scenes a b
       → Scenes (change_performed who several last lines_changed c a) (change_performed who several last lines_changed c b)
   change_scenes who several last lines_changed (TextStep step) a b h = record { document = ap (document_after step) h.document; views = step_views step a b h }
@@ -109,12 +95,9 @@ module _ (view : ℕ) where
   other r ws b = let s = r.session in let v = r.view in record r { session = record s { views = ws }; view = record v { records = b } }
 
   same_steps : (r : Request) (ws : List View) (b : Bool) (change : Edit) → steps_of (other r ws b) change ≡ steps_of r change
-  same_steps r ws b (edit.Replace start count source.Nothing) = refl
-  same_steps r ws b (edit.Replace start count (source.MessageText n)) = refl
   same_steps r ws b (edit.Replace start count (source.Clipboard convert)) =
       ap (λ (bytes : List ℕ). replacement start count bytes (text r)) (same_converted convert r (other r ws b) r.session.clipboard refl)
-  same_steps r ws b (edit.Replace start count source.LineEnd) = refl
-  same_steps r ws b (edit.ConvertLineEnds to) = refl
+  same_steps r ws b _ = refl
 
   scene_sessions : (s : Session) (ws : List View) (a b : Scene) → Scenes a b → Same (session_of s a) (session_of (record s { views = ws }) b)
   scene_sessions s ws a b h = record { same = ap (λ (d : Document). record s { documents = with_document d s.documents; views = b.views }) h.document; views = h.views }
@@ -171,7 +154,7 @@ module _ (view : ℕ) where
       (let x = edit_made (steps_of r change) (scene_of r) in
       let y = edit_made (steps_of r change) (scene_of (other r ws b)) in
       followed_same r.view.id (text r) after (session_of r.session x) (session_of (other r ws b).session y)
-      (scene_sessions r.session ws x y (edit_scenes (steps_of r change) (scene_of r) (scene_of (other r ws b)) (record { document = refl; views = e }))))
+      (scene_sessions r.session ws x y (edit_related Scenes step_scenes sealed_scenes (steps_of r change) (scene_of r) (scene_of (other r ws b)) (record { document = refl; views = e }))))
   performed_same r ws b plan.Undo at e = history_same r ws b notes.performed_undo (undo_changes r.document.history) (undone r.document.history) e
   performed_same r ws b plan.Redo at e = history_same r ws b notes.performed_redo (redo_changes r.document.history) (redone r.document.history) e
   performed_same r ws b (plan.ChangeDocument change value) at e =

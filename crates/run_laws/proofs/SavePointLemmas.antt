@@ -1,5 +1,5 @@
 -- Undo and redo lead back to the text of the save point, whatever changes come between.
-use Rattle.run_laws.proofs.Names.{◌≡◌, ℕ, suc, ◌+◌, ◌-◌, ◌≤◌, ◌<◌, nat_lt, cond, Bool, true, false, List, [], ◌∷◌, length, take, replicate, refl, ap, ◌∙◌, sym, subst, arith, inl, inr, Option, Some, None, Ok, ◌⊎◌, ℤ, pos, ◌==◌, ◌&&◌, ◌||◌, not, nat_le, reverse, cases_lt, eqb-true, eqb-false, leb-true, and_parts, ltb-true, Kind, GetModify, SetText, Message, Command, LoadFile, SendMessage, Response, kind_of, marks_of, DocumentChange, Plan, is_number, flag, Step, edited, after_steps, History, Change, Transaction, TextStep, ContainerStep, at_save_point, joins, appended, begins_transaction, reachable, seal_first, sealed_outside_groups, with_container_step, undo_changes, redo_changes, undone, undone_to, redone, redone_from, collecting_set, first_changes, text_steps, Session, Document, View, document_at, view_at, text_of, Request, text, steps_of, Scene, scene_of, document_after, step_made, steps_made, sealed_scene, edit_made, quiet, changed_document, undone_text, redone_text, BegunStepIsOneTransactionMore, JoinedStepKeepsEarlierTexts, BegunContainerStepIsOneTransactionMore, JoinedContainerStepKeepsEarlierTexts, UndoKeepsEarlierTexts, RedoIsOneTransactionMore, SealsKeepEarlierTexts, table, request, with_recording, record_note, IsSound, IsSoundDocument, CommandKeepsSound, IsSoundRequest, IsFitPlan, PlansFit, EditStepsFit, UndoStepsFit, RedoStepsFit, Running, after_command, set_text_message, run_to, found_all, document_id, found_below, text_of_styled, is_saving, SetsNoSavePoint, IsCollected, KeepsTheSavePoint, UnmodifiedIsTheSavedText, GetModifyTells}
+use Rattle.run_laws.proofs.Names.{◌≡◌, ℕ, suc, ◌+◌, ◌-◌, ◌≤◌, ◌<◌, nat_lt, cond, Bool, true, false, List, [], ◌∷◌, length, take, replicate, refl, ap, ◌∙◌, sym, subst, arith, inl, inr, Option, Some, None, Ok, ◌⊎◌, ℤ, pos, ◌==◌, ◌&&◌, ◌||◌, not, nat_le, reverse, cases_lt, eqb-true, eqb-false, leb-true, and_parts, Kind, GetModify, SetText, Message, Command, LoadFile, SendMessage, Response, kind_of, marks_of, DocumentChange, Plan, is_number, flag, Step, edited, after_steps, History, Change, Transaction, TextStep, ContainerStep, at_save_point, joins, appended, begins_transaction, reachable, seal_first, sealed_outside_groups, with_container_step, undo_changes, redo_changes, undone, undone_to, redone, redone_from, collecting_set, first_changes, text_steps, Session, Document, View, document_at, view_at, text_of, Request, text, steps_of, Scene, scene_of, document_after, step_made, steps_made, sealed_scene, edit_made, quiet, changed_document, undone_text, redone_text, BegunStepIsOneTransactionMore, JoinedStepKeepsEarlierTexts, BegunContainerStepIsOneTransactionMore, JoinedContainerStepKeepsEarlierTexts, UndoKeepsEarlierTexts, RedoIsOneTransactionMore, SealsKeepEarlierTexts, table, request, with_recording, record_note, IsSound, IsSoundDocument, CommandKeepsSound, IsSoundRequest, IsFitPlan, PlansFit, EditStepsFit, UndoStepsFit, RedoStepsFit, Running, after_command, set_text_message, run_to, found_all, document_id, text_of_styled, is_saving, SetsNoSavePoint, IsCollected, KeepsTheSavePoint, UnmodifiedIsTheSavedText, GetModifyTells}
 use Rattle.ed_model.specs.StepLaws.{CellsFollowBytes}
 use Rattle.ed_model.specs.HistoryLaws.{SameButForSeals, SealsChangeNoChange, GroupBegunChangesNoChange, GroupEndedChangesNoChange, AppendKeepsAllButThePast, AppendJoins, NothingJoinsNone, AppendCounts, NotCollectingAppendsNothing}
 use Rattle.ed_model.specs.InverseLaws.{Fits, FitInTurn, after_undo, after_redo, UndoMakesItsSteps, RedoMakesItsSteps, UndoThenRedoGivesBackTheText}
@@ -11,7 +11,7 @@ use Rattle.run_laws.proofs.Choices.{either}
 use Rattle.run_laws.proofs.TableWays.{table_at, OfMessages}
 use Rattle.run_laws.proofs.PlanShapes.{Leave, KeepsTo, leave_of}
 use Rattle.run_laws.proofs.Going.{own_after, AllFrom, From, MayGo, command_from}
-use Rattle.run_laws.proofs.IdLemmas.{document_ids_never_come_back, next_document_rises}
+use Rattle.run_laws.proofs.IdLemmas.{still_there}
 
 -- The laws of the history that these proofs use.
 pub record Cited : Type 0 where
@@ -120,20 +120,13 @@ module _ (c : Cited) (saved : List ℕ) where
           let le = was.1 in
           let modified = left h.past refl t in
           let apart : k ≡ length h.past → ⊥ = not_save_point (length h.past) k h.save_point modified was.0 in
-          let some : k < length h.past = below k (length h.past) le apart in
+          let some : k < length h.past = elim (cases_lt k (length h.past)) [ inl l ↦ l | inr l ↦ absurd (apart (omega arith)) ] in
           let steps : length (appended later change h).past - k ≡ suc (length h.past - k - 1) = omega arith in
           let again : suc (length h.past - k - 1) ≡ length h.past - k = omega arith in (
             (λ fits. ap (λ (j : ℕ). undone_text j (appended later change h).past new) steps ∙ joined (length h.past - k - 1) t ∙ ap (λ (j : ℕ). undone_text j h.past now) again ∙ text),
             (λ past. absurd (omega arith)),
           )
         where
-          below : (a b : ℕ) → a ≤ b → (a ≡ b → ⊥) → a < b
-          below a b le ne = lt_of (cases_lt a b)
-            where
-              lt_of : (a < b) ⊎ (b ≤ a) → a < b
-              lt_of (inl l) = l
-              lt_of (inr l) = absurd (ne (omega arith))
-
           left : (ts : List Transaction) → h.past ≡ ts → joins later change h ≡ true → at_save_point h ≡ false
           left [] none joining = let not_joining = c.joins_none later change h none in absurd (cc)
           left (x ∷ xs) some joining = (c.append_joins later change h x xs collects some joining).modified
@@ -207,19 +200,16 @@ module _ (c : Cited) (saved : List ℕ) where
             ap (λ (j : ℕ). undone_text j (seal_first ts) new) n ∙ earlier (length ts - k) ∙ ap (λ (j : ℕ). undone_text j h.past now) m ∙ was.0 (omega arith)),
         (λ lt.
             let n : k - length (seal_first ts) ≡ suc (k - length h.past) = omega arith in
-            ap (λ (j : ℕ). redone_text j (t ∷ h.future) new) n ∙ ap (redone_text (k - length h.past) h.future) back ∙ later k (cases_lt (length h.past) k) was lt past few),
+            let rest : redone_text (k - length h.past) h.future now ≡ saved =
+            elim (cases_lt (length h.past) k) [
+              | inl l ↦ was.1 l
+              | inr l ↦
+                  let none : k - length h.past ≡ 0 = omega arith in
+                  let all : 0 ≡ length h.past - k = omega arith in
+                  ap (λ (j : ℕ). redone_text j h.future now) none ∙ ap (λ (j : ℕ). undone_text j h.past now) all ∙ was.0 l
+            ] in
+            ap (λ (j : ℕ). redone_text j (t ∷ h.future) new) n ∙ ap (redone_text (k - length h.past) h.future) back ∙ rest),
       ))
-    where
-      later : (k : ℕ) → (length scene.document.history.past < k) ⊎ (k ≤ length scene.document.history.past)
-          → ((k ≤ length scene.document.history.past → undone_text (length scene.document.history.past - k) scene.document.history.past (text_of scene.document) ≡ saved)
-          × (length scene.document.history.past < k → redone_text (k - length scene.document.history.past) scene.document.history.future (text_of scene.document) ≡ saved))
-          → length (seal_first ts) < k → length scene.document.history.past ≡ suc (length ts) → length (seal_first ts) ≡ length ts
-          → redone_text (k - length scene.document.history.past) scene.document.history.future (text_of scene.document) ≡ saved
-      later k (inl l) was lt past few = was.1 l
-      later k (inr l) was lt past few =
-          let n : k - length scene.document.history.past ≡ 0 = omega arith in
-          let m : 0 ≡ length scene.document.history.past - k = omega arith in
-          ap (λ (j : ℕ). redone_text j scene.document.history.future (text_of scene.document)) n ∙ ap (λ (j : ℕ). undone_text j scene.document.history.past (text_of scene.document)) m ∙ was.0 l
 
   redo_saved : (scene : Scene) (t : Transaction) (ts : List Transaction) → scene.document.history.future ≡ t ∷ ts → FitInTurn (text_steps (redo_changes scene.document.history)) (text_of scene.document)
       → SavedIn saved scene.document → SavedIn saved (after_redo scene).document
@@ -235,29 +225,22 @@ module _ (c : Cited) (saved : List ℕ) where
       subst (Saved saved new) (sym is_redone)
       (λ k e.
       let was = s k e in (
-        (λ le. first k (cases_lt (length h.past) k) was le earlier on some),
+        (λ le.
+            elim (cases_lt (length h.past) k) [
+              | inl l ↦
+                  let none : suc (length h.past) - k ≡ 0 = omega arith in
+                  let one : 1 ≡ k - length h.past = omega arith in
+                  ap (λ (j : ℕ). undone_text j (seal_first (t ∷ h.past)) new) none ∙ sym on ∙ ap (λ (xs : List Transaction). redone_text 1 xs now) (sym some)
+                  ∙ ap (λ (j : ℕ). redone_text j h.future now) one ∙ was.1 l
+              | inr l ↦
+                  let more : suc (length h.past) - k ≡ suc (length h.past - k) = omega arith in
+                  ap (λ (j : ℕ). undone_text j (seal_first (t ∷ h.past)) new) more ∙ earlier (length h.past - k) ∙ was.0 l
+            ]),
         (λ lt.
             let over : suc (length h.past) < k = lt in
             let n : k - length h.past ≡ suc (k - suc (length h.past)) = omega arith in
             ap (redone_text (k - suc (length h.past)) ts) (sym on) ∙ ap (λ (j : ℕ). redone_text j (t ∷ ts) now) (sym n) ∙ ap (λ (xs : List Transaction). redone_text (k - length h.past) xs now) (sym some) ∙ was.1 (omega arith)),
       ))
-    where
-      first : (k : ℕ) → (length scene.document.history.past < k) ⊎ (k ≤ length scene.document.history.past)
-          → ((k ≤ length scene.document.history.past → undone_text (length scene.document.history.past - k) scene.document.history.past (text_of scene.document) ≡ saved)
-          × (length scene.document.history.past < k → redone_text (k - length scene.document.history.past) scene.document.history.future (text_of scene.document) ≡ saved))
-          → k ≤ suc (length scene.document.history.past)
-          → ((j : ℕ) → undone_text (suc j) (seal_first (t ∷ scene.document.history.past)) (text_of (after_redo scene).document) ≡ undone_text j scene.document.history.past (text_of scene.document))
-          → redone_text 1 (t ∷ ts) (text_of scene.document) ≡ text_of (after_redo scene).document → scene.document.history.future ≡ t ∷ ts
-          → undone_text (suc (length scene.document.history.past) - k) (seal_first (t ∷ scene.document.history.past)) (text_of (after_redo scene).document) ≡ saved
-      first k (inl l) was le earlier on some =
-          let n : suc (length scene.document.history.past) - k ≡ 0 = omega arith in
-          let m : 1 ≡ k - length scene.document.history.past = omega arith in
-          ap (λ (j : ℕ). undone_text j (seal_first (t ∷ scene.document.history.past)) (text_of (after_redo scene).document)) n ∙ sym on
-          ∙ ap (λ (xs : List Transaction). redone_text 1 xs (text_of scene.document)) (sym some)
-          ∙ ap (λ (j : ℕ). redone_text j scene.document.history.future (text_of scene.document)) m ∙ was.1 l
-      first k (inr l) was le earlier on some =
-          let n : suc (length scene.document.history.past) - k ≡ suc (length scene.document.history.past - k) = omega arith in
-          ap (λ (j : ℕ). undone_text j (seal_first (t ∷ scene.document.history.past)) (text_of (after_redo scene).document)) n ∙ earlier (length scene.document.history.past - k) ∙ was.0 l
 
   -- Other changes.
 
@@ -298,11 +281,9 @@ module _ (c : Cited) (saved : List ℕ) where
   changed_saved bytes _ d l answer barred keeps s = s
 
   -- undo and redo need a transaction
-  none_left : (b : Bool) (ts : List Transaction) → ts ≡ [] → (b && nat_lt 0 (length ts)) ≡ true → ⊥
-  none_left b ts none may =
-      let some : 0 < length ts = ltb-true 0 (length ts) (and_parts b (nat_lt 0 (length ts)) may).1 in
-      let empty : length ts ≡ 0 = ap length none in
-      omega arith
+  first_of_some : (b : Bool) (ts : List Transaction) → (b && nat_lt 0 (length ts)) ≡ true → (t : Transaction) × (rest : List Transaction) × (ts ≡ t ∷ rest)
+  first_of_some b [] may = let no = (and_parts b false may).1 in absurd (cc)
+  first_of_some b (t ∷ ts) may = (t, ts, refl)
 
   -- the document of a plan's request after the plan
   own_saved : (r : Request) (p : Plan) (l : Leave) → l.saves ≡ false → KeepsTo l p → IsSoundRequest r → IsSoundDocument r.session.limits r.document → IsFitPlan r p
@@ -317,16 +298,12 @@ module _ (c : Cited) (saved : List ℕ) where
           let none = (fit_document.history.kept off).0 in
           subst (Saved saved (text_of (own_after r (plan.Edit change value after)))) (sym (edit_stays (steps_of r change) (scene_of r) off none))
           (subst (λ (now : List ℕ). Saved saved now r.document.history) (sym same) s)
-  own_saved r plan.Undo l barred keeps sound fit_document fit may s = go r.document.history.past refl
-    where
-      go : (ts : List Transaction) → r.document.history.past ≡ ts → SavedIn saved (own_after r plan.Undo)
-      go [] none = absurd (none_left (r.document.history.depth == 0) r.document.history.past none fit.0)
-      go (t ∷ ts) some = undo_saved (scene_of r) t ts some (fit_in_turn _ (text r) (c.undo_fits r sound)) s
-  own_saved r plan.Redo l barred keeps sound fit_document fit may s = go r.document.history.future refl
-    where
-      go : (ts : List Transaction) → r.document.history.future ≡ ts → SavedIn saved (own_after r plan.Redo)
-      go [] none = absurd (none_left (r.document.history.depth == 0) r.document.history.future none fit.0)
-      go (t ∷ ts) some = redo_saved (scene_of r) t ts some (fit_in_turn _ (text r) (c.redo_fits r sound)) s
+  own_saved r plan.Undo l barred keeps sound fit_document fit may s =
+      let first = first_of_some (r.document.history.depth == 0) r.document.history.past fit.0 in
+      undo_saved (scene_of r) first.0 first.1 first.2 (fit_in_turn _ (text r) (c.undo_fits r sound)) s
+  own_saved r plan.Redo l barred keeps sound fit_document fit may s =
+      let first = first_of_some (r.document.history.depth == 0) r.document.history.future fit.0 in
+      redo_saved (scene_of r) first.0 first.1 first.2 (fit_in_turn _ (text r) (c.redo_fits r sound)) s
   own_saved r (plan.ChangeDocument change value) l barred keeps sound fit_document fit may s = changed_saved r.message.text change r.document l value barred keeps s
   own_saved r _ l barred keeps sound fit_document fit may s = s
 
@@ -360,32 +337,18 @@ module _ (c : Cited) (saved : List ℕ) where
   run_saved keeps files [] s id d e sound found there kept still = let same : d ≡ e = cc in subst (SavedIn saved) same there
   run_saved keeps files (command ∷ cs) s id d e sound found there kept still =
       let t = (after_command files command s).0 in
-      go (document_at t.session.documents id) refl kept.1 (keeps files command s sound) (command_goes files id command s sound kept.0)
-      (λ x sound_after found_after there_after. run_saved keeps files cs t id x e sound_after found_after there_after kept.2 still)
-    where
-      go : (o : Option Document) → document_at (after_command files command s).0.session.documents id ≡ o → IsCollected (document_at s.session.documents id) (document_at (after_command files command s).0.session.documents id)
-          → IsSound (after_command files command s).0.session → AllFrom (Keeps id) s.session (after_command files command s).0.session
-          → ((x : Document) → IsSound (after_command files command s).0.session → document_at (after_command files command s).0.session.documents id ≡ Some x → SavedIn saved x → SavedIn saved e) → SavedIn saved e
-      go None gone may sound_after on rest =
-          let t = (after_command files command s).0 in
-          let below = found_below 0 s.session.next_document s.session.documents id d sound.document_ids found in
-          let rises = next_document_rises files command s in
-          let none = document_ids_never_come_back c.fits keeps files cs t id sound_after (omega arith) gone in
-          absurd (cc)
-      go (Some x) here may sound_after on rest =
-          let from : From (Keeps id) s.session.next_document (Some d) x = subst (λ (o : Option Document). From (Keeps id) s.session.next_document o x) found (on id x here) in
-          let collected : IsCollected (Some d) (Some x) = subst (λ (o : Option Document). IsCollected o (Some x)) found (subst (IsCollected (document_at s.session.documents id)) here may) in
-          rest x sound_after here (from (document_id s.session.documents id d found) collected there)
+      let x = still_there c.fits keeps files command cs s id d e sound found still in
+      let from : From (Keeps id) s.session.next_document (Some d) x.0 =
+      subst (λ (o : Option Document). From (Keeps id) s.session.next_document o x.0) found (command_goes files id command s sound kept.0 id x.0 x.1) in
+      let collected : IsCollected (Some d) (Some x.0) =
+      subst (λ (o : Option Document). IsCollected o (Some x.0)) found (subst (IsCollected (document_at s.session.documents id)) x.1 kept.1) in
+      run_saved keeps files cs t id x.0 e (keeps files command s sound) x.1 (from (document_id s.session.documents id d found) collected there) kept.2 still
 
 pub unmodified_is_the_saved_text : Cited → CommandKeepsSound → UnmodifiedIsTheSavedText
 unmodified_is_the_saved_text c keeps files commands s id d e sound found at kept still at_again =
     saved_now (text_of d) (text_of e) e.history at_again (run_saved c (text_of d) keeps files commands s id d e sound found (saved_first (text_of d) d.history at) kept still)
 
 -- GETMODIFY.
-
-value_if_recorded : (b : Bool) (r : Request) (reply : Response) → (cond b (record reply { notes = record_note r ∷ reply.notes }) reply).value ≡ reply.value
-value_if_recorded true r reply = refl
-value_if_recorded false r reply = refl
 
 -- the value that GETMODIFY answers
 pub get_modify_value : (s : Session) (view : ℕ) (m : Message) (v : View) (d : Document) (done : Session × Response) → kind_of m.number ≡ Some GetModify
@@ -395,7 +358,8 @@ get_modify_value s view m v d done is sees finds e =
     let reply = quiet (flag (not (at_save_point d.history))) in
     let here : table s view m ≡ Ok (s, with_recording GetModify r reply) = table_at s view m v GetModify d sees is finds in
     let both : done ≡ (s, with_recording GetModify r reply) = cc in
-    ap (λ (x : Session × Response). x.1.value) both ∙ value_if_recorded (v.records && (marks_of GetModify).r) r reply
+    ap (λ (x : Session × Response). x.1.value) both
+    ∙ either (λ (x : Response). x.value ≡ reply.value) (v.records && (marks_of GetModify).r) (record reply { notes = record_note r ∷ reply.notes }) reply refl refl
 
 pub get_modify_tells : GetModifyTells
 get_modify_tells s view m v d done is sees finds e zero_is = go (at_save_point d.history) (sym (get_modify_value s view m v d done is sees finds e) ∙ zero_is)

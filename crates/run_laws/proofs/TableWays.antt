@@ -57,6 +57,7 @@ of_each_message Has h (SendMessage view m) = h view m
 of_each_message Has h (LoadFile view file) = λ bytes. h view (set_text_message bytes)
 of_each_message Has h _ = tt
 
+-- a result has what each refusal has, and what its value has, if there is one
 of_result : {A : Type 0} (P : Result A Refusal → Type 0) → ((refusal : Refusal) → P (Err refusal)) → (o : Result A Refusal) → ((x : A) → o ≡ Ok x → P (Ok x)) → P o
 of_result P refused (Ok x) h = h x refl
 of_result P refused (Err refusal) h = refused refusal

@@ -1,18 +1,19 @@
 -- UNDO and REDO between other commands: each UNDO and REDO is answered, and all other commands leave the document alone.
-use Rattle.run_laws.proofs.Names.{◌≡◌, ℕ, zero, suc, ◌≤◌, ◌<◌, cond, Bool, true, false, List, [], ◌∷◌, length, refl, ap, ◌∙◌, sym, subst, arith, inl, inr, Option, Some, None, Ok, Err, Kind, Undo, Redo, Message, TooLong, Command, LoadFile, SendMessage, Outcome, Response, kind_of, Plan, History, Change, can_undo, can_redo, undo_changes, redo_changes, Session, View, Document, view_at, document_at, text_of, new_session, limit_of, Request, size, stays_within, act_on_history, text_steps, table, answered, plan_of, request, Answered, LeavesSession, QueriesLeaveTheSession, IsSound, CommandKeepsSound, IsSoundInEveryState, undone_text, PlansFit, Running, starting, after_command, after_message, set_text_message, run_to, found_below, same_document}
+use Rattle.run_laws.proofs.Names.{◌≡◌, ℕ, zero, suc, ◌≤◌, cond, Bool, true, false, List, [], ◌∷◌, length, refl, ap, ◌∙◌, sym, subst, arith, inl, inr, Some, Ok, Err, Kind, Undo, Redo, Message, TooLong, Command, LoadFile, SendMessage, Outcome, Response, kind_of, Plan, History, Change, can_undo, can_redo, undo_changes, redo_changes, Session, View, Document, view_at, document_at, text_of, new_session, limit_of, Request, size, stays_within, act_on_history, text_steps, table, answered, plan_of, request, Answered, LeavesSession, QueriesLeaveTheSession, IsSound, CommandKeepsSound, IsSoundInEveryState, undone_text, PlansFit, Running, starting, after_command, after_message, set_text_message, run_to, found_below, same_document, IsSoundInEveryStateFrom}
 use Rattle.ed_model.specs.RunUndoLaws.{UndoGoesBackInEveryRun}
 use Rattle.ed_model.specs.UndoMessageLaws.{IsNeverTooLong, UndoIsNeverTooLong, RedoIsNeverTooLong}
 use Rattle.ed_model.specs.RepeatedUndoLaws.{IsLeftAlone, LeavesAlone, MessagesLeaveOtherDocumentsAlone, OpeningLeavesDocumentsAlone, ClosingLeavesDocumentsAlone, AreAnswered, HasText, UndosGoBackThenRedosGoOn, UndoMessagesGoBack}
 use Rattle.run_laws.specs.UndoRunLaws.{Acts, GoesToOthers, GoesAside, Act, UndoGoesBackOverCommands}
 use Rattle.ed_model.specs.declared.plan.Plan.TheVariants as plan
 use Rattle.run_laws.proofs.TableWays.{of_table, table_at, OfMessages, of_command}
-use Rattle.run_laws.proofs.IdLemmas.{document_ids_never_come_back, next_document_rises}
+use Rattle.run_laws.proofs.IdLemmas.{next_ids_never_fall, still_there, there_before}
 
 -- The laws that these proofs use.
 pub record Cited : Type 0 where
   pub fits : PlansFit
   pub keeps : CommandKeepsSound
   pub sound : IsSoundInEveryState
+  pub stays_sound : IsSoundInEveryStateFrom
   pub queries : QueriesLeaveTheSession
   pub messages : MessagesLeaveOtherDocumentsAlone
   pub opening : OpeningLeavesDocumentsAlone
@@ -90,23 +91,6 @@ aside_alone laws files id c s sound aside =
         alone_same id s.session d e found (ap (λ (t : Session). document_at t.documents id) (sym same) ∙ still)
     go _ aside = tt
 
--- a document that exists after some commands, and whose id was given before them, existed before them
-there_before : Cited → (files : List (List ℕ)) (cs : List Command) (s : Running) (id : ℕ) (x : Document) → IsSound s.session → id < s.session.next_document
-    → document_at (run_to files cs s).session.documents id ≡ Some x → (d : Document) × (document_at s.session.documents id ≡ Some d)
-there_before laws files cs s id x sound below end = go (document_at s.session.documents id) refl
-  where
-    go : (o : Option Document) → document_at s.session.documents id ≡ o → (d : Document) × (document_at s.session.documents id ≡ Some d)
-    go (Some d) there = (d, there)
-    go None gone = let none = document_ids_never_come_back laws.fits laws.keeps files cs s id sound below gone in absurd (cc)
-
--- .. so a document that exists before a command and after further ones exists between
-still_there : Cited → (files : List (List ℕ)) (c : Command) (cs : List Command) (s : Running) (id : ℕ) (d e : Document) → IsSound s.session → document_at s.session.documents id ≡ Some d
-    → document_at (run_to files cs (after_command files c s).0).session.documents id ≡ Some e → (x : Document) × (document_at (after_command files c s).0.session.documents id ≡ Some x)
-still_there laws files c cs s id d e sound found end =
-    let below = found_below 0 s.session.next_document s.session.documents id d sound.document_ids found in
-    let rises = next_document_rises files c s in
-    there_before laws files cs (after_command files c s).0 id e (laws.keeps files c s sound) (omega arith) end
-
 alone_through : (id : ℕ) (s t u : Session) (l : LeavesAlone id s t) (x : Document) → document_at u.documents id ≡ Some x → IsLeftAlone l.after x → LeavesAlone id s u
 alone_through id s t u l x found left = record {
   before = l.before;
@@ -133,7 +117,7 @@ module _ (laws : Cited) (files : List (List ℕ)) (kind : Kind) (answers : IsAlw
       let here : document_at s.session.documents v.document ≡ Some alone.after = ap (document_at s.session.documents) acts.1.2 ∙ alone.still_found in
       let done = answers s.session view m v alone.after sound acts.0 acts.1.1 here in
       let next : (after_command files (SendMessage view m) s).0.session ≡ done.0.0 = ap (λ (x : Answered). (after_message s.session x).0.session) done.1 in
-      let there = still_there laws files (SendMessage view m) cs s id alone.after e sound alone.still_found end in
+      let there = still_there laws.fits laws.keeps files (SendMessage view m) cs s id alone.after e sound alone.still_found end in
       let after = rest (after_command files (SendMessage view m) s).0.session (alone_here id (after_command files (SendMessage view m) s).0.session there.0 there.1) in (
         (view, m) ∷ after.0,
         ap suc after.1,
@@ -150,7 +134,7 @@ module _ (laws : Cited) (files : List (List ℕ)) (kind : Kind) (answers : IsAlw
   aside_next : (c : Command) (cs : List Command) (origin : Session) (s : Running) (e : Document) → IsSound s.session → (alone : LeavesAlone id origin s.session) → GoesAside id s.session c
       → document_at (run_to files cs (after_command files c s).0).session.documents id ≡ Some e → LeavesAlone id origin (after_command files c s).0.session
   aside_next c cs origin s e sound alone aside end =
-      let there = still_there laws files c cs s id alone.after e sound alone.still_found end in
+      let there = still_there laws.fits laws.keeps files c cs s id alone.after e sound alone.still_found end in
       alone_through id origin s.session (after_command files c s).0.session alone there.0 there.1
       (aside_alone laws files id c s sound aside alone.after there.0 alone.still_found there.1)
 
@@ -174,7 +158,7 @@ undo_goes_back_over_commands laws files limits before undos redos id k d found w
     let s = run_to files before start in
     let t = run_to files undos s in
     let sound : IsSound s.session = laws.sound files before limits in
-    let sound_after : IsSound t.session = run_keeps undos s sound in
+    let sound_after : IsSound t.session = laws.stays_sound files undos s sound in
     let undo = is_answered Undo can_undo undo_changes plan.Undo (λ r. refl) laws.undo_fits in
     let redo = is_answered Redo can_redo redo_changes plan.Redo (λ r. refl) laws.redo_fits in (
       (λ e end.
@@ -184,22 +168,11 @@ undo_goes_back_over_commands laws files limits before undos redos id k d found w
           ∙ ap Some (sym (text_there id t.session e _ end text ∙ ap (λ n. undone_text n d.history.past (text_of d)) chain.1))),
       (λ again e end.
           let below = found_below 0 s.session.next_document s.session.documents id d sound.document_ids found in
-          let rises = next_rises undos s in
-          let there = there_before laws files redos t id e sound_after (omega arith) end in
+          let rises = (next_ids_never_fall files undos s).0 in
+          let there = there_before laws.fits laws.keeps files redos t id e sound_after (omega arith) end in
           let back = chained laws files Undo undo id undos k s.session s there.0 sound (alone_here id s.session d found) act there.1 in
           let on = chained laws files Redo redo id redos k t.session t e sound_after (alone_here id t.session there.0 there.1) again end in
           let u = run_to files redos t in
           let texts = laws.there_and_back s.session t.session u.session id d back.0 on.0 sound found written depth (subst (λ n. n ≤ length d.history.past) (sym back.1) enough) back.2 (on.1 ∙ sym back.1) on.2 in
           text_there id u.session e (text_of d) end texts.1),
     )
-  where
-    run_keeps : (cs : List Command) (s : Running) → IsSound s.session → IsSound (run_to files cs s).session
-    run_keeps [] s sound = sound
-    run_keeps (c ∷ cs) s sound = run_keeps cs (after_command files c s).0 (laws.keeps files c s sound)
-
-    next_rises : (cs : List Command) (s : Running) → s.session.next_document ≤ (run_to files cs s).session.next_document
-    next_rises [] s = omega arith
-    next_rises (c ∷ cs) s =
-        let first = next_document_rises files c s in
-        let rest = next_rises cs (after_command files c s).0 in
-        omega arith

@@ -57,9 +57,6 @@ module _ (id : ℕ) (V : List View → Type 0) (stepped : (step : Step) (d : Doc
   abbrev pub Keeps : Scene → Type 0
   Keeps scene = (scene.document.id ≡ id) × V scene.views
 
-  pub edit_views : (steps : List Step) (scene : Scene) → Keeps scene → Keeps (edit_made steps scene)
-  edit_views steps scene h = edit_kept Keeps (λ later step x k. (k.0, stepped step x.document x.views k.0 k.1)) (λ x k. k) steps scene h
-
   change_views : (who several : ℕ) (last lines_changed : Bool) (c : Change) (scene : Scene) → Keeps scene → Keeps (change_performed who several last lines_changed c scene)
   change_views who several last lines_changed (TextStep step) scene h = (h.0, stepped step scene.document scene.views h.0 h.1)
   change_views who several last lines_changed (ContainerStep token coalesce) scene h = h
@@ -129,7 +126,7 @@ module _ (r : Request) (V : List View → Type 0)
       → V (with_view (attached_to d r.view) r.session.views))
       → V r.session.views → V (performed r p).0.views
   performed_views (plan.Edit change value after) put attach h =
-      followed_views after (session_of r.session (edit_made (steps_of r change) (scene_of r))) (edit_views r.document.id V stepped (steps_of r change) (scene_of r) (refl, h)).1
+      followed_views after (session_of r.session (edit_made (steps_of r change) (scene_of r))) (edit_kept (Keeps r.document.id V stepped) (λ later step x k. (k.0, stepped step x.document x.views k.0 k.1)) (λ x k. k) (steps_of r change) (scene_of r) (refl, h)).1
   performed_views plan.Undo put attach h = history_views notes.performed_undo (undo_changes r.document.history) (undone r.document.history) h
   performed_views plan.Redo put attach h = history_views notes.performed_redo (redo_changes r.document.history) (redone r.document.history) h
   performed_views (plan.ChangeDocument change value) put attach h = lines change h

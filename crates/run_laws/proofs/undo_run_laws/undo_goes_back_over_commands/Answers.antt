@@ -10,6 +10,7 @@ returns c =
       fits = c.plans_are_fit.ensures.in_range;
       keeps = c.soundness_is_kept.ensures.by_commands;
       sound = c.session_is_sound.ensures.in_every_state;
+      stays_sound = c.session_is_sound.ensures.in_every_state_from;
       queries = c.queries_leave_the_session.ensures.law;
       messages = alone.messages;
       opening = alone.opening;
