@@ -1,12 +1,11 @@
 -- Edits of the text.
-use Rattle.editor_session.proofs.Names.{◌≡◌, ◌⊎◌, inl, inr, ℕ, ℤ, true, false, List, [], ◌∷◌, ◌++◌, length, refl, ap, sym, ◌∙◌, subst, Option, Some, None, IfSome, IsSomeAnd, not, and_parts, Follow, steps_of, has_steps, converted, Scene, session_of, edit_made, followed, EditStepsFit, edit_made_id, Request, Document, Session, text_of, Step, insertion, Entries, value_at, Gathered, Kept, KeptView, kept_scene, views_of, session_in, SessionState, IsKept, IsPastedFor, TakesWithin, is_turned, clipboard_need, taken_along, followed_views, followed_clipboard, Becomes, CanEdit, Edits, MakesEdit, edit_steps, scene_after, takes_nothing_along, IfFree, IsPlannedForSomeValueWithText, StepsFitWidth}
+use Rattle.editor_session.proofs.Names.{◌≡◌, ◌⊎◌, inl, inr, ℕ, ℤ, true, false, List, [], ◌∷◌, ◌++◌, length, refl, ap, sym, ◌∙◌, subst, Option, Some, None, IfSome, IsSomeAnd, not, and_parts, eqb-true, Follow, steps_of, has_steps, converted, Scene, session_of, edit_made, followed, EditStepsFit, edit_made_id, Request, Document, Session, text_of, Step, insertion, Entries, value_at, Gathered, Kept, KeptView, kept_scene, views_of, session_in, SessionState, IsKept, IsPastedFor, TakesWithin, is_turned, clipboard_need, taken_along, followed_views, followed_clipboard, Becomes, CanEdit, Edits, MakesEdit, edit_steps, scene_after, takes_nothing_along, IfFree, IsPlannedForSomeValueWithText, StepsFitWidth}
 use Rattle.ed_model.specs.declared.plan.Source.TheVariants as source
 use Rattle.ed_model.specs.declared.plan.Edit.{Edit}
 use Rattle.ed_model.specs.declared.plan.Edit.TheVariants as edit
 use Rattle.ed_model.specs.declared.plan.Follow.TheVariants as follow
 use Rattle.ed_model.specs.declared.plan.Plan.TheVariants as plan
 use Rattle.editor_session.proofs.Widths.{steps_fit_width}
-use Rattle.editor_session.proofs.Needing.{no_steps, nothing_along}
 use Rattle.editor_session.proofs.OneDocument.{with_one, said_of_it, becomes}
 use Rattle.editor_session.proofs.PlanLemmas.{DoneFor, asked_by, asked_with, kept_at, of_kept, for_kept, session_is, takes_here, within_here, limits_here, watched_here, same_steps, edited}
 use Rattle.editor_session.proofs.TableWay.{free_plan}
@@ -63,6 +62,14 @@ turns_nothing r _ h = inl refl
 pub pasted_none : (change : Edit) (clipboard pasted : List ℕ) (end : _) → is_turned change ≡ false → IsPastedFor change clipboard end pasted
 pasted_none (edit.Replace start count (source.Clipboard true)) clipboard pasted end h = absurd (cc)
 pasted_none _ clipboard pasted end h = tt
+
+no_steps : (ss : List Step) → not (has_steps ss) ≡ true → ss ≡ []
+no_steps [] h = refl
+no_steps (s ∷ ss) h = absurd (cc)
+
+nothing_along : (f : Follow) → takes_nothing_along f ≡ true → clipboard_need f ≡ 0
+nothing_along (follow.Clipboard start count) h = eqb-true count 0 h
+nothing_along _ h = refl
 
 module _ (s : SessionState) (kept : IsKept s) (document view : ℕ) (text : List ℕ) (change : Edit) (after : Follow) where
   module _ (sent : IsPlannedForSomeValueWithText (session_in s) document view text (λ value. plan.Edit change value after)) where

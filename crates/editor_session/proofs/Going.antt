@@ -1,5 +1,5 @@
 -- Undo and redo at once.
-use Rattle.editor_session.proofs.Names.{◌≡◌, ◌∙◌, ◌+◌, ℕ, max, arith, length, List, true, false, pos, [], refl, ap, sym, subst, IfSome, IsSomeAnd, history_performed, UndoStepsFit, RedoStepsFit, IsSoundRequest, IsFitPlan, IsRoomFor, Request, text, Session, text_of, AreStepsOf, performed, changes_of, history_behind, Direction, value_at, Gathered, gathered, bits_of, session_in, SessionState, IsKept, CanGoOnceThereIsRoom, Goes, going, no_notes, IsPlannedForSomeValue, ChangesFitWidth, IfFree, nil_from_length}
+use Rattle.editor_session.proofs.Names.{◌≡◌, ℕ, List, true, false, pos, [], refl, sym, subst, IfSome, IsSomeAnd, history_performed, UndoStepsFit, RedoStepsFit, IsSoundRequest, IsFitPlan, IsRoomFor, Request, text, Session, text_of, AreStepsOf, performed, changes_of, history_behind, Direction, value_at, Gathered, bits_of, session_in, SessionState, IsKept, CanGoOnceThereIsRoom, Goes, going, IsPlannedForSomeValue, ChangesFitWidth, IfFree}
 use Rattle.ed_model.specs.declared.plan.Plan.TheVariants as plan
 use Rattle.ed_model.specs.UndoPlans.{text_steps}
 use Rattle.document.specs.declared.undoing.Direction.TheVariants.{Undo, Redo}
@@ -46,12 +46,3 @@ module _ {s : Session} {document view : ℕ} {text : List ℕ} where
   -- so does an attempt
   pub attempt_never_free : IfFree s document view text plan.Attempt (false ≡ true)
   attempt_never_free = λ m is_recorded t text_is free. (free_plan t free).0
-
--- No notes came where there was room for none.
-pub none_told : (old between new : Gathered) (notes bytes : ℕ) → between ≡ record old { note_room = max old.note_room notes; text_room = max old.text_room bytes } → new.note_room + length new.notes ≡ between.note_room + length between.notes
-    → notes ≡ 0 → old ≡ no_notes → new.notes ≡ []
-none_told old between new notes bytes made left none empty =
-    let start : between ≡ gathered [] [] (max 0 notes) (max 0 bytes) = rw empty at made in
-    let room : between.note_room ≡ 0 = ap (λ (g : Gathered). g.note_room) start ∙ ap (max 0) none in
-    let some : length between.notes ≡ 0 = ap (λ (g : Gathered). length g.notes) start in
-    nil_from_length new.notes (omega (arith, left, room, some))

@@ -3,10 +3,8 @@ pub mod Finding
 pub mod Questions
 pub mod TextQuestions
 pub mod TableWay
-pub mod Stepping
 pub mod PlanLemmas
 pub mod Keeping
-pub mod Needing
 pub mod RunLemmas
 pub mod EditLemmas
 pub mod Going

@@ -1,15 +1,15 @@
 -- The names of the crates below, and of this crate's definitions, that many proofs cite. Declares nothing.
 pub use Rattle.std.proofs.Common.{◌≡◌, ℕ, ◌==◌, ap, sym, ◌∙◌, Some, None, ◌⊎◌, inl, inr, ℤ, true, false, List, [], ◌∷◌, ◌++◌, length, refl, subst, Option, IfSome, IsSome, IsSomeAnd, Bool, cond, map, option_map, is_some, Ok, Err, ◌+◌, max, arith, pos, OnOk, OnErr, IfOk, ◌&&◌, IfErr, ◌<◌, ◌≤◌, slice_range, ◌-◌, ◌^◌, ◌≢◌, append-nil, append_assoc, negsuc, ◌↔◌, take, drop, zero, suc, slice_get, IsErr, ◌||◌, min, nat_le, rules, to_z, of_z, w64, ◌*◌}
 pub use Rattle.std.specs.Prelude.{not, if◌then◌else◌, Result, reverse, nat_lt, filter_map, filter, IsOk, option_copied, vec_len, vec_capacity}
-pub use Rattle.std.proofs.lemmas.Bool.{and_parts, eqb-true, cond_both, not-true, leb-true, eqb-false, lt-leb, le-leb}
+pub use Rattle.std.proofs.lemmas.Bool.{and_parts, eqb-true, cond_both, not-true, leb-true, lt-leb, le-leb}
 pub use Rattle.std.specs.List.{AllByRecursion, cons_option}
-pub use Rattle.std.proofs.lemmas.List.{map-append, length-map, length-take, length-drop, nil_from_length, drop-map}
+pub use Rattle.std.proofs.lemmas.List.{map-append, length-map, length-take, length-drop, drop-map}
 pub use Rattle.std.specs.Option.{option_copied_mut}
 pub use Rattle.ed_model.specs.Session.{View, document_at, view_at, Document, Session, text_of, with_document, is_allowed, watching, new_document, new_view, living, left_by, references, is_large, limit_of}
 pub use Rattle.ed_model.specs.SoundLaws.{IsSoundView, IsSound, MessageKeepsSound, AreStepsOf, OpeningKeepsSound, ClosingKeepsSound, Rise, IsSoundDocument, ListsItsViews, StandsOn}
 pub use Rattle.ed_model.specs.proved.Elements.{found_all, all_filter}
 pub use Rattle.id_table.specs.Entries.{value_at, Entries, Entry, entry, id_of, value_of, with_value_at, without_id}
-pub use Rattle.document.specs.Kept.{Kept, document_of, HasRoom, amount_sum, room_sum, no_room, TakesRoom, FitsWidth, bound_of}
+pub use Rattle.document.specs.Kept.{Kept, document_of, FitsWidth, bound_of}
 pub use Rattle.ed_view.specs.Kept.{KeptView, view_in}
 pub use Rattle.message_requests.specs.Requested.{session_in, documents_in}
 pub use Rattle.message_requests.specs.declared.state.SessionState.{SessionState}
@@ -17,13 +17,13 @@ pub use Rattle.session_changes.specs.Kept.{IsKept, DocumentsAreNamed}
 pub use Rattle.session_changes.specs.proved.Finding.{id_of_view, id_of_document, found_some, found_none, found, unchanged, named_with, own_at, still_named, IsKeptAs, kept_as, replaced, changed, staying}
 pub use Rattle.ed_model.specs.declared.plan.Follow.{Follow}
 pub use Rattle.ed_model.specs.Edits.{steps_of, has_steps, source_bytes, stays_within}
-pub use Rattle.ed_model.specs.LineEnds.{converted, after_steps, conversion_steps}
+pub use Rattle.ed_model.specs.LineEnds.{converted, after_steps}
 pub use Rattle.ed_model.specs.Performing.{Scene, session_of, edit_made, followed, with_caret, quiet, history_performed, place_behind, caret_behind, response, styled_text, scene_of, step_made, steps_made, sealed_scene, change_performed, changes_performed, transaction_performed, is_last, changes_lines, save_point_change}
 pub use Rattle.ed_model.specs.PlansFit.{EditStepsFit, PlansFit, UndoStepsFit, RedoStepsFit, IsSoundRequest, IsFitPlan, IsRoomFor, IsFitDocumentChange, IsFitEdit, IsFitSource, IsFitFollow, IsFitPlanned}
 pub use Rattle.ed_model.specs.proved.Scenes.{edit_made_id}
 pub use Rattle.ed_model.specs.Requests.{Request, Planned, text, size, answer, answer_number}
-pub use Rattle.ed_model.specs.Steps.{Step, insertion, Insert, Delete, replacement, step_bytes, deletion, edited}
-pub use Rattle.notify.specs.Gathered.{Gathered, gathered}
+pub use Rattle.ed_model.specs.Steps.{Step, insertion, Insert, Delete, replacement, edited}
+pub use Rattle.notify.specs.Gathered.{Gathered}
 pub use Rattle.scene.specs.Scenes.{kept_scene, views_of, AreNamed, watchers, scene_in, StandsIfOn, IsWatched}
 pub use Rattle.ed_types.specs.declared.kind.Kind.{Kind}
 pub use Rattle.ed_types.specs.declared.message.Message.{Message}
@@ -38,13 +38,11 @@ pub use Rattle.message_plans.specs.Frequent.{frequent_changes, frequent_change_o
 pub use Rattle.document.specs.Undoing.{changes_of, history_behind}
 pub use Rattle.document.specs.declared.undoing.Direction.{Direction}
 pub use Rattle.ed_types.specs.Notices.{Notice, Response}
-pub use Rattle.scene.specs.Undoing.{bits_of, place_behind_any, capped, capped_room, rooms_beside, room_of_changes}
-pub use Rattle.ed_model.specs.History.{latest_text_step, TextStep, at_save_point, History, Change, ContainerStep, Transaction, sealed_outside_groups, with_last_sealed}
+pub use Rattle.scene.specs.Undoing.{bits_of, place_behind_any, rooms_beside}
+pub use Rattle.ed_model.specs.History.{latest_text_step, TextStep, at_save_point, History, Change, ContainerStep}
 pub use Rattle.ed_types.specs.declared.refusal.Refusal.{Refusal}
 pub use Rattle.ed_types.specs.declared.refusal.Refusal.TheVariants.{NoSuchView, BadArgument, OutOfMemory, UnknownMessage}
-pub use Rattle.scene.specs.Conversion.{room_of_step, room_of_steps, free_behind, notes_for, bytes_for, changes_for, room_of_steps_beside}
-pub use Rattle.scene.specs.Needs.{note_room, notes_of_step, bytes_of_step, leaving_count, notes_needed, bytes_needed, NotesAreEnough, BytesAreEnough, SealingNeedsTheSame}
-pub use Rattle.scene.specs.proved.Rooms.{same_room, appended_collects, deletion_needs, first_room, next_room}
+pub use Rattle.scene.specs.Conversion.{free_behind, changes_for, room_of_steps_beside}
 pub use Rattle.ed_types.specs.declared.limits.Limits.{Limits}
 pub use Rattle.ed_model.specs.declared.plan.SessionChange.{SessionChange}
 pub use Rattle.ed_model.specs.Notes.{told, modify_attempt, blank, bit_if, multi_step}
@@ -52,14 +50,16 @@ pub use Rattle.session_changes.specs.Asked.{IsAsked, CanChangeSession, CanChange
 pub use Rattle.ed_model.specs.declared.plan.ViewChange.{ViewChange}
 pub use Rattle.message_plans.specs.Asking.{questions, question_of, is_question, value_planned, value_asked, text_questions, text_question_of, is_text_question, handed_planned, handed_asked}
 pub use Rattle.ed_model.specs.Run.{Running, outcomes, run_to, after_command, after_message, after_opening, loaded, file_at, set_text_message}
-pub use Rattle.ed_model.specs.proved.Steps.{length_of_range, length-inserted, length-deleted_within}
+pub use Rattle.ed_model.specs.proved.Steps.{length-inserted, length-deleted_within}
 pub use Rattle.ed_model.specs.Text.{Cell, styles_of, bytes_of}
+pub use Rattle.document_edits.specs.Edits.{MakesEdit}
+pub use Rattle.document_edits.specs.History.{scene_gone, no_notes}
+pub use Rattle.document_edits.specs.Widths.{StepsFitWidth, ChangesFitWidth}
 pub use Rattle.editor_session.specs.Edited.{IsPastedFor, TakesWithin, is_turned, clipboard_need, taken_along, followed_views, followed_clipboard, Becomes, IsStoredIn, IsTurnedFor, IsEditWithin, stored_bytes}
-pub use Rattle.editor_session.specs.Edits.{CanEdit, Edits, MakesEdit, edit_steps, scene_after, IfNoSteps}
+pub use Rattle.editor_session.specs.Edits.{CanEdit, Edits, edit_steps, scene_after, IfNoSteps}
 pub use Rattle.editor_session.specs.Plans.{takes_nothing_along, is_free, needs_no_memory, needs_no_fold_room, planned_without_memory, is_free_request, is_free_from_document, is_free_from_kind, is_free_from_view, is_marked_free, is_recorded_by, MarkedMessagesAreFree}
 pub use Rattle.editor_session.specs.Planned.{IsAskedBy, planned_message, IsPlannedAs, PlannedMessage, recording, first_note, IsFound}
-pub use Rattle.editor_session.specs.Performed.{IfFree, IsPlannedForSomeValueWithText, unrecorded, no_notes, IsPlannedForSomeValue, going, IsAnswered, IsPlannedWithText}
-pub use Rattle.editor_session.specs.Widths.{StepsFitWidth, ChangesFitWidth}
-pub use Rattle.editor_session.specs.Doing.{CanBeMade, Changes, CanGoOnceThereIsRoom, Goes, scene_gone, CanChangeOnceThereIsRoom, TellsOfChange, views_changed, IsDone, IfChangeIsFree}
+pub use Rattle.editor_session.specs.Performed.{IfFree, IsPlannedForSomeValueWithText, unrecorded, IsPlannedForSomeValue, going, IsAnswered, IsPlannedWithText}
+pub use Rattle.editor_session.specs.Doing.{CanBeMade, Changes, CanGoOnceThereIsRoom, Goes, CanChangeOnceThereIsRoom, TellsOfChange, views_changed, IsDone, IfChangeIsFree}
 pub use Rattle.editor_session.specs.Answers.{with_text, AnswersBy, message_with}
 pub use Rattle.editor_session.specs.Asked.{value_from_document, value_from_view, value_from_kind, value_to, reply_handing, reply_from_document, reply_from_view, reply_from_kind, reply_to}

@@ -1,5 +1,5 @@
 -- One document of a session changes, and the views with it.
-use Rattle.editor_session.proofs.Names.{◌≡◌, ℕ, refl, ap, sym, subst, Some, IfSome, Document, IsSound, Entries, value_at, with_value_at, Kept, KeptView, AreNamed, session_in, documents_in, SessionState, IsKept, DocumentsAreNamed, document_of, id_of_document, unchanged, named_with, ◌==◌, Bool, true, false, cond, List, [], ◌∷◌, length, map, ◌∙◌, nat_lt, if◌then◌else◌, History, Change, TextStep, ContainerStep, bit_if, multi_step, with_document, Scene, change_performed, changes_performed, transaction_performed, is_last, changes_lines, Gathered, scene_in, Becomes, own_at, found_some, replaced}
+use Rattle.editor_session.proofs.Names.{◌≡◌, ℕ, refl, ap, sym, subst, Some, IfSome, Document, IsSound, Entries, value_at, with_value_at, Kept, KeptView, AreNamed, session_in, documents_in, SessionState, IsKept, DocumentsAreNamed, document_of, id_of_document, unchanged, named_with, ◌==◌, map, ◌∙◌, if◌then◌else◌, with_document, Scene, Gathered, scene_in, Becomes, own_at, found_some, replaced}
 use Rattle.editor_session.proofs.Keeping.{kept_with}
 
 -- the documents, with this one under the id
@@ -49,17 +49,3 @@ module _ (documents : Entries Kept) (views' : Entries KeptView) (notes' : Gather
     views_after = ap (λ (x : Scene). x.views) made;
     notes_after = ap (λ (x : Scene). x.notes) made;
   }
-
--- Undo and redo keep the document's id.
-
-changes_keep_id : (who several : ℕ) (lines_changed : Bool) (cs : List Change) (scene : Scene) → (changes_performed who several lines_changed cs scene).document.id ≡ scene.document.id
-changes_keep_id who several lines_changed [] scene = refl
-changes_keep_id who several lines_changed (TextStep step ∷ cs) scene =
-    let changed = cond lines_changed true (changes_lines (TextStep step) scene.document) in
-    changes_keep_id who several changed cs (change_performed who several (is_last cs) changed (TextStep step) scene)
-changes_keep_id who several lines_changed (ContainerStep token coalesce ∷ cs) scene =
-    let changed = cond lines_changed true (changes_lines (ContainerStep token coalesce) scene.document) in
-    changes_keep_id who several changed cs (change_performed who several (is_last cs) changed (ContainerStep token coalesce) scene)
-
-pub transaction_keeps_id : (who : ℕ) (cs : List Change) (new : History) (scene : Scene) → (transaction_performed who cs new scene).document.id ≡ scene.document.id
-transaction_keeps_id who cs new scene = changes_keep_id who (bit_if (nat_lt 1 (length cs)) multi_step) false cs scene

@@ -1,10 +1,9 @@
 -- A text that keeps to its limit is within the width of its document's places.
-use Rattle.editor_session.proofs.Names.{arith, ◌≡◌, ◌==◌, ℕ, ◌+◌, ◌-◌, ◌≤◌, ◌<◌, ◌^◌, min, nat_le, Bool, true, false, cond, List, [], ◌∷◌, length, refl, ap, sym, subst, slice_range, and_parts, leb-true, length-take, length-drop, length-map, Limits, stays_within, Change, TextStep, ContainerStep, IsRoomFor, IsSoundRequest, Request, text, Document, is_allowed, is_large, limit_of, text_of, AreStepsOf, IsSoundDocument, Step, Insert, Delete, edited, Cell, length-inserted, length-deleted_within, found_all, FitsWidth, bound_of, changes_for, room_of_steps_beside, capped, capped_room, free_behind, rooms_beside, StepsFitWidth, ChangesFitWidth}
+use Rattle.editor_session.proofs.Names.{arith, ◌≡◌, ◌==◌, ℕ, ◌+◌, ◌-◌, ◌≤◌, ◌<◌, ◌^◌, min, nat_le, Bool, true, false, cond, List, [], ◌∷◌, length, refl, ap, sym, subst, slice_range, and_parts, leb-true, length-take, length-drop, length-map, Limits, stays_within, Change, TextStep, ContainerStep, IsRoomFor, IsSoundRequest, Request, text, Document, is_allowed, is_large, limit_of, text_of, AreStepsOf, IsSoundDocument, Step, Insert, Delete, edited, Cell, length-inserted, length-deleted_within, found_all, FitsWidth, bound_of, changes_for, room_of_steps_beside, free_behind, rooms_beside, StepsFitWidth, ChangesFitWidth}
 use Rattle.ed_model.specs.declared.plan.LineEndTypes.{LineEndTypes}
 use Rattle.ed_model.specs.InverseLaws.{Fits}
 use Rattle.ed_model.specs.UndoPlans.{text_steps}
 use Rattle.ed_model.specs.proved.Limits.{allowed_lengths}
-use Rattle.document.specs.declared.room.DocumentRoom.{DocumentRoom}
 
 -- a deletion's bytes are in the text
 deleted_within : (p : ℕ) (bytes text : List ℕ) → Fits (Delete p bytes) text → p + length bytes ≤ length text
@@ -95,10 +94,3 @@ module _ (r : Request) (allowed : is_allowed r.session.limits ≡ true) (sound :
       let d = r.document in let is = text_steps_of steps in
       subst (λ x. FitsWidth d (length d.cells + x)) (sym (same_text_room d.line_end_types 0 steps))
       (changes_fit_width (changes_for steps) (subst (λ ss. AreStepsOf (text r) ss) (sym is) fit) (subst (λ ss. IsRoomFor r ss) (sym is) within))
-
--- what is asked for, which may be capped, fits as well
-pub capped_fits : (d : Document) (room need : DocumentRoom) → need ≡ capped_room room → FitsWidth d (length d.cells + room.text) → FitsWidth d (length d.cells + need.text)
-capped_fits d room need is fits = subst (λ (x : DocumentRoom). FitsWidth d (length d.cells + x.text)) (sym is) (less (length d.cells) room.text (bound_of (is_large d)) fits)
-  where
-    less : (n x bound : ℕ) → n + x < bound → n + capped x < bound
-    less n x bound h = omega arith

@@ -10,22 +10,21 @@ use Rattle.ed_model.specs.Changes.{changed_document, changed_lines, change_told}
 use Rattle.document_changes.specs.Fit.{IsFitChange, bytes_read}
 use Rattle.document_changes.specs.Needs.{needs_room, notes_of_change}
 use Rattle.ed_model.specs.Requests.{Request}
-use Rattle.ed_model.specs.Performing.{Scene, response, session_of, caret_behind, transaction_performed}
+use Rattle.ed_model.specs.Performing.{response, session_of, caret_behind}
 use Rattle.ed_model.specs.Table.{performed}
 use Rattle.id_table.specs.Entries.{Entries}
 use Rattle.notify.specs.Gathered.{Gathered}
 use Rattle.document.specs.declared.undoing.Direction.{Direction}
 use Rattle.document.specs.Kept.{Kept}
-use Rattle.document.specs.Undoing.{changes_of, history_behind}
+use Rattle.document.specs.Undoing.{changes_of}
 use Rattle.ed_view.specs.Kept.{KeptView}
-use Rattle.scene.specs.Scenes.{kept_scene, views_of, watchers, IsWatched}
-use Rattle.scene.specs.Undoing.{bits_of}
+use Rattle.scene.specs.Scenes.{views_of, watchers, IsWatched}
 use Rattle.scene.specs.Performed.{HistoryFits}
-use Rattle.message_requests.specs.Requested.{documents_in, session_in}
+use Rattle.document_edits.specs.History.{scene_gone}
+use Rattle.document_edits.specs.Widths.{ChangesFitWidth}
+use Rattle.message_requests.specs.Requested.{session_in}
 use Rattle.message_requests.specs.declared.state.SessionState.{SessionState}
 use Rattle.editor_session.specs.Documents.{OfDocument}
-use Rattle.editor_session.specs.Performed.{no_notes}
-use Rattle.editor_session.specs.Widths.{ChangesFitWidth}
 
 -- the plan is done: the session is that after it, the value and the bytes are the reply's, and its notes were put behind those before
 pub record IsDone (r : Request) (what : Plan) (s : SessionState) (before after : List Notice) (value : ℤ) (bytes : List ℕ) : Type 0 where
@@ -40,10 +39,6 @@ pub record CanGoOnceThereIsRoom (direction : Direction) (views : Entries KeptVie
   pub steps : HistoryFits direction k
   pub wide : ChangesFitWidth k.document (changes_of direction k.document.history)
   pub watched : IsWatched k.document views
-
--- the scene of a document after undo or redo
-abbrev pub scene_gone : Direction → Entries KeptView → Gathered → Kept → Scene
-scene_gone direction views notes k = transaction_performed (bits_of direction) (changes_of direction k.document.history) (history_behind direction k.document.history) (kept_scene k views notes)
 
 pub record Goes (view : ℕ) (direction : Direction) (s : SessionState) (notes : Gathered) (k : Kept) (s' : SessionState) (notes' : Gathered) : Type 0 where
   pub session_after : session_in s' ≡ (let t = session_of (session_in s) (scene_gone direction s.views notes k) in record t { views = caret_behind view (latest_text_step (reverse (changes_of direction k.document.history))) t.views })

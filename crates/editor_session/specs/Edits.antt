@@ -12,24 +12,16 @@ use Rattle.notify.specs.Gathered.{Gathered}
 use Rattle.document.specs.Kept.{Kept}
 use Rattle.ed_view.specs.Kept.{KeptView}
 use Rattle.scene.specs.Scenes.{kept_scene, IsWatched}
+use Rattle.document_edits.specs.Widths.{StepsFitWidth}
 use Rattle.message_requests.specs.Requested.{session_in}
 use Rattle.message_requests.specs.declared.state.SessionState.{SessionState}
 use Rattle.editor_session.specs.Documents.{OfDocument, HasDocument}
 use Rattle.editor_session.specs.Edited.{IsEditWithin, IsPastedFor, stored_bytes, taken_along}
-use Rattle.editor_session.specs.Widths.{StepsFitWidth}
 
 -- the steps of an edit of the document
 abbrev pub edit_steps : Edit → List ℕ → List ℕ → List ℕ → Document → List Step
 edit_steps (edit.Replace start count from) text clipboard pasted d = replacement start count (stored_bytes from text clipboard pasted d.line_end) (text_of d)
 edit_steps (edit.ConvertLineEnds to) text clipboard pasted d = conversion_steps to (text_of d)
-
--- the steps that replace the `count` bytes from `start` on of the document by these bytes
-abbrev pub replacement_in : ℕ → ℕ → List ℕ → Kept → List Step
-replacement_in start count bytes k = replacement start count bytes (text_of k.document)
-
--- the scene is that before, with these steps of an edit made
-abbrev pub MakesEdit : List Step → Kept → Entries KeptView → Gathered → Kept → Entries KeptView → Gathered → Type 0
-MakesEdit steps k views notes k' views' notes' = kept_scene k' views' notes' ≡ edit_made steps (kept_scene k views notes)
 
 -- no text on the way of the edit is too long for the document's places
 abbrev pub EditFitsWidth : Edit → List ℕ → List ℕ → List ℕ → Kept → Type 0

@@ -5,7 +5,6 @@ pub mod Documents
 pub mod Attached
 pub mod Asked
 pub mod Plans
-pub mod Needs
 pub mod Planned
 pub mod Lent
 pub mod Lends
@@ -13,7 +12,6 @@ pub mod Ranges
 pub mod Doing
 pub mod Edited
 pub mod Edits
-pub mod Widths
 pub mod Opening
 pub mod PartLends
 pub mod Performed

@@ -1,5 +1,5 @@
 -- What is performed for messages by their plans, whether they are recorded or not.
-use Rattle.std.specs.Prelude.{◌≡◌, ℕ, ℤ, Bool, true, false, List, [], Ok}
+use Rattle.std.specs.Prelude.{◌≡◌, ℕ, ℤ, Bool, true, false, List, Ok}
 use Rattle.ed_types.specs.declared.message.Message.{Message}
 use Rattle.ed_types.specs.Notices.{Notice, Response}
 use Rattle.ed_model.specs.declared.plan.Plan.{Plan}
@@ -8,17 +8,12 @@ use Rattle.ed_model.specs.Session.{Session}
 use Rattle.ed_model.specs.Table.{table}
 use Rattle.document.specs.declared.undoing.Direction.{Direction}
 use Rattle.document.specs.declared.undoing.Direction.TheVariants.{Undo, Redo}
-use Rattle.notify.specs.Gathered.{Gathered, gathered}
 use Rattle.editor_session.specs.Plans.{is_free}
 use Rattle.editor_session.specs.Planned.{PlannedMessage, IsPlannedAs, planned_message, first_note}
 
 -- a planned message that is not recorded
 abbrev pub unrecorded : ℕ → ℕ → Plan → PlannedMessage
 unrecorded document view what = planned_message document view what false
-
--- no notes, and no room for any
-abbrev pub no_notes : Gathered
-no_notes = gathered [] [] 0 0
 
 -- some message has this plan, for some value that it answers
 pub record IsPlannedForSomeValue (s : Session) (document view : ℕ) (what : ℤ → Plan) : Type 0 where

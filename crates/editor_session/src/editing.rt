@@ -1,23 +1,22 @@
 //! Edits of the text: room is made for all of an edit, and then it is made, with what follows it.
 
-ghost use Rattle.std.specs.Prelude.{◌≡◌, ◌≤◌, ◌+◌, [], true, false, length, OnOk, OnErr, IfOk, IfErr, IsOk, IsSome};
+ghost use Rattle.std.specs.Prelude.{◌≡◌, [], true, false, length, OnOk, OnErr, IfOk, IfErr, IsOk, IsSome};
 ghost use Rattle.ed_types.specs.declared.refusal.Refusal.TheVariants.{OutOfMemory};
 ghost use Rattle.ed_model.specs.declared.plan.Edit.TheVariants as edit;
-ghost use Rattle.ed_model.specs.LineEnds.{conversion_steps, converted};
-ghost use Rattle.ed_model.specs.Session.{text_of};
+ghost use Rattle.ed_model.specs.LineEnds.{converted};
 ghost use Rattle.id_table.specs.Entries.{value_at};
 ghost use Rattle.scene.specs.Scenes.{AreNamed, IsWatched};
+ghost use Rattle.document_edits.specs.Edits.{MakesEdit};
 ghost use Rattle.message_requests.specs.Requested.{session_in};
 ghost use Rattle.session_changes.specs.Kept.{IsKept, DocumentsAreNamed};
 ghost use Rattle.editor_session.specs.Edited.{IsEditWithin, TakesWithin, is_turned, clipboard_need};
-ghost use Rattle.editor_session.specs.Edits.{edit_steps, replacement_in, MakesEdit, EditFitsWidth, IfNoStepsAt, CanEditAt, EditsAt, IsPasted, IfPastesNothing, IsTaken};
-ghost use Rattle.editor_session.specs.Widths.{StepsFitWidth};
+ghost use Rattle.editor_session.specs.Edits.{edit_steps, EditFitsWidth, IfNoStepsAt, CanEditAt, EditsAt, IsPasted, IfPastesNothing, IsTaken};
 ghost use Rattle.editor_session.specs.Documents.{HasDocument};
 ghost use Rattle.editor_session.specs.Performing.{IsPlanned, editing, IsPlanPerformed, IfPlanIsFree};
 
-use crate::edits::{follow_edit, replace_bytes, source_bytes};
-use crate::need::replacement_need;
+use crate::edits::{follow_edit, source_bytes};
 use document::Document;
+use document_edits::{convert_with_room, replace_with_room};
 use ed_model::{Edit, Follow, LineEnd, Source, plans_are_fit, soundness_is_kept};
 use ed_types::Refusal;
 use ed_view::View;
@@ -25,85 +24,7 @@ use id_table::IdTable;
 use line_ends::{convert_into, converted_len};
 use message_requests::SessionState;
 use notify::NoteList;
-use scene::{conversion_need, convert};
 use std::alloc::{AllocError, Global};
-
-/// Makes room in a document and for notes, and replaces the `count` bytes from `start` on by `bytes`.
-///
-/// # Errors
-///
-/// `AllocError` if an allocation fails. The document and the views are then as they were.
-#[inline(always)]
-fn replace_with_room(
-    document: &mut Document,
-    views: &mut IdTable<View>,
-    notes: &mut NoteList,
-    start: usize,
-    count: usize,
-    bytes: &[u8],
-) -> Result<(), AllocError>
-    requires range { start + count ≤ length document.old.document.cells }
-    requires wide { StepsFitWidth document.old.document (replacement_in start count bytes.now document.old) }
-    requires watched { IsWatched document.old.document views.old }
-    ensures scene { let steps = replacement_in start count bytes.now document.old in
-        OnOk result (MakesEdit steps document.old views.old notes.old document.new views.new notes.new) }
-    ensures same { OnErr result (document.new.document ≡ document.old.document) }
-    ensures same_views { OnErr result (views.new ≡ views.old) }
-    ensures id { document.new.document.id ≡ document.old.document.id }
-    ensures watched { IsWatched document.new.document views.new }
-    ensures next { views.new.next ≡ views.old.next }
-    ensures free { replacement_in start count bytes.now document.old ≡ [] → IsOk result }
-{
-    let need = replacement_need(document, views, start, count, bytes);
-    if !need.is_counted() {
-        return Err(AllocError);
-    }
-    let Ok(()) = notes.reserve(need.notes.notes, need.notes.bytes) else {
-        return Err(AllocError);
-    };
-    let Ok(()) = document.reserve(need.document) else {
-        return Err(AllocError);
-    };
-    replace_bytes(document, views, notes, start, count, bytes);
-    Ok(())
-}
-
-/// Makes room in a document and for notes, and converts all line ends to `to`. Out of line, since CONVERTEOLS is rare.
-///
-/// # Errors
-///
-/// Those of `replace_with_room`.
-#[inline(never)]
-fn convert_with_room(
-    document: &mut Document,
-    views: &mut IdTable<View>,
-    notes: &mut NoteList,
-    to: LineEnd,
-) -> Result<(), AllocError>
-    requires wide { StepsFitWidth document.old.document (conversion_steps to (text_of document.old.document)) }
-    requires watched { IsWatched document.old.document views.old }
-    ensures scene { let steps = conversion_steps to (text_of document.old.document) in
-        OnOk result (MakesEdit steps document.old views.old notes.old document.new views.new notes.new) }
-    ensures same { OnErr result (document.new.document ≡ document.old.document) }
-    ensures same_views { OnErr result (views.new ≡ views.old) }
-    ensures id { document.new.document.id ≡ document.old.document.id }
-    ensures watched { IsWatched document.new.document views.new }
-    ensures next { views.new.next ≡ views.old.next }
-    ensures free { conversion_steps to (text_of document.old.document) ≡ [] → IsOk result }
-{
-    let need = conversion_need(document, views, to);
-    if !need.is_counted() {
-        return Err(AllocError);
-    }
-    let Ok(()) = notes.reserve(need.notes.notes, need.notes.bytes) else {
-        return Err(AllocError);
-    };
-    let Ok(()) = document.reserve(need.document) else {
-        return Err(AllocError);
-    };
-    convert(document, views, notes, to);
-    Ok(())
-}
 
 /// Makes room for an edit, and makes its steps. `pasted` is the clipboard with the document's line ends, if the edit
 /// inserts that.

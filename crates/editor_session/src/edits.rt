@@ -1,19 +1,14 @@
-//! The parts of an edit: the bytes that it inserts, its steps, and what follows them.
+//! The parts of an edit beside its steps: the bytes that it inserts, and what follows it.
 
-ghost use Rattle.std.specs.Prelude.{◌≡◌, ◌≤◌, ◌<◌, ◌+◌, length};
+ghost use Rattle.std.specs.Prelude.{◌≡◌, length};
 ghost use Rattle.ed_model.specs.declared.plan.Follow.TheVariants.{Caret, Target as follow_target};
-ghost use Rattle.scene.specs.Scenes.{AreNamed, IsWatched};
+ghost use Rattle.scene.specs.Scenes.{AreNamed};
 ghost use Rattle.session_changes.specs.Kept.{ViewsRise};
 ghost use Rattle.editor_session.specs.Edited.{IsStoredIn, stored_bytes, followed_clipboard, FollowsEdit};
-ghost use Rattle.editor_session.specs.Edits.{replacement_in, MakesEdit};
-ghost use Rattle.editor_session.specs.Needs.{StepsFit, NotesFit, TextsFit};
 
-use document::{Document, TextStep};
 use ed_model::{Follow, LineEnd, Source};
 use ed_view::{Target, View};
 use id_table::IdTable;
-use notify::NoteList;
-use scene::{make_step, needs_are_enough};
 use selection::Selection;
 
 /// Returns the bytes that an edit inserts. `pasted` is the clipboard with the document's line ends, if the edit inserts
@@ -39,85 +34,6 @@ pub(crate) fn source_bytes<'a>(
             LineEnd::Lf => b"\n",
         },
     }
-}
-
-/// Replaces the `count` bytes from `start` on by `bytes`, neither of which is empty: a deletion and then an insertion,
-/// in a transaction of their own. There must be room for both.
-fn replace_some(
-    document: &mut Document,
-    views: &mut IdTable<View>,
-    notes: &mut NoteList,
-    start: usize,
-    count: usize,
-    bytes: &[u8],
-)
-    requires some { (0 < count) × (0 < length bytes.now) }
-    requires range { start + count ≤ length document.old.document.cells }
-    requires watched { IsWatched document.old.document views.old }
-    requires room { StepsFit (replacement_in start count bytes.now document.old) document.old }
-    requires notes { NotesFit (replacement_in start count bytes.now document.old) document.old views.old notes.old }
-    requires texts { TextsFit (replacement_in start count bytes.now document.old) document.old views.old notes.old }
-    ensures scene { let steps = replacement_in start count bytes.now document.old in
-        MakesEdit steps document.old views.old notes.old document.new views.new notes.new }
-    ensures watched { IsWatched document.new.document views.new }
-    ensures next { views.new.next ≡ views.old.next }
-{
-    // States that the reserved room is enough for each step in turn.
-    needs_are_enough();
-    let deletion = TextStep::Delete {
-        place: start,
-        count,
-    };
-    let insertion = TextStep::Insert {
-        place: start,
-        bytes,
-    };
-    document.seal_outside_groups();
-    make_step(document, views, notes, false, deletion);
-    make_step(document, views, notes, true, insertion);
-    document.seal_outside_groups();
-}
-
-/// Replaces the `count` bytes from `start` on by `bytes`: a deletion, then an insertion, each only if it has bytes.
-/// There must be room for them.
-pub(crate) fn replace_bytes(
-    document: &mut Document,
-    views: &mut IdTable<View>,
-    notes: &mut NoteList,
-    start: usize,
-    count: usize,
-    bytes: &[u8],
-)
-    requires range { start + count ≤ length document.old.document.cells }
-    requires watched { IsWatched document.old.document views.old }
-    requires room { StepsFit (replacement_in start count bytes.now document.old) document.old }
-    requires notes { NotesFit (replacement_in start count bytes.now document.old) document.old views.old notes.old }
-    requires texts { TextsFit (replacement_in start count bytes.now document.old) document.old views.old notes.old }
-    ensures scene { let steps = replacement_in start count bytes.now document.old in
-        MakesEdit steps document.old views.old notes.old document.new views.new notes.new }
-    ensures watched { IsWatched document.new.document views.new }
-    ensures next { views.new.next ≡ views.old.next }
-{
-    // States that the reserved room is enough.
-    needs_are_enough();
-    if count == 0 {
-        if bytes.is_empty() {
-            return;
-        }
-        let insertion = TextStep::Insert {
-            place: start,
-            bytes,
-        };
-        return make_step(document, views, notes, false, insertion);
-    }
-    if bytes.is_empty() {
-        let deletion = TextStep::Delete {
-            place: start,
-            count,
-        };
-        return make_step(document, views, notes, false, deletion);
-    }
-    replace_some(document, views, notes, start, count, bytes);
 }
 
 /// Sets anchor and caret of the view with this id to `place`.

@@ -1,69 +1,24 @@
 //! Undo and redo in a document of the session.
 
-ghost use Rattle.std.specs.Prelude.{◌≡◌, pos, [], true, false, OnOk, OnErr, IfOk, IfErr};
+ghost use Rattle.std.specs.Prelude.{◌≡◌, pos, [], true, false, OnOk, OnErr, IfErr};
 ghost use Rattle.ed_types.specs.declared.refusal.Refusal.TheVariants.{OutOfMemory};
-ghost use Rattle.document.specs.Undoing.{changes_of};
-ghost use Rattle.scene.specs.Scenes.{AreNamed, IsWatched, kept_scene};
-ghost use Rattle.scene.specs.Undoing.{history_caret};
-ghost use Rattle.scene.specs.Performed.{HistoryFits};
+ghost use Rattle.scene.specs.Scenes.{AreNamed};
+ghost use Rattle.document_edits.specs.History.{no_notes};
 ghost use Rattle.message_requests.specs.Requested.{session_in};
 ghost use Rattle.session_changes.specs.Kept.{IsKept, DocumentsAreNamed};
-ghost use Rattle.editor_session.specs.Doing.{CanGoOnceThereIsRoom, scene_gone, GoesAt};
-ghost use Rattle.editor_session.specs.Widths.{ChangesFitWidth};
-ghost use Rattle.editor_session.specs.Performed.{going, no_notes, IsPlannedForSomeValue};
+ghost use Rattle.editor_session.specs.Doing.{CanGoOnceThereIsRoom, GoesAt};
+ghost use Rattle.editor_session.specs.Performed.{going, IsPlannedForSomeValue};
 ghost use Rattle.editor_session.specs.Documents.{HasDocument};
 ghost use Rattle.editor_session.specs.Performing.{HasGone, AnswersAlone};
 
 use crate::edits::set_caret;
-use document::{Direction, Document};
+use document::Direction;
+use document_edits::go_with_room;
 use ed_model::{plans_are_fit, soundness_is_kept};
 use ed_types::Refusal;
-use ed_view::View;
-use id_table::IdTable;
 use message_requests::SessionState;
 use notify::NoteList;
-use scene::{history_need, perform_history};
 use std::alloc::{AllocError, Global};
-
-/// Makes room in a document and for notes, and performs undo or redo. Returns the position of the caret afterwards, if
-/// a step of the text was made.
-///
-/// # Errors
-///
-/// `AllocError` if an allocation fails, or more than `most` notes would be sent. The document and the views are then as
-/// they were.
-fn go_with_room(
-    document: &mut Document,
-    views: &mut IdTable<View>,
-    notes: &mut NoteList,
-    direction: Direction,
-    most: usize,
-) -> Result<Option<usize>, AllocError>
-    requires steps { HistoryFits direction document.old }
-    requires wide { ChangesFitWidth document.old.document (changes_of direction document.old.document.history) }
-    requires watched { IsWatched document.old.document views.old }
-    ensures scene { let scene = scene_gone direction views.old notes.old document.old in
-        OnOk result (kept_scene document.new views.new notes.new ≡ scene) }
-    ensures place { IfOk result (λ place. place ≡ history_caret direction document.old) }
-    ensures same { OnErr result (document.new.document ≡ document.old.document) }
-    ensures same_views { OnErr result (views.new ≡ views.old) }
-    ensures id { document.new.document.id ≡ document.old.document.id }
-    ensures watched { IsWatched document.new.document views.new }
-    ensures next { views.new.next ≡ views.old.next }
-    ensures unheard { OnOk result (most ≡ 0 → notes.old ≡ no_notes → notes.new.notes ≡ []) }
-{
-    let need = history_need(document, views, direction);
-    if !need.is_counted() || need.notes.notes > most {
-        return Err(AllocError);
-    }
-    let Ok(()) = notes.reserve(need.notes.notes, need.notes.bytes) else {
-        return Err(AllocError);
-    };
-    let Ok(()) = document.reserve(need.document) else {
-        return Err(AllocError);
-    };
-    Ok(perform_history(document, views, notes, direction))
-}
 
 /// Like `go_with_room`, in the document with this id, and then moves the caret of `view` behind the last step.
 ///

@@ -26,7 +26,6 @@ mod history;
 mod laws;
 mod left;
 mod lending;
-mod need;
 mod opening;
 mod performing;
 mod reading;

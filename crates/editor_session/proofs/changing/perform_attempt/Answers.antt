@@ -1,6 +1,14 @@
-use Rattle.editor_session.proofs.Names.{rules, ◌≡◌, ◌++◌, length, max, sym, ap, subst, ◌∙◌, arith, IfSome, option_copied, told, modify_attempt, blank, watching, Gathered, views_of}
-use Rattle.editor_session.proofs.Needing.{watched_few}
+use Rattle.editor_session.proofs.Names.{rules, ℕ, ◌≡◌, ◌≤◌, ◌++◌, List, [], ◌∷◌, length, filter_map, cons_option, max, sym, ap, subst, ◌∙◌, arith, Option, Some, None, IfSome, option_copied, told, modify_attempt, blank, View, view_at, watching, Gathered, views_of}
 use Rattle.editor_session.proofs.changing.perform_attempt.Goals as goal
+
+-- no more views watch than the document lists
+watched_few : (views : List View) (ids : List ℕ) → length (filter_map (view_at views) ids) ≤ length ids
+watched_few views [] = omega arith
+watched_few views (id ∷ ids) = go (view_at views id) (watched_few views ids)
+  where
+    go : (o : Option View) → length (filter_map (view_at views) ids) ≤ length ids → length (cons_option o (filter_map (view_at views) ids)) ≤ length (id ∷ ids)
+    go None h = omega arith
+    go (Some v) h = omega arith
 
 pub attempt-requires-clause-room : goal.attempt-requires-clause-room
 attempt-requires-clause-room c =

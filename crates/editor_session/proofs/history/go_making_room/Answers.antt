@@ -1,5 +1,5 @@
-use Rattle.editor_session.proofs.Names.{reverse, ◌≡◌, ℕ, List, refl, ap, ◌∙◌, Option, Some, None, IfSome, Step, View, latest_text_step, Direction, changes_of, history_behind, Entries, value_at, KeptView, kept_scene, views_of, SessionState, scene_gone, Goes, place_behind, with_caret, caret_behind, Gathered, Kept, bits_of, place_behind_any, IsKept, sym, option_copied_mut}
-use Rattle.editor_session.proofs.OneDocument.{with_scene, said_of_it, still_named, same_session, becomes, transaction_keeps_id}
+use Rattle.editor_session.proofs.Names.{reverse, ◌≡◌, ℕ, List, refl, ap, ◌∙◌, Option, Some, None, IfSome, Scene, Step, View, latest_text_step, Direction, changes_of, Entries, value_at, KeptView, kept_scene, views_of, SessionState, scene_gone, Goes, place_behind, with_caret, caret_behind, Gathered, Kept, place_behind_any, IsKept, sym, option_copied_mut}
+use Rattle.editor_session.proofs.OneDocument.{with_scene, said_of_it, still_named, same_session, becomes}
 use Rattle.editor_session.proofs.history.go_making_room.Goals as goal
 
 -- The caret after undo and redo.
@@ -14,12 +14,11 @@ caret_left view (Some step) views e = absurd (cc)
 
 -- the session after undo or redo in its document with the id, and after the caret is set
 went_at : (s : SessionState) (kept : IsKept s) (document view : ℕ) (direction : Direction) (old new : Kept) (between views' : Entries KeptView) (notes notes' : Gathered) → value_at s.documents.entries document ≡ Some old
-    → kept_scene new between notes' ≡ scene_gone direction s.views notes old
+    → kept_scene new between notes' ≡ scene_gone direction s.views notes old → new.document.id ≡ old.document.id
     → views_of views'.entries ≡ caret_behind view (latest_text_step (reverse (changes_of direction old.document.history))) (views_of between.entries) → views'.next ≡ s.views.next
     → IfSome (value_at s.documents.entries document) (λ k. Goes view direction s notes k (with_scene s document new views') notes')
-went_at s kept document view direction old new between views' notes notes' at scene caret next =
-    let put = becomes s.documents between notes' document old new (scene_gone direction s.views notes old) kept.documents at scene
-    (transaction_keeps_id (bits_of direction) (changes_of direction old.document.history) (history_behind direction old.document.history) (kept_scene old s.views notes)) in
+went_at s kept document view direction old new between views' notes notes' at scene same caret next =
+    let put = becomes s.documents between notes' document old new (scene_gone direction s.views notes old) kept.documents at scene (ap (λ (x : Scene). x.document.id) (sym scene) ∙ same) in
     let latest = latest_text_step (reverse (changes_of direction old.document.history)) in
     let documents = put.documents_after in
     let views : views_of views'.entries ≡ caret_behind view latest (scene_gone direction s.views notes old).views = caret ∙ ap (caret_behind view latest) put.views_after in
@@ -30,7 +29,7 @@ returns-in-Ok-Some-clause-gone c =
     let a = c.args in let s = a.state.now in let old = c.in-Some.document.now in let n = c.go_with_room.new in
     let e = c.in-Ok-Some.ensures in let f = c.set_caret in
     let at = sym c.get_mut.ensures.value ∙ ap option_copied_mut c.in-Some.is in
-    went_at s c.requires.kept a.document a.view a.direction old n.document n.views f.new.views a.notes.now n.notes at e.scene
+    went_at s c.requires.kept a.document a.view a.direction old n.document n.views f.new.views a.notes.now n.notes at e.scene e.id
     (f.ensures.views ∙ caret_set a.view c.in-Ok-Some.place (latest_text_step (reverse (changes_of a.direction old.document.history))) (views_of n.views.entries) (sym c.in-Ok-Some.field-0-is ∙ e.place)) (f.ensures.next ∙ e.next)
 
 pub returns-in-Ok-Some-clause-documents : goal.returns-in-Ok-Some-clause-documents
@@ -43,7 +42,7 @@ returns-in-Ok-None-clause-gone c =
     let a = c.args in let s = a.state.now in let old = c.in-Some.document.now in let n = c.go_with_room.new in
     let e = c.in-Ok-None.ensures in
     let at = sym c.get_mut.ensures.value ∙ ap option_copied_mut c.in-Some.is in
-    went_at s c.requires.kept a.document a.view a.direction old n.document n.views n.views a.notes.now n.notes at e.scene
+    went_at s c.requires.kept a.document a.view a.direction old n.document n.views n.views a.notes.now n.notes at e.scene e.id
     (caret_left a.view (latest_text_step (reverse (changes_of a.direction old.document.history))) (views_of n.views.entries) (sym c.in-Ok-None.field-0-is ∙ e.place)) e.next
 
 pub returns-in-Ok-None-clause-documents : goal.returns-in-Ok-None-clause-documents

@@ -1,8 +1,12 @@
-use Rattle.editor_session.proofs.Names.{rules, ◌≡◌, ap, ◌∙◌, Scene, Document, changes_of, history_behind, scene_in, bits_of, room_of_changes}
-use Rattle.editor_session.proofs.Going.{none_told}
-use Rattle.editor_session.proofs.OneDocument.{transaction_keeps_id}
-use Rattle.editor_session.proofs.Widths.{capped_fits}
-use Rattle.editor_session.proofs.history.go_with_room.Goals as goal
+use Rattle.std.proofs.Common.{◌≡◌, ap, ◌∙◌, rules}
+use Rattle.ed_model.specs.Session.{Document}
+use Rattle.ed_model.specs.Performing.{Scene}
+use Rattle.document.specs.Undoing.{changes_of, history_behind}
+use Rattle.scene.specs.Scenes.{scene_in}
+use Rattle.scene.specs.Undoing.{bits_of, room_of_changes}
+use Rattle.document_edits.proofs.Going.{transaction_keeps_id, none_told}
+use Rattle.document_edits.proofs.Widths.{capped_fits}
+use Rattle.document_edits.proofs.history.go_with_room.Goals as goal
 
 pub reserve-requires-2 : goal.reserve-requires-2
 reserve-requires-2 c =

@@ -6,8 +6,8 @@ ghost use Rattle.scene.specs.Conversion.{room_of_steps};
 ghost use Rattle.scene.specs.Needs.{note_room};
 ghost use Rattle.scene.specs.Scenes.{scene_in, AreNamed};
 ghost use Rattle.scene.specs.Undoing.{capped_room};
-ghost use Rattle.editor_session.specs.Needs.{no_need, need_sum, NeedsSteps, need_of_step};
-ghost use Rattle.editor_session.specs.Edits.{replacement_in};
+ghost use Rattle.document_edits.specs.Needs.{no_need, need_sum, NeedsSteps, need_of_step};
+ghost use Rattle.document_edits.specs.Edits.{replacement_in};
 
 use document::{Document, DocumentRoom, TextStep};
 use ed_view::View;

@@ -1,5 +1,5 @@
-use Rattle.editor_session.proofs.Stepping.{first_of_two_notes, first_of_two_bytes, second_notes, second_bytes, second_room, two_made, ends_watched}
-use Rattle.editor_session.proofs.edits.replace_some.Goals as goal
+use Rattle.document_edits.proofs.Stepping.{first_of_two_notes, first_of_two_bytes, second_notes, second_bytes, second_room, two_made, ends_watched}
+use Rattle.document_edits.proofs.replacing.replace_some.Goals as goal
 
 pub make_step-requires-clause-notes : goal.make_step-requires-clause-notes
 make_step-requires-clause-notes c =

@@ -1,7 +1,12 @@
-use Rattle.editor_session.proofs.Names.{false, ◌+◌, ◌≤◌, [], sym, ap, subst, ◌∙◌, slice_range, Insert, Delete, edit_made, text_of, scene_in, notes_for, bytes_for}
+use Rattle.std.proofs.Common.{ap, sym, ◌∙◌, false, [], subst, ◌+◌, ◌≤◌, slice_range}
+use Rattle.ed_model.specs.Session.{text_of}
+use Rattle.ed_model.specs.Performing.{edit_made}
+use Rattle.ed_model.specs.Steps.{Insert, Delete}
+use Rattle.scene.specs.Scenes.{scene_in}
+use Rattle.scene.specs.Conversion.{notes_for, bytes_for}
 use Rattle.scene.specs.proved.Enough.{first_notes, first_bytes}
-use Rattle.editor_session.proofs.Stepping.{inserts_alone, deletes_alone}
-use Rattle.editor_session.proofs.edits.replace_bytes.Goals as goal
+use Rattle.document_edits.proofs.Stepping.{inserts_alone, deletes_alone}
+use Rattle.document_edits.proofs.replacing.replace_bytes.Goals as goal
 
 pub make_step-requires-clause-notes : goal.make_step-requires-clause-notes
 make_step-requires-clause-notes c =

@@ -1,6 +1,12 @@
-use Rattle.editor_session.proofs.Names.{rules, ◌≡◌, ap, ◌∙◌, edit_made, Scene, Document, text_of, replacement, edit_made_id, scene_in, room_of_steps}
-use Rattle.editor_session.proofs.Widths.{capped_fits}
-use Rattle.editor_session.proofs.editing.replace_with_room.Goals as goal
+use Rattle.std.proofs.Common.{◌≡◌, ap, ◌∙◌, rules}
+use Rattle.ed_model.specs.Session.{Document, text_of}
+use Rattle.ed_model.specs.Performing.{Scene, edit_made}
+use Rattle.ed_model.specs.proved.Scenes.{edit_made_id}
+use Rattle.ed_model.specs.Steps.{replacement}
+use Rattle.scene.specs.Scenes.{scene_in}
+use Rattle.scene.specs.Conversion.{room_of_steps}
+use Rattle.document_edits.proofs.Widths.{capped_fits}
+use Rattle.document_edits.proofs.replacing.replace_with_room.Goals as goal
 
 pub reserve-requires-2 : goal.reserve-requires-2
 reserve-requires-2 c =

@@ -1,11 +1,20 @@
-use Rattle.editor_session.proofs.Names.{length, ◌≡◌, ◌+◌, [], ◌∷◌, sym, ap, subst, ◌∙◌, slice_range, arith, eqb-false, Insert, Delete, replacement, text_of, watching, length_of_range, scene_in, views_of, note_room, notes_of_step, bytes_of_step, room_of_steps, capped_room, deletion_needs}
+use Rattle.std.proofs.Common.{◌≡◌, ap, sym, ◌∙◌, [], ◌∷◌, length, subst, ◌+◌, arith, slice_range}
+use Rattle.std.proofs.lemmas.Bool.{eqb-false}
+use Rattle.ed_model.specs.Session.{text_of, watching}
+use Rattle.ed_model.specs.Steps.{Insert, Delete, replacement}
+use Rattle.ed_model.specs.proved.Steps.{length_of_range}
 use Rattle.document.specs.TextSteps.{need_of}
 use Rattle.document.specs.declared.text_step.TextStep.TheVariants as lent
+use Rattle.scene.specs.Scenes.{views_of, scene_in}
+use Rattle.scene.specs.Undoing.{capped_room}
+use Rattle.scene.specs.Conversion.{room_of_steps}
+use Rattle.scene.specs.Needs.{note_room, notes_of_step, bytes_of_step}
+use Rattle.scene.specs.proved.Rooms.{deletion_needs}
 use Rattle.scene.specs.declared.need.SceneNeed.{SceneNeed}
-use Rattle.editor_session.specs.Needs.{NeedsSteps}
-use Rattle.editor_session.proofs.Stepping.{deletes_some, inserts_some, inserts_alone, deletes_alone, positive}
-use Rattle.editor_session.proofs.Needing.{one_step_summed, one_step_room, two_steps, two_steps_room, frees_all}
-use Rattle.editor_session.proofs.need.replacement_need.Goals as goal
+use Rattle.document_edits.specs.Needs.{NeedsSteps}
+use Rattle.document_edits.proofs.Stepping.{deletes_some, inserts_some, inserts_alone, deletes_alone, positive}
+use Rattle.document_edits.proofs.Needing.{one_step_summed, one_step_room, two_steps, two_steps_room, frees_all}
+use Rattle.document_edits.proofs.need.replacement_need.Goals as goal
 
 pub returns-then-count-eq0-clause-document : goal.returns-then-count-eq0-clause-document
 returns-then-count-eq0-clause-document c =

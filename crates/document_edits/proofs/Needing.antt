@@ -1,10 +1,18 @@
 -- What is told of needs.
-use Rattle.editor_session.proofs.Names.{◌≡◌, ℕ, ◌+◌, ◌-◌, ◌<◌, ◌≤◌, ◌^◌, true, List, [], ◌∷◌, length, refl, ap, sym, ◌∙◌, subst, arith, Option, Some, None, filter_map, min, not, cons_option, eqb-true, Follow, has_steps, TextStep, Scene, View, view_at, watching, Step, Insert, Delete, amount_sum, room_sum, no_room, room_of_step, room_of_steps, free_behind, note_room, notes_of_step, bytes_of_step, leaving_count, capped, capped_room, same_room, clipboard_need, takes_nothing_along}
-use Rattle.ed_model.specs.declared.plan.Follow.TheVariants as follow
+use Rattle.std.proofs.Common.{◌≡◌, ℕ, ap, sym, ◌∙◌, List, [], ◌∷◌, length, subst, ◌+◌, arith, ◌<◌, ◌≤◌, ◌-◌, ◌^◌, min}
+use Rattle.ed_model.specs.Session.{watching}
+use Rattle.ed_model.specs.Performing.{Scene}
+use Rattle.ed_model.specs.Steps.{Step, Insert, Delete}
+use Rattle.ed_model.specs.History.{TextStep}
 use Rattle.ed_model.specs.declared.plan.LineEndTypes.{LineEndTypes}
+use Rattle.document.specs.Kept.{amount_sum, room_sum, no_room}
 use Rattle.document.specs.declared.room.DocumentRoom.{DocumentRoom}
+use Rattle.scene.specs.Undoing.{capped, capped_room}
+use Rattle.scene.specs.Conversion.{room_of_step, room_of_steps, free_behind}
+use Rattle.scene.specs.Needs.{note_room, notes_of_step, bytes_of_step, leaving_count}
+use Rattle.scene.specs.proved.Rooms.{same_room}
 use Rattle.scene.specs.declared.need.SceneNeed.{SceneNeed}
-use Rattle.editor_session.specs.Needs.{no_need, need_sum, IsAtLeast, NeedsSteps}
+use Rattle.document_edits.specs.Needs.{no_need, need_sum, IsAtLeast, NeedsSteps}
 
 -- One step.
 
@@ -124,22 +132,3 @@ two_steps_room types gone come count need first extra both second beside frees f
     let put = ap (λ (v : SceneNeed). v.document) b ∙ ap (λ r. room_sum r extra.document) f ∙ ap (λ r. room_sum x r) e in
     let less = ap (λ (v : SceneNeed). v.document) n ∙ ap (λ (r : DocumentRoom). record r { text = r.text - count }) s in
     ap (λ (v : SceneNeed). v.document) sum ∙ ap (λ r. room_sum r beside.document) put ∙ ap (λ r. room_sum (room_sum x no_room) r) less ∙ two_rooms types gone come count frees
-
--- An attempt.
-pub watched_few : (views : List View) (ids : List ℕ) → length (filter_map (view_at views) ids) ≤ length ids
-watched_few views [] = omega arith
-watched_few views (id ∷ ids) = go (view_at views id) (watched_few views ids)
-  where
-    go : (o : Option View) → length (filter_map (view_at views) ids) ≤ length ids → length (cons_option o (filter_map (view_at views) ids)) ≤ length (id ∷ ids)
-    go None h = omega arith
-    go (Some v) h = omega arith
-
--- An edit.
-
-pub no_steps : (ss : List Step) → not (has_steps ss) ≡ true → ss ≡ []
-no_steps [] h = refl
-no_steps (s ∷ ss) h = absurd (cc)
-
-pub nothing_along : (f : Follow) → takes_nothing_along f ≡ true → clipboard_need f ≡ 0
-nothing_along (follow.Clipboard start count) h = eqb-true count 0 h
-nothing_along _ h = refl

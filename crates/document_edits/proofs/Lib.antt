@@ -1,0 +1,4 @@
+pub mod Stepping
+pub mod Needing
+pub mod Widths
+pub mod Going
