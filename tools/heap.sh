@@ -108,10 +108,10 @@ bound() {
         many_outcomes_are_printed) echo $((1048576 + 40000)) ;;
         # a piece of 1 MiB, 8 MiB of bytes and as many of styles, and the 16 MiB that are handed out in a block that did not grow
         styled_text_of_a_large_size) echo $((1048576 + 2 * 8388608 + 16777216 + 40000)) ;;
-        # 1,024 views of 200 bytes, of each 16 in the order of ids, 4 in its document's list and two blocks of 24, and 3,072 notes of 112
-        many_views_hear_one_document) echo $((1024 * (200 + 16 + 4 + 2 * 24) + 3072 * 112 + 40000)) ;;
-        # room for 1,024 documents of 840 bytes beside that for 512, with as many views of 200, and of both 16 in the order of ids and five blocks of 24
-        many_views_have_documents_of_their_own) echo $((1024 * 840 + 512 * (840 + 200 + 2 * 16 + 5 * 24) + 40000)) ;;
+        # 1,024 views of 336 bytes, of each 16 in the order of ids, 4 in its document's list and four blocks of 24, and 3,072 notes of 112
+        many_views_hear_one_document) echo $((1024 * (336 + 16 + 4 + 4 * 24) + 3072 * 112 + 40000)) ;;
+        # room for 1,024 documents of 840 bytes beside that for 512, with as many views of 336, and of both 16 in the order of ids and seven blocks of 24
+        many_views_have_documents_of_their_own) echo $((1024 * 840 + 512 * (840 + 336 + 2 * 16 + 7 * 24) + 40000)) ;;
         *) echo 0 ;;
     esac
 }

@@ -16,6 +16,11 @@ use Rattle.document.specs.Places.{LinesOf, IndicatorsOf}
 use Rattle.document.specs.Parts.{ArePartsOf, HasLinesOf, IsChange, AreCarried}
 use Rattle.document.proofs.LineSteps.{lines_of_index}
 
+-- a text that fits places of 32 bits has fewer lines than these can count
+pub narrow_lines : (is_large : Bool) (n lines : ℕ) → n < bound_of is_large → lines ≤ n + 1 → is_large ≡ false → lines < 2 ^ 32
+narrow_lines true n lines fits few e = absurd (cc)
+narrow_lines false n lines fits few e = omega arith
+
 pub small_bound : (is_large : Bool) → bound_of is_large ≤ 2 ^ 61
 small_bound true = omega arith
 small_bound false = omega arith

@@ -105,7 +105,7 @@ line_starts_in d = line_starts d.line_end_types (text_of d)
 -- each text of a document of this width is shorter than that, in bytes
 abbrev pub bound_of : Bool → ℕ
 bound_of true = 2 ^ 61
-bound_of false = 2 ^ 32
+bound_of false = 2 ^ 31
 
 -- a text of the length fits into the width of the document's places
 abbrev pub FitsWidth : Document → ℕ → Type 0

@@ -104,7 +104,7 @@ impl Document {
     pub fn bound(&self) -> usize
         ensures { result ≡ bound_of (is_large self.now.document) }
     {
-        if self.is_large() { 1 << 61 } else { 1 << 32 }
+        if self.is_large() { 1 << 61 } else { 1 << 31 }
     }
 
     /// Returns the length of the text in bytes.

@@ -1,8 +1,8 @@
 //! Look-ups of a document's lines, which are counted from 0.
 
-ghost use Rattle.std.specs.Prelude.{◌≡◌, ◌≤◌, ◌<◌, ◌+◌, ◌^◌, length};
+ghost use Rattle.std.specs.Prelude.{◌≡◌, ◌≤◌, ◌<◌, ◌+◌, ◌^◌, false, length};
 ghost use Rattle.ed_model.specs.Lines.{line_of, start_of_line, start_after_line, end_of_line};
-ghost use Rattle.ed_model.specs.Session.{text_of, lines_in};
+ghost use Rattle.ed_model.specs.Session.{text_of, lines_in, is_large};
 ghost use Rattle.document.specs.Kept.{line_starts_in};
 
 use crate::kept::Document;
@@ -15,6 +15,7 @@ impl Document {
         ensures some { 0 < result }
         ensures within { result + self.now.room.lines < 2 ^ 63 }
         ensures few { result ≤ length self.now.document.cells + 1 }
+        ensures narrow { is_large self.now.document ≡ false → result < 2 ^ 32 }
     {
         self.lines.count()
     }

@@ -4,7 +4,7 @@ use Rattle.std.specs.List.{AllByRecursion}
 use Rattle.ed_model.specs.declared.plan.DocumentChange.{DocumentChange}
 use Rattle.ed_model.specs.declared.plan.DocumentChange.TheVariants as change
 use Rattle.ed_model.specs.Lines.{line_count}
-use Rattle.ed_model.specs.Session.{Document, View, lines_in}
+use Rattle.ed_model.specs.Session.{Document, View, lines_in, is_large}
 use Rattle.ed_model.specs.Changes.{changed_document, changed_lines, change_told, styled}
 use Rattle.ed_model.specs.SoundLaws.{occurrences}
 use Rattle.ed_model.specs.proved.Steps.{length_of_bytes}
@@ -22,6 +22,7 @@ pub record KeepsPlaces (old new : Document) : Type 0 where
   pub views : new.views ≡ old.views
   pub size : length new.cells ≡ length old.cells
   pub lines : lines_in new ≡ lines_in old
+  pub large : is_large new ≡ is_large old
 
 stands_again : (old new : Document) (v : View) → KeepsPlaces old new → StandsIfOn old v → StandsIfOn new v
 stands_again old new v same stand on =
@@ -34,6 +35,7 @@ stands_again old new v same stand on =
       lines = s.lines ∙ sym same.lines;
       first_line = s.first_line;
       indicator = s.indicator;
+      large = s.large ∙ sym same.large;
       listed = ap (occurrences v.id) same.views ∙ s.listed;
     }
 
@@ -57,13 +59,14 @@ styled_places new d = record {
   views = refl;
   size = sym (length_of_bytes (styled new d).cells) ∙ ap length (text_of_styled new d) ∙ length_of_bytes d.cells;
   lines = ap (line_count d.line_end_types) (text_of_styled new d);
+  large = refl;
 }
 
 pub keeps_places : (text : List ℕ) (what : DocumentChange) (d : Document) → is_of_types what ≡ false → KeepsPlaces d (changed_document text what d)
 keeps_places text (change.SetLineEndTypes to) d h = absurd (cc)
 keeps_places text (change.StyleRun count style) d h = styled_places (replicate count style) d
 keeps_places text (change.StyleBytes count) d h = styled_places (take count text) d
-keeps_places text _ d h = record { id = refl; views = refl; size = refl; lines = refl }
+keeps_places text _ d h = record { id = refl; views = refl; size = refl; lines = refl; large = refl }
 
 -- Views do not change.
 

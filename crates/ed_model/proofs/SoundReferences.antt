@@ -8,7 +8,7 @@ use Rattle.ed_types.specs.declared.limits.Limits.{Limits}
 use Rattle.ed_model.specs.declared.plan.LineEndTypes.TheVariants.{Default}
 use Rattle.ed_model.specs.Rows.{fresh_flags}
 use Rattle.ed_model.specs.Folding.{is_visible}
-use Rattle.ed_model.specs.Session.{Session, Document, View, document_at, view_at, in_place_of_view, references, living, without, left_by, new_document, new_view, attached_to, lines_in}
+use Rattle.ed_model.specs.Session.{Session, Document, View, document_at, view_at, in_place_of_view, references, living, without, left_by, new_document, new_view, attached_to, lines_in, is_large}
 use Rattle.ed_model.specs.Changes.{attached_last, with_attached, attached, with_new_document, held_more, held_less}
 use Rattle.ed_model.specs.Table.{opened, closed, closed_view}
 use Rattle.ed_model.specs.SoundLaws.{Rise, occurrences, IsSound, IsSoundDocument, IsSoundView, StandsOn, ListsItsViews}
@@ -48,6 +48,7 @@ relisted_stands d v views held_by_callers on listed = record {
   lines = on.lines;
   first_line = on.first_line;
   indicator = on.indicator;
+  large = on.large;
   listed = listed;
 }
 
@@ -204,8 +205,8 @@ fresh_visible zero = refl
 fresh_visible (suc n) = refl
 
 pub fresh_stands : (d : Document) (v : View) → occurrences v.id d.views ≡ 1 → v.anchor ≡ 0 → v.caret ≡ 0 → v.target_start ≡ 0 → v.target_end ≡ 0 → v.flags ≡ replicate (lines_in d) fresh_flags
-    → v.indicator < 32 → StandsOn d v
-fresh_stands d v listed a b c e l i = record {
+    → v.indicator < 32 → v.large ≡ is_large d → StandsOn d v
+fresh_stands d v listed a b c e l i w = record {
   anchor = omega arith;
   caret = omega arith;
   target_start = omega arith;
@@ -213,6 +214,7 @@ fresh_stands d v listed a b c e l i = record {
   lines = ap length l ∙ length-replicate (lines_in d) fresh_flags;
   first_line = ap (λ f. is_visible f 0) l ∙ fresh_visible (lines_in d);
   indicator = i;
+  large = w;
   listed = listed;
 }
 
@@ -258,7 +260,7 @@ attached_sound s id d v h there indicator found = record {
               (mapped_found (attached_last v.id d.id) (attached_relists v.id d.id) s.documents d.id d at) some;
           stands = subst (λ (e : Document). StandsOn e (attached_to d v)) (sym ((attached_relists v.id d.id).is d))
               (fresh_stands (with_references ((attached_relists v.id d.id).views d) d.held_by_callers d) (attached_to d v)
-              (ap (λ (e : Document). occurrences v.id e.views) (sym ((attached_relists v.id d.id).is d)) ∙ once) refl refl refl refl refl indicator);
+              (ap (λ (e : Document). occurrences v.id e.views) (sym ((attached_relists v.id d.id).is d)) ∙ once) refl refl refl refl refl indicator refl);
         }
     go w k false t =
         living_view (attached_last v.id d.id) (attached_relists v.id d.id) s.documents w k
@@ -416,7 +418,7 @@ opened_session_sound s h = record {
           document = with_references (s.next_view ∷ []) 0 (new_document s.next_document 0);
           found = found_last 0 s.next_document s.documents (with_references (s.next_view ∷ []) 0 (new_document s.next_document 0)) refl h.document_ids;
           stands = fresh_stands (with_references (s.next_view ∷ []) 0 (new_document s.next_document 0)) (new_view s.next_view (with_references (s.next_view ∷ []) 0 (new_document s.next_document 0)))
-              (let t : (s.next_view == s.next_view) ≡ true = eq-eqb s.next_view s.next_view refl in rw t refl) refl refl refl refl refl (omega arith);
+              (let t : (s.next_view == s.next_view) ≡ true = eq-eqb s.next_view s.next_view refl in rw t refl) refl refl refl refl refl (omega arith) refl;
         },
         tt,
       );

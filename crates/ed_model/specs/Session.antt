@@ -32,7 +32,7 @@ pub record Document : Type 0 where
 
 -- A view: its id and its document's; anchor, caret and target, positions in bytes; search flags; the mask of modifications that
 -- it is notified of (SCI_SETMODEVENTMASK); the current indicator and its value; whether pastes convert line ends; whether it
--- records; and the flags of each line.
+-- records; whether its document is for large texts; and the flags of each line.
 pub record View : Type 0 where
   pub id : ℕ
   pub document : ℕ
@@ -46,6 +46,7 @@ pub record View : Type 0 where
   pub indicator_value : ℕ
   pub converts_pastes : Bool
   pub records : Bool
+  pub large : Bool
   pub flags : List Flags
 
 -- A session: documents and views in the order of their ids, the clipboard, the
@@ -105,9 +106,17 @@ text_of d = bytes_of d.cells
 abbrev pub lines_in : Document → ℕ
 lines_in d = line_count d.line_end_types (text_of d)
 
+-- whether the document keeps no styles (SC_DOCUMENTOPTION_STYLES_NONE), and whether it is for large texts
+-- (SC_DOCUMENTOPTION_TEXT_LARGE)
+abbrev pub keeps_no_styles : Document → Bool
+keeps_no_styles d = meets d.options 0x1
+
+abbrev pub is_large : Document → Bool
+is_large d = meets d.options 0x100
+
 -- the view attached to the document: anchor, caret and target at the start, all lines visible and expanded
 abbrev pub attached_to : Document → View → View
-attached_to d v = record v { document = d.id; anchor = 0; caret = 0; target_start = 0; target_end = 0; flags = replicate (lines_in d) fresh_flags }
+attached_to d v = record v { document = d.id; anchor = 0; caret = 0; target_start = 0; target_end = 0; large = is_large d; flags = replicate (lines_in d) fresh_flags }
 
 abbrev pub new_view : ℕ → Document → View
 new_view id d = record {
@@ -123,6 +132,7 @@ new_view id d = record {
   indicator_value = 1;
   converts_pastes = true;
   records = false;
+  large = is_large d;
   flags = replicate (lines_in d) fresh_flags;
 }
 
@@ -164,14 +174,6 @@ without id ids = filter (λ k. not (k == id)) ids
 -- the document after the view is detached from it
 abbrev pub left_by : ℕ → Document → Document
 left_by view d = record d { views = without view d.views }
-
--- whether the document keeps no styles (SC_DOCUMENTOPTION_STYLES_NONE), and whether it is for large texts
--- (SC_DOCUMENTOPTION_TEXT_LARGE)
-abbrev pub keeps_no_styles : Document → Bool
-keeps_no_styles d = meets d.options 0x1
-
-abbrev pub is_large : Document → Bool
-is_large d = meets d.options 0x100
 
 -- the greatest length of the document's text, in bytes
 abbrev pub limit_of : Limits → Document → ℕ

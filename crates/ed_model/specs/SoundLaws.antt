@@ -12,7 +12,7 @@ use Rattle.ed_model.specs.InverseLaws.{Fits}
 use Rattle.ed_model.specs.Rows.{Row, Marker}
 use Rattle.ed_model.specs.History.{History, Transaction}
 use Rattle.ed_model.specs.Folding.{is_visible}
-use Rattle.ed_model.specs.Session.{Session, View, Document, new_session, document_at, view_at, text_of, lines_in, references, limit_of}
+use Rattle.ed_model.specs.Session.{Session, View, Document, new_session, document_at, view_at, text_of, lines_in, references, limit_of, is_large}
 use Rattle.ed_model.specs.UndoPlans.{text_steps}
 use Rattle.ed_model.specs.Performing.{Scene}
 use Rattle.ed_model.specs.HistoryLaws.{SameButForSeals}
@@ -104,6 +104,7 @@ pub record StandsOn (d : Document) (v : View) : Type 0 where
   pub lines : length v.flags ≡ lines_in d
   pub first_line : is_visible v.flags 0 ≡ true
   pub indicator : v.indicator < 32
+  pub large : v.large ≡ is_large d
   pub listed : occurrences v.id d.views ≡ 1
 
 -- a view whose document exists

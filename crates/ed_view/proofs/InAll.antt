@@ -7,7 +7,7 @@ use Rattle.ed_model.specs.Folding.{lines_shown, lines_hidden}
 use Rattle.ed_model.specs.Changes.{changed_view}
 use Rattle.contraction.specs.ViewLines.{contracted_lines}
 use Rattle.contraction.specs.proved.Contracted.{with_visible_contracted}
-use Rattle.ed_view.specs.Kept.{KeptView, contracted_in_all}
+use Rattle.ed_view.specs.Kept.{KeptView, contracted_in_all, fold_rooms}
 use Rattle.ed_view.specs.Folding.{is_setting}
 
 pub shown_in_all : (first past : ℕ) (old new : KeptView) → new.view ≡ record old.view { flags = lines_shown first past old.view.flags } → new.room ≡ old.room
@@ -37,3 +37,8 @@ set_in_all (SetExpanded line on) old is = absurd (false≢true is)
 set_in_all (Contract line) old is = absurd (false≢true is)
 set_in_all (Expand line) old is = absurd (false≢true is)
 set_in_all (EnsureVisible line) old is = absurd (false≢true is)
+
+-- a view of the same width, with the same room in both, keeps its room in all
+pub same_rooms : (old new : KeptView) → new.view.large ≡ old.view.large → new.room.hidden ≡ old.room.hidden → contracted_in_all new ≡ contracted_in_all old → new.spare ≡ old.spare
+    → fold_rooms new ≡ fold_rooms old
+same_rooms old new width hidden in_all spare = rw (width, hidden, in_all, spare) refl

@@ -1,3 +1,4 @@
+pub mod Flags
 pub mod Kept
 pub mod Folding
 pub mod Moving

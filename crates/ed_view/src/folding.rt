@@ -65,6 +65,7 @@ impl View {
     /// `AllocError` if an allocation fails. The view is then unchanged, and has at least as much room as before.
     pub fn reserve_folding(&mut self, need: FoldNeed) -> Result<(), AllocError>
         ensures same { self.new.view ≡ self.old.view }
+        ensures spare { self.new.spare ≡ self.old.spare }
         ensures ok { OnOk result (HasFoldRoom self.new.room need) }
         ensures room_is_there { HasFoldRoom self.old.room need → IsOk result × (self.new ≡ self.old) }
         ensures room_stays { KeepsFoldRoom self.old.room self.new.room }
@@ -87,6 +88,7 @@ impl View {
         requires within { past ≤ length self.old.view.flags }
         ensures view { self.new.view ≡ record self.old.view { flags = lines_shown first past self.old.view.flags } }
         ensures room { self.new.room ≡ self.old.room }
+        ensures spare { self.new.spare ≡ self.old.spare }
     {
         self.lines.show(first, past);
     }
@@ -98,6 +100,7 @@ impl View {
         requires room { length self.old.view.flags ≤ self.old.room.hidden }
         ensures view { self.new.view ≡ record self.old.view { flags = lines_hidden first past self.old.view.flags } }
         ensures room { self.new.room ≡ self.old.room }
+        ensures spare { self.new.spare ≡ self.old.spare }
     {
         self.lines.hide(first, past);
     }
@@ -108,6 +111,7 @@ impl View {
         requires within { line < length self.old.view.flags }
         requires room { HasFoldRoom self.old.room (need_of self.old.view.flags (change_to.SetExpanded line on)) }
         ensures view { self.new.view ≡ record self.old.view { flags = with_expanded line on self.old.view.flags } }
+        ensures spare { self.new.spare ≡ self.old.spare }
         ensures room_left { LeavesRoomAfter (change_to.SetExpanded line on) self.old self.new }
         ensures in_all { contracted_in_all self.new ≡ contracted_in_all self.old }
     {
@@ -121,6 +125,7 @@ impl View {
         requires within { header < length self.old.view.flags }
         requires room { HasFoldRoom self.old.room (need_of self.old.view.flags (change_to.Contract header)) }
         ensures view { self.new.view ≡ changed_view levels.now (change_to.Contract header) self.old.view }
+        ensures spare { self.new.spare ≡ self.old.spare }
         ensures room_left { LeavesRoomAfter (change_to.Contract header) self.old self.new }
         ensures in_all { contracted_in_all self.new ≡ contracted_in_all self.old }
     {
@@ -134,6 +139,7 @@ impl View {
         requires within { header < length self.old.view.flags }
         requires room { length self.old.view.flags ≤ self.old.room.hidden }
         ensures view { self.new.view ≡ changed_view levels.now (change_to.Expand header) self.old.view }
+        ensures spare { self.new.spare ≡ self.old.spare }
         ensures room_left { LeavesRoomAfter (change_to.Expand header) self.old self.new }
         ensures in_all { contracted_in_all self.new ≡ contracted_in_all self.old }
     {
@@ -147,6 +153,7 @@ impl View {
         requires within { line < length self.old.view.flags }
         requires room { HasFoldRoom self.old.room (need_of self.old.view.flags (change_to.EnsureVisible line)) }
         ensures view { self.new.view ≡ changed_view levels.now (change_to.EnsureVisible line) self.old.view }
+        ensures spare { self.new.spare ≡ self.old.spare }
         ensures room_left { LeavesRoomAfter (change_to.EnsureVisible line) self.old self.new }
         ensures in_all { contracted_in_all self.new ≡ contracted_in_all self.old }
     {

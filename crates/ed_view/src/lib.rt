@@ -10,10 +10,12 @@
 mod changes;
 mod folding;
 mod laws;
+mod line_flags;
 mod moving;
 mod view;
 
 pub use changes::is_setting;
 pub use folding::FoldNeed;
 pub use laws::{fit_changes_are_within, moves_are_those_of_steps};
+pub use line_flags::LineFlags;
 pub use view::{Target, View};

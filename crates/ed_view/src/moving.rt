@@ -3,7 +3,8 @@
 ghost use Rattle.std.specs.Prelude.{◌≡◌, ◌<◌, ◌≤◌, ◌+◌, ◌^◌, length};
 ghost use Rattle.line_index.specs.Edits.{FitLines, fresh_lines};
 ghost use Rattle.selection.specs.Positions.{count_of};
-ghost use Rattle.ed_view.specs.Kept.{contracted_in_all};
+ghost use Rattle.ed_view.specs.Flags.{AreFewLines};
+ghost use Rattle.ed_view.specs.Kept.{contracted_in_all, fold_rooms, HasFewLines};
 ghost use Rattle.ed_view.specs.Moving.{IsAttached, view_moved, with_edited_lines};
 
 use crate::view::{Target, View};
@@ -15,11 +16,13 @@ impl View {
     /// else changes. Allocates nothing.
     pub fn carry_lines(&mut self, edits: &[LineEdit])
         requires lines { FitLines (length self.old.view.flags) edits.now }
-        requires few { length self.old.view.flags + fresh_lines edits.now < 2 ^ 64 }
+        requires few { AreFewLines self.old.view.large (length self.old.view.flags + fresh_lines edits.now) }
         ensures view { self.new.view ≡ with_edited_lines edits.now self.old.view }
         ensures hidden { self.new.room.hidden ≡ self.old.room.hidden }
         ensures contracted { self.old.room.contracted ≤ self.new.room.contracted }
         ensures in_all { contracted_in_all self.new ≡ contracted_in_all self.old }
+        ensures spare { self.new.spare ≡ self.old.spare }
+        ensures rooms { fold_rooms self.new ≡ fold_rooms self.old }
     {
         self.lines.carry(edits);
     }
@@ -32,11 +35,13 @@ impl View {
         requires target_start { self.old.view.target_start + count_of movement < 2 ^ 64 }
         requires target_end { self.old.view.target_end + count_of movement < 2 ^ 64 }
         requires lines { FitLines (length self.old.view.flags) edits.now }
-        requires few { length self.old.view.flags + fresh_lines edits.now < 2 ^ 64 }
+        requires few { AreFewLines self.old.view.large (length self.old.view.flags + fresh_lines edits.now) }
         ensures view { self.new.view ≡ view_moved movement edits.now self.old.view }
         ensures hidden { self.new.room.hidden ≡ self.old.room.hidden }
         ensures contracted { self.old.room.contracted ≤ self.new.room.contracted }
         ensures in_all { contracted_in_all self.new ≡ contracted_in_all self.old }
+        ensures spare { self.new.spare ≡ self.old.spare }
+        ensures rooms { fold_rooms self.new ≡ fold_rooms self.old }
     {
         self.selection.moved(movement);
         self.target = Target {
@@ -46,27 +51,21 @@ impl View {
         self.carry_lines(edits);
     }
 
-    /// Attaches the view to a document of `lines` lines, which may be its own (`SCI_SETDOCPOINTER`). Anchor, caret and
-    /// target move to the start, and all lines are visible and expanded. The settings stay. Allocates nothing.
-    pub fn attach_to(&mut self, document: u32, lines: usize)
-        requires lines { 0 < lines }
-        requires few { length self.old.view.flags + lines < 2 ^ 64 }
-        ensures view { IsAttached document lines self.old.view self.new.view }
-        ensures hidden { self.new.room.hidden ≡ self.old.room.hidden }
-        ensures contracted { self.old.room.contracted ≤ self.new.room.contracted }
-        ensures in_all { contracted_in_all self.new ≡ contracted_in_all self.old }
+    /// Attaches the view to a document of `lines` lines, which may be its own (`SCI_SETDOCPOINTER`), and which is for
+    /// large texts if `is_large` is set. Anchor, caret and target move to the start, and all lines are visible and
+    /// expanded. The settings stay. Allocates nothing.
+    pub fn attach_to(&mut self, document: u32, lines: usize, is_large: bool)
+        requires some { 0 < lines }
+        requires fits { AreFewLines is_large lines }
+        requires few { HasFewLines self.old }
+        ensures view { IsAttached document lines is_large self.old.view self.new.view }
+        ensures lines { length self.new.view.flags ≡ lines }
+        ensures width { self.new.view.large ≡ is_large }
+        ensures rooms { fold_rooms self.new ≡ fold_rooms self.old }
     {
-        // Removes all lines and inserts as many fresh ones. New flags would need an allocation, which could fail.
-        let fresh = [
-            LineEdit::Restart,
-            LineEdit::Come {
-                line: 1,
-                count: lines - 1,
-            },
-        ];
         self.document = document;
         self.selection = Selection::at(0);
         self.target = Target { start: 0, end: 0 };
-        self.lines.carry(&fresh);
+        self.lines.start_again(lines, is_large);
     }
 }

@@ -1,9 +1,10 @@
 //! `View`: how it is made and read.
 
-ghost use Rattle.std.specs.Prelude.{◌≡◌, ◌<◌, IfOk};
+ghost use Rattle.std.specs.Prelude.{◌≡◌, ◌<◌, length, IfOk};
+ghost use Rattle.ed_view.specs.Flags.{AreFewLines};
 ghost use Rattle.ed_view.specs.Kept.{IsNewView};
 
-use contraction::Contraction;
+use crate::line_flags::LineFlags;
 use ed_types::modification;
 use selection::Selection;
 use std::alloc::{AllocError, Global};
@@ -31,7 +32,7 @@ pub struct View {
     pub(crate) indicator_value: u32,
     pub(crate) converts_pastes: bool,
     pub(crate) records: bool,
-    pub(crate) lines: Contraction<u64>,
+    pub(crate) lines: LineFlags,
 }
 
 impl Model for View {
@@ -53,25 +54,35 @@ impl Model for View {
         indicator_value = v.indicator_value;
         converts_pastes = v.converts_pastes;
         records = v.records;
+        large = v.lines.large;
         flags = v.lines.flags;
       };
       room = v.lines.room;
+      spare = v.lines.spare;
     } };
 }
 
 impl View {
-    /// Returns a new view, attached to a document of `lines` lines. Its positions are 0, it listens for all kinds of
-    /// change, and all lines are visible and expanded.
+    /// Returns a new view, attached to a document of `lines` lines, which is for large texts if `is_large` is set. Its
+    /// positions are 0, it listens for all kinds of change, and all lines are visible and expanded.
     ///
     /// # Errors
     ///
-    /// `AllocError` if an allocation fails. The view allocates memory for two numbers, however many lines there are.
-    pub fn new(alloc: Global, id: u32, document: u32, lines: usize) -> Result<Self, AllocError>
-        requires lines { 0 < lines }
-        ensures view { IfOk result (λ v. IsNewView id document lines v.view) }
-        ensures room { IfOk result (λ v. v.room ≡ record { hidden = 0; contracted = 0 }) }
+    /// `AllocError` if an allocation fails. The view allocates memory for four numbers, however many lines there are.
+    pub fn new(
+        alloc: Global,
+        id: u32,
+        document: u32,
+        lines: usize,
+        is_large: bool,
+    ) -> Result<Self, AllocError>
+        requires some { 0 < lines }
+        requires few { AreFewLines is_large lines }
+        ensures view { IfOk result (λ v. IsNewView id document lines is_large v.view) }
+        ensures lines { IfOk result (λ v. (length v.view.flags ≡ lines) × (v.view.large ≡ is_large)) }
+        ensures room { IfOk result (λ v. (v.room ≡ record { hidden = 0; contracted = 0 }) × (v.spare ≡ v.room)) }
     {
-        let lines = Contraction::new(alloc, lines)?;
+        let lines = LineFlags::new(alloc, lines, is_large)?;
         Ok(View {
             id,
             document,
@@ -159,9 +170,11 @@ impl View {
     }
 
     /// Lends the flags of the lines: which are visible, and which are expanded.
-    pub fn lines(&self) -> &Contraction<u64>
+    pub fn lines(&self) -> &LineFlags
         ensures flags { result.now.flags ≡ self.now.view.flags }
+        ensures large { result.now.large ≡ self.now.view.large }
         ensures room { result.now.room ≡ self.now.room }
+        ensures spare { result.now.spare ≡ self.now.spare }
     {
         &self.lines
     }

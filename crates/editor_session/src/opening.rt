@@ -28,7 +28,7 @@ fn make_view(alloc: Global, document: u32, view: u32) -> Result<(Document, View)
         return Err(AllocError);
     };
     made.attach_reserved(view);
-    let view = View::new(alloc, view, document, made.line_count())?;
+    let view = View::new(alloc, view, document, made.line_count(), made.is_large())?;
     Ok((made, view))
 }
 

@@ -90,7 +90,7 @@ fn assert_inner_folds(rt: &impl Abort, view: &mut View) {
 
 #[test]
 fn inner_folds_of_a_view_stay_contracted(rt: HostRuntime) {
-    let mut view = View::new(rt.alloc(), 1, 1, 4).expect(&rt, "memory");
+    let mut view = View::new(rt.alloc(), 1, 1, 4, false).expect(&rt, "memory");
     assert_inner_folds(&rt, &mut view);
 }
 
@@ -118,7 +118,7 @@ fn assert_folded_by_rows(rt: &impl Abort, rows: &LineRows, view: &mut View) {
 fn view_is_folded_by_the_levels_of_rows(rt: HostRuntime) {
     let mut rows = LineRows::new(rt.alloc());
     make_rows(&rt, &mut rows);
-    let mut view = View::new(rt.alloc(), 1, 1, 4).expect(&rt, "memory");
+    let mut view = View::new(rt.alloc(), 1, 1, 4, false).expect(&rt, "memory");
     assert_folded_by_rows(&rt, &rows, &mut view);
 }
 
@@ -134,7 +134,7 @@ fn assert_first_line_stays(rt: &impl Abort, view: &mut View) {
 
 #[test]
 fn first_line_of_a_view_is_never_hidden(rt: HostRuntime) {
-    let mut view = View::new(rt.alloc(), 1, 1, 4).expect(&rt, "memory");
+    let mut view = View::new(rt.alloc(), 1, 1, 4, false).expect(&rt, "memory");
     assert_first_line_stays(&rt, &mut view);
 }
 
@@ -169,7 +169,7 @@ fn assert_followed(rt: &impl Abort, view: &mut View) {
 
 #[test]
 fn folded_view_follows_steps(rt: HostRuntime) {
-    let mut view = View::new(rt.alloc(), 2, 1, 4).expect(&rt, "memory");
+    let mut view = View::new(rt.alloc(), 2, 1, 4, false).expect(&rt, "memory");
     assert_followed(&rt, &mut view);
 }
 
@@ -203,7 +203,7 @@ fn change_all(rt: &impl Abort, view: &mut View) {
 
 fn assert_attached(rt: &impl Abort, view: &mut View) {
     assert!(rt; view.lines().count() == 2);
-    view.attach_to(7, 3);
+    view.attach_to(7, 3, false);
     assert!(rt; view.id() == 3 && view.document() == 7);
     assert_places(rt, view, 0, 0, Target { start: 0, end: 0 });
     assert_visible(rt, view, &[true, true, true]);
@@ -221,6 +221,35 @@ fn assert_settings_stay(rt: &impl Abort, view: &mut View) {
 
 #[test]
 fn attached_view_keeps_its_settings_alone(rt: HostRuntime) {
-    let mut view = View::new(rt.alloc(), 3, 1, 2).expect(&rt, "memory");
+    let mut view = View::new(rt.alloc(), 3, 1, 2, false).expect(&rt, "memory");
     assert_settings_stay(&rt, &mut view);
+}
+
+fn hide_behind_the_first(rt: &impl Abort, view: &mut View, lines: usize) {
+    let levels = Levels::new(&[], &[], lines);
+    let rest = ViewChange::HideLines {
+        first: 1,
+        past: lines,
+    };
+    fold(rt, view, &levels, rest);
+}
+
+fn assert_widths(rt: &impl Abort, view: &mut View) {
+    hide_behind_the_first(rt, view, 2);
+    assert_visible(rt, view, &[true, false]);
+    assert!(rt; view.lines().count() == 2);
+    view.attach_to(8, 3, true);
+    assert_visible(rt, view, &[true, true, true]);
+    hide_behind_the_first(rt, view, 3);
+    assert_visible(rt, view, &[true, false, false]);
+    assert!(rt; view.lines().count() == 3);
+    view.attach_to(7, 2, false);
+    assert_visible(rt, view, &[true, true]);
+}
+
+// A document for large texts has line numbers of 64 bits.
+#[test]
+fn view_goes_to_a_document_of_another_width_and_back(rt: HostRuntime) {
+    let mut view = View::new(rt.alloc(), 3, 7, 2, false).expect(&rt, "memory");
+    assert_widths(&rt, &mut view);
 }

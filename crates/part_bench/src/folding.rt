@@ -1,9 +1,11 @@
-//! Folding: every second line hidden, and display lines looked up; headers contracted, and lines inserted among them.
+//! Folding, with line numbers of 32 and of 64 bits: every second line hidden, and display lines looked up; headers
+//! contracted, and lines inserted among them.
 
 use bench_support::{next_seed, tell};
 use contraction::{Contraction, Levels};
 use ed_types::fold_level;
 use line_index::LineEdit;
+use partitioning::Place;
 use std::alloc::{AllocError, Global};
 use std::io;
 use std::time::Instant;
@@ -18,7 +20,7 @@ fn block_level(line: usize) -> u32 {
 }
 
 /// Hides a line.
-fn hide(view: &mut Contraction<u32>, line: usize) -> Result<(), AllocError> {
+fn hide<P: Place>(view: &mut Contraction<P>, line: usize) -> Result<(), AllocError> {
     view.reserve_hidden(view.count())?;
     if line < view.count() {
         view.hide(line, line + 1);
@@ -27,7 +29,11 @@ fn hide(view: &mut Contraction<u32>, line: usize) -> Result<(), AllocError> {
 }
 
 /// Contracts the header on a line.
-fn contract(view: &mut Contraction<u32>, levels: &[u32], line: usize) -> Result<(), AllocError> {
+fn contract<P: Place>(
+    view: &mut Contraction<P>,
+    levels: &[u32],
+    line: usize,
+) -> Result<(), AllocError> {
     view.reserve_hidden(view.count())?;
     view.reserve_contracted(1)?;
     if levels.len() == view.count() && line < view.count() {
@@ -37,14 +43,14 @@ fn contract(view: &mut Contraction<u32>, levels: &[u32], line: usize) -> Result<
 }
 
 /// Inserts a line.
-fn come(view: &mut Contraction<u32>, line: usize) {
-    if line <= view.count() && view.count() < u32::MAX as usize {
+fn come<P: Place>(view: &mut Contraction<P>, line: usize) {
+    if line <= view.count() && view.count() < P::GREATEST {
         view.carry(&[LineEdit::Come { line, count: 1 }]);
     }
 }
 
 /// Looks up the display lines of `count` lines, and the lines at these, and returns the sum.
-fn look_up(view: &Contraction<u32>, count: usize) -> usize {
+fn look_up<P: Place>(view: &Contraction<P>, count: usize) -> usize {
     let mut sum = 0usize;
     let mut seed = 1u64;
     for _ in 0..count {
@@ -59,7 +65,7 @@ fn look_up(view: &Contraction<u32>, count: usize) -> usize {
 }
 
 /// Hides every second line.
-fn hide_half(view: &mut Contraction<u32>, lines: usize) -> Result<(), AllocError> {
+fn hide_half<P: Place>(view: &mut Contraction<P>, lines: usize) -> Result<(), AllocError> {
     for line in 0..lines / 2 {
         hide(view, line * 2 + 1)?;
     }
@@ -67,9 +73,9 @@ fn hide_half(view: &mut Contraction<u32>, lines: usize) -> Result<(), AllocError
 }
 
 /// Hides lines, looks up display lines, and inserts lines. Returns the sum of what was found.
-fn measure_hidden(
+fn measure_hidden<P: Place>(
     rt: &HostRuntime,
-    view: &mut Contraction<u32>,
+    view: &mut Contraction<P>,
     lines: usize,
     count: usize,
 ) -> io::Result<usize> {
@@ -97,7 +103,7 @@ fn levels_of(alloc: Global, lines: usize) -> Result<Vec<u32>, AllocError> {
 }
 
 /// Contracts all headers.
-fn contract_all(view: &mut Contraction<u32>, levels: &[u32]) -> Result<(), AllocError> {
+fn contract_all<P: Place>(view: &mut Contraction<P>, levels: &[u32]) -> Result<(), AllocError> {
     for header in 0..levels.len() / 8 {
         contract(view, levels, header * 8)?;
     }
@@ -105,9 +111,9 @@ fn contract_all(view: &mut Contraction<u32>, levels: &[u32]) -> Result<(), Alloc
 }
 
 /// Contracts all headers, and returns the line on the second display line.
-fn measure_contracted(
+fn measure_contracted<P: Place>(
     rt: &HostRuntime,
-    view: &mut Contraction<u32>,
+    view: &mut Contraction<P>,
     levels: &[u32],
 ) -> io::Result<usize> {
     let start = Instant::now(rt)?;
@@ -117,23 +123,31 @@ fn measure_contracted(
 }
 
 /// Measures a view of this many lines, every second of them hidden.
-fn run_hidden(rt: &HostRuntime, lines: usize, count: usize) -> io::Result<usize> {
-    let lines = lines.min(u32::MAX as usize);
-    let mut view: Contraction<u32> = Contraction::new(rt.alloc(), lines)?;
+fn run_hidden<P: Place>(rt: &HostRuntime, lines: usize, count: usize) -> io::Result<usize> {
+    let lines = lines.min(P::GREATEST);
+    let mut view: Contraction<P> = Contraction::new(rt.alloc(), lines)?;
     measure_hidden(rt, &mut view, lines, count)
 }
 
 /// Measures a view of this many lines with all headers contracted.
-fn run_contracted(rt: &HostRuntime, lines: usize) -> io::Result<usize> {
-    let lines = lines.min(u32::MAX as usize);
+fn run_contracted<P: Place>(rt: &HostRuntime, lines: usize) -> io::Result<usize> {
+    let lines = lines.min(P::GREATEST);
     let levels = levels_of(rt.alloc(), lines)?;
-    let mut view: Contraction<u32> = Contraction::new(rt.alloc(), lines)?;
+    let mut view: Contraction<P> = Contraction::new(rt.alloc(), lines)?;
     measure_contracted(rt, &mut view, levels.as_slice())
 }
 
 /// Measures a view of this many lines, every second of them hidden; then one with all headers contracted.
-pub fn run(rt: &HostRuntime, lines: usize, count: usize) -> io::Result<()> {
-    let sum = run_hidden(rt, lines, count)?;
-    let shown = run_contracted(rt, lines)?;
+fn run_width<P: Place>(rt: &HostRuntime, lines: usize, count: usize) -> io::Result<()> {
+    let sum = run_hidden::<P>(rt, lines, count)?;
+    let shown = run_contracted::<P>(rt, lines)?;
     println!(rt; "folded {sum} {shown}")
+}
+
+/// Measures folding of this many lines, with numbers of 32 bits and then of 64.
+pub fn run(rt: &HostRuntime, lines: usize, count: usize) -> io::Result<()> {
+    println!(rt; "line numbers of 32 bits")?;
+    run_width::<u32>(rt, lines, count)?;
+    println!(rt; "line numbers of 64 bits")?;
+    run_width::<u64>(rt, lines, count)
 }

@@ -11,7 +11,7 @@ use std::io;
 use std::time::Instant;
 
 /// The exclusive bound of the length of a document that is not large, in bytes.
-const WIDTH: usize = 1 << 32;
+const WIDTH: usize = 1 << 31;
 
 /// Returns the byte at a place of a text of 40-byte lines.
 fn byte_at(place: usize) -> u8 {

@@ -8,7 +8,7 @@ use Rattle.ed_model.specs.Session.{View, view_at, with_view}
 use Rattle.ed_model.specs.SoundLaws.{Rise}
 use Rattle.ed_model.specs.proved.Finding.{view_id}
 use Rattle.id_table.specs.Entries.{Entry, Entries, entry, id_of, value_at, value_of, with_value_at}
-use Rattle.ed_view.specs.Kept.{KeptView, contracted_in_all}
+use Rattle.ed_view.specs.Kept.{KeptView, fold_rooms}
 use Rattle.ed_view.specs.Moving.{view_moved}
 use Rattle.scene.specs.Scenes.{views_of, fold_room_in_all, AreNamed}
 use Rattle.scene.specs.Following.{with_followed, followed_at, CanFollow, CanFollowInTurn}
@@ -58,10 +58,10 @@ value_above (x ∷ xs) low high id k rise below =
     rw other (ap (λ es. x ∷ es) rest)
 
 pub value_rooms : (entries : List (Entry KeptView)) (low high id : ℕ) (k k' : KeptView) → Rise low high (map id_of entries) → value_at entries id ≡ Some k
-    → k'.room.hidden ≡ k.room.hidden → contracted_in_all k' ≡ contracted_in_all k
+    → fold_rooms k' ≡ fold_rooms k
     → map fold_room_in_all (with_value_at id k' entries) ≡ map fold_room_in_all entries
-value_rooms [] low high id k k' rise e hidden contracted = refl
-value_rooms (x ∷ xs) low high id k k' rise e hidden contracted = go (x.id == id) refl e (λ e. value_rooms xs (x.id + 1) high id k k' rise.2 e hidden contracted)
+value_rooms [] low high id k k' rise e rooms = refl
+value_rooms (x ∷ xs) low high id k k' rise e rooms = go (x.id == id) refl e (λ e. value_rooms xs (x.id + 1) high id k k' rise.2 e rooms)
   where
     go : (b : Bool) → (x.id == id) ≡ b → option_map value_of (cond b (Some x) (find (λ (e : Entry KeptView). e.id == id) xs)) ≡ Some k
         → (value_at xs id ≡ Some k → map fold_room_in_all (with_value_at id k' xs) ≡ map fold_room_in_all xs)
@@ -69,11 +69,10 @@ value_rooms (x ∷ xs) low high id k k' rise e hidden contracted = go (x.id == i
     go true t e rest =
         let is : x.value ≡ k = cc in
         let own : x.id ≡ id = eqb-true x.id id t in
-        let hide : k'.room.hidden ≡ x.value.room.hidden = hidden ∙ ap (λ (v : KeptView). v.room.hidden) (sym is) in
-        let contract : contracted_in_all k' ≡ contracted_in_all x.value = contracted ∙ ap contracted_in_all (sym is) in
+        let own_rooms : fold_rooms k' ≡ fold_rooms x.value = rooms ∙ ap fold_rooms (sym is) in
         let behind : with_value_at id k' xs ≡ xs = value_above xs (x.id + 1) high id k' rise.2 (omega arith) in
-        rw (behind, hide, contract) refl
-    go false t e rest = ap (λ rooms. fold_room_in_all x ∷ rooms) (rest e)
+        rw behind (ap (λ r. r ∷ map fold_room_in_all xs) own_rooms)
+    go false t e rest = ap (λ rs. fold_room_in_all x ∷ rs) (rest e)
 
 pub named_ids : (entries : List (Entry KeptView)) → AreNamed entries → map id_of entries ≡ map (λ (v : View). v.id) (views_of entries)
 named_ids [] named = refl
@@ -103,9 +102,8 @@ next_can movement edits ids rest after id k old now so e found =
 -- that view follows
 pub follow_one : (movement : Movement) (edits : List LineEdit) (ids rest after : List ℕ) (id : ℕ) (k moved : KeptView) (old now new : Entries KeptView)
     → IsFollowedSoFar movement edits ids rest old now → rest ≡ id ∷ after → value_at now.entries id ≡ Some k → moved.view ≡ view_moved movement edits k.view
-    → moved.room.hidden ≡ k.room.hidden → contracted_in_all moved ≡ contracted_in_all k
-    → new ≡ record now { entries = with_value_at id moved now.entries } → IsFollowedSoFar movement edits ids after old new
-follow_one movement edits ids rest after id k moved old now new so e found follows hidden contracted put =
+    → fold_rooms moved ≡ fold_rooms k → new ≡ record now { entries = with_value_at id moved now.entries } → IsFollowedSoFar movement edits ids after old new
+follow_one movement edits ids rest after id k moved old now new so e found follows rooms put =
     let at : view_at (views_of now.entries) id ≡ Some k.view = named_some now.entries id k so.named found in
     let is : moved.view.id ≡ id = ap (λ (v : View). v.id) follows ∙ view_id (views_of now.entries) id k.view at in
     let views : views_of (with_value_at id moved now.entries) ≡ with_followed movement edits (view_at (views_of now.entries) id) (views_of now.entries) =
@@ -119,7 +117,7 @@ follow_one movement edits ids rest after id k moved old now new so e found follo
       next = so.next;
       room = so.room;
       fold_rooms = λ rise.
-          value_rooms now.entries 0 old.next id k moved (subst (Rise 0 old.next) (sym so.same) rise) found hidden contracted ∙ so.fold_rooms rise;
+          value_rooms now.entries 0 old.next id k moved (subst (Rise 0 old.next) (sym so.same) rise) found rooms ∙ so.fold_rooms rise;
     })
 
 -- no view has the id whose turn it is

@@ -5,7 +5,7 @@ use Rattle.std.specs.List.{AllByRecursion}
 use Rattle.std.proofs.lemmas.Bool.{eqb-true, eqb-false}
 use Rattle.line_index.specs.declared.edit.LineEdit.{LineEdit}
 use Rattle.line_index.specs.declared.edit.LineEdit.TheVariants.{Come, Join, Restart}
-use Rattle.line_index.specs.Edits.{after_edit, after_edits}
+use Rattle.line_index.specs.Edits.{after_edit, after_edits, fresh_lines}
 use Rattle.line_index.specs.Settings.{edits_of_setting, inside_edits, all_inside_edits, line_past, lines_inside, SettingsBringFewLines, SettingsCarryRows, SettingsFitLines}
 use Rattle.selection.specs.declared.movements.Movement.{Movement}
 use Rattle.selection.specs.declared.movements.Movement.TheVariants.{Inserted}
@@ -19,17 +19,19 @@ use Rattle.ed_model.specs.Folding.{is_visible}
 use Rattle.ed_model.specs.Lines.{line_starts}
 use Rattle.ed_model.specs.MergeLaws.{JoinsRows}
 use Rattle.ed_model.specs.Rows.{Row, Flags, flags_together}
-use Rattle.ed_model.specs.Session.{View, Document, view_at, text_of, lines_in}
+use Rattle.ed_model.specs.Session.{View, Document, view_at, text_of, lines_in, is_large}
 use Rattle.ed_model.specs.SoundLaws.{Rise, StandsOn, IsViewOn}
 use Rattle.ed_model.specs.proved.Finding.{ids_of}
 use Rattle.ed_model.specs.proved.Changes.{length_text}
 use Rattle.ed_model.specs.proved.Elements.{all_two, map_where}
 use Rattle.id_table.specs.Entries.{Entries}
+use Rattle.ed_view.specs.Flags.{AreFewLines}
 use Rattle.ed_view.specs.Kept.{KeptView}
+use Rattle.document.specs.Kept.{FitsWidth}
 use Rattle.scene.specs.Scenes.{views_of, AreNamed, StandsIfOn, IsWatched}
 use Rattle.scene.specs.Following.{followed_at, CanFollow, CanFollowInTurn}
 use Rattle.scene.proofs.Watching.{through, followed_through, through_none, through_once, each_found, not_listed}
-use Rattle.scene.proofs.StepScenes.{watched_can}
+use Rattle.scene.proofs.StepScenes.{few_enough, watched_can}
 
 -- Line 0 stays visible, since the edits insert no line before it.
 
@@ -128,8 +130,9 @@ module _ (d : Document) (to : LineEndTypes) where
       same_view v _ _ _ _ _ _ (unmoved v.anchor) (unmoved v.caret) (unmoved v.target_start) (unmoved v.target_end)
       (sym (law flags_together joins d.line_end_types to (text_of d) v.flags lines))
 
-  pub regrouped_can : (v : View) → SettingsFitLines → SettingsBringFewLines → length d.cells < 2 ^ 61 → StandsOn d v → CanFollow nowhere setting v
-  regrouped_can v fit few small on =
+  pub regrouped_can : (v : View) → SettingsFitLines → SettingsBringFewLines → length d.cells < 2 ^ 61 → FitsWidth d (length d.cells) → StandsOn d v
+      → CanFollow nowhere setting v
+  regrouped_can v fit few small wide on =
       let a = on.anchor in
       let c = on.caret in
       let s = on.target_start in
@@ -143,7 +146,7 @@ module _ (d : Document) (to : LineEndTypes) where
         target_start = omega arith;
         target_end = omega arith;
         lines = rw on.lines (fit d.line_end_types to (text_of d));
-        few = omega arith;
+        few = subst (λ large. AreFewLines large (length v.flags + fresh_lines setting)) (sym on.large) (few_enough (is_large d) (length d.cells) _ wide (omega arith));
       }
 
   regrouped_stands : (rows : List Row) (v : View) → JoinsRows flags_together → SettingsCarryRows Flags → RegroupingLeavesARowForEachLine Flags → StandsOn d v
@@ -156,6 +159,7 @@ module _ (d : Document) (to : LineEndTypes) where
     lines = count flags_together d.line_end_types to (text_of d) v.flags;
     first_line = rw (law flags_together joins d.line_end_types to (text_of d) v.flags on.lines) (edits_keep_first setting v.flags (setting_behind d.line_end_types to (text_of d)) on.first_line);
     indicator = on.indicator;
+    large = on.large;
     listed = on.listed;
   }
 
@@ -238,6 +242,6 @@ module _ (d : Document) (to : LineEndTypes) where
         stand = subst (AllByRecursion (StandsIfOn (record d { line_end_types = to; rows = rows }))) (sym views) (changed_stand rows vs joins law count w.stand);
       }
 
-  pub regrouped_can_all : (table : Entries KeptView) → SettingsFitLines → SettingsBringFewLines → length d.cells < 2 ^ 61 → IsWatched d table
+  pub regrouped_can_all : (table : Entries KeptView) → SettingsFitLines → SettingsBringFewLines → length d.cells < 2 ^ 61 → FitsWidth d (length d.cells) → IsWatched d table
       → CanFollowInTurn nowhere setting d.views (views_of table.entries)
-  regrouped_can_all table fit few small w = watched_can nowhere setting d table w (λ v on. regrouped_can v fit few small on)
+  regrouped_can_all table fit few small wide w = watched_can nowhere setting d table w (λ v on. regrouped_can v fit few small wide on)

@@ -5,29 +5,35 @@ use Rattle.std.specs.List.{AllByRecursion}
 use Rattle.std.proofs.lemmas.Bool.{eqb-true, eqb-false}
 use Rattle.ed_types.specs.Notices.{Notice}
 use Rattle.line_index.specs.declared.edit.LineEdit.{LineEdit}
+use Rattle.line_index.specs.Edits.{fresh_lines}
 use Rattle.line_index.specs.RoomLaws.{lines_for_step}
 use Rattle.line_index.specs.StepEdits.{EditsBringFewLines}
 use Rattle.selection.specs.declared.movements.Movement.{Movement}
 use Rattle.selection.specs.Positions.{movement_of, count_of}
 use Rattle.ed_model.specs.declared.plan.LineEndTypes.{LineEndTypes}
+use Rattle.ed_model.specs.Steps as model
 use Rattle.ed_model.specs.Steps.{Step}
 use Rattle.ed_model.specs.MergeLaws.{end_of}
 use Rattle.ed_model.specs.History.{History, TextStep as Text, appended, begins_transaction, at_save_point}
 use Rattle.ed_model.specs.Notes.{told, blank, save_point_left, performed_user}
-use Rattle.ed_model.specs.Session.{View, Document, view_at, text_of, lines_in, watching}
+use Rattle.ed_model.specs.Session.{View, Document, view_at, text_of, lines_in, is_large, watching}
 use Rattle.ed_model.specs.Performing.{Scene, document_after, moved_view, view_after, leaving, step_heard, step_made}
 use Rattle.ed_model.specs.SoundLaws.{Rise, StandsOn, IsViewOn, occurrences}
 use Rattle.ed_model.specs.StandingLaws.{StepsKeepViewsStanding}
 use Rattle.ed_model.specs.proved.Finding.{view_id, ids_of, same_ids}
 use Rattle.ed_model.specs.proved.Changes.{length_text, view_after_id, view_after_document}
 use Rattle.ed_model.specs.proved.Elements.{all_two, map_where}
+use Rattle.ed_model.specs.proved.Lines.{few_lines}
 use Rattle.ed_model.specs.proved.Lists.{length_slice}
 use Rattle.id_table.specs.Entries.{Entry, Entries}
+use Rattle.ed_view.specs.Flags.{AreFewLines}
 use Rattle.ed_view.specs.Kept.{KeptView}
 use Rattle.ed_view.specs.Moving.{step_edits, MovesAreThoseOfSteps, StepsFitViews}
 use Rattle.document.specs.declared.text_step.TextStep.{TextStep}
 use Rattle.document.specs.declared.text_step.TextStep.TheVariants.{Insert, Delete}
+use Rattle.document.specs.Kept.{bound_of, FitsWidth}
 use Rattle.document.specs.TextSteps.{step_in, IsStepOn, need_of}
+use Rattle.document.specs.Undoing.{room_of_step}
 use Rattle.scene.specs.Scenes.{views_of, scene_in, AreNamed, StandsIfOn, IsWatched}
 use Rattle.scene.specs.Hearing.{left_note, user_bits}
 use Rattle.scene.specs.Following.{followed_at, CanFollow, CanFollowInTurn}
@@ -95,23 +101,45 @@ watched_can movement edits d table w can =
     let all = all_stand d vs d.views w.stand w.listed in
     can_in_turn movement edits d.views 0 table.next vs w.rise (all_once d vs d.views all) (all_ready movement edits d vs d.views can all)
 
-pub stands_can : (step : Step) (d : Document) (v : View) → StepsFitViews → EditsBringFewLines → end_of step ≤ length (text_of d)
-    → length d.cells + count_of (movement_of step) < 2 ^ 64 → lines_in d + lines_for_step d.line_end_types step < 2 ^ 64 → StandsOn d v
+-- so few lines can be counted in the width of the document
+pub few_enough : (large : Bool) (n k : ℕ) → n < bound_of large → k ≤ n + 7 → AreFewLines large k
+few_enough true n k bound few = (omega arith, λ e. absurd (cc))
+few_enough false n k bound few = (omega arith, λ e. omega arith)
+
+pub narrower : (d : Document) (n m : ℕ) → FitsWidth d (n + m) → FitsWidth d n
+narrower d n m wide = less (bound_of (is_large d)) wide
+  where
+    less : (bound : ℕ) → n + m < bound → n < bound
+    less bound h = omega arith
+
+-- a step that finds room in the text adds few lines
+pub few_for_step : (types : LineEndTypes) (step : Step) (room : ℕ) → (room_of_step types step).text ≤ room → lines_for_step types step ≤ room + 6
+few_for_step types (model.Insert place bytes) room fits = let few = few_lines types bytes in omega arith
+few_for_step types (model.Delete place bytes) room fits = omega arith
+
+pub few_for_lent : (types : LineEndTypes) (step : TextStep) (text : List ℕ) (room : ℕ) → (need_of types step).text ≤ room → lines_for_step types (step_in step text) ≤ room + 6
+few_for_lent types (Insert place bytes) text room fits = let few = few_lines types bytes.now in omega arith
+few_for_lent types (Delete place count) text room fits = omega arith
+
+pub stands_can : (step : Step) (d : Document) (room : ℕ) (v : View) → StepsFitViews → EditsBringFewLines → end_of step ≤ length (text_of d)
+    → length d.cells + count_of (movement_of step) < 2 ^ 64 → FitsWidth d (length d.cells + room) → lines_for_step d.line_end_types step ≤ room + 6 → StandsOn d v
     → CanFollow (movement_of step) (step_edits step d) v
-stands_can step d v fit few within places lines on =
+stands_can step d room v fit few within places wide lines on =
     let a = on.anchor in
     let c = on.caret in
     let s = on.target_start in
     let e = on.target_end in
     let n = on.lines in
     let f = few d.line_end_types step (text_of d) within in
+    let all = few_lines d.line_end_types (text_of d) in
+    let size = length_text d in
     record {
       anchor = omega arith;
       caret = omega arith;
       target_start = omega arith;
       target_end = omega arith;
       lines = fit step d v within on.lines;
-      few = omega arith;
+      few = subst (λ large. AreFewLines large (length v.flags + fresh_lines (step_edits step d))) (sym on.large) (few_enough (is_large d) (length d.cells + room) _ wide (omega arith));
     }
 
 -- the views after all followed are those of the model after the step

@@ -5,6 +5,7 @@ use Rattle.line_index.specs.Edits.{FitLines, fresh_lines}
 use Rattle.selection.specs.declared.movements.Movement.{Movement}
 use Rattle.selection.specs.Positions.{count_of}
 use Rattle.ed_model.specs.Session.{View, view_at, with_view}
+use Rattle.ed_view.specs.Flags.{AreFewLines}
 use Rattle.ed_view.specs.Moving.{view_moved}
 
 abbrev pub with_followed : Movement → List LineEdit → Option View → List View → List View
@@ -23,7 +24,7 @@ pub record CanFollow (movement : Movement) (edits : List LineEdit) (v : View) : 
   pub target_start : v.target_start + count_of movement < 2 ^ 64
   pub target_end : v.target_end + count_of movement < 2 ^ 64
   pub lines : FitLines (length v.flags) edits
-  pub few : length v.flags + fresh_lines edits < 2 ^ 64
+  pub few : AreFewLines v.large (length v.flags + fresh_lines edits)
 
 -- the same for each of the views with the ids, when its turn comes
 abbrev pub CanFollowInTurn : Movement → List LineEdit → List ℕ → List View → Type 0

@@ -6,7 +6,7 @@ use Rattle.ed_model.specs.Session.{Document, View, watching}
 use Rattle.ed_model.specs.Performing.{Scene}
 use Rattle.ed_model.specs.SoundLaws.{Rise, StandsOn, ListsItsViews}
 use Rattle.id_table.specs.Entries.{Entry, Entries, id_of}
-use Rattle.ed_view.specs.Kept.{KeptView, contracted_in_all}
+use Rattle.ed_view.specs.Kept.{KeptView, fold_rooms}
 use Rattle.notify.specs.Gathered.{Gathered}
 use Rattle.document.specs.Kept.{Kept}
 
@@ -28,9 +28,9 @@ kept_scene k views gathered = scene_in k.document views.entries gathered.notes
 abbrev pub watchers : Document → Entries KeptView → List View
 watchers d table = watching (views_of table.entries) d
 
--- how many hidden lines the view has room for, and how many contracted ones, in all
-abbrev pub fold_room_in_all : Entry KeptView → ℕ × ℕ
-fold_room_in_all e = (e.value.room.hidden, contracted_in_all e.value)
+-- how many hidden lines the view has room for, and how many contracted ones in all, in both widths
+abbrev pub fold_room_in_all : Entry KeptView → (ℕ × ℕ) × (ℕ × ℕ)
+fold_room_in_all e = fold_rooms e.value
 
 -- each view keeps its room for hidden lines and, in all, for contracted lines
 abbrev pub KeepFoldRooms : Entries KeptView → Entries KeptView → Type 0

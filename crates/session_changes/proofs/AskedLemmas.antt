@@ -19,7 +19,7 @@ use Rattle.message_requests.specs.declared.state.SessionState.{SessionState}
 use Rattle.session_changes.specs.Kept.{IsKept}
 use Rattle.session_changes.specs.Asked.{IsAsked, CanChangeView}
 use Rattle.session_changes.specs.Folding.{HasFoldRoomAt, levels_of, changed_at, CanChange}
-use Rattle.session_changes.specs.proved.Finding.{id_of_view, fold_rooms_in, id_of_document, IsKeptAs, kept_as, own_at, holds_at, one_changes}
+use Rattle.session_changes.specs.proved.Finding.{id_of_view, id_of_document, IsKeptAs, kept_as, own_at, holds_at, one_changes}
 
 module _ (s : SessionState) (document view : ℕ) (r : Request) (kept : IsKept s) (asked : IsAsked (session_in s) document view r) where
   pub view_found : view_at (session_in s).views view ≡ Some r.view
@@ -58,22 +58,6 @@ module _ (s : SessionState) (document view : ℕ) (r : Request) (kept : IsKept s
       some_same a b e = cc
 
 -- A view changes.
-
--- a setting does not change which lines are hidden or contracted, and so not the room for more of them
-flags_stay : (levels : List ℕ) (change : ViewChange) (v : View) → is_setting change ≡ true → (changed_view levels change v).flags ≡ v.flags
-flags_stay levels (view_change.Select anchor caret) v h = refl
-flags_stay levels (view_change.SetTarget start past) v h = refl
-flags_stay levels (view_change.SetSearchFlags flags) v h = refl
-flags_stay levels (view_change.SetMask mask) v h = refl
-flags_stay levels (view_change.SetIndicator indicator) v h = refl
-flags_stay levels (view_change.SetIndicatorValue value) v h = refl
-flags_stay levels (view_change.SetPasteConversion on) v h = refl
-flags_stay levels (view_change.SetRecording on) v h = refl
-flags_stay levels _ v h = absurd (cc)
-
-pub setting_rooms : (levels : List ℕ) (change : ViewChange) (k k' : KeptView) → is_setting change ≡ true → k' ≡ record k { view = changed_view levels change k.view } → fold_rooms_in k' ≡ fold_rooms_in k
-setting_rooms levels change k k' setting e =
-    ap fold_rooms_in e ∙ ap (λ flags. fold_rooms_in (record k { view = record k.view { flags = flags } })) (flags_stay levels change k.view setting)
 
 -- to change the view with the id is to put the changed view in the place of the request's view
 pub in_its_place : (s : SessionState) (document view : ℕ) (r : Request) → IsKept s → IsAsked (session_in s) document view r → (g : View → View) → (g r.view).id ≡ r.view.id

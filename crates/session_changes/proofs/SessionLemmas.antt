@@ -24,7 +24,8 @@ use Rattle.document.specs.Kept.{Kept, document_of}
 use Rattle.document.specs.declared.kept.Document.{Document as KeptDocument}
 use Rattle.document_table.specs.Leaving.{documents_in as entries_in, let_go, released, LeavesTheLiving}
 use Rattle.ed_view.specs.Folding.{fold_need, HasFoldRoom}
-use Rattle.ed_view.specs.Kept.{KeptView}
+use Rattle.ed_view.specs.Flags.{AreFewLines}
+use Rattle.ed_view.specs.Kept.{KeptView, HasFewLines}
 use Rattle.ed_view.specs.declared.folding.FoldNeed.{FoldNeed}
 use Rattle.id_table.specs.Entries.{Entry, Entries, entry, value_at, with_value_at}
 use Rattle.scene.specs.Scenes.{views_of}
@@ -113,21 +114,25 @@ clipboard_so s document view text what bytes done kept ready put r asked is =
 pub held_few : (l : Limits) → is_allowed l ≡ true → l.refs ≤ 2 ^ 31 - 1
 held_few l h = grind (arith, nat_tests)
 
-limit_few : (b : Bool) (l : Limits) → (l.doc_bytes ≤ 2 ^ 31 - 1) × (l.large_bytes ≤ 2 ^ 40) → cond b l.large_bytes l.doc_bytes ≤ 2 ^ 40
-limit_few true l h = h.1
-limit_few false l h = (let small = h.0 in omega (arith, small))
+-- texts within the limit have fewer lines than the width of their document can count
+limit_few : (b : Bool) (l : Limits) (n : ℕ) → (l.doc_bytes ≤ 2 ^ 31 - 1) × (l.large_bytes ≤ 2 ^ 40) → n ≤ cond b l.large_bytes l.doc_bytes + 1 → AreFewLines b (n + 1)
+limit_few true l n h few = (let large = h.1 in omega (arith, large), λ e. absurd (cc))
+limit_few false l n h few = (let small = h.0 in omega (arith, small), λ e. let small = h.0 in omega (arith, small))
 
--- a view has fewer than 2^63 lines
-pub few_flags : (s : SessionState) (document view : ℕ) (r : Request) → IsKept s → IsAsked (session_in s) document view r → IsSomeAnd (value_at s.views.entries view) (λ v. length v.view.flags < 2 ^ 63)
+-- a view has few lines
+pub few_flags : (s : SessionState) (document view : ℕ) (r : Request) → IsKept s → IsAsked (session_in s) document view r → IsSomeAnd (value_at s.views.entries view) HasFewLines
 few_flags s document view r kept asked =
     let there = kept_view s document view r kept asked in
     let stand = stands s document view r kept asked in
     let flags : length there.value.view.flags ≡ lines_in r.document = ap (λ (x : View). length x.flags) there.is ∙ stand.lines in
     let sound : IsSoundDocument s.limits r.document = holds_at id_of_document (IsSoundDocument s.limits) (session_in s).documents document r.document kept.sound.documents (document_found s document view r kept asked) in
-    let small = limit_few (is_large r.document) s.limits (allowed_lengths s.limits kept.limits) in
     let cells : length (text_of r.document) ≡ length r.document.cells = length-map r.document.cells (λ (c : Cell). c.byte) in
-    let few : length there.value.view.flags < 2 ^ 63 = omega (arith, flags, few_lines r.document.line_end_types (text_of r.document), cells, sound.bounded, small) in
-    subst (λ o. IsSomeAnd o (λ v. length v.view.flags < 2 ^ 63)) (sym there.there) few
+    let width : there.value.view.large ≡ is_large r.document = ap (λ (x : View). x.large) there.is ∙ stand.large in
+    let few : HasFewLines there.value =
+    subst (λ large. AreFewLines large (length there.value.view.flags + 1)) (sym width)
+    (limit_few (is_large r.document) s.limits (length there.value.view.flags) (allowed_lengths s.limits kept.limits)
+    (omega (arith, flags, few_lines r.document.line_end_types (text_of r.document), cells, sound.bounded))) in
+    subst (λ o. IsSomeAnd o HasFewLines) (sym there.there) few
 
 pub references_few : (s : SessionState) (r : Request) (id : ℕ) → IsKept s → r.session ≡ session_in s → IsFitSessionChange r (change.AddReference id)
     → IsSomeAnd (value_at s.documents.entries id) (λ k. k.document.held_by_callers + 1 < 2 ^ 32)

@@ -2,6 +2,7 @@
 
 ghost use Rattle.std.specs.Prelude.{◌≡◌, ◌≢◌, ◌<◌, ◌^◌, map, length, IsSomeAnd};
 ghost use Rattle.ed_model.specs.Session.{attached_to};
+ghost use Rattle.ed_view.specs.Kept.{HasFewLines};
 ghost use Rattle.id_table.specs.Entries.{value_at};
 ghost use Rattle.scene.specs.Scenes.{fold_room_in_all, AreNamed};
 ghost use Rattle.message_requests.specs.Requested.{documents_in};
@@ -77,7 +78,7 @@ pub(crate) fn move_view(documents: &mut DocumentTable, from: u32, view: u32, to:
 /// Makes `document` the document of the view with this id. Moves the view's anchor, caret and target to the start, and
 /// makes all lines visible and expanded. The list of the document's views stays as it is.
 fn stand_on(views: &mut IdTable<View>, view: u32, document: &Document)
-    requires few { IsSomeAnd (value_at views.old.entries view) (λ v. length v.view.flags < 2 ^ 63) }
+    requires few { IsSomeAnd (value_at views.old.entries view) HasFewLines }
     requires named { AreNamed views.old.entries }
     requires rise { ViewsRise views.old }
     ensures views { ViewIsChanged view (attached_to document.now.document) views.old views.new }
@@ -89,14 +90,14 @@ fn stand_on(views: &mut IdTable<View>, view: u32, document: &Document)
     let Some(view) = views.get_mut(view) else {
         unreachable!()
     };
-    view.attach_to(document.id(), document.line_count());
+    view.attach_to(document.id(), document.line_count(), document.is_large());
 }
 
 /// Attaches a view of document `from` to document `to`, which may be the same. Drops `from` if it has no reference
 /// then.
 pub(crate) fn attach(state: &mut SessionState, from: u32, view: u32, to: u32)
     requires can { CanMove state.old.documents from view to }
-    requires few { IsSomeAnd (value_at state.old.views.entries view) (λ v. length v.view.flags < 2 ^ 63) }
+    requires few { IsSomeAnd (value_at state.old.views.entries view) HasFewLines }
     requires named { AreNamed state.old.views.entries }
     requires rise { ViewsRise state.old.views }
     ensures documents { IsAttachedLast view to state.old.documents state.new.documents }

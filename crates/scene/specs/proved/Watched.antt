@@ -14,6 +14,6 @@ watched_with_history d h table w = record {
   rise = w.rise;
   listed = w.listed;
   stand = all_weaker (StandsIfOn d) (StandsIfOn (record d { history = h }))
-      (λ v stand on. let s = stand on in record { anchor = s.anchor; caret = s.caret; target_start = s.target_start; target_end = s.target_end; lines = s.lines; first_line = s.first_line; indicator = s.indicator; listed = s.listed })
+      (λ v stand on. let s = stand on in record { anchor = s.anchor; caret = s.caret; target_start = s.target_start; target_end = s.target_end; lines = s.lines; first_line = s.first_line; indicator = s.indicator; large = s.large; listed = s.listed })
       (views_of table.entries) w.stand;
 }

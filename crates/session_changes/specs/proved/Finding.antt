@@ -8,7 +8,6 @@ use Rattle.ed_model.specs.Session.{Document, View}
 use Rattle.ed_types.specs.proved.Found.{found_test}
 use Rattle.ed_model.specs.proved.Elements.{found_all}
 use Rattle.ed_model.specs.proved.Finding.{found_once}
-use Rattle.ed_view.specs.Kept.{KeptView, contracted_in_all}
 use Rattle.id_table.specs.Entries.{Entry, entry, value_of, value_at, with_value_at}
 
 -- Values with ids of their own.
@@ -196,13 +195,6 @@ module _ {V : Type 0} where
 
   pub for_replaced : (P : V → Type 0) (entries : List (Entry V)) (id : ℕ) (old new : V) → value_at entries id ≡ Some old → P new → IsSomeAnd (value_at (with_value_at id new entries) id) P
   for_replaced P entries id old new at is = subst (λ o. IsSomeAnd o P) (sym (value_replaced entries id old new at)) is
-
--- how many hidden lines the view has room for, and how many contracted ones, in all
-abbrev pub fold_rooms_in : KeptView → ℕ × ℕ
-fold_rooms_in k = (k.room.hidden, contracted_in_all k)
-
-pub same_fold_rooms : (k k' : KeptView) → k'.room.hidden ≡ k.room.hidden → contracted_in_all k' ≡ contracted_in_all k → fold_rooms_in k' ≡ fold_rooms_in k
-same_fold_rooms k k' hidden contracted = rw (hidden, contracted) refl
 
 abbrev pub id_of_view : View → ℕ
 id_of_view v = v.id

@@ -20,7 +20,7 @@ loop-id-preserved c =
     elim c.match-get_mut.branch [
       | in-Some w ↦
           follow_one _ _ _ _ _ (get_or c.args.ids.now c.loop-id.id-index 0) w.in-Some.view.now w.moved.new.self _ _ _ c.loop-id.invariant
-          (drop_next c.args.ids.now c.loop-id.id-index c.loop-id-test.true) (sym c.get_mut.ensures.value ∙ ap option_copied_mut w.in-Some.is) w.moved.ensures.view w.moved.ensures.hidden w.moved.ensures.in_all w.views-is
+          (drop_next c.args.ids.now c.loop-id.id-index c.loop-id-test.true) (sym c.get_mut.ensures.value ∙ ap option_copied_mut w.in-Some.is) w.moved.ensures.view w.moved.ensures.rooms w.views-is
       | in_default w ↦
           follow_missing _ _ _ _ _ (get_or c.args.ids.now c.loop-id.id-index 0) _ _ _ c.loop-id.invariant
           (drop_next c.args.ids.now c.loop-id.id-index c.loop-id-test.true) (sym c.get_mut.ensures.value ∙ ap option_copied_mut w.in_default.is) w.views-is

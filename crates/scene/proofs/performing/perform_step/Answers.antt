@@ -16,7 +16,7 @@ use Rattle.scene.specs.Turns.{bits_behind, CanTellAfter, IsPerformed}
 use Rattle.scene.proofs.Followed.{named_ids}
 use Rattle.scene.proofs.ToldSoFar.{heard_last, length_parts}
 use Rattle.scene.proofs.KindLemmas.{unheard_after}
-use Rattle.scene.proofs.StepScenes.{same_scene, watched_can, stands_can, watched_after, watched_again}
+use Rattle.scene.proofs.StepScenes.{same_scene, few_for_step, watched_can, stands_can, watched_after, watched_again}
 use Rattle.scene.proofs.ChangeNotes.{bits_more, performed_few}
 use Rattle.scene.proofs.ChangeSteps.{some_has, step_same, small_fits, small_count, ends_in_text, lines_of_room, outline_movement_is}
 use Rattle.scene.proofs.performing.perform_step.Goals as goal
@@ -71,12 +71,9 @@ follow_change-requires-clause-can c =
     let text = length_text d in
     let small = c.document_is_small.ensures.text in
     let count = small_count d.line_end_types s (text_of d) c.args.document.now.room.text can.fits can.room.0 (omega arith) in
-    let need = lines_of_room d.line_end_types s in
-    let bound = c.line_count-old_lines.ensures.within in
-    let lines = c.line_count-old_lines.ensures.count in
-    let room = can.room.1 in
     rw (M, E, V) (watched_can (movement_of s) (step_edits s d) d c.args.views.now can.watched
-    (λ v stands. stands_can s d v c.moves_are_those_of_steps.ensures.fit c.edits_of_steps.ensures.few within (omega arith) (omega arith) stands))
+    (λ v stands. stands_can s d c.args.document.now.room.text v c.moves_are_those_of_steps.ensures.fit c.edits_of_steps.ensures.few within (omega arith)
+    c.document_is_small.ensures.width (few_for_step d.line_end_types s c.args.document.now.room.text can.room.0) stands))
 
 pub returns : goal.returns
 returns c =

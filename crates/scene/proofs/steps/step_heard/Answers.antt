@@ -13,7 +13,7 @@ use Rattle.scene.specs.Hearing.{left_note}
 use Rattle.scene.proofs.Followed.{named_ids}
 use Rattle.scene.proofs.ToldSoFar.{heard_last, length_parts}
 use Rattle.scene.proofs.KindLemmas.{can_tell, none_by_notes}
-use Rattle.scene.proofs.StepScenes.{on_text, end_within, small_step, count_is, lines_of_need, same_scene, watched_can, stands_can, watched_after, watched_again}
+use Rattle.scene.proofs.StepScenes.{on_text, end_within, small_step, count_is, lines_of_need, same_scene, few_for_lent, watched_can, stands_can, watched_after, watched_again}
 use Rattle.scene.proofs.steps.step_heard.Goals as goal
 
 pub tell_before-hears-requires : goal.tell_before-hears-requires
@@ -73,7 +73,8 @@ follow_change-requires c =
       small = c.step-change.ensures.small;
       named = c.requires.watched.named;
       can = rw (M, E, V) (watched_can (movement_of s) (step_edits s d) d c.args.views.now c.requires.watched
-          (λ v stands. stands_can s d v c.moves_are_those_of_steps.ensures.fit c.edits_of_steps.ensures.few (end_within c.args.step (text_of d) on) (omega arith) (omega arith) stands));
+          (λ v stands. stands_can s d c.args.document.now.room.text v c.moves_are_those_of_steps.ensures.fit c.edits_of_steps.ensures.few (end_within c.args.step (text_of d) on) (omega arith)
+          c.document_is_small.ensures.width (few_for_lent d.line_end_types c.args.step (text_of d) c.args.document.now.room.text c.requires.room.0) stands));
     }
 
 pub returns-clause-scene : goal.returns-clause-scene

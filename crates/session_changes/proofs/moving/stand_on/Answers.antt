@@ -1,21 +1,21 @@
 use Rattle.std.proofs.Common.{sym, ap, ◌∙◌}
 use Rattle.std.specs.Option.{option_copied_mut}
 use Rattle.ed_model.specs.Session.{attached_to}
-use Rattle.ed_view.specs.Kept.{view_in}
-use Rattle.session_changes.specs.proved.Finding.{id_of_view, fold_rooms_in, changed, keeping, named_with, same_fold_rooms}
+use Rattle.ed_view.specs.Kept.{fold_rooms, view_in}
+use Rattle.session_changes.specs.proved.Finding.{id_of_view, changed, keeping, named_with}
 use Rattle.session_changes.proofs.moving.stand_on.Goals as goal
 
 pub returns-clause-views : goal.returns-clause-views
 returns-clause-views c =
     changed view_in id_of_view c.args.views.now.entries c.args.view c.args.views.now.next c.requires.named c.requires.rise c.in-Some.view.now c.attach_to.new.self
-    (sym c.get_mut.ensures.value ∙ ap option_copied_mut c.in-Some.is) (attached_to c.args.document.now.document) (c.attach_to.ensures.view c.args.document.now.document (sym c.id.ensures) (sym c.line_count.ensures.count))
+    (sym c.get_mut.ensures.value ∙ ap option_copied_mut c.in-Some.is) (attached_to c.args.document.now.document) (c.attach_to.ensures.view c.args.document.now.document (sym c.id.ensures) (sym c.line_count.ensures.count) (sym c.is_large.ensures))
 
 pub returns-clause-named : goal.returns-clause-named
 returns-clause-named c =
     named_with view_in id_of_view c.args.views.now.entries c.args.view c.args.views.now.next c.requires.named c.requires.rise c.in-Some.view.now c.attach_to.new.self
-    (sym c.get_mut.ensures.value ∙ ap option_copied_mut c.in-Some.is) (ap id_of_view (c.attach_to.ensures.view c.args.document.now.document (sym c.id.ensures) (sym c.line_count.ensures.count)))
+    (sym c.get_mut.ensures.value ∙ ap option_copied_mut c.in-Some.is) (ap id_of_view (c.attach_to.ensures.view c.args.document.now.document (sym c.id.ensures) (sym c.line_count.ensures.count) (sym c.is_large.ensures)))
 
 pub returns-clause-fold_rooms : goal.returns-clause-fold_rooms
 returns-clause-fold_rooms c =
     keeping view_in id_of_view c.args.views.now.entries c.args.view c.args.views.now.next c.requires.named c.requires.rise c.in-Some.view.now c.attach_to.new.self
-    (sym c.get_mut.ensures.value ∙ ap option_copied_mut c.in-Some.is) fold_rooms_in (same_fold_rooms c.in-Some.view.now c.attach_to.new.self c.attach_to.ensures.hidden c.attach_to.ensures.in_all)
+    (sym c.get_mut.ensures.value ∙ ap option_copied_mut c.in-Some.is) fold_rooms c.attach_to.ensures.rooms

@@ -2,8 +2,8 @@ use Rattle.std.proofs.Common.{sym, ap, ◌∙◌}
 use Rattle.std.specs.Option.{option_copied_mut}
 use Rattle.ed_model.specs.Changes.{changed_view}
 use Rattle.ed_model.specs.proved.Changes.{changed_view_id}
-use Rattle.ed_view.specs.Kept.{view_in}
-use Rattle.session_changes.specs.proved.Finding.{id_of_view, fold_rooms_in, changed, keeping, named_with, same_fold_rooms}
+use Rattle.ed_view.specs.Kept.{fold_rooms, view_in}
+use Rattle.session_changes.specs.proved.Finding.{id_of_view, changed, keeping, named_with}
 use Rattle.session_changes.proofs.views.change_in.Goals as goal
 
 pub returns-clause-views : goal.returns-clause-views
@@ -20,4 +20,4 @@ returns-clause-named c =
 pub returns-clause-fold_rooms : goal.returns-clause-fold_rooms
 returns-clause-fold_rooms c =
     keeping view_in id_of_view c.args.views.now.entries c.args.view c.args.views.now.next c.requires.named c.requires.rise c.in-Some.view.now c.change.new.self
-    (sym c.get_mut.ensures.value ∙ ap option_copied_mut c.in-Some.is) fold_rooms_in (same_fold_rooms c.in-Some.view.now c.change.new.self c.change.ensures.room_left.0 c.change.ensures.in_all)
+    (sym c.get_mut.ensures.value ∙ ap option_copied_mut c.in-Some.is) fold_rooms c.change.ensures.rooms

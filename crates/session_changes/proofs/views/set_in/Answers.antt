@@ -2,23 +2,22 @@ use Rattle.std.proofs.Common.{sym, ap, ◌∙◌, []}
 use Rattle.std.specs.Option.{option_copied_mut}
 use Rattle.ed_model.specs.Changes.{changed_view}
 use Rattle.ed_model.specs.proved.Changes.{changed_view_id}
-use Rattle.ed_view.specs.Kept.{KeptView, view_in}
-use Rattle.session_changes.specs.proved.Finding.{id_of_view, fold_rooms_in, changed, keeping, named_with}
-use Rattle.session_changes.proofs.AskedLemmas.{setting_rooms}
+use Rattle.ed_view.specs.Kept.{KeptView, fold_rooms, view_in}
+use Rattle.session_changes.specs.proved.Finding.{id_of_view, changed, keeping, named_with}
 use Rattle.session_changes.proofs.views.set_in.Goals as goal
 
 pub returns-clause-views : goal.returns-clause-views
 returns-clause-views c = λ levels.
     changed view_in id_of_view c.args.views.now.entries c.args.view c.args.views.now.next c.requires.named c.requires.rise c.in-Some.view.now c.set.new.self
-    (sym c.get_mut.ensures.value ∙ ap option_copied_mut c.in-Some.is) (changed_view levels c.args.change) (ap (λ (k : KeptView). k.view) (c.set.ensures levels))
+    (sym c.get_mut.ensures.value ∙ ap option_copied_mut c.in-Some.is) (changed_view levels c.args.change) (ap (λ (k : KeptView). k.view) (c.set.ensures.set levels))
 
 pub returns-clause-named : goal.returns-clause-named
 returns-clause-named c =
     named_with view_in id_of_view c.args.views.now.entries c.args.view c.args.views.now.next c.requires.named c.requires.rise c.in-Some.view.now c.set.new.self
     (sym c.get_mut.ensures.value ∙ ap option_copied_mut c.in-Some.is)
-    (ap (λ (k : KeptView). k.view.id) (c.set.ensures []) ∙ changed_view_id [] c.args.change c.in-Some.view.now.view)
+    (ap (λ (k : KeptView). k.view.id) (c.set.ensures.set []) ∙ changed_view_id [] c.args.change c.in-Some.view.now.view)
 
 pub returns-clause-fold_rooms : goal.returns-clause-fold_rooms
 returns-clause-fold_rooms c =
     keeping view_in id_of_view c.args.views.now.entries c.args.view c.args.views.now.next c.requires.named c.requires.rise c.in-Some.view.now c.set.new.self
-    (sym c.get_mut.ensures.value ∙ ap option_copied_mut c.in-Some.is) fold_rooms_in (setting_rooms [] c.args.change c.in-Some.view.now c.set.new.self c.requires.setting (c.set.ensures []))
+    (sym c.get_mut.ensures.value ∙ ap option_copied_mut c.in-Some.is) fold_rooms c.set.ensures.rooms

@@ -1,8 +1,11 @@
-use Rattle.std.proofs.Common.{length, ap, arith}
+use Rattle.std.proofs.Common.{◌≡◌, ◌<◌, ◌≤◌, ◌+◌, length, ap, arith, ◌∙◌}
+use Rattle.ed_model.specs.Numbers.{meets}
+use Rattle.ed_model.specs.Session.{is_large}
 use Rattle.ed_model.specs.Text.{bytes_of}
-use Rattle.document.specs.Kept.{Kept}
+use Rattle.document.specs.Kept.{Kept, bound_of}
 use Rattle.ed_model.specs.proved.Lines.{few_lines}
 use Rattle.ed_model.specs.proved.Steps.{length_of_bytes}
+use Rattle.document.proofs.SteppedParts.{narrow_lines}
 use Rattle.document.proofs.kept.Document.line_count.Goals as goal
 
 pub returns-clause-few : goal.returns-clause-few
@@ -16,3 +19,17 @@ returns-clause-few c =
       length_of_bytes d.cells.cells,
       ap (λ (k : Kept). length k.document.cells) c.self.view_is,
     )
+
+pub returns-clause-narrow : goal.returns-clause-narrow
+returns-clause-narrow c = λ e.
+    let d = c.self.inside in
+    let width : meets d.options 0x100 ≡ is_large c.args.self.now.document = ap (λ (k : Kept). is_large k.document) c.self.view_is in
+    let fits : length d.cells.cells < bound_of (meets d.options 0x100) = omega (arith, c.self.invariant.fits) in
+    let few : c.count.result ≤ length d.cells.cells + 1 = omega (
+      arith,
+      c.count.ensures.count,
+      ap length c.self.invariant.indexed.starts,
+      few_lines d.lines.index.types (bytes_of d.cells.cells),
+      length_of_bytes d.cells.cells,
+    ) in
+    narrow_lines (meets d.options 0x100) (length d.cells.cells) c.count.result fits few (width ∙ e)
