@@ -3,7 +3,7 @@ ghost use Rattle.std.specs.Prelude.{◌≡◌, ◌≢◌, ◌≤◌, ◌<◌, �
 ghost use Rattle.std.specs.Option.{option_copied_mut};
 ghost use Rattle.std.specs.Borrow.{sem};
 ghost use Rattle.ed_model.specs.Session.{left_by};
-ghost use Rattle.id_table.specs.Entries.{Rise, entry, id_of, table_of, value_at, without_id};
+ghost use Rattle.id_table.specs.Entries.{HasMemoryFor, KeepsBlocks, Rise, empty_table, entry, id_of, most_ids, value_at, with_room_for, without_id};
 ghost use Rattle.document_table.specs.Leaving.{documents_in, let_go, released, KeepsRoom};
 
 use document::Document;
@@ -31,7 +31,7 @@ impl DocumentTable {
 
     /// Returns a table without documents. Allocates nothing.
     pub fn new(alloc: Global) -> Self
-        ensures { result ≡ table_of [] 1 0 }
+        ensures { result ≡ empty_table }
     {
         DocumentTable {
             documents: IdTable::new(alloc),
@@ -65,11 +65,14 @@ impl DocumentTable {
     ///
     /// # Errors
     ///
-    /// `AllocError` if an allocation fails. Nothing has changed then.
+    /// `AllocError` if an allocation fails. The table is then unchanged, and has at least as much memory as before.
     pub fn reserve(&mut self, count: usize) -> Result<(), AllocError>
-        ensures ok { OnOk result (self.new ≡ record self.old { room = max self.old.room count }) }
+        ensures ok { OnOk result (self.new ≡ with_room_for count self.new.blocks self.old) }
         ensures room_is_there { count ≤ self.old.room → IsOk result × (self.new ≡ self.old) }
-        ensures err { OnErr result (self.new ≡ self.old) }
+        ensures memory_is_there { HasMemoryFor self.old count → IsOk result × (self.new.blocks ≡ self.old.blocks) }
+        ensures memory_stays { KeepsBlocks self.old.blocks self.new.blocks }
+        ensures ids_at_most { self.new.blocks.ids ≤ most_ids count self.old }
+        ensures err { OnErr result (self.new ≡ with_room_for 0 self.new.blocks self.old) }
     {
         self.documents.reserve(count)
     }
@@ -82,6 +85,7 @@ impl DocumentTable {
         ensures entries { self.new.entries ≡ self.old.entries ++ entry self.old.next document ∷ [] }
         ensures next { self.new.next ≡ self.old.next + 1 }
         ensures room { self.new.room + 1 ≡ self.old.room }
+        ensures memory { self.new.blocks ≡ self.old.blocks }
     {
         self.documents.insert_reserved(document)
     }
@@ -99,6 +103,7 @@ impl DocumentTable {
         ensures room_stays { KeepsRoom id self.old.entries self.new.entries }
         ensures next { self.new.next ≡ self.old.next }
         ensures room { self.new.room ≡ self.old.room }
+        ensures memory { self.new.blocks ≡ self.old.blocks }
     {
         let Some(document) = self.get_mut(id) else {
             return;
@@ -117,6 +122,7 @@ impl DocumentTable {
         ensures room_stays { KeepsRoom id self.old.entries self.new.entries }
         ensures next { self.new.next ≡ self.old.next }
         ensures room { self.new.room ≡ self.old.room }
+        ensures memory { self.new.blocks ≡ self.old.blocks }
     {
         let Some(document) = self.get_mut(id) else {
             return;

@@ -210,6 +210,13 @@ module _ {V : Type 0} where
     pub length_table : length (entries_by slab ps) ≡ length ps
     length_table = length_entries slab 0 next ps table.ordered
 
+    -- so many more values fit
+    pub has_room : (count : ℕ) → length (entries_by slab ps) + count ≤ slab.capacity → HasRoomFor slab count
+    has_room count fits = omega (arith, fits, length_table, table.all)
+
+    pub has_places : (count : ℕ) → length (entries_by slab ps) + count ≤ capacity → length ps + count ≤ capacity
+    has_places count fits = omega (arith, fits, length_table)
+
     pub fewer_than_ids : length ps < next
     fewer_than_ids = omega (arith, fewer slab 0 next ps table.ordered)
 

@@ -1,5 +1,5 @@
 -- What a contract sees of an `IdTable`.
-use Rattle.std.specs.Prelude.{ℕ, ◌+◌, ◌<◌, ◌≤◌, ◌==◌, if◌then◌else◌, not, List, [], ◌∷◌, map, filter, find, Option, option_map, refl}
+use Rattle.std.specs.Prelude.{ℕ, ◌+◌, ◌<◌, ◌≤◌, ◌==◌, if◌then◌else◌, not, max, List, [], ◌∷◌, length, map, filter, find, Option, option_map, refl}
 use Rattle.std.specs.Coded.{Coded, code_by, coded×, coded_list, coded_ℕ}
 
 -- a value and its id
@@ -7,11 +7,24 @@ pub record Entry (V : Type 0) : Type 0 where
   pub id : ℕ
   pub value : V
 
--- the values in the order of their ids, the id of the next one, and how many more were reserved
+-- how many values, and how many ids, the memory of a table holds in all
+pub record TableBlocks : Type 0 where
+  pub values : ℕ
+  pub ids : ℕ
+
+-- the values in the order of their ids, the id of the next one, how many more were reserved, and the memory for all
 pub record Entries (V : Type 0) : Type 0 where
   pub entries : List (Entry V)
   pub next : ℕ
   pub room : ℕ
+  pub blocks : TableBlocks
+
+abbrev pub table_blocks : ℕ → ℕ → TableBlocks
+table_blocks values ids = record { values = values; ids = ids }
+
+-- no memory is given back
+abbrev pub KeepsBlocks : TableBlocks → TableBlocks → Type 0
+KeepsBlocks old new = (old.values ≤ new.values) × (old.ids ≤ new.ids)
 
 -- numbers that rise strictly, from at least `low` on and below `high`
 abbrev pub Rise : ℕ → ℕ → List ℕ → Type 0
@@ -22,15 +35,36 @@ module _ {V : Type 0} where
   abbrev pub entry : ℕ → V → Entry V
   entry id value = record { id = id; value = value }
 
-  abbrev pub table_of : List (Entry V) → ℕ → ℕ → Entries V
-  table_of entries next room = record { entries = entries; next = next; room = room }
+  abbrev pub table_of : List (Entry V) → ℕ → ℕ → TableBlocks → Entries V
+  table_of entries next room blocks = record { entries = entries; next = next; room = room; blocks = blocks }
+
+  -- an empty table, which has no memory
+  abbrev pub empty_table : Entries V
+  empty_table = table_of [] 1 0 (table_blocks 0 0)
+
+  -- the table after room for so many more values was requested, with this memory
+  abbrev pub with_room_for : ℕ → TableBlocks → Entries V → Entries V
+  with_room_for count blocks t = record t { room = max t.room count; blocks = blocks }
+
+  -- the most ids that the memory holds after room for so many more values was requested; of values it is not known
+  abbrev pub most_ids : ℕ → Entries V → ℕ
+  most_ids count t = max t.blocks.ids (length t.entries + max count (length t.entries))
+
+  -- the memory holds so many more values
+  abbrev pub HasMemoryFor : Entries V → ℕ → Type 0
+  HasMemoryFor t count = (length t.entries + count ≤ t.blocks.values) × (length t.entries + count ≤ t.blocks.ids)
 
   abbrev pub entry_code : Coded V → Coded (Entry V)
   entry_code c = code_by (ℕ × V) (coded× coded_ℕ c) (λ e. (e.id, e.value)) (λ p. entry p.0 p.1) (λ _. refl)
 
   abbrev pub entries_code : Coded V → Coded (Entries V)
   entries_code c =
-      code_by (List (Entry V) × (ℕ × ℕ)) (coded× (coded_list (entry_code c)) (coded× coded_ℕ coded_ℕ)) (λ t. (t.entries, (t.next, t.room))) (λ p. table_of p.0 p.1.0 p.1.1) (λ _. refl)
+      code_by
+      (List (Entry V) × ((ℕ × ℕ) × (ℕ × ℕ)))
+      (coded× (coded_list (entry_code c)) (coded× (coded× coded_ℕ coded_ℕ) (coded× coded_ℕ coded_ℕ)))
+      (λ t. (t.entries, ((t.next, t.room), (t.blocks.values, t.blocks.ids))))
+      (λ p. table_of p.0 p.1.0.0 p.1.0.1 (table_blocks p.1.1.0 p.1.1.1))
+      (λ _. refl)
 
   abbrev pub id_of : Entry V → ℕ
   id_of e = e.id

@@ -2,7 +2,7 @@
 ghost use Rattle.std.specs.Prelude.{◌≡◌, ◌≤◌, ◌<◌, ◌+◌, ◌^◌, ◌∷◌, ◌++◌, [], map, length, max, IfSome, IfNone, IsOk, OnOk, OnErr, is_some, option_copied};
 ghost use Rattle.std.specs.Option.{option_copied_mut};
 ghost use Rattle.std.specs.Borrow.{sem};
-ghost use Rattle.id_table.specs.Entries.{Rise, id_of, table_of, value_at, without_id};
+ghost use Rattle.id_table.specs.Entries.{HasMemoryFor, KeepsBlocks, Rise, empty_table, id_of, most_ids, value_at, with_room_for, without_id};
 ghost use Rattle.id_table.specs.Order.{IsOrdered, IsAt, IsNowhere};
 
 use slab::Slab;
@@ -29,7 +29,7 @@ pub struct IdTable<T> {
 
 impl<T> Model for IdTable<T> {
     ghost use Rattle.std.specs.Prelude.{vec_capacity};
-    ghost use Rattle.id_table.specs.Entries.{Entries, table_of, entries_code};
+    ghost use Rattle.id_table.specs.Entries.{Entries, table_of, table_blocks, entries_code};
 
     ghost Value = { Entries T };
 
@@ -37,7 +37,7 @@ impl<T> Model for IdTable<T> {
 
     ghost use Rattle.id_table.specs.Order.{entries_by, IsTable};
 
-    ghost view = { λ t. table_of (entries_by t.slab t.order.items) t.next t.room };
+    ghost view = { λ t. table_of (entries_by t.slab t.order.items) t.next t.room (table_blocks t.slab.capacity (vec_capacity t.order)) };
 
     ghost invariant = { λ t. IsTable t.slab t.order.items (vec_capacity t.order) t.next t.room };
 }
@@ -62,7 +62,7 @@ impl<T> IdTable<T> {
 
     /// Returns an empty table. Allocates nothing.
     pub fn new(alloc: Global) -> Self
-        ensures { result ≡ table_of [] 1 0 }
+        ensures { result ≡ empty_table }
     {
         IdTable {
             slab: Slab::new(alloc),
@@ -121,11 +121,15 @@ impl<T> IdTable<T> {
     ///
     /// # Errors
     ///
-    /// `AllocError` if an allocation fails. Nothing has changed then.
+    /// `AllocError` if an allocation fails. The table is then unchanged, and has at least as much memory as before.
+    #[tactic(auto, using(crate::proofs::EntryLemmas::length_table))]
     pub fn reserve(&mut self, count: usize) -> Result<(), AllocError>
-        ensures ok { OnOk result (self.new ≡ record self.old { room = max self.old.room count }) }
+        ensures ok { OnOk result (self.new ≡ with_room_for count self.new.blocks self.old) }
         ensures room_is_there { count ≤ self.old.room → IsOk result × (self.new ≡ self.old) }
-        ensures err { OnErr result (self.new ≡ self.old) }
+        ensures memory_is_there { HasMemoryFor self.old count → IsOk result × (self.new.blocks ≡ self.old.blocks) }
+        ensures memory_stays { KeepsBlocks self.old.blocks self.new.blocks }
+        ensures ids_at_most { self.new.blocks.ids ≤ most_ids count self.old }
+        ensures err { OnErr result (self.new ≡ with_room_for 0 self.new.blocks self.old) }
     {
         if count <= self.room {
             return Ok(());
@@ -144,6 +148,7 @@ impl<T> IdTable<T> {
         ensures entries { self.new.entries ≡ self.old.entries ++ record { id = self.old.next; value = value } ∷ [] }
         ensures next { self.new.next ≡ self.old.next + 1 }
         ensures room { self.new.room + 1 ≡ self.old.room }
+        ensures memory { self.new.blocks ≡ self.old.blocks }
     {
         let id = self.next;
         let key = self.slab.insert_reserved(value);

@@ -12,7 +12,7 @@ use Rattle.ed_model.specs.proved.Steps.{bytes_of_edited_cells, length_of_range}
 use Rattle.ed_model.specs.proved.Changes.{length_text}
 use Rattle.document.specs.declared.room.DocumentRoom.{DocumentRoom}
 use Rattle.document.specs.declared.text_step.TextStep.TheVariants as lent
-use Rattle.document.specs.Kept.{Kept, ChangeRoom, HasRoom, TakesRoom, with_freed, AddsNoRoomBut, marker_room_in_all}
+use Rattle.document.specs.Kept.{Kept, ChangeRoom, HasRoom, TakesRoom, no_room, with_freed, AddsNoRoomBut, marker_room_in_all}
 use Rattle.document.specs.TextSteps.{bytes_out, need_of}
 use Rattle.id_table.specs.Entries.{Entries}
 use Rattle.ed_view.specs.Kept.{KeptView}
@@ -24,7 +24,7 @@ use Rattle.scene.specs.Needs.{notes_needed, bytes_needed, NotesAreEnough, BytesA
 use Rattle.scene.specs.proved.Enough.{next_notes, next_bytes}
 use Rattle.scene.specs.proved.Rooms.{appended_collects, deletion_needs, next_room}
 use Rattle.scene.proofs.PerformedSoFar.{made_none, made_next, spare_next}
-use Rattle.scene.specs.Conversion.{AreLeft, RoomsStay, changes_for, freed_by_all, bytes_for, deletions_of, notes_for, room_of_step, room_of_steps}
+use Rattle.scene.specs.Conversion.{AreLeft, RoomsStay, both_rooms, changes_for, freed_by_all, bytes_for, deletions_of, notes_for, room_of_step, room_of_steps, rooms_added}
 
 -- Notes, and the bytes of their texts.
 
@@ -52,8 +52,42 @@ pub record StepLeaves (s : Step) (k k' : Kept) (v v' : Entries KeptView) : Type 
   pub fold_rooms : map fold_room_in_all v'.entries ≡ map fold_room_in_all v.entries
   pub view_room : v'.room ≡ v.room
 
+-- room left before the first step, after one more of them, after some and then the rest, and after all
+
+left_none : (room all : DocumentRoom) → TakesRoom (both_rooms room all) room all
+left_none room all = record { text_left = omega arith; lines_left = omega arith; insertions_left = omega arith; steps_left = omega arith; bytes_left = omega arith }
+
+left_next : (old now new need rest all : DocumentRoom) → TakesRoom (both_rooms old (both_rooms need rest)) now all → TakesRoom now new need → TakesRoom (both_rooms old rest) new all
+left_next old now new need rest all so takes = record {
+  text_left = omega (arith, so.text_left, takes.text_left);
+  lines_left = omega (arith, so.lines_left, takes.lines_left);
+  insertions_left = omega (arith, so.insertions_left, takes.insertions_left);
+  steps_left = omega (arith, so.steps_left, takes.steps_left);
+  bytes_left = omega (arith, so.bytes_left, takes.bytes_left);
+}
+
+left_both : (old now new rest all : DocumentRoom) → TakesRoom (both_rooms old rest) now all → TakesRoom (both_rooms now no_room) new rest → TakesRoom (both_rooms old no_room) new all
+left_both old now new rest all so then = record {
+  text_left = omega (arith, so.text_left, then.text_left);
+  lines_left = omega (arith, so.lines_left, then.lines_left);
+  insertions_left = omega (arith, so.insertions_left, then.insertions_left);
+  steps_left = omega (arith, so.steps_left, then.steps_left);
+  bytes_left = omega (arith, so.bytes_left, then.bytes_left);
+}
+
+pub left_all : (old new all : DocumentRoom) → TakesRoom (both_rooms old no_room) new all → TakesRoom old new all
+left_all old new all so = record {
+  text_left = omega (arith, so.text_left);
+  lines_left = omega (arith, so.lines_left);
+  insertions_left = omega (arith, so.insertions_left);
+  steps_left = omega (arith, so.steps_left);
+  bytes_left = omega (arith, so.bytes_left);
+}
+
 pub rooms_none : (steps : List Step) (k : Kept) (v : Entries KeptView) (n : Gathered) → RoomsStay steps steps k k v v n n
 rooms_none steps k v n = record {
+  types = refl;
+  room_left = left_none k.room (rooms_added k.document.line_end_types steps);
   none_made = made_none (with_freed (freed_by_all (changes_for steps)) k.room);
   spare = refl;
   markers_in_all = refl;
@@ -64,8 +98,12 @@ rooms_none steps k v n = record {
 }
 
 rooms_next : (s : Step) (rest steps : List Step) (k0 k k' : Kept) (v0 v v' : Entries KeptView) (n0 n n' : Gathered) (texts : ℕ) → RoomsStay (s ∷ rest) steps k0 k v0 v n0 n → StepLeaves s k k' v v'
+    → k'.document.line_end_types ≡ k.document.line_end_types → TakesRoom k.room k'.room (room_of_step k.document.line_end_types s)
     → n'.note_room + length n'.notes ≡ n.note_room + length n.notes → n'.text_room + texts ≡ n.text_room → RoomsStay rest steps k0 k' v0 v' n0 n'
-rooms_next s rest steps k0 k k' v0 v v' n0 n n' texts so p put shared = record {
+rooms_next s rest steps k0 k k' v0 v v' n0 n n' texts so p types takes put shared = record {
+  types = types ∙ so.types;
+  room_left = left_next k0.room k.room k'.room (room_of_step k0.document.line_end_types s) (rooms_added k0.document.line_end_types rest) (rooms_added k0.document.line_end_types steps)
+      so.room_left (subst (λ t. TakesRoom k.room k'.room (room_of_step t s)) so.types takes);
   none_made = made_next (TextStep s) (changes_for rest) (freed_by_all (changes_for steps)) k0.room k.room k'.room so.none_made p.none_made;
   spare = spare_next (changes_for steps) (changes_for rest) (TextStep s) k0.spare k.spare k'.spare so.spare p.spare;
   markers_in_all = p.markers_in_all ∙ so.markers_in_all;
@@ -86,6 +124,9 @@ rooms_both rest steps k0 k k' v0 v v' n0 n n' so then =
     let a' = then.none_made.text in let b' = then.none_made.lines in let d' = then.none_made.insertions in let f' = then.none_made.steps in let g' = then.none_made.bytes in
     let h = so.text_room in let h' = then.text_room in
     record {
+      types = then.types ∙ so.types;
+      room_left = left_both k0.room k.room k'.room (rooms_added k0.document.line_end_types rest) (rooms_added k0.document.line_end_types steps) so.room_left
+          (subst (λ t. TakesRoom (both_rooms k.room no_room) k'.room (rooms_added t rest)) so.types then.room_left);
       none_made = record { text = omega arith; lines = omega arith; insertions = omega arith; steps = omega arith; bytes = omega arith };
       spare = then.spare ∙ ap (λ (s : ChangeRoom). record s { markers = k'.spare.markers }) so.spare;
       markers_in_all = then.markers_in_all ∙ so.markers_in_all;
@@ -131,7 +172,7 @@ made_left notes_law bytes_law s rest steps later was k0 k k' v0 v v' n0 n n' lef
         texts_there = few_bytes rest after n'.text_room (subst (λ x. bytes_needed x rest ≤ n'.text_room) (sym made) short);
       };
       next = next ∙ left.next;
-      rooms = rooms_next s rest steps k0 k k' v0 v v' n0 n n' (bytes_shared (made_kinds later s k.document.history) (watching (views_of v.entries) k.document) (length (step_bytes s))) left.rooms leaves notes texts;
+      rooms = rooms_next s rest steps k0 k k' v0 v v' n0 n n' (bytes_shared (made_kinds later s k.document.history) (watching (views_of v.entries) k.document) (length (step_bytes s))) left.rooms leaves types takes notes texts;
     }
 
 -- The insertions of a conversion.

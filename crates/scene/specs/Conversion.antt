@@ -14,7 +14,7 @@ use Rattle.ed_view.specs.Kept.{KeptView}
 use Rattle.notify.specs.Gathered.{Gathered}
 use Rattle.document.specs.declared.room.DocumentRoom.{DocumentRoom}
 use Rattle.document.specs.declared.text_step.TextStep.{TextStep as Lent}
-use Rattle.document.specs.Kept.{Kept, document_room, no_room, with_freed, HasRoom, IsAtMost, marker_room_in_all}
+use Rattle.document.specs.Kept.{Kept, document_room, no_room, with_freed, HasRoom, IsAtMost, TakesRoom, marker_room_in_all}
 use Rattle.scene.specs.declared.need.NoteRoom.{NoteRoom}
 use Rattle.scene.specs.Scenes.{scene_in, kept_scene, watchers, fold_room_in_all, IsWatched}
 use Rattle.scene.specs.Needs.{notes_needed, bytes_needed, notes_for_step, bytes_for_step, notes_of_steps, bytes_of_steps}
@@ -60,9 +60,11 @@ pub record CanMakeSteps (steps : List Step) (k : Kept) (views : Entries KeptView
 abbrev pub changes_for : List Step → List Change
 changes_for steps = map (λ (step : Step). TextStep step) steps
 
--- While the steps `rest` are still to be made, no room was added except what deleted bytes leave. Each view has kept its room, there is
--- as much room for more views, and none was added for notes and their texts.
+-- While the steps `rest` are still to be made, the others have used at most what they need, and no room was added except what deleted
+-- bytes leave. Each view has kept its room, there is as much room for more views, and none was added for notes and their texts.
 pub record RoomsStay (rest steps : List Step) (before after : Kept) (views views' : Entries KeptView) (notes notes' : Gathered) : Type 0 where
+  pub types : after.document.line_end_types ≡ before.document.line_end_types
+  pub room_left : TakesRoom (both_rooms before.room (rooms_added before.document.line_end_types rest)) after.room (rooms_added before.document.line_end_types steps)
   pub none_made : IsAtMost (with_freed (freed_by_all (changes_for rest)) after.room) (with_freed (freed_by_all (changes_for steps)) before.room) no_room
   pub spare : SpareLeft (changes_for steps) (changes_for rest) before.spare after.spare
   pub markers_in_all : marker_room_in_all after ≡ marker_room_in_all before
@@ -150,6 +152,10 @@ ConversionIsMade to before after views views' notes notes' =
 abbrev pub IsConverted : LineEnd → Kept → Kept → Entries KeptView → Entries KeptView → Gathered → Gathered → Type 0
 IsConverted to before after views views' notes notes' =
     kept_scene after views' notes' ≡ edit_made (conversion_of to before) (kept_scene before views notes)
+
+-- the room that the steps of the conversion need, added up
+abbrev pub conversion_room : LineEnd → Kept → DocumentRoom
+conversion_room to k = rooms_added k.document.line_end_types (conversion_of to k)
 
 -- how many bytes the conversion deletes
 abbrev pub conversion_freed : LineEnd → Kept → ℕ

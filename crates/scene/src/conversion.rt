@@ -2,14 +2,14 @@
 
 ghost use Rattle.std.specs.Prelude.{◌≡◌, ◌≤◌, if◌then◌else◌, nat_lt, length, MatchOption};
 ghost use Rattle.ed_model.specs.Session.{text_of};
-ghost use Rattle.document.specs.Kept.{AddsNoRoomBut, marker_room_in_all};
+ghost use Rattle.document.specs.Kept.{AddsNoRoomBut, TakesRoom, marker_room_in_all};
 ghost use Rattle.document.specs.TextSteps.{IsStepOn, need_on};
 ghost use Rattle.line_ends.specs.Conversion.{completed};
 ghost use Rattle.scene.specs.Scenes.{AreNamed, IsWatched, KeepFoldRooms};
 ghost use Rattle.scene.specs.RoomLeft.{KeepsSpare};
 ghost use Rattle.scene.specs.Telling.{note_room_in_all};
 ghost use Rattle.scene.specs.Needs.{leaving_notes};
-ghost use Rattle.scene.specs.Conversion.{CanMakeSteps, capped_room, room_of_many, ConversionIsMade, DeletionsAreLeft, DeletionsAreMade, DeletionsKeepRooms, IsConverted, IsFirstMissing, IsFirstUnwanted, NoneMissing, NoneUnwanted, conversion_fill, conversion_freed, conversion_of, deletions_in, has_steps, insertions_in, notes_for_all, notes_for_conversion, notes_for_many, room_for_all, room_for_conversion, unwanted_steps};
+ghost use Rattle.scene.specs.Conversion.{CanMakeSteps, capped_room, room_of_many, ConversionIsMade, DeletionsAreLeft, DeletionsAreMade, DeletionsKeepRooms, IsConverted, IsFirstMissing, IsFirstUnwanted, NoneMissing, NoneUnwanted, conversion_fill, conversion_freed, conversion_of, conversion_room, deletions_in, has_steps, insertions_in, notes_for_all, notes_for_conversion, notes_for_many, room_for_all, room_for_conversion, unwanted_steps};
 
 use crate::laws::{document_is_small, needs_are_enough};
 use crate::need::{NoteRoom, SceneNeed, leaving_need, note_need};
@@ -103,6 +103,7 @@ fn make_all(document: &mut Document, views: &mut IdTable<View>, notes: &mut Note
     ensures scene { ConversionIsMade to document.old document.new views.old views.new notes.old notes.new }
     ensures watched { IsWatched document.new.document views.new }
     ensures next { views.new.next ≡ views.old.next }
+    ensures room_left { TakesRoom document.old.room document.new.room (conversion_room to document.old) }
     ensures none_made { AddsNoRoomBut (conversion_freed to document.old) document.old document.new }
     ensures spare { KeepsSpare (conversion_fill to document.old) document.old document.new }
     ensures markers_in_all { marker_room_in_all document.new ≡ marker_room_in_all document.old }
@@ -152,6 +153,7 @@ pub fn convert(
     ensures scene { IsConverted to document.old document.new views.old views.new notes.old notes.new }
     ensures watched { IsWatched document.new.document views.new }
     ensures next { views.new.next ≡ views.old.next }
+    ensures room_left { TakesRoom document.old.room document.new.room (conversion_room to document.old) }
     ensures none_made { AddsNoRoomBut (conversion_freed to document.old) document.old document.new }
     ensures spare { KeepsSpare (conversion_fill to document.old) document.old document.new }
     ensures markers_in_all { marker_room_in_all document.new ≡ marker_room_in_all document.old }

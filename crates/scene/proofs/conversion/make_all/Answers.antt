@@ -1,10 +1,18 @@
 use Rattle.ed_model.specs.LineEnds.{conversion_steps}
 use Rattle.ed_model.specs.Session.{text_of}
 use Rattle.document.specs.Kept.{with_freed}
-use Rattle.scene.specs.Conversion.{changes_for, freed_by_all}
+use Rattle.scene.specs.Conversion.{changes_for, conversion_room, freed_by_all}
 use Rattle.scene.proofs.PerformedSoFar.{made_all}
-use Rattle.scene.proofs.StepsInTurn.{rooms_of_all}
+use Rattle.scene.proofs.StepsInTurn.{left_all, rooms_of_all}
 use Rattle.scene.proofs.conversion.make_all.Goals as goal
+
+pub returns-clause-room_left : goal.returns-clause-room_left
+returns-clause-room_left c =
+    let a = c.args in
+    let put = c.put_missing-later in
+    let took = c.take_unwanted in
+    let all = rooms_of_all a.to a.document.now put.new.document took.new.document a.views.now put.new.views took.new.views a.notes.now put.new.notes took.new.notes put.ensures.left.rooms put.ensures.text took.ensures.rooms in
+    left_all a.document.now.room took.new.document.room (conversion_room a.to a.document.now) all.room_left
 
 pub returns-clause-none_made : goal.returns-clause-none_made
 returns-clause-none_made c =

@@ -1,6 +1,7 @@
 -- The slab lends the value, and only the entry of its id changes.
 use Rattle.std.proofs.Common.{inl, rules, refl, sym, ◌∙◌}
-use Rattle.id_table.specs.Entries.{table_of}
+use Rattle.std.specs.Prelude.{vec_capacity}
+use Rattle.id_table.specs.Entries.{table_of, table_blocks}
 use Rattle.id_table.specs.Order.{IsAt}
 use Rattle.id_table.proofs.EntryLemmas.{table_ordered, value_found, value_missing, has_key, written_table}
 use Rattle.id_table.proofs.table.IdTable.get_mut.Goals as goal
@@ -32,6 +33,6 @@ returns g c =
     let value = value_found _ _ _ _ _ c.self.invariant c.args.id c.in_ok-at.at c.index.result.now is_at c.index.ensures in
     let written = λ (w : g.row.T.Denot). (written_table _ _ _ _ _ c.self.invariant c.args.id c.in_ok-at.at c.index.result.now w is_at c.index.ensures).0 in
     rw (← c.self.view_is) (
-      (λ i. inl (c.index_mut.result.ghost_name, λ w. table_of (written w i) c.self.inside.next c.self.inside.room)),
+      (λ i. inl (c.index_mut.result.ghost_name, λ w. table_of (written w i) c.self.inside.next c.self.inside.room (table_blocks c.self.inside.slab.capacity (vec_capacity c.self.inside.order)))),
       record { writes_back = tt; value = sym (value ∙ c.index_mut.ensures.value) },
     )

@@ -1,6 +1,7 @@
 -- The place of the id is removed, and the value with it.
 use Rattle.std.proofs.Common.{List, rules, sym, ap, ◌∙◌}
-use Rattle.id_table.specs.Entries.{Entry, table_of}
+use Rattle.std.specs.Prelude.{vec_capacity}
+use Rattle.id_table.specs.Entries.{Entry, table_of, table_blocks}
 use Rattle.id_table.specs.Order.{IsAt}
 use Rattle.id_table.proofs.EntryLemmas.{table_ordered, value_found, value_missing, without_missing, has_key, removed_table}
 use Rattle.id_table.proofs.table.IdTable.remove.Goals as goal
@@ -15,7 +16,7 @@ returns-in_err-at-clause-value g c =
 pub returns-in_err-at-clause-rest : goal.returns-in_err-at-clause-rest
 returns-in_err-at-clause-rest g c =
     let same = without_missing _ _ _ _ _ c.self.invariant c.args.id (rw (← c.deref.ensures.value) c.in_err-at.ensures.missing) in
-    rw (← c.self.view_is) (ap (λ (es : List (Entry g.row.T.Denot)). table_of es c.self.inside.next c.self.inside.room) (sym same))
+    rw (← c.self.view_is) (ap (λ (es : List (Entry g.row.T.Denot)). table_of es c.self.inside.next c.self.inside.room (table_blocks c.self.inside.slab.capacity (vec_capacity c.self.inside.order))) (sym same))
 
 pub remove-requires : goal.remove-requires
 remove-requires g c =
@@ -38,4 +39,4 @@ pub returns-clause-rest : goal.returns-clause-rest
 returns-clause-rest g c =
     let is_at : IsAt c.args.id c.self.inside.order.items c.in_ok-at.at = rw (← c.deref.ensures.value) c.in_ok-at.ensures.found in
     let less = removed_table _ _ _ _ _ c.self.invariant c.args.id c.in_ok-at.at c.remove-key.result c.remove.new.self is_at c.remove-key.ensures.value c.remove.ensures.updates c.remove.ensures.len c.remove.ensures.capacity in
-    rw (← c.self.view_is, c.remove-key.ensures.items) (ap (λ (es : List (Entry g.row.T.Denot)). table_of es c.self.inside.next c.self.inside.room) less.0)
+    rw (← c.self.view_is, c.remove-key.ensures.items, c.remove-key.ensures.capacity, c.remove.ensures.capacity) (ap (λ (es : List (Entry g.row.T.Denot)). table_of es c.self.inside.next c.self.inside.room (table_blocks c.self.inside.slab.capacity (vec_capacity c.self.inside.order))) less.0)
