@@ -9,3 +9,4 @@ pub mod MarkerLines
 pub mod TypeSettings
 pub mod MarkerNumbers
 pub mod Masks
+pub mod KeptMemory

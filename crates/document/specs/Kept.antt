@@ -3,6 +3,7 @@ use Rattle.std.specs.Prelude.{◌≡◌, ℕ, ◌+◌, ◌^◌, ◌≤◌, ◌<�
 use Rattle.ed_model.specs.Lines.{line_starts}
 use Rattle.ed_model.specs.Changes.{marker_count}
 use Rattle.ed_model.specs.Session.{Document, is_large, text_of}
+use Rattle.decorations.specs.Decorated.{Held}
 use Rattle.document.specs.declared.room.DocumentRoom.{DocumentRoom}
 
 -- The room for changes of a document that are no steps of its text: how many more views and markers fit in; for how
@@ -16,18 +17,22 @@ pub record ChangeRoom : Type 0 where
   pub fill : Option ℕ
   pub styles : Bool
 
--- the document, and what fits into it without an allocation
+-- The memory that the room does not tell: how many line starts fit into it in all, with those of the document's lines, and that of the
+-- indicators.
+pub record DocumentMemory : Type 0 where
+  pub starts : ℕ
+  pub indicators : Held
+
+-- the document, what fits into it without an allocation, and the memory that this does not tell
 pub record Kept : Type 0 where
   pub document : Document
   pub room : DocumentRoom
   pub spare : ChangeRoom
+  pub memory : DocumentMemory
 
 -- the document without its room
 abbrev pub document_of : Kept → Document
 document_of k = k.document
-
-abbrev pub kept : Document → DocumentRoom → ChangeRoom → Kept
-kept document room spare = record { document = document; room = room; spare = spare }
 
 abbrev pub document_room : ℕ → ℕ → ℕ → ℕ → ℕ → DocumentRoom
 document_room text lines insertions steps bytes = record { text = text; lines = lines; insertions = insertions; steps = steps; bytes = bytes }

@@ -1,5 +1,6 @@
 -- Definitions that the contracts cite.
 pub mod Kept
+pub mod Memory
 pub mod TextSteps
 pub mod Places
 pub mod Parts

@@ -17,11 +17,12 @@ use Rattle.ed_model.specs.declared.plan.LineEndTypes.{LineEndTypes}
 use Rattle.line_index.specs.Index.{Index, IsIndexOf}
 use Rattle.line_rows.specs.Kept.{KeptRows}
 use Rattle.cell_buffer.specs.Buffer.{Buffer}
-use Rattle.document.specs.Kept.{Kept, ChangeRoom, document_room, bound_of, text_part}
+use Rattle.decorations.specs.Decorated.{HaveRunsOf, HaveSlotsOf}
+use Rattle.document.specs.Kept.{Kept, ChangeRoom, DocumentMemory, document_room, bound_of, text_part}
 use Rattle.document.specs.declared.text_step.TextStep.{TextStep as Lent}
 use Rattle.document.specs.TextSteps.{bytes_out, deletion_of, deletion_room, insertion_room, need_of, step_in}
 use Rattle.document.specs.declared.room.DocumentRoom.{DocumentRoom}
-use Rattle.document.specs.Places.{LinesOf, IndicatorsOf, LinesFit}
+use Rattle.document.specs.Places.{LinesOf, IndicatorsOf, LinesFit, line_room_in_all}
 use Rattle.document.specs.declared.kept.Document.TheInside.{Inside}
 
 abbrev pub document_in : Inside → Document
@@ -51,11 +52,15 @@ spare_in d = record {
   styles = d.cells.keeps_styles;
 }
 
+abbrev pub memory_in : Inside → DocumentMemory
+memory_in d = record { starts = line_room_in_all d.lines.index; indicators = d.indicators.decorated.held }
+
 abbrev pub kept_in : Inside → Kept
 kept_in d = record {
   document = document_in d;
   room = document_room d.cells.room d.rows.room.lines d.indicators.decorated.room d.history.step_room d.history.byte_room;
   spare = spare_in d;
+  memory = memory_in d;
 }
 
 -- The line starts are those of the text, with a row for each line; each byte has its values of the 32 indicators; the
@@ -148,7 +153,7 @@ pub record CanTake (p : TextParts) (need : DocumentRoom) : Type 0 where
   pub insertions : need.insertions ≤ p.indicators.decorated.room
 
 -- The parts after the step, which used at most the room that it needs. Deleted bytes become room again, and nothing
--- else does; the room for a fill is gone.
+-- else does; the room for a fill is gone. Neither the line starts nor the runs of indicators got more memory.
 pub record AreStepped (old new : TextParts) (step : Step) (need : DocumentRoom) : Type 0 where
   pub together : (options : ℕ) → AreTogether options old → AreTogether options new
   pub cells : new.cells ≡ edited_cells step old.cells
@@ -160,6 +165,9 @@ pub record AreStepped (old new : TextParts) (step : Step) (need : DocumentRoom) 
   pub text_made : new.room ≤ old.room + bytes_out step
   pub insertions_made : new.indicators.decorated.room ≤ old.indicators.decorated.room
   pub unfilled : new.indicators.decorated.ready ≡ None
+  pub starts : line_room_in_all new.lines.index ≡ line_room_in_all old.lines.index
+  pub runs : HaveRunsOf old.indicators.decorated new.indicators.decorated
+  pub slots : HaveSlotsOf old.indicators.decorated.held new.indicators.decorated.held
 
 -- there is room for an insertion of these bytes, for a deletion, and for a step
 abbrev pub CanTakeInsertion : List ℕ → TextParts → Type 0

@@ -1,5 +1,5 @@
 -- Line starts and indicators of a text by the width of its places.
-use Rattle.std.specs.Prelude.{◌≡◌, ℕ, ◌+◌, ◌≤◌, max, Bool, true, false, List, [], length, replicate, slice_set, Option, Some, None}
+use Rattle.std.specs.Prelude.{◌≡◌, ◌≢◌, ℕ, ◌+◌, ◌<◌, ◌≤◌, max, Bool, true, false, List, [], length, replicate, slice_set, Option, Some, None}
 use Rattle.ed_model.specs.declared.plan.LineEndTypes.{LineEndTypes}
 use Rattle.ed_model.specs.Indicators.{changed_range, filled, indicators_after}
 use Rattle.ed_model.specs.Lines.{line_count}
@@ -9,7 +9,7 @@ use Rattle.line_index.specs.declared.edit.LineEdit.{LineEdit}
 use Rattle.line_index.specs.Change.{change_about}
 use Rattle.line_index.specs.Index.{Index}
 use Rattle.line_index.specs.Settings.{edits_of_setting}
-use Rattle.decorations.specs.Decorated.{Decorated, AreRunsFor, decorated, nothing_held, values_of}
+use Rattle.decorations.specs.Decorated.{Decorated, AreRunsFor, decorated, nothing_held, spare_of, values_of}
 use Rattle.document.specs.declared.places.LinesByWidth.{LinesByWidth}
 use Rattle.document.specs.declared.places.LinesByWidth.TheVariants as lines
 use Rattle.document.specs.declared.places.IndicatorsByWidth.{IndicatorsByWidth}
@@ -38,6 +38,10 @@ indicators_by_width (indicators.Large decorated) = record { decorated = decorate
 -- how many lines fit into the index in all: those of the text, and those for which there is room
 abbrev pub line_room_in_all : Index → ℕ
 line_room_in_all i = i.room + length i.starts
+
+-- the index has grown for `count` more lines to twice its size at most, if that is more than they need
+abbrev pub StartsGrow : ℕ → Index → Index → Type 0
+StartsGrow count old new = line_room_in_all new ≤ max (length old.starts + count) (line_room_in_all old + line_room_in_all old)
 
 -- there is room for the lines of the text when these line ends count
 abbrev pub LinesFit : LineEndTypes → List ℕ → Index → Type 0
@@ -76,6 +80,11 @@ GainFillRoom indicator old new =
 -- for each indicator there is memory for at most `count` more runs, with that of a growth (`AreRunsFor`)
 abbrev pub HaveRunsFor : ℕ → IndicatorsOf → IndicatorsOf → Type 0
 HaveRunsFor count old new = AreRunsFor count old.decorated.values old.decorated.held new.decorated.held
+
+-- the runs of the other indicators have the memory that they had
+abbrev pub KeepRunsOfOthers : ℕ → IndicatorsOf → IndicatorsOf → Type 0
+KeepRunsOfOthers indicator old new =
+    (k : ℕ) → k < 32 → k ≢ indicator → spare_of new.decorated.held k ≡ spare_of old.decorated.held k
 
 -- the values are those after the insertion of `count` bytes, whatever they are
 abbrev pub HaveInserted : ℕ → ℕ → IndicatorsOf → IndicatorsOf → Type 0

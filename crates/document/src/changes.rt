@@ -116,6 +116,7 @@ impl Document {
         requires { 0 < self.old.spare.views }
         ensures document { self.new.document ≡ with_attached_view view self.old.document }
         ensures room { self.new.room ≡ self.old.room }
+        ensures memory { self.new.memory ≡ self.old.memory }
         ensures spare { self.new.spare ≡ record self.old.spare { views = self.old.spare.views - 1 } }
     {
         self.views.push_reserved(view);
@@ -125,6 +126,7 @@ impl Document {
     pub fn detach(&mut self, view: u32)
         ensures document { self.new.document ≡ left_by view self.old.document }
         ensures room { self.new.room ≡ self.old.room }
+        ensures memory { self.new.memory ≡ self.old.memory }
         ensures spare { self.new.spare ≡ record self.old.spare { views = self.new.spare.views } }
         ensures room_stays { self.old.spare.views ≤ self.new.spare.views }
         ensures view_room { view_room_in_all self.new ≡ view_room_in_all self.old }

@@ -6,6 +6,7 @@ ghost use Rattle.ed_model.specs.Lines.{line_starts, line_count, line_of, start_o
 ghost use Rattle.ed_model.specs.Session.{new_document, text_of, lines_in, references, is_large};
 ghost use Rattle.line_index.specs.Index.{IsIndexOf};
 ghost use Rattle.document.specs.Kept.{FitsWidth, bound_of, no_room, text_from};
+ghost use Rattle.document.specs.Memory.{memory_of_one_line};
 
 use crate::places::{Indicators, Lines};
 use cell_buffer::Cells;
@@ -59,6 +60,7 @@ impl Document {
     pub fn new(alloc: Global, id: u32, options: u32) -> Result<Self, AllocError>
         ensures document { IfOk result (λ k. k.document ≡ new_document id options) }
         ensures room { IfOk result (λ k. k.room ≡ no_room) }
+        ensures memory { IfOk result (λ k. k.memory ≡ memory_of_one_line) }
     {
         let is_large = options & document_option::TEXT_LARGE != 0;
         let lines = Lines::new(alloc, is_large)?;

@@ -8,12 +8,12 @@ ghost use Rattle.ed_model.specs.TextPlans.{at_place};
 ghost use Rattle.line_index.specs.Index.{IsIndexOf, WasInserted, WasDeleted, FollowsInsertion, FollowsDeletion};
 ghost use Rattle.line_index.specs.Change.{change_since, lines_about};
 ghost use Rattle.line_index.specs.StepEdits.{SmallLines};
-ghost use Rattle.decorations.specs.Decorated.{AreSlotsFor, HaveSlotsOf, values_of, run_about, mask_of};
+ghost use Rattle.decorations.specs.Decorated.{AreSlotsFor, HaveRunsOf, HaveSlotsOf, WereFilledFrom, values_of, run_about, mask_of};
 ghost use Rattle.document.specs.Kept.{bound_of};
-ghost use Rattle.document.specs.Places.{LinesFit, change_between};
+ghost use Rattle.document.specs.Places.{LinesFit, StartsGrow, change_between};
 ghost use Rattle.document.specs.Places.{line_room_in_all, no_indicators, range_of_fill, type_edits};
 ghost use Rattle.document.specs.Places.{AreFilled, ChangeOnlyMemory, GainFillRoom, GainInsertionRoom};
-ghost use Rattle.document.specs.Places.{HaveDeleted, HaveInserted, HaveRunsFor};
+ghost use Rattle.document.specs.Places.{HaveDeleted, HaveInserted, HaveRunsFor, KeepRunsOfOthers};
 
 use decorations::Decorations;
 use ed_model::LineEndTypes;
@@ -52,6 +52,7 @@ impl Lines {
     /// `AllocError` if the allocation fails.
     pub(crate) fn new(alloc: Global, is_large: bool) -> Result<Self, AllocError>
         ensures index { IfOk result (λ l. (l.index.types ≡ LineEndTypes.Default) × IsIndexOf [] l.index) }
+        ensures room { IfOk result (λ l. l.index.room ≡ 0) }
         ensures width { IfOk result (λ l. l.is_large ≡ is_large) }
     {
         let kept = if is_large {
@@ -140,8 +141,9 @@ impl Lines {
     pub(crate) fn reserve(&mut self, count: usize) -> Result<(), AllocError>
         ensures ok { OnOk result (count ≤ self.new.index.room) }
         ensures same { self.new ≡ record self.old { index = record self.old.index { room = self.new.index.room } } }
-        ensures room_is_there { count ≤ self.old.index.room → IsOk result }
+        ensures room_is_there { count ≤ self.old.index.room → IsOk result × (self.new ≡ self.old) }
         ensures room_stays { self.old.index.room ≤ self.new.index.room }
+        ensures at_most { StartsGrow count self.old.index self.new.index }
     {
         match &mut self.kept {
             LinesByWidth::Small(lines) => lines.reserve(count),
@@ -366,6 +368,8 @@ impl Indicators {
         ensures values { HaveInserted place count self.old self.new }
         ensures room { self.new.decorated.room + 1 ≡ self.old.decorated.room }
         ensures ready { self.new.decorated.ready ≡ None }
+        ensures slots { HaveSlotsOf self.old.decorated.held self.new.decorated.held }
+        ensures runs { HaveRunsOf self.old.decorated self.new.decorated }
     {
         match &mut self.kept {
             IndicatorsByWidth::Small(indicators) => indicators.insert(place, count),
@@ -381,6 +385,8 @@ impl Indicators {
         ensures values { HaveDeleted place count self.old self.new }
         ensures room { self.new.decorated.room ≡ self.old.decorated.room }
         ensures ready { self.new.decorated.ready ≡ None }
+        ensures slots { HaveSlotsOf self.old.decorated.held self.new.decorated.held }
+        ensures runs { HaveRunsOf self.old.decorated self.new.decorated }
     {
         match &mut self.kept {
             IndicatorsByWidth::Small(indicators) => indicators.delete(place, count),
@@ -399,6 +405,7 @@ impl Indicators {
         ensures ok { OnOk result (GainFillRoom indicator self.old self.new) }
         ensures room_is_there { self.old.decorated.ready ≡ Some indicator → IsOk result × (self.new ≡ self.old) }
         ensures runs_at_most { HaveRunsFor (self.old.decorated.room + 3) self.old self.new }
+        ensures others { KeepRunsOfOthers indicator self.old self.new }
         ensures slots_at_most { AreSlotsFor (indicator + 1) self.old.decorated.held self.new.decorated.held }
         ensures err { OnErr result (ChangeOnlyMemory self.old self.new) }
     {
@@ -420,6 +427,8 @@ impl Indicators {
         requires within { start + count ≤ self.old.decorated.length }
         requires room { self.old.decorated.ready ≡ Some indicator }
         ensures values { AreFilled indicator start count value self.old self.new }
+        ensures slots { HaveSlotsOf self.old.decorated.held self.new.decorated.held }
+        ensures runs { WereFilledFrom indicator self.old.decorated self.new.decorated }
         ensures changed { result ≡ range_of_fill indicator start count value self.old }
     {
         match &mut self.kept {

@@ -61,6 +61,7 @@ impl Document {
         ensures handle { result ≡ self.old.document.next_handle }
         ensures document { self.new.document ≡ changed_document [] (AddMarker line number) self.old.document }
         ensures room { self.new.room ≡ self.old.room }
+        ensures memory { self.new.memory ≡ self.old.memory }
         ensures spare { self.new.spare ≡ less_marker_room 1 self.old.spare }
     {
         self.rows.add_reserved(line, number)
@@ -74,6 +75,7 @@ impl Document {
         requires handles { self.old.document.next_handle + length (numbers_in mask) < 2 ^ 32 }
         ensures document { self.new.document ≡ changed_document [] (AddMarkers line mask) self.old.document }
         ensures room { self.new.room ≡ self.old.room }
+        ensures memory { self.new.memory ≡ self.old.memory }
         ensures spare { self.new.spare ≡ less_marker_room (length (numbers_in mask)) self.old.spare }
     {
         add_markers(&mut self.rows, line, mask);
@@ -86,6 +88,7 @@ impl Document {
         ensures went { result ≡ markers_changed self.old.document.rows self.new.document.rows }
         ensures document { self.new.document ≡ changed_document [] (DeleteMarker line number) self.old.document }
         ensures room { self.new.room ≡ self.old.room }
+        ensures memory { self.new.memory ≡ self.old.memory }
         ensures spare { self.new.spare ≡ record self.old.spare { markers = self.new.spare.markers } }
         ensures marker_room { marker_room_in_all self.new ≡ marker_room_in_all self.old }
     {
@@ -98,6 +101,7 @@ impl Document {
         ensures went { result ≡ markers_changed self.old.document.rows self.new.document.rows }
         ensures document { self.new.document ≡ changed_document [] (DeleteMarkers number) self.old.document }
         ensures room { self.new.room ≡ self.old.room }
+        ensures memory { self.new.memory ≡ self.old.memory }
         ensures spare { self.new.spare ≡ record self.old.spare { markers = self.new.spare.markers } }
         ensures marker_room { marker_room_in_all self.new ≡ marker_room_in_all self.old }
     {
@@ -110,6 +114,7 @@ impl Document {
         ensures line { result ≡ line_it_left handle self.old.document.rows self.new.document.rows }
         ensures document { self.new.document ≡ changed_document [] (DeleteHandle handle) self.old.document }
         ensures room { self.new.room ≡ self.old.room }
+        ensures memory { self.new.memory ≡ self.old.memory }
         ensures spare { self.new.spare ≡ record self.old.spare { markers = self.new.spare.markers } }
         ensures marker_room { marker_room_in_all self.new ≡ marker_room_in_all self.old }
     {

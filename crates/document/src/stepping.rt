@@ -6,6 +6,7 @@ ghost use Rattle.ed_model.specs.Performing.{document_after};
 ghost use Rattle.line_index.specs.StepEdits.{SmallLines};
 ghost use Rattle.document.specs.Kept.{HasRoom, HasTextRoom, HasHistoryRoom, TakesRoom, IsAtMost, FitsWidth};
 ghost use Rattle.document.specs.Kept.{AddsNoRoomBut, marker_room_in_all, no_room, text_part, history_part};
+ghost use Rattle.document.specs.Memory.{AreIndicatorsFor, AreStartsFor, KeepsMemory};
 ghost use Rattle.document.specs.TextSteps.{FreesDeletedBytes, IsStepOn, bytes_out, change_on, line_change_of};
 ghost use Rattle.document.specs.TextSteps.{need_on, step_on, with_appended};
 
@@ -40,7 +41,8 @@ impl Document {
         }
     }
 
-    /// Makes room for `need`. Frees nothing.
+    /// Makes room for `need`. Frees nothing. The memory for line starts grows to that or to twice its size, and not at
+    /// all if the lines fit in; that of the indicators grows as theirs does.
     ///
     /// # Errors
     ///
@@ -54,6 +56,9 @@ impl Document {
         ensures room_is_there { HasRoom self.old need → IsOk result }
         ensures room_stays { TakesRoom self.old.room self.new.room no_room }
         ensures at_most { IsAtMost self.new.room self.old.room need }
+        ensures starts { AreStartsFor need.lines self.old self.new }
+        ensures indicators { AreIndicatorsFor need.insertions self.old self.new }
+        ensures memory_is_there { HasTextRoom self.old need → self.new.memory ≡ self.old.memory }
     {
         let Ok(()) = self.cells.reserve(need.text) else {
             return Err(AllocError);
@@ -85,6 +90,7 @@ impl Document {
         ensures room_left { TakesRoom self.old.room self.new.room (text_part (need_on self.old step.entry)) }
         ensures text_freed { FreesDeletedBytes step.entry self.old self.new }
         ensures none_made { AddsNoRoomBut (bytes_out (step_on self.old step.entry)) self.old self.new }
+        ensures memory { KeepsMemory self.old self.new }
         ensures lines { result ≡ line_change_of self.old (step_on self.old step.entry) }
         ensures small { SmallLines result.old_lines × SmallLines result.new_lines }
         ensures spare { self.new.spare ≡ record self.old.spare { markers = self.new.spare.markers; fill = None } }
@@ -110,6 +116,7 @@ impl Document {
         ensures begins { result ≡ begins_transaction later (change_on self.old step.entry) self.old.document.history }
         ensures room_left { TakesRoom self.old.room self.new.room (history_part (need_on self.old step.entry)) }
         ensures none_made { IsAtMost self.new.room self.old.room no_room }
+        ensures memory { self.new.memory ≡ self.old.memory }
         ensures spare { self.new.spare ≡ self.old.spare }
     {
         match step {

@@ -5,6 +5,7 @@ ghost use Rattle.ed_model.specs.declared.plan.DocumentChange.TheVariants.{FillIn
 ghost use Rattle.ed_model.specs.Session.{keeps_no_styles};
 ghost use Rattle.document.specs.Changes.{CanStyle, DocumentIsChanged, after_change, changed_styles, changed_values};
 ghost use Rattle.document.specs.Changes.{with_fill_room};
+ghost use Rattle.document.specs.Memory.{IsMemoryForFill, KeepsMemoryFilling, with_indicators_of};
 
 use crate::kept::Document;
 use ed_types::document_option;
@@ -77,12 +78,13 @@ impl Document {
     ///
     /// # Errors
     ///
-    /// `AllocError` if an allocation fails. The document is then unchanged.
+    /// `AllocError` if an allocation fails. The document is then unchanged, and its indicators may have more memory.
     pub fn reserve_fill(&mut self, indicator: usize) -> Result<(), AllocError>
         requires { indicator < 32 }
-        ensures ok { OnOk result (self.new ≡ with_fill_room indicator self.old) }
+        ensures ok { OnOk result (self.new ≡ with_indicators_of self.new (with_fill_room indicator self.old)) }
         ensures room_is_there { self.old.spare.fill ≡ Some indicator → IsOk result × (self.new ≡ self.old) }
-        ensures err { OnErr result (self.new ≡ self.old) }
+        ensures at_most { IsMemoryForFill indicator self.old self.new }
+        ensures err { OnErr result (self.new ≡ with_indicators_of self.new self.old) }
     {
         self.indicators.reserve_fill(indicator)
     }
@@ -102,6 +104,7 @@ impl Document {
         requires room { self.old.spare.fill ≡ Some indicator }
         ensures document { DocumentIsChanged (FillIndicator indicator start count value) self.old self.new }
         ensures room { self.new.room ≡ self.old.room }
+        ensures memory { KeepsMemoryFilling indicator self.old self.new }
         ensures spare { self.new.spare ≡ record self.old.spare { fill = None } }
         ensures changed { result ≡ changed_values indicator self.old self.new }
     {

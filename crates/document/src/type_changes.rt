@@ -6,6 +6,7 @@ ghost use Rattle.ed_model.specs.Changes.{changed_document};
 ghost use Rattle.line_index.specs.Edits.{fresh_lines};
 ghost use Rattle.document.specs.Kept.{HasHistoryRoom, IsAtMost, TakesRoom, document_room, marker_room_in_all, no_room};
 ghost use Rattle.document.specs.Changes.{BringFewLines, container_need, line_type_edits};
+ghost use Rattle.document.specs.Memory.{AreStartsFor};
 
 use crate::kept::Document;
 use crate::room::DocumentRoom;
@@ -34,11 +35,12 @@ impl Document {
         self.lines.edits_for_types(alloc, types, before, after)
     }
 
-    /// Makes room for `lines` more lines.
+    /// Makes room for `lines` more lines. The memory for their starts grows to that or to twice its size, and not at
+    /// all if they fit in.
     ///
     /// # Errors
     ///
-    /// `AllocError` if an allocation fails. The document is then unchanged.
+    /// `AllocError` if an allocation fails. The document is then unchanged, and may have more memory.
     pub fn reserve_lines(&mut self, lines: usize) -> Result<(), AllocError>
         ensures same { self.new.document ≡ self.old.document }
         ensures spare { self.new.spare ≡ self.old.spare }
@@ -46,6 +48,9 @@ impl Document {
         ensures room_is_there { lines ≤ self.old.room.lines → IsOk result }
         ensures room_stays { TakesRoom self.old.room self.new.room no_room }
         ensures at_most { IsAtMost self.new.room self.old.room (document_room 0 lines 0 0 0) }
+        ensures starts { AreStartsFor lines self.old self.new }
+        ensures indicators { self.new.memory.indicators ≡ self.old.memory.indicators }
+        ensures memory_is_there { lines ≤ self.old.room.lines → self.new.memory ≡ self.old.memory }
     {
         let Ok(()) = self.lines.reserve(lines) else {
             return Err(AllocError);
@@ -61,6 +66,7 @@ impl Document {
         requires room { fresh_lines edits.now ≤ self.old.room.lines }
         ensures document { self.new.document ≡ changed_document [] (SetLineEndTypes types) self.old.document }
         ensures room { self.new.room ≡ record self.old.room { lines = self.old.room.lines - fresh_lines edits.now } }
+        ensures memory { self.new.memory ≡ self.old.memory }
         ensures spare { self.new.spare ≡ record self.old.spare { markers = self.new.spare.markers } }
         ensures marker_room { self.old.spare.markers ≤ self.new.spare.markers }
         ensures markers_in_all { marker_room_in_all self.new ≡ marker_room_in_all self.old }
@@ -80,6 +86,7 @@ impl Document {
         ensures document { self.new.document ≡ changed_document [] (AppendContainer token coalesce) self.old.document }
         ensures room_left { TakesRoom self.old.room self.new.room container_need }
         ensures none_made { IsAtMost self.new.room self.old.room no_room }
+        ensures memory { self.new.memory ≡ self.old.memory }
         ensures spare { self.new.spare ≡ self.old.spare }
     {
         self.history.append_container_reserved(token, coalesce);

@@ -6,6 +6,7 @@ ghost use Rattle.line_index.specs.StepEdits.{SmallLines};
 ghost use Rattle.undo_history.specs.Records.{change_of, HasItsBytes};
 ghost use Rattle.document.specs.Kept.{AddsNoRoomBut, marker_room_in_all};
 ghost use Rattle.document.specs.Changes.{with_history};
+ghost use Rattle.document.specs.Memory.{KeepsMemory};
 ghost use Rattle.document.specs.TextSteps.{bytes_out, line_change_of};
 ghost use Rattle.document.specs.Undoing.{changes_of, history_behind, save_point_told, outline_of, bytes_in};
 ghost use Rattle.document.specs.Undoing.{need_of_change, performed_at, CanMake, FreesBytesOf, IfStep};
@@ -219,6 +220,7 @@ impl Document {
         ensures room_left { IfStep direction index self.old (TakesRoomOf self.old self.new) }
         ensures text_freed { IfStep direction index self.old (FreesBytesOf self.old self.new) }
         ensures none_made { IfStep direction index self.old (λ step. AddsNoRoomBut (bytes_out step) self.old self.new) }
+        ensures memory { KeepsMemory self.old self.new }
         ensures lines { IfStep direction index self.old (λ step. result ≡ line_change_of self.old step) }
         ensures small { SmallLines result.old_lines × SmallLines result.new_lines }
         ensures spare { self.new.spare ≡ record self.old.spare { markers = self.new.spare.markers; fill = None } }

@@ -5,6 +5,7 @@ ghost use Rattle.ed_model.specs.declared.plan.DocumentChange.TheVariants as chan
 ghost use Rattle.ed_model.specs.LinePlans.{numbers_in};
 ghost use Rattle.document.specs.Changes.{CanStyle, with_fill_room, with_marker_room};
 ghost use Rattle.document.specs.Kept.{TakesRoom, no_room};
+ghost use Rattle.document.specs.Memory.{with_indicators_of};
 ghost use Rattle.document_changes.specs.Fit.{IsFitChange};
 ghost use Rattle.document_changes.specs.Needs.{HasMaskRoom, IsReady, ReservesAtMost, ReservesSpare, is_of_types, needs_room, with_styles};
 
@@ -78,9 +79,9 @@ fn reserve_styling(document: &mut Document) -> Result<(), AllocError>
 #[inline(never)]
 fn reserve_filling(document: &mut Document, indicator: usize) -> Result<(), AllocError>
     requires { indicator < 32 }
-    ensures ok { OnOk result (document.new ≡ with_fill_room indicator document.old) }
+    ensures ok { OnOk result (document.new ≡ with_indicators_of document.new (with_fill_room indicator document.old)) }
     ensures room_is_there { document.old.spare.fill ≡ Some indicator → IsOk result × (document.new ≡ document.old) }
-    ensures err { OnErr result (document.new ≡ document.old) }
+    ensures err { OnErr result (document.new ≡ with_indicators_of document.new document.old) }
 {
     document.reserve_fill(indicator)
 }

@@ -55,4 +55,7 @@ returns-clause-stepped c =
       text_made = omega (arith, put.room, counted);
       insertions_made = omega (arith, c.delete.ensures.room);
       unfilled = c.delete.ensures.ready;
+      starts = put.line_room;
+      runs = c.delete.ensures.runs;
+      slots = c.delete.ensures.slots;
     }

@@ -52,4 +52,7 @@ returns-clause-stepped c =
       text_made = omega (arith, put.room);
       insertions_made = omega (arith, c.insert.ensures.room);
       unfilled = c.insert.ensures.ready;
+      starts = put.line_room;
+      runs = c.insert.ensures.runs;
+      slots = c.insert.ensures.slots;
     }

@@ -3,6 +3,7 @@ use Rattle.ed_model.specs.History.{TextStep as Text}
 use Rattle.document.specs.Kept.{Kept}
 use Rattle.document.specs.Parts.{kept_in}
 use Rattle.document.specs.Undoing.{changes_of, CanMake, IsLentOf}
+use Rattle.document.proofs.KeptMemory.{runs_told}
 use Rattle.document.proofs.LentSteps.{lent_step}
 use Rattle.document.proofs.kept.Document.make_change.Goals as goal
 
@@ -15,3 +16,8 @@ returns-clause-lines c = λ step there.
     let lent : IsSomeAnd at (IsLentOf (Some c.in-Some.step)) = subst (λ o. IsSomeAnd at (IsLentOf o)) c.in-Some.is c.step_at.ensures.step in
     let is = lent_step (kept_in d) at c.in-Some.step step can lent found in
     rw (← c.self.view_is, ← is) c.make_step.ensures.lines
+
+pub returns-clause-memory : goal.returns-clause-memory
+returns-clause-memory c =
+    let made = c.make_step.ensures.stepped in
+    rw (← c.self.view_is) (record { starts = made.starts; runs = runs_told _ _ _ _ _ _ _ _ made.runs; slots = made.slots })

@@ -1,0 +1,47 @@
+-- The memory for line starts and for indicators: which calls allocate it, and how much.
+use Rattle.std.specs.Prelude.{◌≡◌, ◌≢◌, ℕ, ◌+◌, ◌*◌, ◌<◌, ◌≤◌, max, length}
+use Rattle.ed_model.specs.Session.{lines_in}
+use Rattle.decorations.specs.Decorated.{Decorated, decorated, nothing_held, spare_of, AreRunsFor, AreSlotsFor, HaveRunsOf, HaveSlotsOf, WereFilledFrom}
+use Rattle.document.specs.Kept.{Kept, DocumentMemory}
+
+-- that of a new document, which has the start of its one line
+abbrev pub memory_of_one_line : DocumentMemory
+memory_of_one_line = record { starts = 1; indicators = nothing_held }
+
+-- what the indicators' own contracts see of those of the document
+abbrev pub decorated_in : Kept → Decorated
+decorated_in k = decorated (length k.document.cells) k.document.indicators k.room.insertions k.spare.fill k.memory.indicators
+
+-- The memory for line starts stays if `count` more fit in. Otherwise there is at most enough for these, or twice as much as before.
+pub record AreStartsFor (count : ℕ) (old new : Kept) : Type 0 where
+  pub stays : old.memory.starts ≤ new.memory.starts
+  pub there : lines_in old.document + count ≤ old.memory.starts → new.memory.starts ≡ old.memory.starts
+  pub at_most : new.memory.starts ≤ max (lines_in old.document + count) (2 * old.memory.starts)
+
+-- The memory of the indicators is at most that for so many more insertions and a fill, as their own contracts bound it.
+pub record AreIndicatorsFor (insertions : ℕ) (old new : Kept) : Type 0 where
+  pub runs : AreRunsFor (insertions + 3) old.document.indicators old.memory.indicators new.memory.indicators
+  pub slots : HaveSlotsOf old.memory.indicators new.memory.indicators
+
+-- The memory of the indicators is at most that for a fill of this one, behind the insertions for which there is room. The runs of the
+-- others have what they had.
+pub record IsMemoryForFill (indicator : ℕ) (old new : Kept) : Type 0 where
+  pub runs : AreRunsFor (old.room.insertions + 3) old.document.indicators old.memory.indicators new.memory.indicators
+  pub others : (k : ℕ) → k < 32 → k ≢ indicator → spare_of new.memory.indicators k ≡ spare_of old.memory.indicators k
+  pub slots : AreSlotsFor (indicator + 1) old.memory.indicators new.memory.indicators
+
+-- besides, only the memory of the indicators may be another
+abbrev pub with_indicators_of : Kept → Kept → Kept
+with_indicators_of new k = record k { memory = record k.memory { indicators = new.memory.indicators } }
+
+-- No memory was allocated: as many line starts fit in as before, in all, and the runs of the indicators have the memory that they had.
+pub record KeepsMemory (old new : Kept) : Type 0 where
+  pub starts : new.memory.starts ≡ old.memory.starts
+  pub runs : HaveRunsOf (decorated_in old) (decorated_in new)
+  pub slots : HaveSlotsOf old.memory.indicators new.memory.indicators
+
+-- the same if one indicator was filled
+pub record KeepsMemoryFilling (indicator : ℕ) (old new : Kept) : Type 0 where
+  pub starts : new.memory.starts ≡ old.memory.starts
+  pub runs : WereFilledFrom indicator (decorated_in old) (decorated_in new)
+  pub slots : HaveSlotsOf old.memory.indicators new.memory.indicators
