@@ -1,4 +1,5 @@
-//! A stepper's session beside that of a run of the same commands: both answer all questions in the same way.
+//! A stepper's session beside that of a run of the same commands: both answer all that `ask` and `read` answer in the
+//! same way. That they are equal as a whole is proved of `Stepper::session`.
 
 use ed_types::{Bytes, Command, Kind, Outcome};
 use editor_session::{Run, Session};
@@ -23,7 +24,7 @@ const FILE: &[u8] = b"ab\ncd\nef";
 /// The text at the end of the script.
 const LAST_TEXT: &[u8] = b"abx\nycd\nef";
 
-/// The numbers of all questions are from this one up to the next constant.
+/// The numbers of all such questions are from this one up to the next constant.
 const FIRST_NUMBER: u32 = 2006;
 
 const PAST_NUMBERS: u32 = 2688;
@@ -84,14 +85,14 @@ fn is_alike_everywhere(
     true
 }
 
-/// Returns whether a message to a view is a question: the session answers it without arguments.
+/// Returns whether a message to a view is such a question: `ask` or `read` answers it without arguments.
 fn is_question(alloc: Global, session: &Session, view: u32, number: u32) -> bool {
     let (w, l) = (0, 0);
     let mut bytes = Vec::new(alloc);
     answer_of(session, Asked { view, number, w, l }, &mut bytes).is_some()
 }
 
-/// Asserts that both sessions give the same answers to all questions to a view.
+/// Asserts that both sessions give the same answers to all such questions to a view.
 fn assert_view(rt: &impl Abort, alloc: Global, one: &Session, other: &Session, view: u32) {
     for number in FIRST_NUMBER..PAST_NUMBERS {
         let asks = is_question(alloc, one, view, number);
@@ -102,7 +103,7 @@ fn assert_view(rt: &impl Abort, alloc: Global, one: &Session, other: &Session, v
     }
 }
 
-/// Asserts that both sessions give the same answers to all questions to all views that there may be.
+/// Asserts that both sessions give the same answers to all such questions to all views that there may be.
 fn assert_alike(rt: &impl Abort, alloc: Global, one: &Session, other: &Session) {
     for view in 1..4 {
         assert_view(rt, alloc, one, other, view);
