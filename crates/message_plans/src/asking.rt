@@ -12,6 +12,7 @@ use state_plans::{folding_plans, line_plans, style_plans, undo_plans};
 use text_plans::{selection_plans, target_plans, texts};
 
 /// Returns the value that the plan of a plain question answers. `None` for all other messages, and if the question is refused.
+#[inline(always)]
 #[tactic(auto, using(crate::proofs::Plain::planned_so, crate::proofs::Plain::planned_if))]
 pub fn value_of(kind: Kind, r: &Request) -> Option<i64>
     requires sound { IsSoundRequest r.now }
