@@ -462,10 +462,28 @@ static uint64_t next_random(uint64_t *state) {
 }
 
 #ifndef HAS_ASAN
-/* Where no sanitizer tells of a touched page, this does. */
-static void on_fault(int signal_number) {
+/* Whether an address is in one of the pages around guarded memory. */
+static bool is_at_guard(const void *address) {
+  for (int i = 0; i < 3; i++) {
+    uintptr_t at = (uintptr_t)address, room = (uintptr_t)rooms[i];
+    if (rooms[i] != NULL && at - (room - PAGE) < ROOM + 2 * PAGE && at - room >= ROOM) return true;
+  }
+  return false;
+}
+
+/* Where no sanitizer tells of a touched page, this does, and of a crash at any other address. */
+static void on_fault(int signal_number, siginfo_t *info, void *context) {
+  (void)context;
   signal(signal_number, SIG_DFL);
-  fail("memory that nobody may touch");
+  fail(is_at_guard(info->si_addr) ? "memory that nobody may touch" : "a crash");
+}
+
+static void catch_faults(int signal_number) {
+  struct sigaction caught;
+  memset(&caught, 0, sizeof caught);
+  caught.sa_sigaction = on_fault;
+  caught.sa_flags = SA_SIGINFO;
+  sigaction(signal_number, &caught, NULL);
 }
 #endif
 
@@ -504,8 +522,8 @@ int main(int count, char **words) {
   double most_seconds = 1e18, begun = seconds_now();
   bool draws = count == 1;
 #ifndef HAS_ASAN
-  signal(SIGSEGV, on_fault);
-  signal(SIGBUS, on_fault);
+  catch_faults(SIGSEGV);
+  catch_faults(SIGBUS);
 #endif
   for (int i = 1; i < count; i++) {
     if (strncmp(words[i], "--", 2) != 0) {

@@ -98,8 +98,9 @@ void *fuzz_realloc(void *bytes, size_t size) {
 
 enum { PAGE = 4096, ROOM = 4 * PAGE };
 
+static uint8_t *rooms[3];
+
 static uint8_t *guarded(int which) {
-  static uint8_t *rooms[3];
   if (rooms[which] == NULL) {
     uint8_t *all = mmap(NULL, ROOM + 2 * PAGE, PROT_NONE, MAP_PRIVATE | MAP_ANONYMOUS, -1, 0);
     must(all != MAP_FAILED && mprotect(all + PAGE, ROOM, PROT_READ | PROT_WRITE) == 0, "there is guarded memory");

@@ -32,8 +32,11 @@ def scripts():
 
 
 def programs():
-    """The program as each compiler made it, as far as it was built."""
+    """The program as each compiler made it, as far as it was built. Of one that was not, a line says so: `rt run` builds by one compiler alone."""
     built = [os.path.join(CRATE, "out", name) for name in ("sci_console", "sci_console.by-rattle")]
+    for program in built:
+        if not os.path.exists(program):
+            print("examples: %s was not built, so it is not tried" % os.path.basename(program))
     return [it for it in built if os.path.exists(it)]
 
 

@@ -1,6 +1,7 @@
 #!/bin/sh
 # Checks the exit statuses of sci_console, what it prints and its lines on standard error, each fault of a script, and a session of steps, as
 # each compiler built it. Run it anywhere in the repository: it takes the programs that `rt ci` left, and where there are none builds one first.
+# `rt run` leaves the program of one compiler: a line says then that the other's was not tried. A row that cannot be tried here has such a line, too.
 set -u
 top=$(cd "$(dirname "$0")/.." && pwd)
 out=$top/crates/sci_console/out
@@ -134,7 +135,7 @@ check_statuses() {
     done
     # A file that no load names is read all the same, and one that cannot be opened is no file.
     chmod 000 file
-    if [ -r file ]; then tell 'a file that cannot be read' yes; else expect 'a file that cannot be read' 3 '' 'read fault' run good.sci file; fi
+    expect_forbidden 'a file that cannot be read' file run good.sci file
     chmod 644 file
     # Where memory is short.
     (ulimit -v 8192 && "$program" check long.sci >out 2>err)
@@ -197,6 +198,25 @@ check_faults() {
     expect 'the least and the greatest numbers' 0 'ok 4\n' '' check -
     cp in same.sci
     expect 'what is listed is what was read' 0 "$(sed 's/\\/\\\\/g' same.sci)\n" '' list -
+}
+
+# Runs a command as a user without privileges.
+as_nobody() { setpriv --reuid=65534 --regid=65534 --clear-groups "$@"; }
+
+# expect_forbidden NAME FILE WORD..: the program, run with these words, may not read the file, and says that this is a read fault. Root may read
+# everything, so root runs the program as another user; where that cannot be done, a line says so and nothing is counted.
+expect_forbidden() {
+    name=$1 forbidden=$2
+    shift 2
+    if [ ! -r "$forbidden" ]; then
+        expect "$name" 3 '' 'read fault' "$@"
+    elif chmod 755 . && cp "$program" unprivileged && as_nobody ./unprivileged check good.sci >out 2>err; then
+        as_nobody ./unprivileged "$@" >out 2>err <in
+        got=$?
+        if [ -s out ]; then tell "$name" 'output'; else tell_fault "$name" $got 3 'read fault'; fi
+    else
+        echo "statuses: not tried, since this user may read everything: $name"
+    fi
 }
 
 # bytes N: that many times the letter a.
@@ -357,22 +377,13 @@ check_outside() {
     "$program" <&- >out 2>err
     if [ $? = 2 ] && [ -s err ] && [ ! -s out ]; then tell 'usage, with standard input closed' yes; else tell 'usage, with standard input closed' 'status or output'; fi
 
-    # No permission: for root, who may read everything, as somebody else.
+    # No permission.
     cp file secret && chmod 000 secret
     mkdir shut && cp file shut/file && chmod 000 shut
-    if [ ! -r secret ]; then
-        expect 'no permission' 3 '' 'read fault' run good.sci secret
-        expect 'no permission for a folder' 3 '' 'read fault' run good.sci shut/file
-    elif chmod 755 . && cp "$program" nobody_program && setpriv --reuid=65534 --regid=65534 --clear-groups ./nobody_program check good.sci >out 2>err; then
-        for forbidden in secret shut/file; do
-            setpriv --reuid=65534 --regid=65534 --clear-groups ./nobody_program run good.sci $forbidden >out 2>err
-            tell_fault "no permission for $forbidden" $? 3 'read fault'
-            setpriv --reuid=65534 --regid=65534 --clear-groups ./nobody_program check $forbidden >out 2>err
-            tell_fault "no permission for the script $forbidden" $? 3 'read fault'
-        done
-    else
-        echo "statuses: nobody here is without permission: those rows are left out"
-    fi
+    for closed in secret shut/file; do
+        expect_forbidden "no permission for $closed" $closed run good.sci $closed
+        expect_forbidden "no permission for the script $closed" $closed check $closed
+    done
 
     # Names that are no UTF-8 text, of files that are there.
     foreign=$(printf 'a\377')
@@ -463,7 +474,7 @@ check_outside() {
     exec 9>&-
     if [ -s out ]; then tell 'a signal before a script is whole leaves nothing' 'output'; else tell 'a signal before a script is whole leaves nothing' yes; fi
     chmod 755 shut
-    rm -rf folder shut secret fifo orders loop grows grows.sci "$name" nobody_program
+    rm -rf folder shut secret fifo orders loop grows grows.sci "$foreign" 'né ☃' unprivileged
 }
 
 for program in "$out/sci_console" "$out/sci_console.by-rattle"; do
@@ -474,6 +485,8 @@ for program in "$out/sci_console" "$out/sci_console.by-rattle"; do
         check_lengths
         check_prefixes
         check_steps
+    else
+        echo "statuses: $(basename "$program") was not built, so it is not tried"
     fi
 done
 echo "statuses: $passed passed, $failed failed"
