@@ -1,13 +1,13 @@
 #!/bin/sh
 # Measures what messages to a session take, by ed_bench as `rt ci` left it (`rt run` in crates/ed_bench leaves it too), and prints a row for each figure:
 # the least, the middle and the greatest of its runs, and what is aimed at. Run it on a machine that does nothing else, anywhere in the repository; it
-# takes some minutes. `tools/figures.sh 3` makes 3 runs of each in place of 9; `tools/figures.sh --record` also writes its rows into docs/figures.txt,
+# takes some minutes. `bench/figures.sh 3` makes 3 runs of each in place of 9; `bench/figures.sh --record` also writes its rows into tools/data/figures.txt,
 # and from there into the pages.
 set -u
 top=$(cd "$(dirname "$0")/.." && pwd)
 if [ "${1:-}" = --record ]; then
     shift
-    "$top/tools/figures.sh" "$@" | "$top/tools/figures.py" --record tools/figures.sh
+    "$top/bench/figures.sh" "$@" | "$top/tools/pages/figures.py" --record bench/figures.sh
     exit
 fi
 program=${ED_BENCH:-$top/crates/ed_bench/out/ed_bench}
@@ -78,7 +78,7 @@ ratio "GETTEXT of 16 MiB, beside a copy" "the whole text handed out" "as many by
 
 # The most bytes held while a text is loaded, but for the text that is lent, beside those of the text and of 4 for each line's start.
 compiler=$(command -v cc || command -v gcc || command -v clang)
-if "$compiler" -shared -fPIC -O2 -o "$work/heap_count.so" "$top/tools/heap_count.c"; then
+if "$compiler" -shared -fPIC -O2 -o "$work/heap_count.so" "$top/tools/ci/heap_count.c"; then
     HEAP_REPORT=$work/report LD_PRELOAD=$work/heap_count.so "$program" load $sixteen >/dev/null 2>&1
     held=$(awk -v lines=$sixteen '{ printf "- %.3f -", ($8 - lines * 40) / (lines * 40 + lines * 4) }' "$work/report")
     row "memory for 16 MiB, beside text and starts" "$held" times 1.4

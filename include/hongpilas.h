@@ -11,7 +11,7 @@
  * example, is proved and tests no pointer. hongpilas_checked_send refuses null pointers
  * and lengths that are too great, by name, and otherwise makes that call. Begin with the
  * checked forms, also in a program that loads the shared object. They are written in C
- * (embedding/checked.c), and are tested, not proved. The others save about two
+ * (c/checked.c), and are tested, not proved. The others save about two
  * nanoseconds.
  *
  * Threads. A session is used by one call at a time, on the thread that made it; sessions
@@ -233,7 +233,7 @@ hongpilas_answer hongpilas_checked_copy_refusal_name(hongpilas_answer answer, ui
 
 /* Scintilla's names and numbers, as far as the profile has them. Left out if Scintilla.h was included before. */
 #ifndef SCINTILLA_H
-/* Written by tools/header.py: begin */
+/* Written by tools/pages/header.py: begin */
 /* Messages. */
 #define SCI_ADDTEXT                2001
 #define SCI_INSERTTEXT             2003
@@ -426,7 +426,7 @@ hongpilas_answer hongpilas_checked_copy_refusal_name(hongpilas_answer answer, ui
 #define SC_STARTACTION                0x2000
 #define UNDO_MAY_COALESCE             1
 #define UNDO_NONE                     0
-/* Written by tools/header.py: end */
+/* Written by tools/pages/header.py: end */
 #endif
 
 #ifdef __cplusplus

@@ -1,10 +1,10 @@
 #!/usr/bin/env python3
-"""Hongpilas in Python, by ctypes over the shared object: out/libhongpilas.so, or the one that HONGPILAS names."""
+"""Hongpilas in Python, by ctypes over the shared object: out/libhongpilas.so at the top of the repository, or the one that HONGPILAS names."""
 import ctypes
 import os
 import re
 
-HERE = os.path.dirname(os.path.abspath(__file__))
+TOP = os.path.dirname(os.path.dirname(os.path.dirname(os.path.abspath(__file__))))
 
 
 class Handle(ctypes.Structure):
@@ -44,14 +44,14 @@ def whole(kind, number):
 
 def constants():
     """Scintilla's names and numbers, as the header has them."""
-    with open(os.path.join(HERE, "..", "include", "hongpilas.h"), encoding="utf-8") as header:
+    with open(os.path.join(TOP, "include", "hongpilas.h"), encoding="utf-8") as header:
         found = re.findall(r"^#define ((?:SC|UNDO)\w+) +(0x[0-9A-F]+|\d+)$", header.read(), re.M)
     return {name: int(number, 0) for name, number in found}
 
 
 def library():
     """The shared object, with the types of its calls."""
-    lib = ctypes.CDLL(os.environ.get("HONGPILAS", os.path.join(HERE, "out", "libhongpilas.so")))
+    lib = ctypes.CDLL(os.environ.get("HONGPILAS", os.path.join(TOP, "out", "libhongpilas.so")))
     word, size, number = ctypes.POINTER(Handle), ctypes.c_size_t, ctypes.c_int64
     address, view = ctypes.POINTER(ctypes.c_void_p), ctypes.c_uint32
     types = {

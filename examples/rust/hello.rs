@@ -1,8 +1,8 @@
 //! Opens a session, writes a text, reads it back, and closes: over the plain calls of hongpilas.h, without a crate.
 //!
-//!     rustc hello.rs -L out -l static=hongpilas
+//!     rustc hello.rs -L ../../out -l static=hongpilas
 //!
-//! In ../bindings/rust are crates whose types keep what the header asks of the caller.
+//! In ../../bindings/rust are crates whose types keep what the header asks of the caller.
 use std::ptr;
 use std::slice;
 

@@ -1,10 +1,10 @@
-/* The messages of the profile: what their arguments stand for, how often they are drawn (tools/drawn.py), and whether they edit the text. */
+/* The messages of the profile: what their arguments stand for, how often they are drawn (tools/pages/drawn.py), and whether they edit the text. */
 #include "beside.h"
 
 #define M(name, w, l, weight, edits) {#name, SCI_##name, w, l, weight, edits}
 
 const message messages[] = {
-    // Written by tools/wrappers.py: begin
+    // Written by tools/pages/wrappers.py: begin
     M(ADDTEXT, COUNT, BYTES, 30, true),
     M(INSERTTEXT, POSITION, CLOSED, 40, true),
     M(CLEARALL, NOTHING, NOTHING, 1, true),
@@ -149,7 +149,7 @@ const message messages[] = {
     M(STARTRECORD, NOTHING, NOTHING, 1, false),
     M(STOPRECORD, NOTHING, NOTHING, 2, false),
     M(COLOURISE, POSITION, POSITION, 4, false),
-    // Written by tools/wrappers.py: end
+    // Written by tools/pages/wrappers.py: end
 };
 const int message_count = sizeof messages / sizeof *messages;
 

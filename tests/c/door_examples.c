@@ -1,7 +1,7 @@
 /* door_examples SCRIPT..: sends the commands of the worked examples through the door in Scintilla's manner, and compares each value, status, text and
  * notification with what the example prints, which stands beside it in a file .out. What no int and no pointer can say is left out if it is refused,
  * and ends the example otherwise. door_examples --sent SCRIPT.. prints the numbers of the messages that are sent. */
-#include "manners.h"
+#include "../model/manners.h"
 
 #include <inttypes.h>
 #include <stdio.h>

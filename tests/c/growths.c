@@ -4,7 +4,7 @@
  * growths --asked prints the numbers of the messages that are asked as questions.
  * Linked as counted_heap.h says. */
 #include "counted_heap.h"
-#include "questions.h"
+#include "../model/questions.h"
 
 #include <hongpilas.h>
 #include <inttypes.h>

@@ -12,7 +12,7 @@
  * A difference is told on standard error, the input is written to fuzz.failed, and the program aborts.
  *
  * It is linked with a copy of the library, and of the door, that takes its memory by fuzz_malloc, fuzz_realloc and fuzz_free, so that nothing else in
- * the program does; see ./fuzzing. */
+ * the program does; see fuzzing. */
 #define _GNU_SOURCE
 #include "fuzz_draw.h"
 #include "model.h"

@@ -15,7 +15,7 @@ typedef struct question {
 
 #define QUESTION(name, w, l) {SCI_##name, w, l},
 
-// Written by tools/wrappers.py: begin
+// Written by tools/pages/wrappers.py: begin
 #define NUMBER_QUESTIONS(ROW) \
   ROW(GETLENGTH, NOTHING, NOTHING) \
   ROW(GETCHARAT, POSITIONS, NOTHING) \
@@ -78,6 +78,6 @@ typedef struct question {
   ROW(GETTEXTRANGE, POSITIONS, POSITIONS) \
   ROW(GETTEXT, NOTHING, NOTHING) \
   ROW(GETTARGETTEXT, NOTHING, NOTHING)
-// Written by tools/wrappers.py: end
+// Written by tools/pages/wrappers.py: end
 
 #endif

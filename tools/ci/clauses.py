@@ -1,7 +1,7 @@
 #!/usr/bin/env python3
 """Checks that each clause of a contract stands on one line of at most 120 columns.
 
-    tools/clauses.py    names those that are longer, and ends with status 1 where there are any
+    tools/ci/clauses.py    names those that are longer, and ends with status 1 where there are any
 
 What takes more is a definition with a name in the crate's `specs`. KEPT has the files whose long clauses stay, how many there are, and why:
 there may be fewer, and no more. Attributes, imports and the views of models are no clauses."""
@@ -10,7 +10,7 @@ import os
 import re
 import sys
 
-TOP = os.path.dirname(os.path.dirname(os.path.abspath(__file__)))
+TOP = os.path.dirname(os.path.dirname(os.path.dirname(os.path.abspath(__file__))))
 WIDTH = 120
 CLAUSE = re.compile(r"\s*(?:requires|ensures|invariant|decreases)\b")
 KEPT = {

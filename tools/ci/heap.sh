@@ -3,13 +3,13 @@
 # for justifies, and that tests of large sizes do with as many bytes as these justify. It takes the programs that `rt ci` left (`rt run` in
 # crates/sci_console and `rt test` leave them too). Run it anywhere in the repository.
 set -u
-top=$(cd "$(dirname "$0")/.." && pwd)
+top=$(cd "$(dirname "$0")/../.." && pwd)
 program=$top/crates/sci_console/out/sci_console
 [ -x "$program" ] || { echo "sci_console was not built"; exit 2; }
 work=$(mktemp -d)
 trap 'rm -rf "$work"' EXIT
 compiler=$(command -v cc || command -v gcc || command -v clang)
-"$compiler" -shared -fPIC -O2 -o "$work/heap_count.so" "$top/tools/heap_count.c" || exit 2
+"$compiler" -shared -fPIC -O2 -o "$work/heap_count.so" "$top/tools/ci/heap_count.c" || exit 2
 passed=0
 failed=0
 
@@ -42,7 +42,7 @@ done_within() {
 }
 
 : >"$work/in"
-for script in "$top"/examples/*.sci; do
+for script in "$top"/examples/messages/*.sci; do
     files=""
     [ -f "${script%.sci}.file1" ] && files=${script%.sci}.file1
     kept "run $(basename "$script")" 4000000 "$program" run "$script" $files
@@ -51,10 +51,10 @@ for script in "$top"/examples/*.sci; do
 done
 kept 'no such command' 4000000 "$program" go
 kept 'no such script' 4000000 "$program" run missing.sci
-kept 'want of memory' 300 env HEAP_MOST=300 "$program" run "$top/examples/hello.sci"
-kept 'a run without notes' 4000000 "$program" run --quiet "$top/examples/a_long_walk.sci"
-kept 'a faulty script' 4000000 "$program" check "$top/examples/hello.out"
-kept 'a line at fault' 4000000 "$program" check --show "$top/examples/hello.out"
+kept 'want of memory' 300 env HEAP_MOST=300 "$program" run "$top/examples/messages/hello.sci"
+kept 'a run without notes' 4000000 "$program" run --quiet "$top/examples/messages/a_long_walk.sci"
+kept 'a faulty script' 4000000 "$program" check "$top/examples/messages/hello.out"
+kept 'a line at fault' 4000000 "$program" check --show "$top/examples/messages/hello.out"
 cp "$top/examples/steps/tour.orders" "$work/in"
 kept 'a tour of steps' 4000000 "$program" step "$top/examples/steps/tour.sci" "$top/examples/steps/tour.file1"
 : >"$work/in"

@@ -1,7 +1,7 @@
 #!/usr/bin/env python3
 """Runs a command of the toolchain that proves a crate and those below it, and tells how far it is: a line for each crate that is proved.
 
-    tools/proving.py CRATE COMMAND..
+    tools/ci/proving.py CRATE COMMAND..
 
 It ends as the command does, and then shows what the command printed last, where that failed. What it tells is taken from what the command prints, and from
 crates.txt, which says which crates there are. A crate whose proof was kept is not proved again, and has no line; it counts as left until one that stands
@@ -15,7 +15,7 @@ import subprocess
 import sys
 import time
 
-TOP = os.path.dirname(os.path.dirname(os.path.abspath(__file__)))
+TOP = os.path.dirname(os.path.dirname(os.path.dirname(os.path.abspath(__file__))))
 # How the command tells of what it has proved in a crate, and then of the crate, in two lines: which one, and how many functions.
 PART = re.compile(r"(?:fn|struct|enum|trait|impl|const) (\w+)::.*: proved$")
 CRATE = re.compile(r"crate (\w+): ")

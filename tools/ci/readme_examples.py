@@ -3,14 +3,14 @@
 
 The page has one block of C and one of Rust, of at most five lines each, with a comment behind each line that prints: what it prints. Into
 FOLDER, which is made where it is not there, go `readme.c` and what it prints, `readme.c.out`, and for cargo `Cargo.toml`, `src/main.rs`
-and `readme.rs.out`. `embedding/check` and `bindings/check` build and run them, and compare. Ends with status 1 where the page has no such
+and `readme.rs.out`. `tests/check` and `bindings/check` build and run them, and compare. Ends with status 1 where the page has no such
 block, or one that prints nothing.
 """
 import os
 import re
 import sys
 
-TOP = os.path.dirname(os.path.dirname(os.path.abspath(__file__)))
+TOP = os.path.dirname(os.path.dirname(os.path.dirname(os.path.abspath(__file__))))
 MOST = 5
 IN_C = """#include <hongpilas.h>
 #include <stdio.h>

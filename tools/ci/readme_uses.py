@@ -4,7 +4,7 @@
 Run it anywhere in the repository. The lines, three to six, stand one after the other, word for word but for indentation, in a source of
 a crate that uses this one (`crates.txt` says which do): a test, a benchmark, or a caller in a crate above. Those of a crate that no other
 uses stand in its own sources: tests, laws, and the head of a program's `main`, which has its command lines. Those of the library for C
-stand in a program of `embedding/`. It prints each README with the file and the line, and with --check only what is wrong, or a count. It
+stand in a program of `examples/c` or `tests/c`. It prints each README with the file and the line, and with --check only what is wrong, or a count. It
 ends with status 1 where a crate has no README, a README has no such lines, or they stand nowhere.
 """
 import glob
@@ -12,7 +12,7 @@ import os
 import re
 import sys
 
-TOP = os.path.dirname(os.path.dirname(os.path.abspath(__file__)))
+TOP = os.path.dirname(os.path.dirname(os.path.dirname(os.path.abspath(__file__))))
 USES = re.compile(r"^## Uses\n(?:(?!## ).*\n)*?```(\w+)\n(.*?)^```$", re.M | re.S)
 FEWEST, MOST = 3, 6
 
@@ -35,7 +35,7 @@ def sources(pattern):
 def places(crate, uses, language):
     """The files that may have the lines: of tests and benchmarks first, then of the other crates above, then of the crate itself."""
     if language == "c":
-        return sources("embedding/*.c")
+        return sources("examples/c/*.c") + sources("tests/c/*.c")
     above = [name for name, used in uses.items() if crate in used] or [crate]
     above.sort(key=lambda name: not name.endswith(("_tests", "_bench")))
     return [path for name in above for path in sources(f"crates/{name}/src/**/*.rt")]

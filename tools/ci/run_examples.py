@@ -10,8 +10,8 @@ import re
 import subprocess
 import sys
 
-TOP = os.path.dirname(os.path.dirname(os.path.abspath(__file__)))
-EXAMPLES = os.path.join(TOP, "examples")
+TOP = os.path.dirname(os.path.dirname(os.path.dirname(os.path.abspath(__file__))))
+EXAMPLES = os.path.join(TOP, "examples", "messages")
 CRATE = os.path.join(TOP, "crates", "sci_console")
 # What the program's own run in `rt ci` takes from standard input.
 OWN_RUN = "all_notes_of_an_insertion"
@@ -46,7 +46,7 @@ def look_at_own_run():
         sys.exit("crates/sci_console/args does not run a script from standard input")
     for file, example in (("stdin", OWN_RUN + ".sci"), ("stdout", OWN_RUN + ".out")):
         if read(CRATE, file) != read(EXAMPLES, example):
-            sys.exit("crates/sci_console/%s is not examples/%s" % (file, example))
+            sys.exit("crates/sci_console/%s is not examples/messages/%s" % (file, example))
 
 
 def is_as_written(program, flags, script, loaded):

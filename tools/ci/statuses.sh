@@ -3,7 +3,7 @@
 # each compiler built it. Run it anywhere in the repository: it takes the programs that `rt ci` left, and where there are none builds one first.
 # `rt run` leaves the program of one compiler: a line says then that the other's was not tried. A row that cannot be tried here has such a line, too.
 set -u
-top=$(cd "$(dirname "$0")/.." && pwd)
+top=$(cd "$(dirname "$0")/../.." && pwd)
 out=$top/crates/sci_console/out
 [ -x "$out/sci_console" ] || (cd "$top/crates/sci_console" && rt run -- --help) >/dev/null 2>&1
 [ -x "$out/sci_console" ] || { echo "sci_console was not built"; exit 2; }

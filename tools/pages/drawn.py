@@ -1,5 +1,5 @@
-"""What embedding/beside draws of each message: what its arguments stand for, by the names that they have in docs/MESSAGES.md, and how often it is drawn.
-tools/wrappers.py writes the rows of embedding/beside/messages.c by it."""
+"""What tests/beside draws of each message: what its arguments stand for, by the names that they have in docs/MESSAGES.md, and how often it is drawn.
+tools/pages/wrappers.py writes the rows of tests/beside/messages.c by it."""
 
 # What w or l stands for, by its name.
 PLACES = {
@@ -61,5 +61,5 @@ def weight(message):
 
 
 def rows(found):
-    """The rows of embedding/beside/messages.c, by their numbers."""
+    """The rows of tests/beside/messages.c, by their numbers."""
     return "".join(f"    M({it.spelled}, {', '.join(places(it))}, {weight(it)}, {str(it.edits).lower()}),\n" for it in found)

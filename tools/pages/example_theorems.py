@@ -8,7 +8,7 @@ changed without its theorem.
 import os
 import sys
 
-TOP = os.path.dirname(os.path.dirname(os.path.abspath(__file__)))
+TOP = os.path.dirname(os.path.dirname(os.path.dirname(os.path.abspath(__file__))))
 MODEL = os.path.join(TOP, "crates", "ed_model")
 
 GROUPS = {
@@ -59,7 +59,7 @@ def read(path):
 
 
 def theorem(name):
-    base = os.path.join(TOP, "examples", name)
+    base = os.path.join(TOP, "examples", "messages", name)
     files = []
     while os.path.exists("%s.file%d" % (base, len(files) + 1)):
         files.append(read("%s.file%d" % (base, len(files) + 1)))
@@ -96,14 +96,14 @@ def is_written(place, text):
 def main(arguments):
     if arguments not in ([], ["--check"]):
         sys.exit(__doc__)
-    known = {f[:-4] for f in os.listdir(os.path.join(TOP, "examples")) if f.endswith(".sci")}
+    known = {f[:-4] for f in os.listdir(os.path.join(TOP, "examples", "messages")) if f.endswith(".sci")}
     listed = {name for names in GROUPS.values() for name in names}
     if known != listed:
         sys.exit("examples and groups differ: %s" % sorted(known ^ listed))
     if arguments:
         differing = [place for place, text in pages().items() if not is_written(place, text)]
         for place in differing:
-            print("crates/ed_model/%s is not what tools/example_theorems.py writes" % place)
+            print("crates/ed_model/%s is not what tools/pages/example_theorems.py writes" % place)
         sys.exit(1 if differing else 0)
     for place, text in pages().items():
         with open(os.path.join(MODEL, place), "w", encoding="utf-8") as f:

@@ -1,13 +1,13 @@
 #!/usr/bin/env python3
-"""Writes the tables of measured figures in README.md and docs/FIGURES.md, from docs/figures.txt.
+"""Writes the tables of measured figures in README.md and docs/FIGURES.md, from tools/data/figures.txt.
 
-docs/figures.txt has a part for each program that measures: a head (`== PROGRAM: commit, date, machine`), and a line for each row (its
-name, a colon, and its values, each behind its word and with its unit). `embedding/bench --record` and `tools/figures.sh --record` measure
+tools/data/figures.txt has a part for each program that measures: a head (`== PROGRAM: commit, date, machine`), and a line for each row (its
+name, a colon, and its values, each behind its word and with its unit). `bench/messages --record` and `bench/figures.sh --record` measure
 anew and hand what they print to this tool, which replaces their part:
 
-    tools/figures.py                      writes the tables
-    tools/figures.py --record PROGRAM     replaces a part by what is read from standard input, and writes the tables
-    tools/figures.py --check              writes nothing, and ends with status 1 where a table is not that of the file, or where the text above a
+    tools/pages/figures.py                      writes the tables
+    tools/pages/figures.py --record PROGRAM     replaces a part by what is read from standard input, and writes the tables
+    tools/pages/figures.py --check              writes nothing, and ends with status 1 where a table is not that of the file, or where the text above a
                                           table does not name the file's commit
 """
 import math
@@ -17,14 +17,14 @@ import subprocess
 import sys
 from datetime import datetime, timezone
 
-TOP = os.path.dirname(os.path.dirname(os.path.abspath(__file__)))
-FILE, README, FIGURES = "docs/figures.txt", "README.md", "docs/FIGURES.md"
-BENCH, SESSIONS = "embedding/bench", "tools/figures.sh"
-HEAD = """# What was measured last. Each part is of one commit and one machine. Written by `embedding/bench --record` and `tools/figures.sh --record`;
-# tools/figures.py writes the tables of README.md and docs/FIGURES.md from it.
+TOP = os.path.dirname(os.path.dirname(os.path.dirname(os.path.abspath(__file__))))
+FILE, README, FIGURES = "tools/data/figures.txt", "README.md", "docs/FIGURES.md"
+BENCH, SESSIONS = "bench/messages", "bench/figures.sh"
+HEAD = """# What was measured last. Each part is of one commit and one machine. Written by `bench/messages --record` and `bench/figures.sh --record`;
+# tools/pages/figures.py writes the tables of README.md and docs/FIGURES.md from it.
 """
 SIZES = ("1 MiB", "16 MiB")
-# The rows of the README: what it calls them, and what `embedding/bench` does.
+# The rows of the README: what it calls them, and what `bench/messages` does.
 CITED = {
     "typing": "typing, a line end each 40",
     "loading a text": "INSERTTEXT of all",
@@ -33,7 +33,7 @@ CITED = {
     "searching forwards": "SEARCHINTARGET, all of it",
     "the display line of a line, among folds": "VISIBLEFROMDOCLINE",
 }
-# Rows that each program prints; times of `embedding/bench` are followed by their medians.
+# Rows that each program prints; times of `bench/messages` are followed by their medians.
 PRINTED = {
     BENCH: re.compile(r"^\| (?P<name>.+?) +\| +(?P<size>\d+) \| +(?P<ours>[\d.]+) .*?\| +(?P<Scintilla>[\d.]+) .*?\| +[\d.]+ \|$", re.M),
     SESSIONS: re.compile(r"^(?P<name>\S.*?) +(?P<least>-|[\d.]+) +(?P<middle>-?[\d.]+) +(?P<greatest>-|[\d.]+) (?P<unit>ns|us|times) *(?P<aim>.*?)$", re.M),
@@ -113,7 +113,7 @@ def of_readme():
     rows = [[name, *(ratio(all_times[work][size]) for size in SIZES)] for name, work in CITED.items()]
     return f"""## Figures
 
-Time as a part of what Scintilla 5.3.3 takes for the same work, notifications off; below 1 Hongpilas is faster. By `embedding/bench`, at commit {commit_of(head)}:
+Time as a part of what Scintilla 5.3.3 takes for the same work, notifications off; below 1 Hongpilas is faster. By `bench/messages`, at commit {commit_of(head)}:
 
 {table(["Work in a document of", *SIZES], rows)}
 Of all {len(pairs)} such figures the geometric mean is {mean:.2f} and the greatest {ratio(greatest)}; {quick} are at or below 1 (`docs/FIGURES.md`).
@@ -157,7 +157,7 @@ def pages():
 def faults():
     for path, wanted in pages().items():
         if read(path) != wanted:
-            yield f"{path}: the figures are not those of {FILE}: run tools/figures.py"
+            yield f"{path}: the figures are not those of {FILE}: run tools/pages/figures.py"
     for title, program in (("Messages to a session", SESSIONS), ("Beside Scintilla", BENCH)):
         commit = commit_of(parts()[program][0])
         section = re.search(rf"^## {title}\n(.*?)^\|", read(FIGURES), re.M | re.S)
@@ -175,7 +175,7 @@ def machine():
 
 def commit_here():
     """The commit whose crates are measured: they have to be as it has them."""
-    measured = ["crates", "include", "embedding", "tools/figures.sh"]
+    measured = ["crates", "include", "c", "bench"]
     if subprocess.run(["git", "-C", TOP, "diff", "--quiet", "HEAD", "--", *measured]).returncode:
         sys.exit(f"{', '.join(measured)}: something differs from the last commit, so the figures would be of none")
     command = ["git", "-C", TOP, "rev-parse", "--short=7", "HEAD"]

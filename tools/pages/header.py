@@ -9,17 +9,17 @@ message or a constant was added. With --check it writes nothing, and fails where
 - the enum `Kind` of ed_types has another message or number than the definitions;
 - docs/MESSAGES.md names a constant or a note that DEFINED does not have, or the other way round, or with another number, or never with its number;
 - its calls and structs, with their names and types, its refusals, its version or the greatest limits are not those of the crates;
-- a checked form is declared otherwise than embedding/checked.c has it, a call that takes a pointer has no checked form, or one has no such call;
+- a checked form is declared otherwise than c/checked.c has it, a call that takes a pointer has no checked form, or one has no such call;
 - the header and a page do not have the same sentence on threads, or README.md has another count of messages, or none.
 """
 import os
 import re
 import sys
 
-TOP = os.path.dirname(os.path.dirname(os.path.abspath(__file__)))
+TOP = os.path.dirname(os.path.dirname(os.path.dirname(os.path.abspath(__file__))))
 HEADER = "include/hongpilas.h"
-BEGIN = "/* Written by tools/header.py: begin */\n"
-END = "/* Written by tools/header.py: end */\n"
+BEGIN = "/* Written by tools/pages/header.py: begin */\n"
+END = "/* Written by tools/pages/header.py: end */\n"
 CONSTANT = r"(?:SC|SCFIND|INDIC|UNDO)_?[A-Z0-9_]+"
 NUMBER = r"(?P<number>0x[0-9A-Fa-f]+|\d+)"
 # What looks like a constant in the tables, of whatever kind.
@@ -102,7 +102,7 @@ ON_THREADS = (
 SPEAK_OF_THREADS = (HEADER, "README.md", "docs/PROMISES.md", "docs/PROFILE.md")
 # How README.md counts the messages.
 COUNTED = re.compile(r"\d+(?=\s+of\s+Scintilla's\s+messages)")
-CHECKED = "embedding/checked.c"
+CHECKED = "c/checked.c"
 STRUCTS = {"Handle": "hongpilas", "LimitsInC": "hongpilas_limits", "NoteInC": "hongpilas_note_data"}
 # How C declares a place of each type that exports and structs of the crate have. A slice is two places, and an allocator none.
 IN_C = {
@@ -248,7 +248,7 @@ def without_checked(calls):
 
 
 def checked_forms():
-    """What embedding/checked.c has for others to call."""
+    """What c/checked.c has for others to call."""
     return {as_compared(call) for call in re.findall(r"^(?!static )(\w[\w *]*\bhongpilas_\w+\([^()]*\)) \{", read(CHECKED), re.M)}
 
 
@@ -290,7 +290,7 @@ def counted(page):
 def count_faults():
     page = read("README.md")
     if counted(page) != page or not COUNTED.search(page):
-        yield "the count of messages in README.md: run tools/header.py"
+        yield "the count of messages in README.md: run tools/pages/header.py"
 
 
 def refusals():
@@ -346,7 +346,7 @@ def main():
     header = read(HEADER)
     new = written(header)
     if "--check" in sys.argv[1:]:
-        wrong = list(faults(header)) + ["constants: run tools/header.py"] * (new != header)
+        wrong = list(faults(header)) + ["constants: run tools/pages/header.py"] * (new != header)
         print("\n".join(wrong) or f"{HEADER} is what it should be: {len(messages())} messages")
         sys.exit(bool(wrong))
     for path, text in ((HEADER, new), ("README.md", counted(read("README.md")))):

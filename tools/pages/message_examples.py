@@ -1,5 +1,5 @@
 #!/usr/bin/env python3
-"""Writes docs/EXAMPLES.md: for each message a line of a script that runs, and what it prints, taken from examples/.
+"""Writes docs/EXAMPLES.md: for each message a line of a script that runs, and what it prints, taken from examples/messages.
 
 Run it at the top of the repository or anywhere in it. With --check it writes nothing, and ends with status 1 where docs/EXAMPLES.md is not what it would
 write, where a message has no example, or where a row of docs/MESSAGES.md has not the number, name and marks of the table in crates/ed_types.
@@ -8,16 +8,16 @@ import os
 import re
 import sys
 
-TOP = os.path.dirname(os.path.dirname(os.path.abspath(__file__)))
+TOP = os.path.dirname(os.path.dirname(os.path.dirname(os.path.abspath(__file__))))
 MARKS = {
     "query": "Q", "query_without_memory": "Q N", "without_memory": "N", "recorded_without_memory": "N R",
     "recorded": "R", "edit": "E", "recorded_edit": "E R", "unmarked": "",
 }
 HEAD = """# One line for each message
 
-Each line is part of a script in `examples/`; the last column names the script, and `sci_console run` runs it whole. *What it prints* is what that
+Each line is part of a script in `examples/messages`; the last column names the script, and `sci_console run` runs it whole. *What it prints* is what that
 run prints for the line, without the notes: `= VALUE "TEXT"` is a reply, and `! NUMBER` a refusal. The outputs of the examples are theorems of `ed_model`.
-`tools/message_examples.py` writes this page from the examples, and the gate checks that it is up to date.
+`tools/pages/message_examples.py` writes this page from the examples, and the gate checks that it is up to date.
 
 | Number | Message | A line that runs | What it prints | In |
 |---|---|---|---|---|
@@ -38,15 +38,15 @@ def table():
 
 def answers(name):
     """The commands of an example, each with the line that it prints."""
-    commands = read("examples", name + ".sci").splitlines()[1:]
-    printed = [line for line in read("examples", name + ".out").splitlines() if not line.startswith("@")]
+    commands = read("examples", "messages", name + ".sci").splitlines()[1:]
+    printed = [line for line in read("examples", "messages", name + ".out").splitlines() if not line.startswith("@")]
     return list(zip(commands, printed))
 
 
 def examples():
     """For each message's number the pairs of a line and its answer, with the example's name."""
     lines = {}
-    for file in sorted(os.listdir(os.path.join(TOP, "examples"))):
+    for file in sorted(os.listdir(os.path.join(TOP, "examples", "messages"))):
         if not file.endswith(".sci"):
             continue
         for command, printed in answers(file[:-4]):
@@ -94,7 +94,7 @@ def main():
     faults = ["no example of %s" % name for name in missing]
     faults += ["docs/MESSAGES.md: the row of %s is not that of the table" % name for name in wrong_rows()]
     if "--check" in sys.argv[1:] and (not os.path.exists(place) or read("docs", "EXAMPLES.md") != text):
-        faults.append("docs/EXAMPLES.md is not what tools/message_examples.py writes")
+        faults.append("docs/EXAMPLES.md is not what tools/pages/message_examples.py writes")
     for fault in faults:
         print(fault)
     sys.exit(1 if faults else 0)

@@ -1,7 +1,7 @@
 #!/usr/bin/env python3
 """Writes docs/PROVED.md: what each crate's README says of it, in the order of the layers, the lowest first.
 
-Run it anywhere in the repository; `tools/proved.py FILE` writes another file. The order is that of the picture of docs/ARCHITECTURE.md,
+Run it anywhere in the repository; `tools/pages/proved.py FILE` writes another file. The order is that of the picture of docs/ARCHITECTURE.md,
 from its last line up. With --check it writes nothing, and ends with status 1 where the page is not what it would write, where a README has
 not the sections that each has to have, or where the picture does not have each crate once, above all crates that it uses.
 """
@@ -10,7 +10,7 @@ import re
 import sys
 import textwrap
 
-TOP = os.path.dirname(os.path.dirname(os.path.abspath(__file__)))
+TOP = os.path.dirname(os.path.dirname(os.path.dirname(os.path.abspath(__file__))))
 PAGE = "docs/PROVED.md"
 PICTURE = re.compile(r"^## The house\n.*?^```text\n(.*?)^```$", re.M | re.S)
 SEES, PROVED, TESTED, TRUSTED, USES = "What a contract sees", "What is proved", "What is only tested", "What is trusted", "Uses"
@@ -22,7 +22,7 @@ The exact statements, from the lowest crate up. Each is kept by the contract of 
 what no contract says and a test runs, and names what neither a contract nor a test says. *What is trusted* is what the proofs rest on, and what has to hold
 outside of the component: nothing checks it. [`ARCHITECTURE.md`](ARCHITECTURE.md) has the layers and the words, [`PROMISES.md`](PROMISES.md) the short form.
 
-Written by `tools/proved.py` from the README of each crate, which has lines that use it too: a change belongs there.
+Written by `tools/pages/proved.py` from the README of each crate, which has lines that use it too: a change belongs there.
 """
 
 
@@ -100,7 +100,7 @@ def main():
     written = "\n".join([HEAD, *(entry(name) for line in lines for name in line)])
     if "--check" in sys.argv[1:]:
         same = os.path.exists(os.path.join(TOP, page)) and read(page) == written
-        print(f"{page} is what it should be: {len(uses)} crates" if same else f"{page}: run tools/proved.py")
+        print(f"{page} is what it should be: {len(uses)} crates" if same else f"{page}: run tools/pages/proved.py")
         sys.exit(not same)
     with open(os.path.join(TOP, page), "w", encoding="utf-8") as file:
         file.write(written)

@@ -1,13 +1,13 @@
 #!/usr/bin/env python3
-"""Writes the table of wrong bodies in docs/WRONG_BODIES.md, from crates/*/must-fail and docs/refused.txt.
+"""Writes the table of wrong bodies in docs/WRONG_BODIES.md, from crates/*/must-fail and tools/data/refused.txt.
 
-    tools/refused.py                    writes the table
-    tools/refused.py --check            writes nothing, and ends with status 1 where the table is not what it would write, where
-                                        docs/refused.txt names no body, or where the gate does not try a body of the page's first table
-    tools/refused.py --learn FOLDER     takes from the files of `tools/wrong_bodies --said FOLDER` which clauses refuse a body, puts them
-                                        into docs/refused.txt in the place of what stood there, if they say as much, and writes the table
+    tools/pages/refused.py                    writes the table
+    tools/pages/refused.py --check            writes nothing, and ends with status 1 where the table is not what it would write, where
+                                        tools/data/refused.txt names no body, or where the gate does not try a body of the page's first table
+    tools/pages/refused.py --learn FOLDER     takes from the files of `tools/ci/wrong_bodies --said FOLDER` which clauses refuse a body, puts them
+                                        into tools/data/refused.txt in the place of what stood there, if they say as much, and writes the table
 
-docs/refused.txt has a line `CRATE/NAME CLAUSE..` for each body of which it is known which clauses are not proved with it, sorted. A
+tools/data/refused.txt has a line `CRATE/NAME CLAUSE..` for each body of which it is known which clauses are not proved with it, sorted. A
 CLAUSE is the name of one of the function in which the body stands, or `ensures` if it has no name; FUNCTION.CLAUSE of what a call requires,
 or FUNCTION.requires; loop.CLAUSE of a loop's invariant, or `loop`; invariant.CLAUSE of a type's, or `invariant`. Other goals have their own
 names, as `overflow_add` and `bounds`. `answers` and `uncovered` say that there is no such goal: an answer by hand no longer fits, or the
@@ -20,8 +20,8 @@ import os
 import re
 import sys
 
-TOP = os.path.dirname(os.path.dirname(os.path.abspath(__file__)))
-PAGE, FILE = "docs/WRONG_BODIES.md", "docs/refused.txt"
+TOP = os.path.dirname(os.path.dirname(os.path.dirname(os.path.abspath(__file__))))
+PAGE, FILE = "docs/WRONG_BODIES.md", "tools/data/refused.txt"
 FIRST = "The first to be asked for"
 # A body of the page's first table: a crate, and names behind it; and what a block says of its body.
 NAMED = re.compile(r"`(\w+)`: ((?:`\w+`(?!:)(?:[,;] )?)+)")
@@ -44,8 +44,8 @@ NOTED = re.compile(r"^note: \S+:\d+:\d+: it is not proved that .*?\(`([^`]+)`\)"
 ANSWER = re.compile(r"^\./proofs/(\S+)/\w+\.antt:\d+:\d+: error: (?:`([^`]+)`: )?(.*)$", re.M)
 # What is wrong with an answer by hand whose goal is there, and is not what it proves.
 FITS = re.compile(r"the two types |no proof of ")
-BEGIN, END = (f"<!-- Written by tools/refused.py: {word} -->" for word in ("begin", "end"))
-HEAD = """# Which clauses refuse each wrong body: CRATE/NAME CLAUSE.. (tools/refused.py says how they are written). What `tools/wrong_bodies --said`
+BEGIN, END = (f"<!-- Written by tools/pages/refused.py: {word} -->" for word in ("begin", "end"))
+HEAD = """# Which clauses refuse each wrong body: CRATE/NAME CLAUSE.. (tools/pages/refused.py says how they are written). What `tools/ci/wrong_bodies --said`
 # has not told yet was read by hand.
 """
 
@@ -63,7 +63,7 @@ def write(path, text):
 def wrong_bodies():
     """The module that tries wrong bodies: it knows how a body is read, and in which function it stands."""
     sys.dont_write_bytecode = True
-    loader = importlib.machinery.SourceFileLoader("wrong_bodies", f"{TOP}/tools/wrong_bodies")
+    loader = importlib.machinery.SourceFileLoader("wrong_bodies", f"{TOP}/tools/ci/wrong_bodies")
     module = importlib.util.module_from_spec(importlib.util.spec_from_loader("wrong_bodies", loader))
     loader.exec_module(module)
     return module
@@ -124,7 +124,7 @@ def goals_of(said):
 
 
 def clause_of(goal):
-    """The clause that a goal is about, as docs/refused.txt has it."""
+    """The clause that a goal is about, as tools/data/refused.txt has it."""
     place, _, name = goal.partition("-clause-")
     call, loop = re.match(r"(.+?)-requires\b", place), re.match(r".+-(?:init|preserved|smaller)\b", place)
     if place.split("-")[0] == "returns":
@@ -207,11 +207,11 @@ def faults(found, known):
     if list(known) != sorted(known):
         yield f"{FILE} is not sorted"
     if read(PAGE) != page(found, known):
-        yield f"{PAGE}: its table is not that of the wrong bodies: run tools/refused.py"
+        yield f"{PAGE}: its table is not that of the wrong bodies: run tools/pages/refused.py"
 
 
 def learn(folder, found, known):
-    """What is known with what the folder tells; writes docs/refused.txt."""
+    """What is known with what the folder tells; writes tools/data/refused.txt."""
     told = {it: words for it, words in learned(folder).items() if it in found and not (it in known and words[0] in LESS)}
     known = dict(sorted({**known, **told}.items()))
     write(FILE, HEAD + "".join(f"{'/'.join(it)} {' '.join(words)}\n" for it, words in known.items()))

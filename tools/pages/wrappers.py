@@ -16,8 +16,8 @@ from dataclasses import dataclass
 import drawn
 import header
 
-BEGIN = "Written by tools/wrappers.py: begin"
-END = "Written by tools/wrappers.py: end"
+BEGIN = "Written by tools/pages/wrappers.py: begin"
+END = "Written by tools/pages/wrappers.py: end"
 CPP = "include/hongpilas.hpp"
 RUST = "bindings/rust/hongpilas/src/messages.rs"
 RUST_NOTES = "bindings/rust/hongpilas/src/notes.rs"
@@ -25,8 +25,8 @@ RUST_CONSTANTS = "bindings/rust/hongpilas-sys/src/constants.rs"
 RUST_CALLS = "bindings/rust/hongpilas-sys/src/calls.rs"
 PYTHON = "bindings/python/src/hongpilas/_messages.py"
 PYTHON_CONSTANTS = "bindings/python/src/hongpilas/constants.py"
-QUESTIONS = "embedding/questions.h"
-BESIDE = "embedding/beside/messages.c"
+QUESTIONS = "tests/model/questions.h"
+BESIDE = "tests/beside/messages.c"
 ASKING = "crates/message_plans/specs/Asking.antt"
 # The column "w, l, T" of the table: for each of its forms the arguments of a method, as (place, name). A length in front of a text is
 # the text's own, so that no method takes it.
@@ -448,7 +448,7 @@ def main():
             with open(os.path.join(header.TOP, path), "w", encoding="utf-8") as file:
                 file.write(new)
         elif header.read(path) != new:
-            wrong.append(f"{path}: run tools/wrappers.py")
+            wrong.append(f"{path}: run tools/pages/wrappers.py")
     wrong += faults()
     print("\n".join(wrong) or f"the wrappers for C++, Rust and Python are what they should be: {len(found)} messages")
     sys.exit(bool(wrong))
