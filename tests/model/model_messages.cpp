@@ -34,7 +34,6 @@ static const char *marks_of(std::uint32_t number) {
   return nullptr;
 }
 
-
 hongpilas_answer Session::send(const Message &m) {
   reply = Reply();
   auto found = views.find(m.view);
