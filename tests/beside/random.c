@@ -1,4 +1,5 @@
 /* Calls that are drawn at random, in short episodes: each begins with new views, and ends where the states part. */
+#include "../random.h"
 #include "beside.h"
 
 #include <stdlib.h>
@@ -9,10 +10,7 @@ enum { CALLS = 80, RARELY = 60 };
 static uint64_t seed;
 
 static int64_t below(int64_t bound) {
-  seed ^= seed << 13;
-  seed ^= seed >> 7;
-  seed ^= seed << 17;
-  return (int64_t)(seed % (uint64_t)bound);
+  return (int64_t)(next_shifted(&seed) % (uint64_t)bound);
 }
 
 static int64_t between(int64_t from, int64_t to) { return from + below(to - from + 1); }
