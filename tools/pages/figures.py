@@ -15,6 +15,7 @@ import os
 import re
 import subprocess
 import sys
+import textwrap
 from datetime import datetime, timezone
 
 TOP = os.path.dirname(os.path.dirname(os.path.dirname(os.path.abspath(__file__))))
@@ -145,7 +146,7 @@ def missed(rows):
         aim = re.fullmatch(r"([\d.]+) (\w+)", values.get("aim", ""))
         if aim and number(values["middle"]) > float(aim[1]):
             above.append(f"{name} ({number(values['middle']):g} instead of {aim[1]} {aim[2]})")
-    return "\n" + with_commas(f"{MISSED} {'; '.join(above) or 'none'}.") + "\n"
+    return "\n" + textwrap.fill(with_commas(f"{MISSED} {'; '.join(above) or 'none'}."), 160) + "\n"
 
 
 # ---- The pages ----
@@ -161,7 +162,7 @@ def replaced(page, title, pattern, new):
 
 def pages():
     """What the pages are to be."""
-    figures = replaced(read(FIGURES), "Messages to a session", rf"(^\|[^\n]*\n)+(\n{MISSED}[^\n]*\n)?", of_sessions())
+    figures = replaced(read(FIGURES), "Messages to a session", rf"(^\|[^\n]*\n)+(\n{MISSED}(?:[^\n]+\n)+)?", of_sessions())
     figures = replaced(figures, "Beside Scintilla", r"(^\|[^\n]*\n)+", beside_scintilla())
     return {README: replaced(read(README), "Figures", r"\A.*\Z", of_readme()), FIGURES: figures}
 
