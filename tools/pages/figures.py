@@ -26,7 +26,7 @@ HEAD = """# What was measured last. Each part is of one commit and one machine. 
 """
 SIZES = ("1 MiB", "16 MiB")
 MISSED = "Aims that are missed in the middle of the runs:"
-# The rows of the README: what it calls them, and what `embedding/bench` does.
+# The rows of the README: what it calls them, and what `bench/messages` does.
 CITED = {
     "typing": "typing, a line end each 40",
     "loading a text": "INSERTTEXT of all",

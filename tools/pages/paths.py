@@ -1,22 +1,22 @@
 #!/usr/bin/env python3
 """Checks that what a page names is there: each page, and each path within the repository.
 
-    tools/paths.py    names what is not there, and ends with status 1 where there is any
+    tools/pages/paths.py    names what is not there, and ends with status 1 where there is any
 
-The pages are those of the repository's top, of docs/, of the library for C and of the wrappers. A page is named by its name in capitals (`MESSAGES.md`),
-or linked; a path stands between backticks, has a slash, and begins at the top, at the page's folder, in crates/ or in a crate (`specs/Table`). A page that is installed with the
-library for C names only pages that are installed too: whoever reads it there may have no more.
+The pages are those of the repository's top, of docs/ and of the wrappers. A page is named by its name in capitals (`MESSAGES.md`), or linked; a path
+stands between backticks, has a slash, and begins at the top, at the page's folder, in crates/ or in a crate (`specs/Table`). A page that is installed
+with the library for C names only pages that are installed too: whoever reads it there may have no more.
 """
 import glob
 import os
 import re
 import sys
 
-TOP = os.path.dirname(os.path.dirname(os.path.abspath(__file__)))
-PAGES = ("*.md", "docs/*.md", "embedding/README.md", "bindings/*.md", "bindings/*/README.md")
-# What `make install` copies, as embedding/Makefile names it.
+TOP = os.path.dirname(os.path.dirname(os.path.dirname(os.path.abspath(__file__))))
+PAGES = ("*.md", "docs/*.md", "bindings/*.md", "bindings/*/README.md")
+# What `make install` copies, as the Makefile names it.
 INSTALLED = re.compile(r"^DOCS := .*,(.*)\)$", re.M)
-MAKEFILE = "embedding/Makefile"
+MAKEFILE = "Makefile"
 NAMED = re.compile(r"(?<![\w/.-])([A-Z][A-Z_]+\.md)\b")
 LINKED = re.compile(r"\]\(([^)#:]+)(?:#[^)]*)?\)")
 PATH = re.compile(r"`((?:\.\./)*[\w.-]+/[\w./-]*)`")
@@ -44,7 +44,8 @@ def faults(page, installed):
     yield from (f"{page}: no link leads to {name}" for name in sorted(set(LINKED.findall(prose))) if not os.path.exists(os.path.join(TOP, folder, name)))
     yield from (f"{page}: there is no {path}" for path in sorted(set(PATH.findall(prose))) if not MADE.search(path) and not is_there(path, folder))
     if os.path.basename(page) in installed and folder == "docs":
-        yield from (f"{page} is installed, and names {name}, which is not" for name in sorted(pages - installed))
+        named = pages | set(re.findall(r"\bdocs/([A-Z_]+\.md)", prose))
+        yield from (f"{page} is installed, and names {name}, which is not" for name in sorted(named - installed))
 
 
 def main():
