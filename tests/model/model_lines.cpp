@@ -144,7 +144,9 @@ hongpilas_answer Session::send_styles(const Message &m, View &, Document &d) {
       Bytes old = d.styles;
       d.styles.replace(size_t(from), size_t(m.w), is_one ? Bytes(size_t(m.w), char(m.l)) : first_bytes(m));
       Note note = modified(SC_MOD_CHANGESTYLE | SC_PERFORMED_USER);
-      if (smallest_range(from, d.end_styled, [&](Number p) { return old[size_t(p)] != d.styles[size_t(p)]; }, note)) tell(d, note);
+      if (smallest_range(
+              from, d.end_styled, [&](Number p) { return old[size_t(p)] != d.styles[size_t(p)]; }, note))
+        tell(d, note);
       return DONE;
     }
     case SCI_COLOURISE: {
@@ -174,7 +176,8 @@ hongpilas_answer Session::send_indicators(const Message &m, View &v, Document &d
       Number fill = m.number == SCI_INDICATORFILLRANGE ? v.indicator_value : 0;
       std::vector<Number> &values = d.indicators[size_t(v.indicator)];
       Note note = modified(SC_MOD_CHANGEINDICATOR | SC_PERFORMED_USER);
-      bool changes = smallest_range(w, w + m.l, [&](Number p) { return d.value_at(v.indicator, p) != fill; }, note);
+      bool changes = smallest_range(
+          w, w + m.l, [&](Number p) { return d.value_at(v.indicator, p) != fill; }, note);
       if (!changes) return DONE;
       if (values.empty()) values.assign(size_t(n), 0);
       std::fill(values.begin() + w, values.begin() + w + m.l, fill);
