@@ -80,6 +80,3 @@ from_later line zero (suc m) (e ∷ es) a h = from_later line zero m es a.1 (ome
 from_later line (suc n) zero es a h = absurd (omega arith)
 from_later line (suc n) (suc m) [] a h = tt
 from_later line (suc n) (suc m) (e ∷ es) a h = from_later line n m es a (omega arith)
-
-pub from_found : (line found n m : ℕ) (es : List Entry) → line ≤ found → AllFrom found (drop n es) → n ≤ m → AllFrom line (drop m es)
-from_found line found n m es h a b = from_less line found (drop m es) h (from_later found n m es a b)
