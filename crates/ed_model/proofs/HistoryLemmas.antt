@@ -1,10 +1,5 @@
 -- The undo history. First facts on lists of transactions and on save points, then facts on histories by cases of their tests.
-use Rattle.std.proofs.Common.{◌||◌, ◌≡◌, ℕ, suc, ◌+◌, ◌-◌, ◌<◌, ◌==◌, not, ◌&&◌, cond, if◌then◌else◌, Bool, true, false, ℤ, List, [], ◌∷◌, length, map, refl, ap, ◌∙◌, sym, subst, arith}
-use Rattle.std.proofs.lemmas.Bool.{eqb-true, eq-eqb, cond-true, cond-false, cond_both}
-use Rattle.ed_model.specs.Numbers.{is_number}
-use Rattle.ed_model.specs.History.{History, Transaction, Change, at_save_point, joins, joins_last, appended, reachable, with_change, first_changes, seal_first, sealed_outside_groups, with_last_sealed, group_ended, with_container_step, ContainerStep, undone_to, redone, redone_from}
-use Rattle.ed_model.specs.HistoryLaws.{NotCollectingAppendsNothing, KeepsAllButThePast, AppendKeepsAllButThePast, AppendJoins, NothingJoinsNone, AppendBegins, AppendCounts, AppendLeavesTheSavePoint, SealsOnce, NothingJoinsASealedOne, SameButForSeals, SealsChangeNoChange, GroupBegunChangesNoChange, GroupEndedChangesNoChange, GroupBegunIsDeeper, GroupEndedIsLessDeep, OthersKeepTheDepth, MovesToTheFuture, UndoMovesToTheFuture, MovesToThePast, RedoMovesToThePast, UndoThenRedoGivesBackTheHistory}
-use Rattle.ed_model.specs.proved.Histories.{sealed_length, lower_save_point, other_save_point}
+use Rattle.ed_model.proofs.Names.{◌||◌, ◌≡◌, ℕ, suc, ◌+◌, ◌-◌, ◌<◌, ◌==◌, not, ◌&&◌, cond, if◌then◌else◌, Bool, true, false, ℤ, List, [], ◌∷◌, length, map, refl, ap, ◌∙◌, sym, subst, arith, eqb-true, eq-eqb, cond-true, cond-false, cond_both, is_number, History, Transaction, Change, at_save_point, joins, joins_last, appended, reachable, with_change, first_changes, seal_first, sealed_outside_groups, with_last_sealed, group_ended, with_container_step, ContainerStep, undone_to, redone, redone_from, NotCollectingAppendsNothing, KeepsAllButThePast, AppendKeepsAllButThePast, AppendJoins, NothingJoinsNone, AppendBegins, AppendCounts, AppendLeavesTheSavePoint, SealsOnce, NothingJoinsASealedOne, SameButForSeals, SealsChangeNoChange, GroupBegunChangesNoChange, GroupEndedChangesNoChange, GroupBegunIsDeeper, GroupEndedIsLessDeep, OthersKeepTheDepth, MovesToTheFuture, UndoMovesToTheFuture, MovesToThePast, RedoMovesToThePast, UndoThenRedoGivesBackTheHistory, sealed_length, lower_save_point, other_save_point}
 
 -- Tests.
 

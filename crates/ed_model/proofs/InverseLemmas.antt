@@ -1,13 +1,7 @@
 -- Steps followed by their inverses.
-use Rattle.std.proofs.Common.{◌≡◌, ℕ, ◌+◌, ◌-◌, ◌≤◌, List, [], ◌∷◌, ◌++◌, length, take, drop, map, refl, ap, ◌∙◌, sym, subst, arith, append_assoc, length-append, length-drop}
+use Rattle.ed_model.proofs.Names.{◌≡◌, ℕ, ◌+◌, ◌-◌, ◌≤◌, List, [], ◌∷◌, ◌++◌, length, take, drop, map, refl, ap, ◌∙◌, sym, subst, arith, append_assoc, length-append, length-drop, length-take-le, take-append-drop, reverse-append, drop_split, Step, Insert, Delete, edited, inverse_of, after_steps, inverses, InverseGivesBackTheText, InverseFits, InversesGiveBackTheText, front_kept, behind_kept}
 use Rattle.std.specs.List.{slice_range}
-use Rattle.std.proofs.lemmas.List.{length-take-le, take-append-drop, reverse-append}
-use Rattle.std.proofs.lemmas.List.Folds.{drop_split}
 use Rattle.std.proofs.Math.Seq.{take-append_seam, drop-append_seam, drop-append-add}
-use Rattle.ed_model.specs.Steps.{Step, Insert, Delete, edited, inverse_of}
-use Rattle.ed_model.specs.LineEnds.{after_steps}
-use Rattle.ed_model.specs.InverseLaws.{inverses, InverseGivesBackTheText, InverseFits, InversesGiveBackTheText}
-use Rattle.ed_model.specs.proved.Lists.{front_kept, behind_kept}
 
 -- after the inserted bytes come the bytes that were there before
 pub behind_put_in : {A : Type 0} (p : ℕ) (text put rest : List A) → p ≤ length text → drop (p + length put) (take p text ++ (put ++ rest)) ≡ rest

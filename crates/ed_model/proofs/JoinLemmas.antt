@@ -1,14 +1,8 @@
 -- The walk over old lines and new ones can be split into parts: rows of lines that stay do not change, a new line gets a fresh
 -- row, and a line that is joined to another joins their rows.
-use Rattle.std.proofs.Common.{ℕ, zero, suc, ◌≡◌, ◌+◌, ◌-◌, ◌<◌, ◌≤◌, Bool, true, false, cond, List, [], ◌∷◌, ◌++◌, map, length, take, drop, get_or, ltb, sym, refl, ap, ap₂, ◌∙◌, arith, one-add, le_refl}
-use Rattle.std.specs.List.{prefix_len, AllByRecursion}
-use Rattle.std.specs.List.Sorted.{IsNonDecreasing}
-use Rattle.std.proofs.lemmas.Bool.{lt-ltb, le-ltb}
-use Rattle.std.proofs.lemmas.List.{length-drop, take_at, drop_at, take-append-le, drop-append-le}
+use Rattle.ed_model.proofs.Names.{ℕ, zero, suc, ◌≡◌, ◌+◌, ◌-◌, ◌<◌, ◌≤◌, Bool, true, false, cond, List, [], ◌∷◌, ◌++◌, map, length, take, drop, get_or, ltb, sym, refl, ap, ap₂, ◌∙◌, arith, one-add, le_refl, prefix_len, AllByRecursion, IsNonDecreasing, lt-ltb, le-ltb, take_at, drop_at, take-append-le, drop-append-le, lines_before, merged, Rises, Climbs, Climbs_weaker, Rises_weaker, all_weaker}
+use Rattle.std.proofs.lemmas.List.{length-drop}
 use Rattle.std.proofs.lemmas.List.Sums.{prefix_len-le-length}
-use Rattle.ed_model.specs.MergeLaws.{lines_before, merged}
-use Rattle.ed_model.specs.proved.Rising.{Rises, Climbs, Climbs_weaker, Rises_weaker}
-use Rattle.ed_model.specs.proved.Elements.{all_weaker}
 
 -- facts on each element
 

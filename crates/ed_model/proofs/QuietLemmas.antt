@@ -1,20 +1,9 @@
 -- Plans of queries and of messages marked N, and what performing them leaves
 -- unchanged. Facts on plans are shown for each kind of message.
-use Rattle.std.proofs.Common.{◌≡◌, ℕ, nat_lt, Bool, true, false, cond, refl, Option, Some, None, Ok, Err}
-use Rattle.ed_types.specs.declared.kind.Kind.{Kind}
+use Rattle.ed_model.proofs.Names.{◌≡◌, ℕ, nat_lt, Bool, true, false, cond, refl, Option, Some, None, Ok, Err, Kind, Refusal, TooMany, NoSuchDocument, marks_of, Plan, Document, references, Request, Planned, size, with_argument, with_line, change_session, found_target, with_reference, release_of, document_named, plan_of, performed}
 use Rattle.ed_types.specs.declared.kind.Kind.TheVariants as kinds
-use Rattle.ed_types.specs.declared.refusal.Refusal.{Refusal}
-use Rattle.ed_types.specs.declared.refusal.Refusal.TheVariants.{TooMany, NoSuchDocument}
-use Rattle.ed_types.specs.Messages.{marks_of}
 use Rattle.ed_model.specs.declared.plan.SessionChange.TheVariants as session_change
-use Rattle.ed_model.specs.declared.plan.Plan.{Plan}
 use Rattle.ed_model.specs.declared.plan.Plan.TheVariants as plan
-use Rattle.ed_model.specs.Session.{Document, references}
-use Rattle.ed_model.specs.Requests.{Request, Planned, size, with_argument, with_line}
-use Rattle.ed_model.specs.Requests.{change_session}
-use Rattle.ed_model.specs.TargetPlans.{found_target}
-use Rattle.ed_model.specs.SessionPlans.{with_reference, release_of, document_named}
-use Rattle.ed_model.specs.Table.{plan_of, performed}
 use Rattle.ed_model.specs.FreePlans.{IsFreePlanned, MarkedPlansAreFree}
 
 -- Queries.

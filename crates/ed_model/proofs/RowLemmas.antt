@@ -1,13 +1,6 @@
 -- Rows of lines that stay, of new lines, and of lines that are joined, as the laws state them.
-use Rattle.std.proofs.Common.{ℕ, ◌≡◌, ◌+◌, ◌<◌, List, [], ◌∷◌, ◌++◌, map, length, fold, All, refl, ap, ap₂, ◌∙◌, arith, le_refl, append-nil, append_assoc}
-use Rattle.std.specs.List.{AllByRecursion}
-use Rattle.std.specs.List.Sorted.{IsNonDecreasing, IsStrictlyIncreasing}
-use Rattle.std.proofs.lemmas.List.{map-append, length-append}
-use Rattle.std.proofs.lemmas.List.Elements.{recursion_from_All}
-use Rattle.ed_model.specs.Rows.{rows_together, flags_together}
-use Rattle.ed_model.specs.Carry.{carried}
-use Rattle.ed_model.specs.MergeLaws.{merged, JoinsRows}
-use Rattle.ed_model.specs.proved.Rising.{Rises, Climbs, Climbs_weaker, Climbs_from_rises, Rises_weaker, rises_from_increasing}
+use Rattle.ed_model.proofs.Names.{ℕ, ◌≡◌, ◌+◌, ◌<◌, List, [], ◌∷◌, ◌++◌, map, length, fold, All, refl, ap, ap₂, ◌∙◌, arith, le_refl, append-nil, append_assoc, AllByRecursion, IsNonDecreasing, IsStrictlyIncreasing, map-append, recursion_from_All, rows_together, flags_together, carried, merged, JoinsRows, Rises, Climbs, Climbs_weaker, Climbs_from_rises, Rises_weaker, rises_from_increasing}
+use Rattle.std.proofs.lemmas.List.{length-append}
 use Rattle.ed_model.proofs.MergeLemmas.{carried_is_merged}
 use Rattle.ed_model.proofs.JoinLemmas.{rises_front, rises_before, rises_rest, climbs_each, merged-append, merged_same, merged_fresh, merged_joined, climbs_from_non_decreasing}
 

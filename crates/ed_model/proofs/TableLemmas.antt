@@ -1,17 +1,5 @@
 -- From facts on plans to facts on the table, and from the table to runs.
-use Rattle.std.proofs.Common.{◌≡◌, ℕ, Bool, true, false, List, [], ◌∷◌, refl, ap, ◌∙◌, sym, Option, Some, None, Result, Ok, Err}
-use Rattle.ed_types.specs.declared.kind.Kind.{Kind}
-use Rattle.ed_types.specs.declared.message.Message.{Message}
-use Rattle.ed_types.specs.declared.refusal.Refusal.{Refusal}
-use Rattle.ed_types.specs.declared.refusal.Refusal.TheVariants.{TooLong}
-use Rattle.ed_types.specs.declared.script.Command.{Command}
-use Rattle.ed_types.specs.declared.script.Command.TheVariants.{OpenView, CloseView, LoadFile, SendMessage, Expect}
-use Rattle.ed_types.specs.Messages.{kind_of}
-use Rattle.ed_model.specs.Session.{Session, View, Document, view_at, document_at}
-use Rattle.ed_model.specs.Requests.{Request, Planned}
-use Rattle.ed_model.specs.Table.{table, table_from_view, table_from_kind, table_from_document, answered, plan_of, request, opened, closed}
-use Rattle.ed_model.specs.Run.{Running, after_command, after_opening, after_closing, after_message, run_to, loaded, file_at}
-use Rattle.ed_model.specs.TableLaws.{Answered, LeavesSession, QueriesLeaveTheSession, RefusedCommandsLeaveTheSession, is_refused, kept_unless, unrefused, RefusedCommandsCanBeLeftOut}
+use Rattle.ed_model.proofs.Names.{◌≡◌, ℕ, Bool, true, false, List, [], ◌∷◌, refl, ap, ◌∙◌, sym, Option, Some, None, Result, Ok, Err, Kind, Message, Refusal, TooLong, Command, OpenView, CloseView, LoadFile, SendMessage, Expect, kind_of, Session, View, Document, view_at, document_at, Request, Planned, table, table_from_view, table_from_kind, table_from_document, answered, plan_of, request, opened, closed, Running, after_command, after_opening, after_closing, after_message, run_to, loaded, file_at, Answered, LeavesSession, QueriesLeaveTheSession, RefusedCommandsLeaveTheSession, is_refused, kept_unless, unrefused, RefusedCommandsCanBeLeftOut}
 use Rattle.ed_model.proofs.QuietLemmas.{IsQuiet, query_is_quiet, quiet_plan_leaves}
 
 same_view : (v w : View) (found : Option View) → found ≡ Some v → found ≡ Some w → w ≡ v
