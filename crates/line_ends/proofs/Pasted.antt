@@ -1,11 +1,5 @@
 -- A text converted piece by piece.
-use Rattle.std.proofs.Common.{◌||◌, ◌≡◌, ℕ, zero, suc, ◌+◌, ◌-◌, ◌<◌, ◌≤◌, Bool, true, false, cond, ◌==◌, ◌&&◌, List, [], ◌∷◌, ◌++◌, length, get_or, take, drop, slice_range, refl, ap, subst, ◌∙◌, sym, arith, append_assoc, append-nil, length-append}
-use Rattle.std.proofs.lemmas.Bool.{true≢false, or_parts, and_right}
-use Rattle.std.proofs.lemmas.List.{drop_all, drop_more, drop-drop, take_rest, length-take-le, length-drop}
-use Rattle.ed_model.specs.declared.plan.LineEnd.{LineEnd}
-use Rattle.ed_model.specs.LineEnds.{line_end_bytes, begins_with_line_feed, converted, converted_after}
-use Rattle.ed_model.specs.proved.Conversions.{behind_return}
-use Rattle.line_ends.specs.Conversion.{is_end, end_bytes}
+use Rattle.line_ends.proofs.Names.{◌||◌, ◌≡◌, ℕ, zero, suc, ◌+◌, ◌-◌, ◌<◌, ◌≤◌, Bool, true, false, cond, ◌==◌, ◌&&◌, List, [], ◌∷◌, ◌++◌, length, get_or, take, drop, slice_range, refl, ap, subst, ◌∙◌, sym, arith, append_assoc, append-nil, length-append, true≢false, or_parts, and_right, drop_all, drop_more, drop-drop, take_rest, length-take-le, length-drop, LineEnd, line_end_bytes, begins_with_line_feed, converted, converted_after, behind_return, is_end, end_bytes}
 
 -- the bytes before a line end
 quiet_front : (to : LineEnd) (bs : List ℕ) (n : ℕ) → n ≤ length bs → ((k : ℕ) → k < n → is_end (get_or bs k 0) ≡ false)
