@@ -1,7 +1,5 @@
 -- Entries by their index.
-use Rattle.std.proofs.Common.{ℕ, ◌≡◌, ◌+◌, ◌-◌, ◌<◌, ◌≤◌, inl, inr, zero, suc, List, [], ◌∷◌, length, get_or, take, drop, arith}
-use Rattle.std.proofs.lemmas.Bool.{cases_lt}
-use Rattle.marker_store.specs.Entries.{Entry, no_entry, AllBefore, AllFrom, IsCut, Ordered}
+use Rattle.marker_store.proofs.Names.{ℕ, ◌≡◌, ◌+◌, ◌-◌, ◌<◌, ◌≤◌, inl, inr, zero, suc, List, [], ◌∷◌, length, get_or, take, drop, arith, cases_lt, Entry, no_entry, AllBefore, AllFrom, IsCut, Ordered}
 use Rattle.marker_store.proofs.Rows.{before_more, from_less}
 
 pub before_at : (line n i : ℕ) (es : List Entry) → AllBefore line (take n es) → i < n → i < length es → (get_or es i no_entry).line < line
