@@ -120,7 +120,8 @@ static void take_theirs(void *sender, int id, const scintilla_notification *noti
   notified += notification->length;
 }
 
-static unsigned long (*connect_signal)(void *widget, const char *signal, void (*called)(void), void *data, void *destroy, int flags);
+static unsigned long (*connect_signal)(void *sender, const char *signal, void (*called)(void), void *data, void *free,
+                                       int flags);
 
 /* Connects the widget's signal, which calls nothing before. */
 static void listen_to_theirs(void) {
@@ -520,7 +521,8 @@ static void print_table(int side_count, const char *wanted) {
   int quiet_count = compared;
   if (side_count == 2) listen_to_theirs();
   print_rows(notified_rows, sizeof notified_rows / sizeof *notified_rows, notified_sides, side_count, wanted);
-  if (quiet_count > 0) printf("Geometric mean of %d ratios without notifications: %.2f\n", quiet_count, exp(quiet_sum / quiet_count));
+  if (quiet_count > 0)
+    printf("Geometric mean of %d ratios without notifications: %.2f\n", quiet_count, exp(quiet_sum / quiet_count));
 }
 
 static void make_text(void) {
