@@ -120,8 +120,8 @@ static void take_theirs(void *sender, int id, const scintilla_notification *noti
   notified += notification->length;
 }
 
-static unsigned long (*connect_signal)(void *sender, const char *signal, void (*called)(void), void *data, void *free,
-                                       int flags);
+static unsigned long (*connect_signal)(void *sender, const char *signal, void (*called)(void), void *data,
+                                       void *destroy, int flags);
 
 /* Connects the widget's signal, which calls nothing before. */
 static void listen_to_theirs(void) {
