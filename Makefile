@@ -32,7 +32,7 @@ INSTALLED := $(DESTDIR)$(PREFIX)
 INSTALLED_LIB := $(DESTDIR)$(LIBDIR)
 INSTALLED_DOC := $(INSTALLED)/share/doc/hongpilas
 # What the header says to read, and what that refers to.
-DOCS := LICENSE $(addprefix docs/,MESSAGES.md BEHAVIOUR.md PROFILE.md)
+DOCS := LICENSE $(addprefix docs/,MESSAGES.md BEHAVIOUR.md PROFILE.md SCRIPTS.md)
 
 all: out/libhongpilas.a out/libhongpilas.so out/libhongpilas_scintilla.a out/hongpilas.pc out/hongpilas_scintilla.pc
 
@@ -75,10 +75,10 @@ load: out/load out/load_huge
 out/load.a: out/libhongpilas.a
 	objcopy --redefine-sym malloc=load_malloc --redefine-sym realloc=load_realloc --redefine-sym free=load_free $< $@
 
-out/load: tests/load/load.cpp tests/load/blocks.hpp out/load.a include/hongpilas.h
+out/load: tests/load/load.cpp tests/load/blocks.hpp tests/random.h out/load.a include/hongpilas.h
 	$(CXX) -std=c++17 -O2 -g -Wall -Wextra -Iinclude $< out/load.a -ldl -o $@
 
-out/load_huge: tests/load/load_huge.cpp out/libhongpilas.a include/hongpilas.h
+out/load_huge: tests/load/load_huge.cpp tests/random.h out/libhongpilas.a include/hongpilas.h
 	$(CXX) -std=c++17 -O2 -g -Wall -Wextra -Iinclude $< out/libhongpilas.a -o $@
 
 # A program is in examples/c or in tests/c.

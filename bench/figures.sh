@@ -3,6 +3,7 @@
 # the least, the middle and the greatest of its runs, and what is aimed at. Run it on a machine that does nothing else, anywhere in the repository; it
 # takes some minutes. `bench/figures.sh 3` makes 3 runs of each in place of 9; `bench/figures.sh --record` also writes its rows into tools/data/figures.txt,
 # and from there into the pages.
+# shellcheck disable=SC2086,SC2016 # numbers need no quotes, and names of rows have backticks as on a page
 set -u
 top=$(cd "$(dirname "$0")/.." && pwd)
 if [ "${1:-}" = --record ]; then

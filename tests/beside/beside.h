@@ -16,7 +16,7 @@ enum { VIEWS = 3, DOCUMENTS = 256, TEXT = 1 << 17, NOTES = 1 << 13 };
 typedef enum place {
   NOTHING,
   POSITION,
-  COUNT,    /* how many bytes from the position w on, or of the text */
+  COUNT, /* how many bytes from the position w on, or of the text */
   LINE,
   FLAG,
   MARKER,
@@ -30,7 +30,7 @@ typedef enum place {
   MODE,
   ACTION,
   TOKEN,
-  STEP,     /* whether a container's step coalesces */
+  STEP, /* whether a container's step coalesces */
   OPTIONS,
   SEARCH,
   EVENTS,
@@ -118,17 +118,17 @@ void mend_current(const side *ours, const side *theirs, int view);
 typedef struct trial {
   side *ours, *theirs;
   const call *call;
-  int views;          /* how many there are */
+  int views;                                                      /* how many there are */
   int64_t length, lines, caret, anchor, target_start, target_end; /* before the call, of its view */
   bool is_read_only;
-  bool collects;      /* undo */
-  bool is_cut;        /* the caret stands between two characters */
+  bool collects;             /* undo */
+  bool is_cut;               /* the caret stands between two characters */
   int64_t level, last_child; /* of line w */
-  bool is_shown;      /* line w is visible */
+  bool is_shown;             /* line w is visible */
   bool all_shown, is_white;  /* all lines are visible; one has the white flag */
-  unsigned char sent[4096]; /* which messages were sent since the views were opened, by their number less 2000 */
-  int held[DOCUMENTS + 1]; /* how often the caller holds each document */
-  bool is_parted;     /* a state differs: nothing more is compared */
+  unsigned char sent[4096];  /* which messages were sent since the views were opened, by their number less 2000 */
+  int held[DOCUMENTS + 1];   /* how often the caller holds each document */
+  bool is_parted;            /* a state differs: nothing more is compared */
 } trial;
 
 /* Sends a call to both and compares; false where it is one that Scintilla is not sent. */

@@ -97,9 +97,7 @@ static bool is_kind(const SCNotification *note, int kinds) { return note->nmhdr.
 
 static unsigned int deletions(const SCNotification *n) { return is_kind(n, SC_MOD_DELETETEXT | SC_MOD_BEFOREDELETE) ? ITS_TEXT : 0; }
 static unsigned int starts(const SCNotification *n) { return is_kind(n, SC_MOD_DELETETEXT | SC_MOD_INSERTTEXT) ? START : 0; }
-static unsigned int places(const SCNotification *n) {
-  return is_kind(n, SC_MOD_CHANGEFOLD) ? PLACE | KIND : is_kind(n, SC_MOD_CHANGELINESTATE) ? PLACE : 0;
-}
+static unsigned int places(const SCNotification *n) { return is_kind(n, SC_MOD_CHANGEFOLD) ? PLACE | KIND : is_kind(n, SC_MOD_CHANGELINESTATE) ? PLACE : 0; }
 static unsigned int markers(const SCNotification *n) { return is_kind(n, SC_MOD_CHANGEMARKER) ? PLACE | AT_LINE : 0; }
 static unsigned int unchanged(const SCNotification *n) { return is_kind(n, SC_MOD_CHANGEMARKER) ? EXTRA : 0; }
 static unsigned int styling(const SCNotification *n) { return n->nmhdr.code == SCN_STYLENEEDED ? EXTRA : 0; }
@@ -113,9 +111,8 @@ static const struct excuse {
   const char *name;
   unsigned int (*but)(const SCNotification *);
 } excuses[] = {
-    {"deletions", deletions}, {"starts", starts},   {"places", places},         {"markers", markers},
-    {"unchanged", unchanged}, {"styling", styling}, {"containers", containers}, {"lasts", lasts},
-    {"attempts", attempts},   {"ranges", ranges},
+    {"deletions", deletions}, {"starts", starts},         {"places", places}, {"markers", markers},   {"unchanged", unchanged},
+    {"styling", styling},     {"containers", containers}, {"lasts", lasts},   {"attempts", attempts}, {"ranges", ranges},
 };
 
 static const char *excused; /* the names that are asked for */

@@ -22,8 +22,8 @@ void remember_call(const call *c) {
   char text[1024];
   spelled(text, sizeof text, c->text, c->length);
   if (used + sizeof text + 128 > sizeof sent) return;
-  used += (size_t)snprintf(sent + used, sizeof sent - used, "  %s%s: send %d %u %lld %lld \"%s\"\n", c->of->name, c->is_null ? " (null)" : "",
-                           c->view + 1, c->of->number, (long long)c->w, (long long)c->l, text);
+  used += (size_t)snprintf(sent + used, sizeof sent - used, "  %s%s: send %d %u %lld %lld \"%s\"\n", c->of->name, c->is_null ? " (null)" : "", c->view + 1,
+                           c->of->number, (long long)c->w, (long long)c->l, text);
 }
 
 void describe_calls(FILE *to) { fprintf(to, "%.*s", (int)used, sent); }
@@ -35,8 +35,8 @@ static void describe_side(FILE *to, const side *s) {
   for (size_t i = 0; i < a->notes && i < 16; i++) {
     const SCNotification *n = &a->heard[i].note;
     spelled(text, sizeof text, a->texts + a->heard[i].text, n->text == NULL ? 0 : (size_t)n->length);
-    fprintf(to, "    @ %d %u %d %td %td %td %td %d %d %d %d %s\"%s\"\n", a->heard[i].view + 1, n->nmhdr.code, n->modificationType, n->position,
-            n->length, n->linesAdded, n->line, n->foldLevelNow, n->foldLevelPrev, n->token, n->message, n->text == NULL ? "null " : "", text);
+    fprintf(to, "    @ %d %u %d %td %td %td %td %d %d %d %d %s\"%s\"\n", a->heard[i].view + 1, n->nmhdr.code, n->modificationType, n->position, n->length,
+            n->linesAdded, n->line, n->foldLevelNow, n->foldLevelPrev, n->token, n->message, n->text == NULL ? "null " : "", text);
   }
 }
 
@@ -46,9 +46,9 @@ static void describe_view(FILE *to, const side *s, int view) {
   int64_t length = ask(s, view, SCI_GETTEXT, TEXT, (sptr_t)bytes), lines = ask(s, view, SCI_GETLINECOUNT, 0, 0);
   spelled(text, sizeof text, bytes, (size_t)length);
   fprintf(to, "  %s, view %d: \"%s\", caret %lld, anchor %lld, target %lld %lld, modify %lld, undo %lld, redo %lld; lines", s->name, view + 1, text,
-          (long long)ask(s, view, SCI_GETCURRENTPOS, 0, 0), (long long)ask(s, view, SCI_GETANCHOR, 0, 0),
-          (long long)ask(s, view, SCI_GETTARGETSTART, 0, 0), (long long)ask(s, view, SCI_GETTARGETEND, 0, 0),
-          (long long)ask(s, view, SCI_GETMODIFY, 0, 0), (long long)ask(s, view, SCI_CANUNDO, 0, 0), (long long)ask(s, view, SCI_CANREDO, 0, 0));
+          (long long)ask(s, view, SCI_GETCURRENTPOS, 0, 0), (long long)ask(s, view, SCI_GETANCHOR, 0, 0), (long long)ask(s, view, SCI_GETTARGETSTART, 0, 0),
+          (long long)ask(s, view, SCI_GETTARGETEND, 0, 0), (long long)ask(s, view, SCI_GETMODIFY, 0, 0), (long long)ask(s, view, SCI_CANUNDO, 0, 0),
+          (long long)ask(s, view, SCI_CANREDO, 0, 0));
   for (int64_t line = 0; line < lines && line < 20; line++)
     fprintf(to, " %llx/%llx/%lld%s%s", (long long)ask(s, view, SCI_GETFOLDLEVEL, (sptr_t)line, 0), (long long)ask(s, view, SCI_MARKERGET, (sptr_t)line, 0),
             (long long)ask(s, view, SCI_GETLINESTATE, (sptr_t)line, 0), ask(s, view, SCI_GETLINEVISIBLE, (sptr_t)line, 0) ? "" : "h",

@@ -30,8 +30,7 @@ int main(int count, char **words) {
   try_random(&t, of_examples + atol(words[3]), strtoull(words[4], NULL, 10));
   long unlisted = print_table();
   printf("%d examples with %ld calls, and %ld calls at random\n", examples, of_examples, calls_sent - of_examples);
-  printf("%ld values, %ld buffers, %ld notifications and %ld states were compared\n", values_compared, buffers_compared, notes_compared,
-         states_compared);
+  printf("%ld values, %ld buffers, %ld notifications and %ld states were compared\n", values_compared, buffers_compared, notes_compared, states_compared);
   printf("%ld passed, %ld failed\n", calls_sent - (unlisted > calls_sent ? calls_sent : unlisted), unlisted);
   return unlisted != 0;
 }

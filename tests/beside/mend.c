@@ -45,8 +45,9 @@ static const struct mender {
   const char *part;
   void (*mend)(const pair *);
 } menders[] = {
-    {"selection", mend_selection}, {"target", mend_target},     {"endstyled", mend_end_styled}, {"levels", mend_levels},
-    {"states", mend_states},       {"visible", mend_visible},   {"expanded", mend_expanded},};
+    {"selection", mend_selection}, {"target", mend_target},   {"endstyled", mend_end_styled}, {"levels", mend_levels},
+    {"states", mend_states},       {"visible", mend_visible}, {"expanded", mend_expanded},
+};
 
 bool mend(const side *ours, const side *theirs, int view, int part) {
   pair at = {ours, theirs, view};

@@ -1,7 +1,9 @@
 /* The messages of the profile: what their arguments stand for, how often they are drawn (tools/pages/drawn.py), and whether they edit the text. */
 #include "beside.h"
 
+// clang-format off
 #define M(name, w, l, weight, edits) {#name, SCI_##name, w, l, weight, edits}
+// clang-format on
 
 const message messages[] = {
     // Written by tools/pages/wrappers.py: begin

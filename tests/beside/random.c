@@ -1,4 +1,5 @@
 /* Calls that are drawn at random, in short episodes: each begins with new views, and ends where the states part. */
+#include "../random.h"
 #include "beside.h"
 
 #include <stdlib.h>
@@ -8,20 +9,17 @@ enum { CALLS = 80, RARELY = 60 };
 
 static uint64_t seed;
 
-static int64_t below(int64_t bound) {
-  seed ^= seed << 13;
-  seed ^= seed >> 7;
-  seed ^= seed << 17;
-  return (int64_t)(seed % (uint64_t)bound);
-}
+static int64_t below(int64_t bound) { return (int64_t)(next_shifted(&seed) % (uint64_t)bound); }
 
 static int64_t between(int64_t from, int64_t to) { return from + below(to - from + 1); }
 static bool one_in(int64_t count) { return below(count) == 0; }
 
+// clang-format off
 static const struct piece { const char *bytes; size_t length; } pieces[] = {
     {"a", 1}, {"b", 1}, {"A", 1}, {"ab", 2}, {"x_1", 3}, {" ", 1}, {"\t", 1}, {"\n", 1}, {"\n", 1}, {"\r", 1}, {"\r\n", 2}, {"e\n", 2},
     {"\xC3\xA9", 2}, {"\xE2\x82\xAC", 3}, {"\xF0\x9D\x84\x9E", 4}, {"\xC3", 1}, {"\xFF", 1}, {"\xE2\x80\xA8", 3}, {"\xC2\x85", 2}, {"\0", 1},
 };
+// clang-format on
 
 /* A text of a few pieces: `closed` without NULs; at times one of the document's own. */
 static void draw_text(const trial *t, call *c, bool is_closed) {

@@ -36,9 +36,7 @@ static bool same_for(const look *at, unsigned int bound, unsigned int number) {
   return true;
 }
 
-static bool same_lines(const look *at) {
-  return agree(at, SCI_GETLINECOUNT, 0, 0) && same_for(at, SCI_GETLINECOUNT, SCI_POSITIONFROMLINE);
-}
+static bool same_lines(const look *at) { return agree(at, SCI_GETLINECOUNT, 0, 0) && same_for(at, SCI_GETLINECOUNT, SCI_POSITIONFROMLINE); }
 
 static bool same_styles(const look *at) { return same_for(at, SCI_GETLENGTH, SCI_GETSTYLEAT); }
 static bool same_levels(const look *at) { return same_for(at, SCI_GETLINECOUNT, SCI_GETFOLDLEVEL); }
@@ -72,8 +70,8 @@ static bool same_target(const look *at) {
 static bool same_modify(const look *at) { return agree(at, SCI_GETMODIFY, 0, 0); }
 
 static bool same_document_settings(const look *at) {
-  static const unsigned int numbers[] = {SCI_GETREADONLY,         SCI_GETEOLMODE,             SCI_GETUNDOCOLLECTION, SCI_CANPASTE,
-                                         SCI_GETDOCUMENTOPTIONS, SCI_GETLINEENDTYPESALLOWED, 0};
+  static const unsigned int numbers[] = {
+      SCI_GETREADONLY, SCI_GETEOLMODE, SCI_GETUNDOCOLLECTION, SCI_CANPASTE, SCI_GETDOCUMENTOPTIONS, SCI_GETLINEENDTYPESALLOWED, 0};
   return agree_all(at, numbers);
 }
 
@@ -82,12 +80,12 @@ static bool same_view_settings(const look *at) {
   return agree_all(at, numbers);
 }
 
-const char *const part_names[PARTS] = {"text",     "lines",     "styles", "endstyled", "levels", "states",  "markers",  "visible",
-                                       "expanded", "selection", "target", "modify",   "document", "view", "indicators"};
+const char *const part_names[PARTS] = {"text",     "lines",     "styles", "endstyled", "levels",   "states", "markers",   "visible",
+                                       "expanded", "selection", "target", "modify",    "document", "view",   "indicators"};
 
 static bool (*const parts[PARTS])(const look *) = {
-    same_text,     same_lines,     same_styles, same_end_styled, same_levels, same_states,            same_markers,       same_visible,
-    same_expanded, same_selection, same_target, same_modify,     same_document_settings, same_view_settings, same_indicators};
+    same_text,      same_lines,  same_styles, same_end_styled,        same_levels,        same_states,    same_markers, same_visible, same_expanded,
+    same_selection, same_target, same_modify, same_document_settings, same_view_settings, same_indicators};
 
 int differing_part(const side *ours, const side *theirs, int view, int from) {
   look at = {ours, theirs, view};

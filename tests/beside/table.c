@@ -16,7 +16,11 @@ static int row_count;
 static long unlisted;
 
 /* What is in no row: counted by what differs and by the message, and described once. */
-static struct kind { const char *what; const message *of; long count; } kinds[KINDS];
+static struct kind {
+  const char *what;
+  const message *of;
+  long count;
+} kinds[KINDS];
 static int kind_count;
 
 static char *trimmed(char *text) {

@@ -41,8 +41,7 @@ static bool same_text(const answer *a, const heard *x, const answer *b, const he
 static bool same_note(const answer *a, const heard *x, const answer *b, const heard *y, unsigned int but) {
   const SCNotification *m = &x->note, *n = &y->note;
   bool is_record = m->nmhdr.code == SCN_MACRORECORD;
-  int bits = ((but & START) != 0 ? SC_STARTACTION : 0) |
-             ((but & LAST) != 0 ? SC_LASTSTEPINUNDOREDO | SC_MULTISTEPUNDOREDO | SC_MULTILINEUNDOREDO : 0);
+  int bits = ((but & START) != 0 ? SC_STARTACTION : 0) | ((but & LAST) != 0 ? SC_LASTSTEPINUNDOREDO | SC_MULTISTEPUNDOREDO | SC_MULTILINEUNDOREDO : 0);
   if (x->view != y->view || m->nmhdr.code != n->nmhdr.code || m->nmhdr.idFrom != n->nmhdr.idFrom) return false;
   if ((but & PLACE) == 0 && m->position != n->position) return false;
   if ((but & KIND) == 0 && ((m->modificationType ^ n->modificationType) & ~bits) != 0) return false;

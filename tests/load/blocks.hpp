@@ -54,9 +54,15 @@ class Document {
   Number length() const { return length_; }
   Number lines() const { return lines_; }
 
-  Bytes text(Number from, Number to) const { return slice(from, to, [](const Block &b) -> const Bytes & { return b.bytes; }); }
-  Bytes styles(Number from, Number to) const { return slice(from, to, [](const Block &b) -> const Bytes & { return b.styles; }); }
-  Bytes values(size_t k, Number from, Number to) const { return slice(from, to, [k](const Block &b) -> const Bytes & { return b.values[k]; }); }
+  Bytes text(Number from, Number to) const {
+    return slice(from, to, [](const Block &b) -> const Bytes & { return b.bytes; });
+  }
+  Bytes styles(Number from, Number to) const {
+    return slice(from, to, [](const Block &b) -> const Bytes & { return b.styles; });
+  }
+  Bytes values(size_t k, Number from, Number to) const {
+    return slice(from, to, [k](const Block &b) -> const Bytes & { return b.values[k]; });
+  }
 
   void set_styles(Number from, const Bytes &styles) {
     write(from, Number(styles.size()), [&](Block &b, size_t at, size_t n, size_t done) { b.styles.replace(at, n, styles, done, n); });
@@ -342,9 +348,9 @@ class Document {
     auto at = [&](Number p) { return p >= base && p - base < Number(around.size()) ? unsigned(static_cast<unsigned char>(around[size_t(p - base)])) : 256; };
     Rows made;
     for (Number p = from; p <= to; p++) {
-      bool starts = p == 0 || at(p - 1) == '\n' || (at(p - 1) == '\r' && at(p) != '\n') ||
-                    (unicode && ((at(p - 2) == 0xC2 && at(p - 1) == 0x85) ||
-                                 (at(p - 3) == 0xE2 && at(p - 2) == 0x80 && (at(p - 1) == 0xA8 || at(p - 1) == 0xA9))));
+      bool starts =
+          p == 0 || at(p - 1) == '\n' || (at(p - 1) == '\r' && at(p) != '\n') ||
+          (unicode && ((at(p - 2) == 0xC2 && at(p - 1) == 0x85) || (at(p - 3) == 0xE2 && at(p - 2) == 0x80 && (at(p - 1) == 0xA8 || at(p - 1) == 0xA9))));
       if (starts) made.push_back({p, Row()});
     }
     std::vector<bool> taken(made.size(), false);

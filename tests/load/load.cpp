@@ -4,6 +4,7 @@
 // each fifth in half an hour and more, it tells the memory that the library holds beside what is alive, and at the end the times. Where Scintilla's
 // library is named it does the same work, and is timed too. The document of 8 MiB has line ends of Unicode where Scintilla does not work beside.
 // It is linked with a copy of the library that takes its memory by load_malloc, load_realloc and load_free (objcopy --redefine-sym). C++17.
+#include "../random.h"
 #include "blocks.hpp"
 
 #include <hongpilas.h>
@@ -84,15 +85,11 @@ static const char *const group_names[GROUPS] = {"insert, delete, replace", "undo
                                                 "search in 64 KiB", "questions, caret"};
 static Times ours[GROUPS], theirs[GROUPS];
 
-// The random generator (splitmix64).
-
 static std::uint64_t state;
 
 static Number below(Number bound) {
-  std::uint64_t x = state += 0x9E3779B97F4A7C15;
-  x = (x ^ x >> 30) * 0xBF58476D1CE4E5B9;
-  x = (x ^ x >> 27) * 0x94D049BB133111EB;
-  return bound <= 0 ? 0 : Number((x ^ x >> 31) % std::uint64_t(bound));
+  std::uint64_t drawn = next_random(&state);
+  return bound <= 0 ? 0 : Number(drawn % std::uint64_t(bound));
 }
 
 // Both sides, and the model.

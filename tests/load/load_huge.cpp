@@ -4,6 +4,8 @@
 // once more when all of it is undone. Then messages of each kind are sent about 2^32, whose answers, texts and notes follow from the model. The times
 // of calls stand at the end; a jump from one place to another moves all bytes between, and has a row of its own.
 // It needs some 13 GB of memory at most: the text has grown by doubling, and the styles behind 2^32 are as long as it is. C++17.
+#include "../random.h"
+
 #include <hongpilas.h>
 
 #include <algorithm>
@@ -33,10 +35,8 @@ static void fail(const char *what, Number found = 0, Number wanted = 0) {
 
 static Number below(Number bound) {
   static std::uint64_t state = 7;
-  std::uint64_t x = state += 0x9E3779B97F4A7C15;
-  x = (x ^ x >> 30) * 0xBF58476D1CE4E5B9;
-  x = (x ^ x >> 27) * 0x94D049BB133111EB;
-  return bound <= 0 ? 0 : Number((x ^ x >> 31) % std::uint64_t(bound));
+  std::uint64_t drawn = next_random(&state);
+  return bound <= 0 ? 0 : Number(drawn % std::uint64_t(bound));
 }
 
 static double now_us() { return double(std::chrono::steady_clock::now().time_since_epoch().count()) / 1e3; }

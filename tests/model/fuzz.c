@@ -14,6 +14,7 @@
  * It is linked with a copy of the library, and of the door, that takes its memory by fuzz_malloc, fuzz_realloc and fuzz_free, so that nothing else in
  * the program does; see fuzzing. */
 #define _GNU_SOURCE
+#include "../random.h"
 #include "fuzz_draw.h"
 #include "model.h"
 #include "questions.h"
@@ -452,14 +453,6 @@ int LLVMFuzzerTestOneInput(const uint8_t *data, size_t size) {
 }
 
 #ifndef LIBFUZZER
-
-/* A generator of 64 bits a step (splitmix64). */
-static uint64_t next_random(uint64_t *state) {
-  uint64_t x = *state += 0x9E3779B97F4A7C15;
-  x = (x ^ x >> 30) * 0xBF58476D1CE4E5B9;
-  x = (x ^ x >> 27) * 0x94D049BB133111EB;
-  return x ^ x >> 31;
-}
 
 #ifndef HAS_ASAN
 /* Whether an address is in one of the pages around guarded memory. */

@@ -15,6 +15,7 @@ typedef struct shape {
   const char *w_and_l;
 } shape;
 
+// clang-format off
 static const shape shapes[] = {
     {SCI_ADDTEXT, "t-"},           {SCI_INSERTTEXT, "p-"},         {SCI_GETCHARAT, "p-"},         {SCI_GETSTYLEAT, "p-"},      {SCI_GETSTYLEDTEXT, "pe"},
     {SCI_GETLINEENDPOSITION, "l-"}, {SCI_GETTEXT, "p-"}, {SCI_GETCURLINE, "p-"}, {SCI_SETREADONLY, "0-"},        {SCI_GETLINE, "l-"},           {SCI_GETTEXTRANGE, "pe"},    {SCI_LINEFROMPOSITION, "p-"},
@@ -34,12 +35,13 @@ static const shape shapes[] = {
     {SCI_SHOWLINES, "ll"},         {SCI_HIDELINES, "ll"},          {SCI_GETLINEVISIBLE, "l-"},    {SCI_SETFOLDEXPANDED, "l3"}, {SCI_GETFOLDEXPANDED, "l-"},
     {SCI_FOLDLINE, "l2"},          {SCI_TOGGLEFOLD, "l-"},         {SCI_ENSUREVISIBLE, "l-"},     {SCI_SETDOCPOINTER, "-d"},   {SCI_CREATEDOCUMENT, "3o"},
     {SCI_ADDREFDOCUMENT, "-d"},    {SCI_RELEASEDOCUMENT, "-d"},    {SCI_SETLINEENDTYPESALLOWED, "3-"}, {SCI_SETMODEVENTMASK, "x-"}};
+// clang-format on
 
 /* Messages that come oftener than others. */
 static const uint32_t favoured[] = {
-    SCI_ADDTEXT,      SCI_ADDTEXT,      SCI_INSERTTEXT, SCI_INSERTTEXT, SCI_INSERTTEXT,    SCI_DELETERANGE,        SCI_DELETERANGE, SCI_UNDO,
+    SCI_ADDTEXT,      SCI_ADDTEXT,      SCI_INSERTTEXT, SCI_INSERTTEXT, SCI_INSERTTEXT,    SCI_DELETERANGE,        SCI_DELETERANGE,  SCI_UNDO,
     SCI_UNDO,         SCI_UNDO,         SCI_REDO,       SCI_REDO,       SCI_MARKERADD,     SCI_MARKERADD,          SCI_SETFOLDLEVEL, SCI_SETFOLDLEVEL,
-    SCI_SETFOLDLEVEL, SCI_SETFOLDLEVEL, SCI_FOLDLINE,   SCI_FOLDLINE,   SCI_ENSUREVISIBLE, SCI_INDICATORFILLRANGE, SCI_PASTE,       SCI_SETSTYLING,
+    SCI_SETFOLDLEVEL, SCI_SETFOLDLEVEL, SCI_FOLDLINE,   SCI_FOLDLINE,   SCI_ENSUREVISIBLE, SCI_INDICATORFILLRANGE, SCI_PASTE,        SCI_SETSTYLING,
     SCI_HIDELINES,    SCI_DELETEBACK,   SCI_NEWLINE,    SCI_CLEAR,      SCI_REPLACETARGET, SCI_SEARCHINTARGET,     SCI_SETSAVEPOINT, SCI_EMPTYUNDOBUFFER};
 
 typedef struct around {
@@ -48,8 +50,10 @@ typedef struct around {
 
 /* A number near some limit, or anywhere. */
 static int64_t hostile_number(uint8_t kind, uint8_t x, const around *a) {
+  // clang-format off
   static const int64_t limits[] = {INT64_MIN, INT64_MIN + 1, INT64_MAX, INT64_MAX - 1, INT32_MIN, (int64_t)INT32_MIN - 1, INT32_MAX, (int64_t)INT32_MAX + 1,
                                    UINT32_MAX, (int64_t)UINT32_MAX + 1, 0x7FFFFF, 0x800000, 0x10000000000, 0xFFFFFFFFFF, 255, 256, 31, 32, 1024, -2};
+  // clang-format on
   switch (kind % 12) {
     case 0: return x % 4;
     case 1: return x;
@@ -105,8 +109,10 @@ static const char *shape_of(uint32_t number) {
 
 /* A text of fragments; most are short. */
 static size_t draw_text(uint8_t kind, uint8_t x, uint8_t *into) {
+  // clang-format off
   static const char *fragments[] = {"a",  "b", "\n",  "\r", "\r\n", "\n\n", "ab", "A_ b", "\xC2\x85", "\xE2\x80\xA8", "\xE2\x80\xA9", "\xE2", "\x80", "\xA8",
                                     "\xC2", "\x85", "\xC3\xA9", "\xF0\x9F\x99\x82", "\xED\xA0\x80", "x\ny", "\r\r\n", "abcdefgh", "\n\r", " "};
+  // clang-format on
   enum { FRAGMENTS = sizeof fragments / sizeof *fragments };
   size_t count = kind < 24 ? 0 : kind < 96 ? 1 : kind < 160 ? 2 : kind < 208 ? 4 : kind < 240 ? 8 : 24, used = 0;
   uint32_t mixed = (uint32_t)(kind * 256 + x) * 2654435761u;

@@ -18,6 +18,7 @@ typedef struct manners {
   const char *letters;
 } manners;
 
+// clang-format off
 static const manners documented[] = {
     {SCI_ADDTEXT, "-N-"},          {SCI_INSERTTEXT, "-Z-"},      {SCI_GETCHARAT, "--c"},     {SCI_GETSTYLEAT, "--c"},          {SCI_GETSTYLEDTEXT, "-u-"},
     {SCI_SETREADONLY, "--1"},      {SCI_GETCURLINE, "-b-"},      {SCI_GETLINE, "-r-"},       {SCI_GETTEXTRANGE, "-t-"},        {SCI_SETTEXT, "-Z1"},
@@ -29,6 +30,7 @@ static const manners documented[] = {
     {SCI_INDICATORALLONFOR, "--i"}, {SCI_INDICATORVALUEAT, "i-i"}, {SCI_GETTARGETTEXT, "-r-"}, {SCI_SETSEARCHFLAGS, "i--"},    {SCI_SEARCHINTARGET, "-nf"},
     {SCI_REPLACETARGET, "-e-"},    {SCI_SETFOLDLEVEL, "-i-"},    {SCI_GETFOLDLEVEL, "--i"},  {SCI_GETFOLDPARENT, "--f"},       {SCI_GETLASTCHILD, "-i-"},
     {SCI_FOLDLINE, "-i-"},         {SCI_CREATEDOCUMENT, "-i-"},   {SCI_SETLINEENDTYPESALLOWED, "i--"}, {SCI_SETMODEVENTMASK, "i--"}};
+// clang-format on
 
 static const char *manners_of(uint32_t number) {
   for (size_t i = 0; i < sizeof documented / sizeof *documented; i++)

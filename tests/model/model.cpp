@@ -49,9 +49,9 @@ static Number sequence_at(const Bytes &text, Number place) {
     unsigned first, last, from, to;
     Number length;
   };
-  static const Form forms[] = {{0x00, 0x7F, 0, 0, 1},       {0xC2, 0xDF, 0x80, 0xBF, 2}, {0xE0, 0xE0, 0xA0, 0xBF, 3}, {0xE1, 0xEC, 0x80, 0xBF, 3},
-                               {0xED, 0xED, 0x80, 0x9F, 3}, {0xEE, 0xEF, 0x80, 0xBF, 3}, {0xF0, 0xF0, 0x90, 0xBF, 4}, {0xF1, 0xF3, 0x80, 0xBF, 4},
-                               {0xF4, 0xF4, 0x80, 0x8F, 4}};
+  static const Form forms[] = {{0x00, 0x7F, 0, 0, 1},       {0xC2, 0xDF, 0x80, 0xBF, 2}, {0xE0, 0xE0, 0xA0, 0xBF, 3},
+                               {0xE1, 0xEC, 0x80, 0xBF, 3}, {0xED, 0xED, 0x80, 0x9F, 3}, {0xEE, 0xEF, 0x80, 0xBF, 3},
+                               {0xF0, 0xF0, 0x90, 0xBF, 4}, {0xF1, 0xF3, 0x80, 0xBF, 4}, {0xF4, 0xF4, 0x80, 0x8F, 4}};
   for (const Form &form : forms) {
     if (at(text, place) < form.first || at(text, place) > form.last) continue;
     if (form.length > 1 && (at(text, place + 1) < form.from || at(text, place + 1) > form.to)) return 0;
@@ -381,8 +381,7 @@ void model_free(model *session) { delete session; }
 
 hongpilas_answer model_new_view(model *m, uint32_t *view) {
   plain::Session &s = m->session;
-  if (s.views.size() >= s.limits.views || std::uint64_t(s.next_view) > s.limits.ids || std::uint64_t(s.next_document) > s.limits.ids)
-    return HONGPILAS_TOO_MANY;
+  if (s.views.size() >= s.limits.views || std::uint64_t(s.next_view) > s.limits.ids || std::uint64_t(s.next_document) > s.limits.ids) return HONGPILAS_TOO_MANY;
   *view = std::uint32_t(s.next_view++);
   s.views[*view] = plain::View();
   s.attach(*view, s.new_document(0));

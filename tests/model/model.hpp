@@ -1,4 +1,4 @@
-// What the plain model keeps (model.h): model.cpp has steps, history and notes, model_messages.cpp the messages. C++17.
+// What the plain model keeps (model.h): model.cpp has steps, history and notes, model_messages.cpp and model_lines.cpp the messages. C++17.
 #ifndef MODEL_HPP
 #define MODEL_HPP
 

@@ -51,9 +51,10 @@ static void print_reply(const model *session) {
   std::printf("= %" PRId64 " %s\n", model_value(session), spelled(text, length).c_str());
   hongpilas_note_data n;
   for (size_t i = 0; model_note(session, i, &n); i++)
-    std::printf("@ %u %u %u "
-                "%" PRId64 " %" PRId64 " %" PRId64 " %" PRId64 " %" PRId64 " %" PRId64 " %" PRId64 " %u %" PRId64 " %" PRId64 " %s\n", n.view, n.code,
-                n.kind, n.position, n.length, n.lines, n.line, n.now, n.prev, n.token, n.message, n.w, n.l, spelled(n.text, n.text_length).c_str());
+    std::printf(
+        "@ %u %u %u "
+        "%" PRId64 " %" PRId64 " %" PRId64 " %" PRId64 " %" PRId64 " %" PRId64 " %" PRId64 " %u %" PRId64 " %" PRId64 " %s\n",
+        n.view, n.code, n.kind, n.position, n.length, n.lines, n.line, n.now, n.prev, n.token, n.message, n.w, n.l, spelled(n.text, n.text_length).c_str());
 }
 
 int main(int count, char **words) {

@@ -43,9 +43,9 @@ done_within() {
 
 : >"$work/in"
 for script in "$top"/examples/messages/*.sci; do
-    files=""
-    [ -f "${script%.sci}.file1" ] && files=${script%.sci}.file1
-    kept "run $(basename "$script")" 4000000 "$program" run "$script" $files
+    set -- "$script"
+    [ ! -f "${script%.sci}.file1" ] || set -- "$script" "${script%.sci}.file1"
+    kept "run $(basename "$script")" 4000000 "$program" run "$@"
     kept "list $(basename "$script")" 4000000 "$program" list "$script"
     done_within "check $(basename "$script")" 200000 "$program" check "$script"
 done

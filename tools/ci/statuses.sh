@@ -2,6 +2,7 @@
 # Checks the exit statuses of sci_console, what it prints and its lines on standard error, each fault of a script, and a session of steps, as
 # each compiler built it. Run it anywhere in the repository: it takes the programs that `rt ci` left, and where there are none builds one first.
 # `rt run` leaves the program of one compiler: a line says then that the other's was not tried. A row that cannot be tried here has such a line, too.
+# shellcheck disable=SC2086 # a list of words is kept in a variable, since sh has no arrays, and split where it is used
 set -u
 top=$(cd "$(dirname "$0")/../.." && pwd)
 out=$top/crates/sci_console/out
@@ -138,6 +139,7 @@ check_statuses() {
     expect_forbidden 'a file that cannot be read' file run good.sci file
     chmod 644 file
     # Where memory is short.
+    # shellcheck disable=SC3045 # dash and bash have ulimit -v
     (ulimit -v 8192 && "$program" check long.sci >out 2>err)
     tell_fault 'little memory' $? 1 'out of memory'
 }
@@ -257,6 +259,7 @@ check_prefixes() {
     while [ "$count" -le "$length" ]; do
         head -c "$count" worked.sci >in
         lines=$(wc -l <in)
+        # shellcheck disable=SC2094 # `lines` is a number in the one place and a file in the other
         head -n "$lines" in >lines
         if [ "$lines" -gt 0 ] && cmp -s in lines; then
             expect "the first $count bytes" 0 "ok $((lines - 1))\n" '' check -
@@ -326,7 +329,7 @@ check_outside() {
     { printf 'sci 1\nopen\nsend 1 2003 0 0 "%s"\n' "$(bytes 60000)"; for line in 1 2 3 4 5 6 7 8; do printf 'send 1 2182 0 0 ""\n'; done; } >wide.sci
     "$program" run wide.sci >printed 2>err
     tell_fault 'a script that prints much' $? 0 ''
-    for order in 1 2 3 4 5 6 7 8 9 10; do echo n; done >wide.orders
+    yes n | head -n 10 >wide.orders
     mkdir folder
 
     # A folder.
@@ -398,14 +401,14 @@ check_outside() {
     # A file that grows while it is read: its text is that of some length that it had.
     printf 'sci 1\nopen\nload 1 1\nsend 1 2006 0 0 ""\n' >length.sci
     bytes 8000000 >grows
-    (for piece in $(seq 300); do bytes 4096; done >>grows) &
+    (for _ in $(seq 300); do bytes 4096; done >>grows) &
     "$program" run --quiet length.sci grows >out 2>err
     got=$?
     wait $!
     length=$(sed -n '3s/^= \([0-9]*\) ""$/\1/p' out)
     if [ "${length:-0}" -ge 8000000 ] && [ "$length" -le 9228800 ]; then tell_fault 'a FILE that grows' $got 0 ''; else tell 'a FILE that grows' "length $length, status $got"; fi
     cp good.sci grows.sci
-    (for piece in $(seq 300); do printf 'send 1 2006 0 0 ""\n'; done >>grows.sci) &
+    (for _ in $(seq 300); do printf 'send 1 2006 0 0 ""\n'; done >>grows.sci) &
     "$program" check grows.sci >out 2>err
     got=$?
     wait $!

@@ -15,6 +15,7 @@ import os
 import re
 import subprocess
 import sys
+import textwrap
 from datetime import datetime, timezone
 
 TOP = os.path.dirname(os.path.dirname(os.path.dirname(os.path.abspath(__file__))))
@@ -24,6 +25,7 @@ HEAD = """# What was measured last. Each part is of one commit and one machine. 
 # tools/pages/figures.py writes the tables of README.md and docs/FIGURES.md from it.
 """
 SIZES = ("1 MiB", "16 MiB")
+MISSED = "Aims that are missed in the middle of the runs:"
 # The rows of the README: what it calls them, and what `bench/messages` does.
 CITED = {
     "typing": "typing, a line end each 40",
@@ -133,7 +135,18 @@ def of_sessions():
         least, middle, greatest = (values.get(word, "") for word in ("least", "middle", "greatest"))
         spread = f"{least.split()[0]} to {greatest}" if least else ""
         return [name, spread, middle if not least else middle.split()[0], values.get("aim", "")]
-    return table(["What", "Least to greatest", "In the middle", "Aim"], [[with_commas(cell) for cell in cells(row)] for row in parts()[SESSIONS][1]])
+    rows = parts()[SESSIONS][1]
+    return table(["What", "Least to greatest", "In the middle", "Aim"], [[with_commas(cell) for cell in cells(row)] for row in rows]) + missed(rows)
+
+
+def missed(rows):
+    """Which rows are above an aim that is a number: a paragraph below the table."""
+    above = []
+    for name, values in map(values_of, rows):
+        aim = re.fullmatch(r"([\d.]+) (\w+)", values.get("aim", ""))
+        if aim and number(values["middle"]) > float(aim[1]):
+            above.append(f"{name} ({number(values['middle']):g} instead of {aim[1]} {aim[2]})")
+    return "\n" + textwrap.fill(with_commas(f"{MISSED} {'; '.join(above) or 'none'}."), 160) + "\n"
 
 
 # ---- The pages ----
@@ -149,7 +162,7 @@ def replaced(page, title, pattern, new):
 
 def pages():
     """What the pages are to be."""
-    figures = replaced(read(FIGURES), "Messages to a session", r"(^\|[^\n]*\n)+", of_sessions())
+    figures = replaced(read(FIGURES), "Messages to a session", rf"(^\|[^\n]*\n)+(\n{MISSED}(?:[^\n]+\n)+)?", of_sessions())
     figures = replaced(figures, "Beside Scintilla", r"(^\|[^\n]*\n)+", beside_scintilla())
     return {README: replaced(read(README), "Figures", r"\A.*\Z", of_readme()), FIGURES: figures}
 

@@ -1,11 +1,11 @@
 #!/usr/bin/env python3
-"""Writes the table of wrong bodies in docs/WRONG_BODIES.md, from crates/*/must-fail and tools/data/refused.txt.
+"""Prints which clauses refuse each mutant of the crates, from crates/*/must-fail and tools/data/refused.txt.
 
-    tools/pages/refused.py                    writes the table
-    tools/pages/refused.py --check            writes nothing, and ends with status 1 where the table is not what it would write, where
-                                        tools/data/refused.txt names no body, or where the gate does not try a body of the page's first table
-    tools/pages/refused.py --learn FOLDER     takes from the files of `tools/ci/wrong_bodies --said FOLDER` which clauses refuse a body, puts them
-                                        into tools/data/refused.txt in the place of what stood there, if they say as much, and writes the table
+    tools/pages/refused.py [CRATE..]          prints a table for each of these crates, or for all: the mutants by the function in which they stand
+    tools/pages/refused.py --check            ends with status 1 where tools/data/refused.txt names no mutant or is not sorted, or where CI does not
+                                              try a mutant of the first table of docs/WRONG_BODIES.md
+    tools/pages/refused.py --learn FOLDER     takes from the files of `tools/ci/wrong_bodies --said FOLDER` which clauses refuse a mutant, and puts
+                                              them into tools/data/refused.txt in the place of what stood there, if they say as much
 
 tools/data/refused.txt has a line `CRATE/NAME CLAUSE..` for each body of which it is known which clauses are not proved with it, sorted. A
 CLAUSE is the name of one of the function in which the body stands, or `ensures` if it has no name; FUNCTION.CLAUSE of what a call requires,
@@ -44,7 +44,6 @@ NOTED = re.compile(r"^note: \S+:\d+:\d+: it is not proved that .*?\(`([^`]+)`\)"
 ANSWER = re.compile(r"^\./proofs/(\S+)/\w+\.antt:\d+:\d+: error: (?:`([^`]+)`: )?(.*)$", re.M)
 # What is wrong with an answer by hand whose goal is there, and is not what it proves.
 FITS = re.compile(r"the two types |no proof of ")
-BEGIN, END = (f"<!-- Written by tools/pages/refused.py: {word} -->" for word in ("begin", "end"))
 HEAD = """# Which clauses refuse each wrong body: CRATE/NAME CLAUSE.. (tools/pages/refused.py says how they are written). What `tools/ci/wrong_bodies --said`
 # has not told yet was read by hand.
 """
@@ -168,28 +167,19 @@ def shown(clause):
 
 
 def table(found, known):
-    """The generated part of the page: a table for each crate, by function and name."""
+    """A table for each crate, by function and name."""
     by_gate = sum(is_gate for _, _, is_gate in found.values())
     crates = sorted({crate for crate, _ in found})
-    count = f"{len(found):,} wrong bodies in {len(crates)} crates. The gate tries {by_gate}, which are marked"
-    lines = [f"{count}. What refuses a body is known of {len(known):,}."]
+    count = f"{len(found):,} mutants in {len(crates)} crates. CI tries {by_gate}, which are marked"
+    lines = [f"{count}. What refuses one is known of {len(known.keys() & found.keys()):,}."]
     for crate in crates:
         rows = sorted((place, name, told, is_gate) for (of, name), (place, told, is_gate) in found.items() if of == crate)
-        lines += ["", f"### `{crate}`: {len(rows)}", "", "| Name | Function | Refused by | Gate |", "|---|---|---|---|"]
+        lines += ["", f"### `{crate}`: {len(rows)}", "", "| Name | Function | Refused by | CI |", "|---|---|---|---|"]
         for place, name, told, is_gate in rows:
             refused = ", ".join(shown(it) for it in known.get((crate, name), ()))
-            cells = (f"`{name}`" + f": {told}" * bool(told), place, refused, "gate" * is_gate)
+            cells = (f"`{name}`" + f": {told}" * bool(told), place, refused, "CI" * is_gate)
             lines.append("".join(f"| {cell} " if cell else "| " for cell in cells) + "|")
     return "\n".join(lines)
-
-
-def page(found, known):
-    """The page with the table anew."""
-    parts = re.split(f"({re.escape(BEGIN)}\n).*?(\n{re.escape(END)})", read(PAGE), flags=re.S)
-    if len(parts) != 4:
-        sys.exit(f"{PAGE} does not have the lines `{BEGIN}` and `{END}` once")
-    before, begin, end, after = parts
-    return before + begin + table(found, known) + end + after
 
 
 def first_bodies():
@@ -202,12 +192,10 @@ def first_bodies():
 
 def faults(found, known):
     by_gate = {it for it, (_, _, is_gate) in found.items() if is_gate}
-    yield from (f"{PAGE}: the gate does not try {'/'.join(it)}, of its first table" for it in sorted(first_bodies() - by_gate))
+    yield from (f"{PAGE}: CI does not try {'/'.join(it)}, of its first table" for it in sorted(first_bodies() - by_gate))
     yield from (f"{FILE}: there is no {'/'.join(it)}" for it in sorted(known.keys() - found.keys()))
     if list(known) != sorted(known):
         yield f"{FILE} is not sorted"
-    if read(PAGE) != page(found, known):
-        yield f"{PAGE}: its table is not that of the wrong bodies: run tools/pages/refused.py"
 
 
 def learn(folder, found, known):
@@ -220,16 +208,17 @@ def learn(folder, found, known):
 
 
 def main(arguments):
-    is_learning = len(arguments) == 2 and arguments[0] == "--learn"
-    if arguments not in ([], ["--check"]) and not is_learning:
-        sys.exit(__doc__)
     found, known = bodies(), clauses()
-    if is_learning:
+    crates = {crate for crate, _ in found}
+    if arguments[:1] == ["--learn"] and len(arguments) == 2:
         known = learn(arguments[1], found, known)
-    if arguments != ["--check"]:
-        write(PAGE, page(found, known))
+    elif arguments != ["--check"]:
+        if not crates.issuperset(arguments):
+            sys.exit(__doc__)
+        print(table({it: told for it, told in found.items() if it[0] in (arguments or crates)}, known))
+        return 0
     wrong = list(faults(found, known))
-    print("\n".join(wrong) or f"the table of {PAGE} is that of {len(found):,} wrong bodies")
+    print("\n".join(wrong) or f"{FILE} is of {len(found):,} mutants")
     return 1 if wrong else 0
 
 
