@@ -1,6 +1,6 @@
 #!/usr/bin/env python3
-"""Checks the entries of docs/MESSAGES.md: each message of the table in crates/ed_types has one, with its name, number and marks, a numeric query has the
-mark A, and the script that an entry links sends its message.
+"""Checks docs/MESSAGES.md: each message of the table in crates/ed_types has an entry with its name, number and marks, and the script that an entry links
+sends its message. The page has the refusals of ed_types with their numbers, and names no refusal, message or notification that is not there.
 
 Run it at the top of the repository or anywhere in it. It writes nothing, with or without --check, and ends with status 1 where an entry is wrong; what it
 then prints also names a script that sends the message.
@@ -9,10 +9,13 @@ import os
 import re
 import sys
 
+import header
 import message_page
 
 TOP = message_page.TOP
 EXAMPLES = os.path.join("examples", "messages")
+# Words of the page in capitals that are no messages, beside the names of pages.
+WORDS = {"ASCII", "EXTEND"}
 
 
 def read(*path):
@@ -63,8 +66,24 @@ def faults():
             yield f"{message_page.PAGE}: the example of {name} does not send it; these do: {', '.join(sent.get(number, [])) or 'none'}"
 
 
+def names_faults():
+    """Where the page names what is not there, in its prose, or has other refusals than the code."""
+    page = read(message_page.PAGE)
+    refusals = set(re.findall(r"^    (\w+) = (\d+),", read("crates", "ed_types", "src", "refusal.rt"), re.M))
+    listed = {(name, number) for name, number in re.findall(r"^\| \d \| (\w+) \| (\d+) \|", page, re.M)}
+    yield from (f"{message_page.PAGE}: {name} = {number} is not on both sides" for name, number in sorted(refusals ^ listed))
+    known = {name for name, _ in refusals}
+    refused = {name for names in re.findall(r"[Rr]efused with ([A-Z]\w+)|and with ([A-Z]\w+)", page) for name in names if name}
+    yield from (f"{message_page.PAGE}: there is no refusal {name}" for name in sorted(refused - known))
+    notes = {name for name, _ in header.notes()}
+    yield from (f"{message_page.PAGE}: there is no notification {name}" for name in sorted(set(re.findall(r"\bSCN_\w+", page)) - notes))
+    messages = {name for _, name, _ in table()} | WORDS
+    named = set(re.findall(r"(?<![\w`./-])(?:SCI_)?([A-Z]{5,})(?![\w.])", re.sub(r"`[^`]*`", "", page)))
+    yield from (f"{message_page.PAGE}: there is no message {name}" for name in sorted(named - messages))
+
+
 def main():
-    found = list(faults())
+    found = [*faults(), *names_faults()]
     print("\n".join(found) or f"{message_page.PAGE} has the messages of the definitions, each with a script that sends it")
     sys.exit(bool(found))
 
