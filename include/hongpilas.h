@@ -372,7 +372,7 @@ hongpilas_answer hongpilas_checked_copy_refusal_name(hongpilas_answer answer, ui
 #define SCI_GETSELECTIONEMPTY      2650 /* Returns whether the selection is empty. */
 #define SCI_SETLINEENDTYPESALLOWED 2656 /* Sets which line ends the document allows, also if it is read-only. */
 #define SCI_GETLINEENDTYPESALLOWED 2657 /* Returns which line ends the document allows: `SC_LINE_END_TYPE_DEFAULT` or `SC_LINE_END_TYPE_UNICODE`. */
-#define SCI_GETLINEENDTYPESACTIVE  2658 /* Returns which line ends divide the text, which are those that the document allows. */
+#define SCI_GETLINEENDTYPESACTIVE  2658 /* Returns which line ends divide the text. */
 #define SCI_SETTARGETRANGE         2686 /* Sets the target's start to `start` and its end to `end` (both clamped to the text). */
 #define SCI_GETTARGETTEXT          2687 /* Returns the text between the target's ends, whichever is the lesser; the value is its length. */
 #define SCI_TARGETWHOLEDOCUMENT    2690 /* Sets the target's start to 0 and its end to the end of the text. */

@@ -727,14 +727,14 @@ class BasicView {
   /// Returns the value that this view fills in. Message: `SCI_GETINDICATORVALUE`.
   Answer<std::int64_t> GetIndicatorValue() const { return as_number(SCI_GETINDICATORVALUE, 0, 0); }
   /// Gives the view's current indicator the view's value over the `length` bytes from `start` on. If a value changed,
-  /// sends SCN_MODIFIED (`SC_MOD_CHANGEINDICATOR`). Refused with `Refusal::BadArgument` unless `start` and all these
-  /// bytes are in the text. Message: `SCI_INDICATORFILLRANGE`.
+  /// sends SCN_MODIFIED (`SC_MOD_CHANGEINDICATOR`). Refused with `Refusal::BadArgument` unless these are a range of
+  /// the text. Message: `SCI_INDICATORFILLRANGE`.
   Answer<void> IndicatorFillRange(std::int64_t start, std::int64_t length) {
     return as_done(SCI_INDICATORFILLRANGE, start, length);
   }
   /// Gives the view's current indicator the value 0 over the `length` bytes from `start` on. If a value changed,
-  /// sends SCN_MODIFIED (`SC_MOD_CHANGEINDICATOR`). Refused with `Refusal::BadArgument` unless `start` and all these
-  /// bytes are in the text. Message: `SCI_INDICATORCLEARRANGE`.
+  /// sends SCN_MODIFIED (`SC_MOD_CHANGEINDICATOR`). Refused with `Refusal::BadArgument` unless these are a range of
+  /// the text. Message: `SCI_INDICATORCLEARRANGE`.
   Answer<void> IndicatorClearRange(std::int64_t start, std::int64_t length) {
     return as_done(SCI_INDICATORCLEARRANGE, start, length);
   }
@@ -769,8 +769,8 @@ class BasicView {
   Answer<void> AddUndoAction(std::int64_t token, std::int64_t flags) {
     return as_done(SCI_ADDUNDOACTION, token, flags);
   }
-  /// Deletes the `length` bytes from `start` on. Refused with `Refusal::BadArgument` unless `start` and all these
-  /// bytes are in the text. Message: `SCI_DELETERANGE`.
+  /// Deletes the `length` bytes from `start` on. Refused with `Refusal::BadArgument` unless these are a range of the
+  /// text. Message: `SCI_DELETERANGE`.
   Answer<void> DeleteRange(std::int64_t start, std::int64_t length) { return as_done(SCI_DELETERANGE, start, length); }
   /// Returns whether the selection is empty. Message: `SCI_GETSELECTIONEMPTY`.
   Answer<bool> GetSelectionEmpty() const { return as_flag(SCI_GETSELECTIONEMPTY, 0, 0); }
@@ -782,7 +782,7 @@ class BasicView {
   /// Returns which line ends the document allows: `SC_LINE_END_TYPE_DEFAULT` or `SC_LINE_END_TYPE_UNICODE`. Message:
   /// `SCI_GETLINEENDTYPESALLOWED`.
   Answer<std::int64_t> GetLineEndTypesAllowed() const { return as_number(SCI_GETLINEENDTYPESALLOWED, 0, 0); }
-  /// Returns which line ends divide the text, which are those that the document allows: `SC_LINE_END_TYPE_DEFAULT` or
+  /// Returns which line ends divide the text: those that the document allows, `SC_LINE_END_TYPE_DEFAULT` or
   /// `SC_LINE_END_TYPE_UNICODE`. Message: `SCI_GETLINEENDTYPESACTIVE`.
   Answer<std::int64_t> GetLineEndTypesActive() const { return as_number(SCI_GETLINEENDTYPESACTIVE, 0, 0); }
   /// Sets the target's start to `start` and its end to `end` (both clamped to the text). Message:

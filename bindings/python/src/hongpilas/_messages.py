@@ -724,14 +724,14 @@ class Messages:
     def indicator_fill_range(self, start: int, length: int) -> None:
         """Gives the view's current indicator the view's value over the `length` bytes from `start` on. If a value
         changed, sends SCN_MODIFIED (`SC_MOD_CHANGEINDICATOR`). Raises `Refused` with `Refusal.BAD_ARGUMENT`
-        unless `start` and all these bytes are in the text. Message: `SCI_INDICATORFILLRANGE`.
+        unless these are a range of the text. Message: `SCI_INDICATORFILLRANGE`.
         """
         self.send(constants.SCI_INDICATORFILLRANGE, start, length)
 
     def indicator_clear_range(self, start: int, length: int) -> None:
         """Gives the view's current indicator the value 0 over the `length` bytes from `start` on. If a value
         changed, sends SCN_MODIFIED (`SC_MOD_CHANGEINDICATOR`). Raises `Refused` with `Refusal.BAD_ARGUMENT`
-        unless `start` and all these bytes are in the text. Message: `SCI_INDICATORCLEARRANGE`.
+        unless these are a range of the text. Message: `SCI_INDICATORCLEARRANGE`.
         """
         self.send(constants.SCI_INDICATORCLEARRANGE, start, length)
 
@@ -774,8 +774,8 @@ class Messages:
         self.send(constants.SCI_ADDUNDOACTION, token, flags)
 
     def delete_range(self, start: int, length: int) -> None:
-        """Deletes the `length` bytes from `start` on. Raises `Refused` with `Refusal.BAD_ARGUMENT` unless `start`
-        and all these bytes are in the text. Message: `SCI_DELETERANGE`.
+        """Deletes the `length` bytes from `start` on. Raises `Refused` with `Refusal.BAD_ARGUMENT` unless these
+        are a range of the text. Message: `SCI_DELETERANGE`.
         """
         self.send(constants.SCI_DELETERANGE, start, length)
 
@@ -798,8 +798,8 @@ class Messages:
         return self.send(constants.SCI_GETLINEENDTYPESALLOWED)
 
     def get_line_end_types_active(self) -> int:
-        """Returns which line ends divide the text, which are those that the document allows:
-        `SC_LINE_END_TYPE_DEFAULT` or `SC_LINE_END_TYPE_UNICODE`. Message: `SCI_GETLINEENDTYPESACTIVE`.
+        """Returns which line ends divide the text: those that the document allows, `SC_LINE_END_TYPE_DEFAULT` or
+        `SC_LINE_END_TYPE_UNICODE`. Message: `SCI_GETLINEENDTYPESACTIVE`.
         """
         return self.send(constants.SCI_GETLINEENDTYPESACTIVE)
 

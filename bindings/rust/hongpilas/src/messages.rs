@@ -788,7 +788,7 @@ impl View<'_> {
 
     /// Gives the view's current indicator the view's value over the `length` bytes from `start`
     /// on. If a value changed, sends SCN_MODIFIED (`SC_MOD_CHANGEINDICATOR`). Refused with
-    /// [`Refusal::BadArgument`] unless `start` and all these bytes are in the text. Message:
+    /// [`Refusal::BadArgument`] unless these are a range of the text. Message:
     /// `SCI_INDICATORFILLRANGE`.
     pub fn indicator_fill_range(&mut self, start: i64, length: i64) -> Result<(), Refusal> {
         self.as_done(sys::SCI_INDICATORFILLRANGE, start, length, &[])
@@ -796,7 +796,7 @@ impl View<'_> {
 
     /// Gives the view's current indicator the value 0 over the `length` bytes from `start` on.
     /// If a value changed, sends SCN_MODIFIED (`SC_MOD_CHANGEINDICATOR`). Refused with
-    /// [`Refusal::BadArgument`] unless `start` and all these bytes are in the text. Message:
+    /// [`Refusal::BadArgument`] unless these are a range of the text. Message:
     /// `SCI_INDICATORCLEARRANGE`.
     pub fn indicator_clear_range(&mut self, start: i64, length: i64) -> Result<(), Refusal> {
         self.as_done(sys::SCI_INDICATORCLEARRANGE, start, length, &[])
@@ -845,7 +845,7 @@ impl View<'_> {
     }
 
     /// Deletes the `length` bytes from `start` on. Refused with [`Refusal::BadArgument`] unless
-    /// `start` and all these bytes are in the text. Message: `SCI_DELETERANGE`.
+    /// these are a range of the text. Message: `SCI_DELETERANGE`.
     pub fn delete_range(&mut self, start: i64, length: i64) -> Result<(), Refusal> {
         self.as_done(sys::SCI_DELETERANGE, start, length, &[])
     }
@@ -870,7 +870,7 @@ impl View<'_> {
         self.as_number(sys::SCI_GETLINEENDTYPESALLOWED, 0, 0, &[])
     }
 
-    /// Returns which line ends divide the text, which are those that the document allows:
+    /// Returns which line ends divide the text: those that the document allows,
     /// `SC_LINE_END_TYPE_DEFAULT` or `SC_LINE_END_TYPE_UNICODE`. Message:
     /// `SCI_GETLINEENDTYPESACTIVE`.
     pub fn get_line_end_types_active(&self) -> Result<i64, Refusal> {
