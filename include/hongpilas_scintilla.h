@@ -12,7 +12,7 @@
  *     }
  *     hongpilas_door_free(door);
  *
- * docs/MESSAGES.md has the messages. Its column "Beside Scintilla", and docs/PROFILE.md, state the differences.
+ * docs/MESSAGES.md has the messages. It and docs/PROFILE.md state where Scintilla differs.
  * A null door and the view 0 are harmless in every call below, which says what it does with them. The duties of the
  * caller in hongpilas.h hold here, too: one call at a time, on one thread, and none from a signal handler; a door that
  * was freed, and a view that was closed or whose door was freed, is used by no call. A text and a buffer belong to the
