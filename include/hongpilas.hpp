@@ -801,8 +801,8 @@ class BasicView {
   /// Stops recording in this view. Message: `SCI_STOPRECORD`.
   Answer<void> StopRecord() { return as_done(SCI_STOPRECORD, 0, 0); }
   /// Asks for styles up to `end`: moves end styled back to `start` if it is greater, and sends the view
-  /// SCN_STYLENEEDED, even for an empty range. Refused with `Refusal::BadArgument` unless `start` and `end` are a
-  /// range of the text; an `end` of -1 is its end. Message: `SCI_COLOURISE`.
+  /// SCN_STYLENEEDED with the position `end`, even for an empty range. Refused with `Refusal::BadArgument` unless
+  /// `start` and `end` are a range of the text; an `end` of -1 is its end. Message: `SCI_COLOURISE`.
   Answer<void> Colourise(std::int64_t start, std::int64_t end) { return as_done(SCI_COLOURISE, start, end); }
   // Written by tools/pages/wrappers.py: end
 

@@ -832,8 +832,9 @@ class Messages:
 
     def colourise(self, start: int, end: int) -> None:
         """Asks for styles up to `end`: moves end styled back to `start` if it is greater, and sends the view
-        SCN_STYLENEEDED, even for an empty range. Raises `Refused` with `Refusal.BAD_ARGUMENT` unless `start`
-        and `end` are a range of the text; an `end` of -1 is its end. Message: `SCI_COLOURISE`.
+        SCN_STYLENEEDED with the position `end`, even for an empty range. Raises `Refused` with
+        `Refusal.BAD_ARGUMENT` unless `start` and `end` are a range of the text; an `end` of -1 is its end.
+        Message: `SCI_COLOURISE`.
         """
         self.send(constants.SCI_COLOURISE, start, end)
     # Written by tools/pages/wrappers.py: end

@@ -907,9 +907,9 @@ impl View<'_> {
     }
 
     /// Asks for styles up to `end`: moves end styled back to `start` if it is greater, and
-    /// sends the view SCN_STYLENEEDED, even for an empty range. Refused with
-    /// [`Refusal::BadArgument`] unless `start` and `end` are a range of the text; an `end` of
-    /// -1 is its end. Message: `SCI_COLOURISE`.
+    /// sends the view SCN_STYLENEEDED with the position `end`, even for an empty range. Refused
+    /// with [`Refusal::BadArgument`] unless `start` and `end` are a range of the text; an `end`
+    /// of -1 is its end. Message: `SCI_COLOURISE`.
     pub fn colourise(&mut self, start: i64, end: i64) -> Result<(), Refusal> {
         self.as_done(sys::SCI_COLOURISE, start, end, &[])
     }
