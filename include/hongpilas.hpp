@@ -601,7 +601,8 @@ class BasicView {
   Answer<std::int64_t> GetLastChild(std::int64_t line, std::int64_t level) const {
     return as_number(SCI_GETLASTCHILD, line, level);
   }
-  /// Returns the fold parent of line `line`, or -1 if it has none or does not exist. Message: `SCI_GETFOLDPARENT`.
+  /// Returns the fold parent of line `line`: the nearest earlier header with a smaller level number; -1 if there is
+  /// none, or no such line. Message: `SCI_GETFOLDPARENT`.
   Answer<std::int64_t> GetFoldParent(std::int64_t line) const { return as_number(SCI_GETFOLDPARENT, line, 0); }
   /// Makes the lines from `first` to `last` visible, as far as they exist. Message: `SCI_SHOWLINES`.
   Answer<void> ShowLines(std::int64_t first, std::int64_t last) { return as_done(SCI_SHOWLINES, first, last); }

@@ -473,8 +473,8 @@ class Messages:
         return self.send(constants.SCI_GETLASTCHILD, line, level)
 
     def get_fold_parent(self, line: int) -> int:
-        """Returns the fold parent of line `line`, or -1 if it has none or does not exist. Message:
-        `SCI_GETFOLDPARENT`.
+        """Returns the fold parent of line `line`: the nearest earlier header with a smaller level number; -1 if
+        there is none, or no such line. Message: `SCI_GETFOLDPARENT`.
         """
         return self.send(constants.SCI_GETFOLDPARENT, line)
 

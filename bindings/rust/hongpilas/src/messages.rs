@@ -498,8 +498,8 @@ impl View<'_> {
         self.as_number(sys::SCI_GETLASTCHILD, line, level, &[])
     }
 
-    /// Returns the fold parent of line `line`, or -1 if it has none or does not exist. Message:
-    /// `SCI_GETFOLDPARENT`.
+    /// Returns the fold parent of line `line`: the nearest earlier header with a smaller level
+    /// number; -1 if there is none, or no such line. Message: `SCI_GETFOLDPARENT`.
     pub fn get_fold_parent(&self, line: i64) -> Result<i64, Refusal> {
         self.as_number(sys::SCI_GETFOLDPARENT, line, 0, &[])
     }
