@@ -776,9 +776,9 @@ class BasicView {
   /// Returns whether the selection is empty. Message: `SCI_GETSELECTIONEMPTY`.
   Answer<bool> GetSelectionEmpty() const { return as_flag(SCI_GETSELECTIONEMPTY, 0, 0); }
   /// Sets which line ends the document allows, also if it is read-only: `SC_LINE_END_TYPE_DEFAULT` 0, or
-  /// `SC_LINE_END_TYPE_UNICODE` 1 for those of Unicode too. Line data, and the line flags of each view, go to the
-  /// lines that contain their starts. Refused with `Refusal::BadArgument` unless `types` is 0 or 1. Message:
-  /// `SCI_SETLINEENDTYPESALLOWED`.
+  /// `SC_LINE_END_TYPE_UNICODE` 1 for those of Unicode too. Line data (markers, fold levels, line states) and the
+  /// line flags of each view go to the lines that contain their starts. Refused with `Refusal::BadArgument` unless
+  /// `types` is 0 or 1. Message: `SCI_SETLINEENDTYPESALLOWED`.
   Answer<void> SetLineEndTypesAllowed(std::int64_t types) { return as_done(SCI_SETLINEENDTYPESALLOWED, types, 0); }
   /// Returns which line ends the document allows: `SC_LINE_END_TYPE_DEFAULT` or `SC_LINE_END_TYPE_UNICODE`. Message:
   /// `SCI_GETLINEENDTYPESALLOWED`.

@@ -785,9 +785,9 @@ class Messages:
 
     def set_line_end_types_allowed(self, types: int) -> None:
         """Sets which line ends the document allows, also if it is read-only: `SC_LINE_END_TYPE_DEFAULT` 0, or
-        `SC_LINE_END_TYPE_UNICODE` 1 for those of Unicode too. Line data, and the line flags of each view, go to
-        the lines that contain their starts. Raises `Refused` with `Refusal.BAD_ARGUMENT` unless `types` is 0 or
-        1. Message: `SCI_SETLINEENDTYPESALLOWED`.
+        `SC_LINE_END_TYPE_UNICODE` 1 for those of Unicode too. Line data (markers, fold levels, line states) and
+        the line flags of each view go to the lines that contain their starts. Raises `Refused` with
+        `Refusal.BAD_ARGUMENT` unless `types` is 0 or 1. Message: `SCI_SETLINEENDTYPESALLOWED`.
         """
         self.send(constants.SCI_SETLINEENDTYPESALLOWED, types)
 

@@ -857,9 +857,9 @@ impl View<'_> {
 
     /// Sets which line ends the document allows, also if it is read-only:
     /// `SC_LINE_END_TYPE_DEFAULT` 0, or `SC_LINE_END_TYPE_UNICODE` 1 for those of Unicode too.
-    /// Line data, and the line flags of each view, go to the lines that contain their starts.
-    /// Refused with [`Refusal::BadArgument`] unless `types` is 0 or 1. Message:
-    /// `SCI_SETLINEENDTYPESALLOWED`.
+    /// Line data (markers, fold levels, line states) and the line flags of each view go to the
+    /// lines that contain their starts. Refused with [`Refusal::BadArgument`] unless `types` is
+    /// 0 or 1. Message: `SCI_SETLINEENDTYPESALLOWED`.
     pub fn set_line_end_types_allowed(&mut self, types: i64) -> Result<(), Refusal> {
         self.as_done(sys::SCI_SETLINEENDTYPESALLOWED, types, 0, &[])
     }
