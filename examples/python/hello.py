@@ -45,7 +45,7 @@ def whole(kind, number):
 def constants():
     """Scintilla's names and numbers, as the header has them."""
     with open(os.path.join(TOP, "include", "hongpilas.h"), encoding="utf-8") as header:
-        found = re.findall(r"^#define ((?:SC|UNDO)\w+) +(0x[0-9A-F]+|\d+)$", header.read(), re.M)
+        found = re.findall(r"^#define ((?:SC|UNDO)\w+) +(0x[0-9A-F]+|\d+)\b", header.read(), re.M)
     return {name: int(number, 0) for name, number in found}
 
 
