@@ -46,8 +46,8 @@ typedef struct side {
   model *plain;
   uint32_t views[VIEWS];
   size_t view_count;
-  hongpilas session;
-  hongpilas_door *door;
+  hongpilas_session *session;
+  hongpilas_scintilla *door;
   ear ears[VIEWS];
   const uint8_t *text; /* where the last reply's text lies */
   const uint8_t *lent; /* bytes that were lent and stand, or NULL */

@@ -72,9 +72,9 @@ static void meddle(heard_note *h) {
   e->status = SC_STATUS_FAILURE;
   e->refusal = "sent while notes are told";
   must_stand(e, (int)status_of(e));
-  must(hongpilas_door_open(s->door) == 0, "no view opens while notes are told");
-  hongpilas_door_close(e->view);
-  hongpilas_door_free(s->door);
+  must(hongpilas_scintilla_open(s->door) == 0, "no view opens while notes are told");
+  hongpilas_scintilla_close(e->view);
+  hongpilas_scintilla_free(s->door);
   must(counts.requests == requests && blocks == had, "no memory is taken or given back while notes are told");
   counts.calls += 4;
   if (other->id == 0 || now.sent % 3 != 0) return;
@@ -337,21 +337,21 @@ static void compare_ears(side *s, bool stays) {
 }
 
 static hongpilas_answer open_door(side *s, const hongpilas_limits *limits) {
-  s->door = limits == NULL ? hongpilas_door_new() : hongpilas_door_new_with_limits(limits);
+  s->door = limits == NULL ? hongpilas_scintilla_new() : hongpilas_scintilla_new_with_limits(limits, sizeof *limits);
   if (s->door != NULL) return HONGPILAS_DONE;
   return was_refused ? HONGPILAS_OUT_OF_MEMORY : HONGPILAS_BAD_ARGUMENT;
 }
 
 static void close_door(side *s) {
-  hongpilas_door_free(s->door);
-  hongpilas_door_free(NULL);
+  hongpilas_scintilla_free(s->door);
+  hongpilas_scintilla_free(NULL);
   counts.calls++;
 }
 
 /* A view takes memory of the door before what else may refuse it is looked at. */
 static hongpilas_answer open_by_door(side *s, uint32_t *view) {
   uint32_t wanted = 0;
-  sptr_t opened = hongpilas_door_open(s->door);
+  sptr_t opened = hongpilas_scintilla_open(s->door);
   model *aside = model_copy(s->plain);
   hongpilas_answer answer = model_new_view(aside, &wanted);
   model_free(aside);
@@ -367,7 +367,7 @@ static hongpilas_answer open_by_door(side *s, uint32_t *view) {
 
 static hongpilas_answer close_by_door(side *s, uint32_t view) {
   ear *e = ear_of(s, view);
-  hongpilas_door_close(e == NULL ? 0 : e->view);
+  hongpilas_scintilla_close(e == NULL ? 0 : e->view);
   if (e == NULL) return HONGPILAS_NO_SUCH_VIEW;
   e->id = 0;
   return HONGPILAS_DONE;
@@ -420,7 +420,7 @@ static void try_no_view(const record *r) {
   must_be(status, SC_STATUS_FAILURE, "the status of no view");
   must(strcmp(hongpilas_refusal(0), answer_names[HONGPILAS_NO_SUCH_VIEW]) == 0, "why no view refuses");
   hongpilas_set_notify(0, r->l % 2 == 0 ? hear : NULL, NULL);
-  must(hongpilas_door_open(NULL) == 0 && hongpilas_door_new_with_limits(NULL) == NULL, "what no door opens, and no limits");
+  must(hongpilas_scintilla_open(NULL) == 0 && hongpilas_scintilla_new_with_limits(NULL, sizeof(hongpilas_limits)) == NULL, "what no door opens, and no limits");
   counts.calls += 7;
 }
 
@@ -454,7 +454,7 @@ static void try_null_pointers(side *s, uint32_t view, const record *r) {
   must_stand(e, status);
   e->hears = r->t_kind % 4 != 0;
   hongpilas_set_notify(e->view, e->hears ? hear : NULL, e);
-  hongpilas_door_close(0);
+  hongpilas_scintilla_close(0);
   counts.calls += 3;
 }
 

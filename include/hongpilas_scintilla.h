@@ -178,8 +178,8 @@ const char *hongpilas_refusal(sptr_t view);
  *    be kept for it. Nothing is lost: what stands in the queue is delivered.
  *
  * A notify function may be left by a C++ exception or by longjmp. Its message has been done, and the notification counts as
- * delivered. What stands in the queue behind it is delivered by the next call of hongpilas_direct for a view of the component,
- * when the message of that call is done. An exception passes through the interface if it was built with -fexceptions, as
+ * delivered. What stands in the queue behind it is delivered when the next message that is no question is done, from
+ * outside, for any view of the component. An exception passes through the interface if it was built with -fexceptions, as
  * `make` builds it. */
 typedef void (*hongpilas_notify)(SCNotification *notification, void *data);
 void hongpilas_set_notify(sptr_t view, hongpilas_notify notify, void *data);

@@ -156,19 +156,19 @@ static int note_document(side *s, sptr_t document) {
 
 int document_of(side *s, int view) { return document_named(s, ask(s, view, SCI_GETDOCPOINTER, 0, 0)); }
 
-static hongpilas_door *door;
+static hongpilas_scintilla *door;
 
 void begin_session(side *ours, side *theirs) {
   for (int i = 0; i < 1000 && iterate(NULL, 0); i++) continue;
-  hongpilas_door_free(door);
-  door = hongpilas_door_new();
+  hongpilas_scintilla_free(door);
+  door = hongpilas_scintilla_new();
   ours->name = "Hongpilas";
   ours->send = hongpilas_direct;
   ours->document_count = theirs->document_count = 0;
 }
 
 void open_view(side *ours, side *theirs, int view) {
-  ours->views[view] = hongpilas_door_open(door);
+  ours->views[view] = hongpilas_scintilla_open(door);
   our_ears[view].of = ours;
   our_ears[view].view = view;
   hongpilas_set_notify(ours->views[view], hear_ours, &our_ears[view]);
@@ -179,7 +179,7 @@ void open_view(side *ours, side *theirs, int view) {
 
 /* A widget is not closed, but leaves its document. */
 void close_view(side *ours, side *theirs, int view) {
-  hongpilas_door_close(ours->views[view]);
+  hongpilas_scintilla_close(ours->views[view]);
   ours->views[view] = 0;
   renew(theirs, view);
 }
