@@ -45,6 +45,47 @@ static void close_by_call(side *s) { hongpilas_free(s->session); }
 static hongpilas_answer new_view_by_call(side *s, uint32_t *view) { return hongpilas_new_view(s->session, view); }
 static hongpilas_answer close_view_by_call(side *s, uint32_t view) { return hongpilas_close_view(s->session, view); }
 
+/* What a question is answered beside the reply, by both forms; the last reply stays. */
+static struct {
+  hongpilas_answer answer;
+  int64_t value;
+  const uint8_t *text;
+  size_t length;
+} asked;
+
+static void ask_beside(side *s, const message *m) {
+  int64_t value = -77;
+  long armed = refuse_in;
+  refuse_in = 0;
+  asked.value = -77;
+  asked.text = NULL;
+  asked.length = 77;
+  now.doing = "hongpilas_ask and hongpilas_read";
+  give_up_lent(s);
+  asked.answer = hongpilas_ask(s->session, m->view, m->number, m->w, m->l, &value);
+  if (m->how % 4 < 2) must_be(hongpilas_read(s->session, m->view, m->number, m->w, m->l, &asked.text, &asked.length, &asked.value), asked.answer, "the answer of reading");
+  else must_be(hongpilas_read_unchecked(s->session, m->view, m->number, m->w, m->l, &asked.text, &asked.length, &asked.value), asked.answer, "the answer of reading");
+  must_be(asked.value, value, "the value of a text that is read");
+  if (asked.answer != HONGPILAS_DONE) must(asked.text == NULL && asked.length == 77 && value == -77, "a refused question leaves the places");
+  counts.calls += 2;
+  compare_reply(s, true);
+  refuse_in = armed;
+}
+
+/* It was answered as the message was; that is compared behind the message, which leaves the text that was lent. */
+static void compare_asked(side *s, const message *m, hongpilas_answer answer) {
+  const uint8_t *text = NULL;
+  size_t length = model_text(s->plain, &text);
+  if (model_marks(m->number) == NULL || strchr(model_marks(m->number), 'Q') == NULL) {
+    must_be(asked.answer, HONGPILAS_UNKNOWN_MESSAGE, "the answer to what is no question");
+    return;
+  }
+  must_be(asked.answer, answer, "the answer to a question beside the reply");
+  if (answer != HONGPILAS_DONE) return;
+  must_be(asked.value, model_value(s->plain), "the value of a question beside the reply");
+  must_be_text(asked.text, asked.length, text, length, "the text of a question beside the reply");
+}
+
 /* Sends a message to both, by the call that tests its arguments or by the unchecked one. */
 static hongpilas_answer send_by_call(side *s, const message *m) {
   int64_t value = -77, wanted_value = -77;
@@ -52,6 +93,7 @@ static hongpilas_answer send_by_call(side *s, const message *m) {
   uint8_t *text = place_for(0, m->length, m->at_end);
   hongpilas_answer answer, wanted;
   memcpy(text, m->text, m->length);
+  ask_beside(s, m);
   begin_message(s, m, is_checked ? "hongpilas_send" : "hongpilas_send_unchecked");
   if (is_checked) answer = hongpilas_send(s->session, m->view, m->number, m->w, m->l, m->length == 0 ? NULL : text, m->length, &value);
   else answer = hongpilas_send_unchecked(s->session, m->view, m->number, m->w, m->l, text, m->length, &value);
@@ -67,6 +109,7 @@ static hongpilas_answer send_by_call(side *s, const message *m) {
   must_be(value, wanted_value, "the value");
   counts.answers[answer & 7]++;
   compare_reply(s, answer != HONGPILAS_DONE);
+  compare_asked(s, m, answer);
   return answer;
 }
 
