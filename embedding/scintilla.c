@@ -610,7 +610,7 @@ hongpilas_scintilla *hongpilas_scintilla_new(void) {
 }
 
 hongpilas_scintilla *hongpilas_scintilla_new_with_limits(const hongpilas_limits *limits, size_t size) {
-  hongpilas_scintilla *it = limits == NULL ? NULL : (hongpilas_scintilla *)malloc(sizeof *it);
+  hongpilas_scintilla *it = (hongpilas_scintilla *)malloc(sizeof *it);
   if (it == NULL) return NULL;
   memset(it, 0, sizeof *it);
   it->next = (size_t)-1;
