@@ -9,7 +9,7 @@
  *
  * Two forms. hongpilas_send, for example, tests its pointers and lengths, and then makes
  * the proved call, hongpilas_send_unchecked, which tests none of them. Use the plain
- * names. The tests are written in C (embedding/checked.c), and are tested, not proved.
+ * names. The tests are written in C (c/checked.c), and are tested, not proved.
  * The unchecked forms, at the end of this header, save about two nanoseconds.
  *
  * Threads. A session is used by one call at a time, and may be handed from thread to thread
@@ -261,7 +261,7 @@ HONGPILAS_MUST_USE hongpilas_answer hongpilas_copy_range_unchecked(hongpilas_ses
 
 /* Scintilla's names and numbers, as far as the profile has them. Left out if Scintilla.h was included before. */
 #ifndef SCINTILLA_H
-/* Written by tools/header.py: begin */
+/* Written by tools/pages/header.py: begin */
 /* Messages. */
 #define SCI_ADDTEXT                2001
 #define SCI_INSERTTEXT             2003
@@ -454,7 +454,7 @@ HONGPILAS_MUST_USE hongpilas_answer hongpilas_copy_range_unchecked(hongpilas_ses
 #define SC_STARTACTION                0x2000
 #define UNDO_MAY_COALESCE             1
 #define UNDO_NONE                     0
-/* Written by tools/header.py: end */
+/* Written by tools/pages/header.py: end */
 #endif
 
 #ifdef __cplusplus

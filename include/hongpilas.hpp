@@ -155,7 +155,7 @@ class [[nodiscard]] Result<void> {
 /// The name of a note's code: "SCN_MODIFIED" for 2008. Empty where no note has it.
 inline std::string_view note_name(std::uint32_t code) noexcept {
   switch (code) {
-    // Written by tools/wrappers.py: begin names
+    // Written by tools/pages/wrappers.py: begin names
     case SCN_STYLENEEDED:
       return "SCN_STYLENEEDED";
     case SCN_SAVEPOINTREACHED:
@@ -168,7 +168,7 @@ inline std::string_view note_name(std::uint32_t code) noexcept {
       return "SCN_MODIFIED";
     case SCN_MACRORECORD:
       return "SCN_MACRORECORD";
-    // Written by tools/wrappers.py: end names
+    // Written by tools/pages/wrappers.py: end names
     default:
       return {};
   }
@@ -339,7 +339,7 @@ class BasicView {
   /// as one likes. Session::notes() are those for all views.
   std::vector<Note> notes() const { return detail::copied(LentNotes(session_), id_); }
 
-  // Written by tools/wrappers.py: begin
+  // Written by tools/pages/wrappers.py: begin
   /// SCI_ADDTEXT, 2001. Inserts `text` at the caret; then anchor and caret stand after it, for an empty `text` too.
   Answer<void> AddText(std::string_view text) { return as_done(SCI_ADDTEXT, length_of(text), 0, text); }
   /// SCI_INSERTTEXT, 2003. `position` is -1 for the caret, else in 0..n. Inserts `text` at `position`. Here n is the
@@ -769,7 +769,7 @@ class BasicView {
   /// styled is greater than `start`, it becomes `start`; the sending view is asked to style up to `end`. Here n is
   /// the text's length.
   Answer<void> Colourise(std::int64_t start, std::int64_t end) { return as_done(SCI_COLOURISE, start, end); }
-  // Written by tools/wrappers.py: end
+  // Written by tools/pages/wrappers.py: end
 
  private:
   Result<std::int64_t> sent(std::uint32_t number, std::int64_t w, std::int64_t l, std::string_view text) const {

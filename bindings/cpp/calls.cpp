@@ -17,7 +17,7 @@ template class hongpilas::BasicView<hongpilas::Returning>;
 int main() {
   hongpilas::Session session;
   hongpilas::View view = session.new_view();
-  // Written by tools/wrappers.py: begin
+  // Written by tools/pages/wrappers.py: begin
   view.AddText("ab");
   view.InsertText(11, "ab");
   view.ClearAll();
@@ -162,5 +162,5 @@ int main() {
   view.StartRecord();
   view.StopRecord();
   view.Colourise(11, 12);
-  // Written by tools/wrappers.py: end
+  // Written by tools/pages/wrappers.py: end
 }

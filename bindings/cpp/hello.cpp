@@ -1,5 +1,5 @@
 /* Two views of one document, in C++: a text goes in and out, each view is told, what is refused is thrown or returned,
- * and a macro is replayed. c++ -std=c++17 -I../../include hello.cpp ../../embedding/out/libhongpilas.a -o hello */
+ * and a macro is replayed. c++ -std=c++17 -I../../include hello.cpp ../../out/libhongpilas.a -o hello */
 #include <hongpilas.hpp>
 
 #include <iostream>

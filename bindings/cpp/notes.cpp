@@ -1,5 +1,5 @@
 /* What hello.cpp does not show of notes: copies outlive the next message, a view has its own, codes have names.
- * c++ -std=c++17 -I../../include notes.cpp ../../embedding/out/libhongpilas.a -o notes */
+ * c++ -std=c++17 -I../../include notes.cpp ../../out/libhongpilas.a -o notes */
 #include <hongpilas.hpp>
 
 #include <cstdint>

@@ -1,5 +1,5 @@
 /* Hongpilas in code that is built without exceptions: each call returns a Result, with a value or a Refusal.
- * c++ -std=c++17 -fno-exceptions -I../../include results.cpp ../../embedding/out/libhongpilas.a -o results */
+ * c++ -std=c++17 -fno-exceptions -I../../include results.cpp ../../out/libhongpilas.a -o results */
 #include <hongpilas.hpp>
 
 #include <cstdio>

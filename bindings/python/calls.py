@@ -3,7 +3,7 @@ from hongpilas import Session
 
 with Session() as session:
     view = session.new_view()
-    # Written by tools/wrappers.py: begin
+    # Written by tools/pages/wrappers.py: begin
     view.add_text("ab")
     view.insert_text(11, "ab")
     view.clear_all()
@@ -148,5 +148,5 @@ with Session() as session:
     view.start_record()
     view.stop_record()
     view.colourise(11, 12)
-    # Written by tools/wrappers.py: end
+    # Written by tools/pages/wrappers.py: end
     pass

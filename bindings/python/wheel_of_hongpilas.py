@@ -1,6 +1,6 @@
 """Builds the wheel: the package, with the shared object inside. It wants nothing but Python, so that pip needs no index for it.
 
-The shared object is the one that HONGPILAS names, or else the one that `make -C embedding` builds, or the tarball has.
+The shared object is the one that HONGPILAS names, or else the one that `make` builds, or the tarball has.
 """
 import base64
 import hashlib
@@ -12,7 +12,7 @@ import zipfile
 HERE = os.path.dirname(os.path.abspath(__file__))
 PACKAGE = "hongpilas"
 LIBRARY = "libhongpilas.so"
-PLACES = ("../../embedding/out", "../../lib")
+PLACES = ("../../out", "../../lib")
 
 
 def library():
@@ -26,7 +26,7 @@ def library():
     for place in places:
         if os.path.isfile(place):
             return place
-    raise SystemExit(f"{LIBRARY} is not at {' or '.join(places)}: `make -C embedding` builds it, and HONGPILAS names another one")
+    raise SystemExit(f"{LIBRARY} is not at {' or '.join(places)}: `make` builds it, and HONGPILAS names another one")
 
 
 def field(name):

@@ -1,11 +1,11 @@
 //! Finds the library for C, and has it linked. It is looked for in the folder that HONGPILAS_LIB_DIR names, by its whole path: cargo does
-//! not tell from which folder it was called. Without that variable it is looked for where `make -C embedding` builds it, where the tarball
+//! not tell from which folder it was called. Without that variable it is looked for where `make` builds it, where the tarball
 //! has it, and where systems install it.
 use std::env;
 use std::path::{Path, PathBuf};
 
 const PLACES: [&str; 5] =
-    ["../../../embedding/out", "../../../lib", "/usr/local/lib", "/usr/lib/x86_64-linux-gnu", "/usr/lib"];
+    ["../../../out", "../../../lib", "/usr/local/lib", "/usr/lib/x86_64-linux-gnu", "/usr/lib"];
 
 fn places() -> Vec<PathBuf> {
     let here = PathBuf::from(env::var_os("CARGO_MANIFEST_DIR").unwrap_or_default());
@@ -29,7 +29,7 @@ fn main() {
     let Some(place) = looked_in.iter().find(|place| is_there(place)) else {
         let list: Vec<String> = looked_in.iter().map(|place| place.display().to_string()).collect();
         println!(
-            "cargo:warning=libhongpilas.a is not in {}; `make -C embedding` builds it, and HONGPILAS_LIB_DIR names another folder",
+            "cargo:warning=libhongpilas.a is not in {}; `make` builds it, and HONGPILAS_LIB_DIR names another folder",
             list.join(", ")
         );
         // What only checks, as `cargo check` and `cargo doc`, wants no library. What links says that it is not there.

@@ -33,7 +33,7 @@ class Messages:
         """The text that the last message handed out."""
         raise NotImplementedError
 
-    # Written by tools/wrappers.py: begin
+    # Written by tools/pages/wrappers.py: begin
     def add_text(self, text: Text) -> None:
         """SCI_ADDTEXT, 2001. Inserts `text` at the caret; then anchor and caret stand after it, for an empty
         `text` too.
@@ -788,4 +788,4 @@ class Messages:
         Here n is the text's length.
         """
         self.send(constants.SCI_COLOURISE, start, end)
-    # Written by tools/wrappers.py: end
+    # Written by tools/pages/wrappers.py: end

@@ -1,6 +1,6 @@
 """Scintilla's names and numbers, as far as the profile has them."""
 
-# Written by tools/wrappers.py: begin
+# Written by tools/pages/wrappers.py: begin
 # Messages.
 SCI_ADDTEXT = 2001
 SCI_INSERTTEXT = 2003
@@ -193,4 +193,4 @@ SC_PERFORMED_USER = 0x10
 SC_STARTACTION = 0x2000
 UNDO_MAY_COALESCE = 1
 UNDO_NONE = 0
-# Written by tools/wrappers.py: end
+# Written by tools/pages/wrappers.py: end

@@ -2,7 +2,7 @@
 
 use crate::{hongpilas, hongpilas_answer};
 
-// Written by tools/wrappers.py: begin
+// Written by tools/pages/wrappers.py: begin
 pub const HONGPILAS_VERSION: u32 = 1001;
 
 pub const HONGPILAS_DONE: hongpilas_answer = 0;
@@ -201,4 +201,4 @@ extern "C" {
         count: *mut usize,
     ) -> hongpilas_answer;
 }
-// Written by tools/wrappers.py: end
+// Written by tools/pages/wrappers.py: end

@@ -1,6 +1,6 @@
 //! Scintilla's names and numbers, as far as the profile has them.
 
-// Written by tools/wrappers.py: begin
+// Written by tools/pages/wrappers.py: begin
 // Messages.
 pub const SCI_ADDTEXT: u32 = 2001;
 pub const SCI_INSERTTEXT: u32 = 2003;
@@ -193,4 +193,4 @@ pub const SC_PERFORMED_USER: i64 = 0x10;
 pub const SC_STARTACTION: i64 = 0x2000;
 pub const UNDO_MAY_COALESCE: i64 = 1;
 pub const UNDO_NONE: i64 = 0;
-// Written by tools/wrappers.py: end
+// Written by tools/pages/wrappers.py: end

@@ -4,7 +4,7 @@ use hongpilas::{Refusal, Session};
 fn main() -> Result<(), Refusal> {
     let mut session = Session::new()?;
     let mut view = session.new_view()?;
-    // Written by tools/wrappers.py: begin
+    // Written by tools/pages/wrappers.py: begin
     view.add_text("ab")?;
     view.insert_text(11, "ab")?;
     view.clear_all()?;
@@ -149,6 +149,6 @@ fn main() -> Result<(), Refusal> {
     view.start_record()?;
     view.stop_record()?;
     view.colourise(11, 12)?;
-    // Written by tools/wrappers.py: end
+    // Written by tools/pages/wrappers.py: end
     Ok(())
 }

@@ -11,7 +11,7 @@ fn length_of(text: &[u8]) -> i64 {
 /// Messages. Positions, lengths and lines are in bytes and lines, and count from 0. An argument outside the range that a sentence
 /// states is refused as [`Refusal::BadArgument`].
 impl View<'_> {
-    // Written by tools/wrappers.py: begin
+    // Written by tools/pages/wrappers.py: begin
     /// SCI_ADDTEXT, 2001. Inserts `text` at the caret; then anchor and caret stand after it,
     /// for an empty `text` too.
     pub fn add_text(&mut self, text: impl AsRef<[u8]>) -> Result<(), Refusal> {
@@ -855,5 +855,5 @@ impl View<'_> {
     pub fn colourise(&mut self, start: i64, end: i64) -> Result<(), Refusal> {
         self.as_done(sys::SCI_COLOURISE, start, end, &[])
     }
-    // Written by tools/wrappers.py: end
+    // Written by tools/pages/wrappers.py: end
 }

@@ -50,14 +50,14 @@ pub struct Note<'a> {
 /// ```
 pub fn note_name(code: u32) -> Option<&'static str> {
     match code {
-        // Written by tools/wrappers.py: begin
+        // Written by tools/pages/wrappers.py: begin
         sys::SCN_STYLENEEDED => Some("SCN_STYLENEEDED"),
         sys::SCN_SAVEPOINTREACHED => Some("SCN_SAVEPOINTREACHED"),
         sys::SCN_SAVEPOINTLEFT => Some("SCN_SAVEPOINTLEFT"),
         sys::SCN_MODIFYATTEMPTRO => Some("SCN_MODIFYATTEMPTRO"),
         sys::SCN_MODIFIED => Some("SCN_MODIFIED"),
         sys::SCN_MACRORECORD => Some("SCN_MACRORECORD"),
-        // Written by tools/wrappers.py: end
+        // Written by tools/pages/wrappers.py: end
         _ => None,
     }
 }

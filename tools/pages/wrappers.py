@@ -1,0 +1,458 @@
+#!/usr/bin/env python3
+"""Writes the methods of all messages, the constants, the names of notes, Rust's declarations of the calls and the version into the wrappers for C++, Rust and Python,
+what tests of the library for C go through (the questions, and what is drawn of each message beside Scintilla, by drawn.py), and the list of plain questions
+into the definitions (message_plans).
+
+A message's name and number come from the definitions (crates/ed_types), its arguments, its answer and its sentence from its row of docs/MESSAGES.md.
+Run it at the top of the repository after a message, a row or a constant has changed. With --check it writes nothing, and fails where a wrapper is not
+what it would write, where a refusal of the crates has no place in a wrapper, or where a row has words that it cannot read.
+"""
+import os
+import re
+import sys
+import textwrap
+from dataclasses import dataclass
+
+import drawn
+import header
+
+BEGIN = "Written by tools/pages/wrappers.py: begin"
+END = "Written by tools/pages/wrappers.py: end"
+CPP = "include/hongpilas.hpp"
+RUST = "bindings/rust/hongpilas/src/messages.rs"
+RUST_NOTES = "bindings/rust/hongpilas/src/notes.rs"
+RUST_CONSTANTS = "bindings/rust/hongpilas-sys/src/constants.rs"
+RUST_CALLS = "bindings/rust/hongpilas-sys/src/calls.rs"
+PYTHON = "bindings/python/src/hongpilas/_messages.py"
+PYTHON_CONSTANTS = "bindings/python/src/hongpilas/constants.py"
+QUESTIONS = "tests/model/questions.h"
+BESIDE = "tests/beside/messages.c"
+ASKING = "crates/message_plans/specs/Asking.antt"
+# The column "w, l, T" of the table: for each of its forms the arguments of a method, as (place, name). A length in front of a text is
+# the text's own, so that no method takes it.
+ARGUMENTS = {
+    "w, l start and end": [("w", "start"), ("l", "end")],
+    "w, l first and last line": [("w", "first"), ("l", "last")],
+    "w display line": [("w", "display_line")],
+    "w length, T text": [("T", "text")],
+    "w length, T styles": [("T", "styles")],
+}
+# A flag's name says what it turns on, and no method takes a number for it.
+FLAG = "on"
+# Rows that lean on the row before them, or that say otherwise what a method takes and answers.
+SENTENCES = {
+    "GETLINE": "hands out line w with its end -> its length; of a bad line an empty text",
+    "GETLINESTATE": "-> the state of line w; bad line 0",
+    "GETFOLDLEVEL": "-> the level of line w; bad line 1024 (SC_FOLDLEVELBASE)",
+    "GETMODIFY": "-> 1 if the document is not at its save point, else 0",
+    "GETSELECTIONEMPTY": "-> 1 if anchor and caret are at one place, else 0",
+    "REPLACETARGET": "Replaces the target by T; ts is then where T starts and te where it ends -> its length, or 0 on a read-only document, "
+    "whose target stays",
+    "SETSTYLINGEX": "Styles as many bytes as T has, from end styled on, with the bytes of T, and moves end styled after them; T has at most n-end styled bytes, "
+    "else BadArgument",
+    "SETFOLDEXPANDED": "the expanded flag of line w alone; nothing is shown or hidden",
+    "GETINDICATORCURRENT": "-> the view's current indicator",
+    "GETINDICATORVALUE": "-> the value that this view fills in",
+    "INDICATOREND": "w in 0..31 -> the place just after the longest run of one value that holds l; 0 outside 0..n-1",
+    "GETPASTECONVERTENDINGS": "-> 1 if this view converts what it pastes, else 0",
+    "GETLINEENDTYPESALLOWED": "-> the types of line ends that the document allows",
+    "GETLINEENDTYPESACTIVE": "-> the types of line ends that are active: those that the document allows",
+}
+# What rows say shortly, and a sentence at a method says in full; each is a pattern and what takes its place, in this order.
+IN_FULL = (
+    # Refusals by their numbers.
+    (r"\belse 6\b", "else BadArgument"), (r"\(4; ", "(NoSuchDocument; "), (r"; 4, 7$", "; NoSuchDocument, TooMany"),
+    (r"; 4, also", "; NoSuchDocument, also"), (r"\(7\)", "(TooMany)"), (r"\b7 (if|at) ", r"TooMany \1 "),
+    # Arguments.
+    (r"^length w(\. ?|$)", ""), (r"^flag w\. ", ""), (r"^flag w:", "w:"),
+    (r"^range\.", "w lies in 0..n, and l in w..n or is -1 for the end of the text."),
+    # What is set and answered.
+    (r"(^|\. )[Tt]he (level|state|expanded flag) of line", r"\1Sets the \2 of line"),
+    (r"^-> 1 (?:where|if|while) (.*), else 0", r"-> whether \1"), (r"^(-> whether .*; bad line) 0$", r"\1 false"),
+    (r"\bhands out (.*) -> (.*)$", r"Returns \1; the reply's value is \2"), (r"\bHands out (.*) -> (.*)$", r"Returns \1; the reply's value is \2"),
+    (r"^-> ", "Returns "), (r"\. -> ", ". Returns "), (r" -> ", "; returns "),
+    # Anchor, caret, selection and target.
+    (r"\ba = c = ", "anchor and caret go to "), (r"\b([ac]|ts|te) = ", r"\1 goes to "), (r"\ba and c stand", "anchor and caret stand"),
+    (r"\[lo, hi\)", "the selection"), (r"\bhi-lo\b", "its length"),
+    (r"(?<![\w'`])a (?=goes)|(?<=: )a (?=goes)|(?<=then )a (?=goes)|^a$|(?<=returns )a$|(?<=Returns )a$|\ba(?=, c,)|(?<=p and )a$", "the anchor "),
+    (r"\bc\b", "the caret"), (r"\blo\b", "the selection's start"), (r"\bhi\b", "the selection's end"),
+    (r"\bts\b", "the target's start"), (r"\bte\b", "the target's end"),
+    (r"(?<![\w.(-])n\b(?![\w-]|\.\.)", "the text's length"), (r"(?<![\w.-])L\b(?![\w-]|\.\.)", "the number of lines"),
+)
+# What is explained behind a sentence that has it.
+LEGEND = {
+    r"\bn\b": "n is the text's length", r"\bL\b": "L is the number of lines", r"\bclamped\b": "clamped means brought into 0..n, n the text's length",
+    r"\bbad line\b": "a bad line is one that is not there", r"\bcut\b": "a cut is a place between two characters",
+}
+
+
+@dataclass
+class Message:
+    """A message of the profile."""
+
+    name: str  # in CamelCase, as Scintilla spells it
+    spelled: str  # in capitals, as in SCI_GETLENGTH
+    number: int
+    changes: bool  # whether it can change something
+    edits: bool  # whether it edits the text: the mark E
+    arguments: list  # (place, name): w, l or T, and what it is called
+    answers: str  # "nothing", "number", "flag" or "text"
+    sentence: str
+    takes_length: bool  # whether w is the length of the text, which no method takes
+
+    @property
+    def snake(self):
+        """The name with an underscore between words."""
+        return re.sub(r"(?<=[a-z])(?=[A-Z])|(?<=[A-Z])(?=[A-Z][a-z])", "_", self.name.replace("EOLs", "Eols")).lower()
+
+    def kind(self, place):
+        """How an argument is passed: as a text, a flag or a number."""
+        if place == "T":
+            return "text"
+        return "flag" if dict(self.arguments)[place] == FLAG else "number"
+
+    def place(self, place):
+        """The name of the argument in a place, or None."""
+        return dict(self.arguments).get(place)
+
+
+def arguments(column):
+    """The arguments of a method, from the column "w, l, T"."""
+    if column in ARGUMENTS:
+        return ARGUMENTS[column]
+    found = []
+    for part in filter(None, column.split(", ")):
+        place, name = re.fullmatch(r"(w|l|T) ([a-z]+)", part).groups()
+        found.append((place, FLAG if name == "flag" else name))
+    return found
+
+
+def answer(does):
+    """What a method answers."""
+    if re.search(r"\bhands out\b", does, re.I):
+        return "text"
+    if re.match(r"-> 1 (where|if|while) .*, else 0", does):
+        return "flag"
+    return "number" if "->" in does else "nothing"
+
+
+def sentence(does, places):
+    """A row's words as the sentence at a method."""
+    text = does.replace("`", "")
+    for pattern, full in IN_FULL:
+        text = re.sub(pattern, full, text)
+    for place, called in places:
+        if called in ("line", "handle", "document", "display_line"):
+            text = re.sub(rf"\b{called.replace('_', ' ')} {place}\b", place, text)
+    for place, called in places:
+        text = re.sub(rf"(?<![\w`.]){place}(?!\w)|(?<=\.\.){place}\b", f"`{called}`", text)
+    text = " ".join(text.split()).replace(" ,", ",")
+    unread = re.findall(r"(?<![\w`])(?:w|l|T|c|lo|hi|ts|te)(?![\w`])", text)
+    if unread:
+        sys.exit(f"no words for {', '.join(unread)}: {does}")
+    text = text[:1].upper() + text[1:] + "."
+    told = [meaning for pattern, meaning in LEGEND.items() if re.search(pattern, text)]
+    told = told[1:] if len(told) > 1 and "n the text's length" in told[1] else told
+    return text + (f" Here {'; '.join(told)}." if told else "")
+
+
+def rows():
+    """The rows of the table: number, name, marks, arguments, what it does, and notes."""
+    return re.findall(r"^\| (\d{4}) \| SCI_([A-Z]+) \| ([QNER ]*?) ?\| (.*?) ?\| (.*?) ?\| (.*?) ?\|", header.read("docs/MESSAGES.md"), re.M)
+
+
+def messages():
+    """The messages of the table, by their numbers."""
+    kinds = dict((spelled[4:], (name, int(number))) for spelled, name, number in
+                 re.findall(r"/// `(SCI_\w+)`\n\s*(\w+) = (\d+),", header.read("crates/ed_types/src/kind.rt")))
+    found = []
+    for number, spelled, marks, column, does, _ in rows():
+        name, known = kinds.pop(spelled)
+        if known != int(number):
+            sys.exit(f"{spelled} has several numbers: {number} and {known}")
+        name = name.replace("Eol", "EOL")
+        places = arguments(column)
+        told = SENTENCES.get(spelled, does)
+        words = sentence(told, places)
+        takes_length = column.startswith("w length, T")
+        found.append(Message(name, spelled, known, "Q" not in marks.split(), "E" in marks.split(), places, answer(told), words, takes_length))
+    if kinds:
+        sys.exit(f"no row of docs/MESSAGES.md: {', '.join(kinds)}")
+    return sorted(found, key=lambda it: it.number)
+
+
+def told(message, width, before):
+    """The comment of a method, in lines."""
+    text = f"SCI_{message.spelled}, {message.number}. {message.sentence}"
+    return textwrap.wrap(text, width, initial_indent=before, subsequent_indent=before, break_long_words=False, break_on_hyphens=False)
+
+
+CPP_TYPES = {"number": "std::int64_t", "flag": "bool", "text": "std::string_view"}
+CPP_ANSWERS = {"nothing": ("void", "as_done"), "number": ("std::int64_t", "as_number"), "flag": ("bool", "as_flag"), "text": ("std::string", "as_copy")}
+
+
+def camel(name):
+    """A name in camelCase."""
+    head, *rest = name.split("_")
+    return head + "".join(word.capitalize() for word in rest)
+
+
+def cpp_method(message, name, kind, call, comment):
+    taken = ", ".join(f"{CPP_TYPES[message.kind(place)]} {camel(called)}" for place, called in message.arguments)
+    text = message.place("T")
+    w = f"length_of({text})" if message.takes_length else camel(message.place("w") or "0")
+    passed = [f"SCI_{message.spelled}", w, camel(message.place("l") or "0"), *([text] if text else [])]
+    const = "" if message.changes else " const"
+    head, body = f"  Answer<{kind}> {name}({taken}){const} {{", f"return {call}({', '.join(passed)});"
+    lines = [f"{head} {body} }}"] if len(head) + len(body) <= 117 else [head, f"    {body}", "  }"]
+    return [*comment, *lines]
+
+
+def cpp(found):
+    """The methods of BasicView."""
+    lines = []
+    for message in found:
+        kind, call = CPP_ANSWERS[message.answers]
+        comment = [line.replace("display_line", "displayLine") for line in told(message, 118, "  /// ")]
+        lines += cpp_method(message, message.name, kind, call, comment)
+        if message.answers == "text":
+            again = [f"  /// As {message.name}, lent and not copied: it stands until the next message that is done."]
+            lines += cpp_method(message, message.name + "View", "std::string_view", "as_lent", again)
+    return "".join(f"{line}\n" for line in lines)
+
+
+RUST_TYPES = {"number": "i64", "flag": "bool", "text": "impl AsRef<[u8]>"}
+RUST_ANSWERS = {"nothing": ("()", "as_done"), "number": ("i64", "as_number"), "flag": ("bool", "as_flag"), "text": ("&[u8]", "as_lent")}
+
+
+def rust_method(message):
+    taken = "".join(f", {called}: {RUST_TYPES[message.kind(place)]}" for place, called in message.arguments)
+    kind, call = RUST_ANSWERS[message.answers]
+    text = message.place("T")
+    w, l = (f"i64::from({name})" if name == FLAG else name or "0" for name in map(message.place, "wl"))
+    body = [f"let {text} = {text}.as_ref();"] if message.takes_length else []
+    passed = [f"sys::SCI_{message.spelled}", f"length_of({text})" if message.takes_length else w, l,
+              text if message.takes_length else f"{text}.as_ref()" if text else "&[]"]
+    body += [f"self.{call}({', '.join(passed)})"]
+    # A question that lends nothing may stand among the arguments of another message.
+    lender = "&mut self" if message.changes or message.answers == "text" else "&self"
+    head = f"    pub fn {message.snake}({lender}{taken}) -> Result<{kind}, Refusal> {{"
+    return [*told(message, 96, "    /// "), head, *(f"        {line}" for line in body), "    }", ""]
+
+
+def rust(found):
+    """The methods of View."""
+    lines = [line for message in found for line in rust_method(message)]
+    return "".join(f"{line}\n" for line in lines[:-1])
+
+
+# How Rust spells the types of the header.
+IN_RUST = {"uint8_t": "u8", "uint32_t": "u32", "uint64_t": "u64", "int64_t": "i64", "size_t": "usize", "bool": "bool", "void": "c_void"}
+
+
+def in_rust(place):
+    """A parameter or field as Rust has it: `const uint8_t *text` is `text: *const u8`."""
+    const, kind, stars, name = re.fullmatch(r"(const )?(\w+) (\**)(\w+)", place).groups()
+    kind = IN_RUST.get(kind, kind)
+    if stars:
+        kind = "*mut " * (len(stars) - 1) + ("*const " if const else "*mut ") + kind
+    return f"{name}: {kind}"
+
+
+def rust_call(answer, name, taken):
+    """A call of the header as Rust declares it, on a line of its own where that fits."""
+    places = [in_rust(place) for place in re.split(r",\s+", taken) if place != "void"]
+    answered = "" if answer == "void" else f" -> {IN_RUST.get(answer, answer)}"
+    line = f"    pub fn {name}({', '.join(places)}){answered};\n"
+    if len(line) <= 121:
+        return line
+    return f"    pub fn {name}(\n" + "".join(f"        {place},\n" for place in places) + f"    ){answered};\n"
+
+
+def rust_struct(name, body):
+    """A struct of the header, with the comments of its fields."""
+    fields = re.findall(r"(?:(\w[\w ]*?) (\**)(\w+));(?: +/\* (.*?) \*/)?", body)
+    lines = [f"    /// {comment[:1].upper()}{comment[1:]}.\n" * bool(comment) + f"    pub {in_rust(f'{kind} {stars}{field}')},\n" for kind, stars, field, comment in fields]
+    return f"#[repr(C)]\n#[derive(Clone, Copy, Debug)]\npub struct {name} {{\n{''.join(lines)}}}\n"
+
+
+def rust_calls():
+    """What the header declares: answers, structs and calls. The struct of a session is written by hand: it is not copied."""
+    text = header.read(header.HEADER)
+    answers = re.findall(r"^  HONGPILAS_(\w+) = (\d+),? *(?:/\* (.*?) \*/)?$", text, re.M)
+    lines = [f"pub const HONGPILAS_VERSION: u32 = {re.search(r'^#define HONGPILAS_VERSION (.*)$', text, re.M)[1]};\n\n"]
+    for name, number, comment in answers:
+        lines.append(f"/// {comment[:1].upper()}{comment[1:]}.\n" * bool(comment) + f"pub const HONGPILAS_{name}: hongpilas_answer = {number};\n")
+    structs = re.findall(r"^typedef struct \w+ \{\n(.*?)^\} (\w+);", text, re.M | re.S)
+    lines += ["\n" + rust_struct(name, body) for body, name in structs if name != "hongpilas"]
+    limits = dict((name, body) for body, name in structs)["hongpilas_limits"]
+    greatest = re.search(r"^#define HONGPILAS_GREATEST_LIMITS \{(.*)\}$", text, re.M)[1].split(", ")
+    named = zip(re.findall(r"^  \w+ (\w+);", limits, re.M), greatest)
+    lines.append("\n/// All limits at their greatest.\npub const HONGPILAS_GREATEST_LIMITS: hongpilas_limits = hongpilas_limits {\n")
+    lines += [f"    {name}: {number},\n" for name, number in named]
+    calls = re.findall(r"^(\w+) (hongpilas_\w+)\(([^()]*)\);", re.sub(r"/\*.*?\*/", "", text, flags=re.S), re.M)
+    return "".join([*lines, "};\n\nextern \"C\" {\n", *(rust_call(*it) for it in calls), "}\n"])
+
+
+PYTHON_TYPES = {"number": "int", "flag": "bool", "text": "Text"}
+PYTHON_ANSWERS = {"nothing": ("None", "{}"), "number": ("int", "return {}"), "flag": ("bool", "return {} != 0"), "text": ("bytes", None)}
+
+
+def python_method(message):
+    taken = "".join(f", {called}: {PYTHON_TYPES[message.kind(place)]}" for place, called in message.arguments)
+    kind, answered = PYTHON_ANSWERS[message.answers]
+    text = message.place("T")
+    w, l = (name or "0" for name in map(message.place, "wl"))
+    passed = [f"constants.SCI_{message.spelled}", f"len({text})" if message.takes_length else w, l, *([text] if text else [])]
+    while len(passed) > 1 and passed[-1] == "0":
+        passed.pop()
+    call = f"self.send({', '.join(passed)})"
+    body = [f"{text} = as_bytes({text})"] if message.takes_length else []
+    body += [call, "return self.text()"] if answered is None else [answered.format(call)]
+    comment = "\n".join(told(message, 112, "        ")).lstrip()
+    comment = f'"""{comment}"""' if "\n" not in comment else f'"""{comment}\n        """'
+    return [f"    def {message.snake}(self{taken}) -> {kind}:", *f"        {comment}".split("\n"), *(f"        {line}" for line in body), ""]
+
+
+def python(found):
+    """The methods of Messages."""
+    lines = [line for message in found for line in python_method(message)]
+    return "".join(f"{line}\n" for line in lines[:-1])
+
+
+def constants(line):
+    """All constants of the header, each as this line has it."""
+    groups = (("Messages", header.messages()), ("Notes", header.notes()), ("Constants", header.constants()))
+    return "\n".join(line(None, title, None) + "".join(line(name, None, spelled(number)) for name, number in pairs) for title, pairs in groups)
+
+
+def spelled(number):
+    """A constant as the header spells it: a bit or a mask in hexadecimal digits."""
+    return str(number) if number < 10 or 2000 <= number < 5000 else f"0x{number:X}"
+
+
+def rust_constant(name, title, number):
+    """The number of a message or a note has the type of such numbers; all else has that of arguments."""
+    if title:
+        return f"// {title}.\n"
+    kind = "u32" if name.startswith(("SCI_", "SCN_")) else "i64"
+    return f"pub const {name}: {kind} = {number};\n"
+
+
+def python_constant(name, title, number):
+    return f"# {title}.\n" if title else f"{name} = {number}\n"
+
+
+# What a trial passes: a number in each place, and a text.
+PASSED = {"w": "11", "l": "12", "T": '"ab"'}
+
+
+# What a question is asked of, by the names of its arguments.
+ASKED_OF = {
+    "line": "LINES", "display_line": "LINES", "position": "POSITIONS", "start": "POSITIONS", "end": "POSITIONS", "handle": "HANDLES",
+    "number": "INDICATORS", "mask": "MASKS", "level": "LEVELS",
+}
+
+
+def questions(found):
+    """The messages that change nothing, in two lists: those that answer a number, and those that answer a text."""
+    lists = []
+    for title, is_text in (("NUMBER_QUESTIONS", False), ("TEXT_QUESTIONS", True)):
+        asked = [it for it in found if not it.changes and (it.answers == "text") == is_text]
+        rows = (", ".join([it.spelled, *(ASKED_OF[it.place(place)] if it.place(place) else "NOTHING" for place in "wl")]) for it in asked)
+        lists.append(f"#define {title}(ROW) \\\n" + " \\\n".join(f"  ROW({row})" for row in rows) + "\n")
+    return "\n".join(lists)
+
+
+def call(message, name, on):
+    """A method's call in a trial, where a flag is on."""
+    passed = [on if called == FLAG else PASSED[place] for place, called in message.arguments]
+    return f"{name}({', '.join(passed)})"
+
+
+def expected():
+    """What a trial of all methods sends, from the rows of the table alone, by their numbers."""
+    for number, _, _, column, _, _ in sorted(rows()):
+        letters = re.findall(r"\b[wlT]\b", column)
+        w = "2" if re.match("w length, T", column) else PASSED["w"] if "w" in letters else "0"
+        l = PASSED["l"] if "l" in letters else "0"
+        w, l = ("1" if re.search(rf"\b{place} flag\b", column) else number for place, number in (("w", w), ("l", l)))
+        yield f"""1: {number} {w} {l} {PASSED["T"] if "T" in letters else '""'}"""
+    yield "given back"
+
+
+def files(found):
+    """What stands between the marks of each file, by their titles."""
+    yield CPP, {"": cpp(found), " names": "".join(f'    case {name}:\n      return "{name}";\n' for name, _ in header.notes())}
+    yield RUST, {"": rust(found)}
+    yield RUST_NOTES, {"": "".join(f'        sys::{name} => Some("{name}"),\n' for name, _ in header.notes())}
+    yield RUST_CONSTANTS, {"": constants(rust_constant)}
+    yield RUST_CALLS, {"": rust_calls()}
+    yield PYTHON, {"": python(found)}
+    yield PYTHON_CONSTANTS, {"": constants(python_constant)}
+    yield QUESTIONS, {"": questions(found)}
+    yield BESIDE, {"": drawn.rows(found)}
+    yield "bindings/cpp/calls.cpp", {"": "".join(f"  view.{call(it, it.name, 'true')};\n" for it in found)}
+    yield "bindings/rust/hongpilas/examples/calls.rs", {"": "".join(f"    view.{call(it, it.snake, 'true')}?;\n" for it in found)}
+    yield "bindings/python/calls.py", {"": "".join(f"    view.{call(it, it.snake, 'True')}\n" for it in found)}
+
+
+def written(path, texts):
+    """A file with each text between its marks, which stand in comments of their own lines, with the text's title at their ends."""
+    lines = header.read(path).splitlines(True)
+    for title, text in texts.items():
+        begin, end = (next(at for at, line in enumerate(lines) if line.endswith(f"{mark}{title}\n")) for mark in (BEGIN, END))
+        lines = [*lines[: begin + 1], *text.splitlines(True), *lines[end:]]
+    return "".join(lines)
+
+
+def versions():
+    """The files that name a version, with that of the header: its number is the major one times 1000, and the minor one."""
+    major, minor = divmod(int(re.search(r"^#define HONGPILAS_VERSION (\d+)$", header.read("include/hongpilas.h"), re.M)[1]), 1000)
+    for path, version in (("bindings/python/pyproject.toml", f"{major}.{minor}"), ("bindings/rust/Cargo.toml", f"{major}.{minor}.0"),
+                          ("bindings/rust/Cargo.lock", f"{major}.{minor}.0")):
+        yield path, re.sub(r'^version = "[\d.]+"$', f'version = "{version}"', header.read(path), flags=re.M)
+
+
+def definitions(found):
+    """The definitions of the plain questions, with those that docs/MESSAGES.md names, by their numbers."""
+    listed = re.search(r"^The plain questions are [^:]*: ([A-Z,\s]*)\.$", header.read("docs/MESSAGES.md"), re.M)[1]
+    named = set(re.split(r",\s+", listed))
+    unknown = named - {it.spelled for it in found}
+    if unknown:
+        sys.exit(f"docs/MESSAGES.md names plain questions that are no messages: {', '.join(sorted(unknown))}")
+    kinds = "".join(f"kinds.{it.name.replace('EOL', 'Eol')} ∷ " for it in found if it.spelled in named)
+    yield ASKING, re.sub(r"^questions = .*$", f"questions = {kinds}[]", header.read(ASKING), flags=re.M)
+
+
+def faults():
+    """Where a hand-written part is not that of the crates: refusals without a place in a wrapper."""
+    named = re.findall(r"^    (\w+) = (\d+),", header.read("crates/ed_types/src/refusal.rt"), re.M)
+    for path, form in ((CPP, "  {name} = HONGPILAS_{capitals}"), ("bindings/rust/hongpilas/src/refusal.rs", "    {name} = {number},"),
+                       ("bindings/python/src/hongpilas/_library.py", "    {capitals} = {number}\n")):
+        text = header.read(path)
+        for name, number in named:
+            capitals = re.sub(r"(?<!^)(?=[A-Z])", "_", name).upper()
+            if form.format(name=name, number=number, capitals=capitals) not in text:
+                yield f"{path} has no refusal {name} = {number}"
+
+
+def main():
+    if "--calls" in sys.argv[1:]:
+        print("\n".join(expected()))
+        return
+    found = messages()
+    wrong = []
+    for path, new in [*((path, written(path, texts)) for path, texts in files(found)), *versions(), *definitions(found)]:
+        if "--check" not in sys.argv[1:]:
+            with open(os.path.join(header.TOP, path), "w", encoding="utf-8") as file:
+                file.write(new)
+        elif header.read(path) != new:
+            wrong.append(f"{path}: run tools/pages/wrappers.py")
+    wrong += faults()
+    print("\n".join(wrong) or f"the wrappers for C++, Rust and Python are what they should be: {len(found)} messages")
+    sys.exit(bool(wrong))
+
+
+if __name__ == "__main__":
+    main()
