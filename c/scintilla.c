@@ -537,28 +537,30 @@ static void refuse_edit(scintilla_view *view) {
   view->status = SC_STATUS_FAILURE;
 }
 
+static bool is_marked(const manner *way, uint32_t mark) { return (hongpilas_message_marks(way->message) & mark) != 0; }
+static bool is_question(const manner *way) { return way->taken == LENT || is_marked(way, HONGPILAS_MARK_Q); }
+
 /* Whether a message that is no question is sent from inside a notify function. It is made sure where it matters before the message is done. */
-static bool is_sent_inside(hongpilas_scintilla *it, uint32_t marks) {
-  if (it->running == NULL) return false;
-  return (marks & HONGPILAS_MARK_E) != 0 || it->is_pinned ? is_surely_inside(it) : is_inside(it);
+static bool is_sent_inside(hongpilas_scintilla *it, const manner *way) {
+  if (it->running == NULL || is_question(way)) return false;
+  return is_marked(way, HONGPILAS_MARK_E) || it->is_pinned ? is_surely_inside(it) : is_inside(it);
 }
 
-/* Delivers what stands in the queue, unless a notify function runs. */
-static void deliver_outside(hongpilas_scintilla *it) {
+/* Delivers what stands in the queue behind a message, unless that is a question, or a notify function runs. */
+static void deliver_behind(hongpilas_scintilla *it, const manner *way) {
   if (it->first == NULL && (it->next == (size_t)-1 || !has_undelivered(it))) return;
-  if (it->running == NULL || !is_surely_inside(it)) deliver(it);
+  if (is_question(way) || (it->running != NULL && is_surely_inside(it))) return;
+  deliver(it);
 }
 
-/* Sends a message. Behind one that is no question what stands in the queue is delivered. The view may be closed by then: its status is looked at before. */
+/* Sends a message. The view may be closed by what is delivered behind it: its status is looked at before. */
 static sptr_t perform(scintilla_view *view, const manner *way, uptr_t w, sptr_t l, int *status) {
   hongpilas_scintilla *it = view->of;
-  uint32_t marks = hongpilas_message_marks(way->message);
-  bool is_question = (marks & HONGPILAS_MARK_Q) != 0 || way->taken == LENT;
-  bool inside = !is_question && is_sent_inside(it, marks);
+  bool inside = is_sent_inside(it, way);
   hongpilas_answer answer;
   int64_t value = 0;
   sptr_t answered = way->refused;
-  if (inside && (marks & HONGPILAS_MARK_E) != 0) {
+  if (inside && is_marked(way, HONGPILAS_MARK_E)) {
     refuse_edit(view);
     *status = view->status;
     return answered;
@@ -568,9 +570,8 @@ static sptr_t perform(scintilla_view *view, const manner *way, uptr_t w, sptr_t 
   note_refusal(view, answer);
   *status = view->status;
   if (answer == HONGPILAS_DONE) answered = answer_as(way->answered, value);
-  if (is_question) return answered;
   if (inside) it->is_late = true;
-  deliver_outside(it);
+  deliver_behind(it, way);
   return answered;
 }
 
