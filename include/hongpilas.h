@@ -417,10 +417,10 @@ HONGPILAS_MUST_USE hongpilas_answer hongpilas_copy_range_unchecked(hongpilas_ses
 #define SCN_MACRORECORD      2009
 
 /* Constants. */
-#define SCFIND_MATCHCASE              4
-#define SCFIND_WHOLEWORD              2
-#define SCFIND_WORDSTART              0x100000
-#define SC_DOCUMENTOPTION_STYLES_NONE 1
+#define SCFIND_MATCHCASE              0x4
+#define SCFIND_WHOLEWORD              0x2
+#define SCFIND_WORDSTART              0x00100000
+#define SC_DOCUMENTOPTION_STYLES_NONE 0x1
 #define SC_DOCUMENTOPTION_TEXT_LARGE  0x100
 #define SC_EOL_CR                     1
 #define SC_EOL_CRLF                   0
@@ -430,7 +430,7 @@ HONGPILAS_MUST_USE hongpilas_answer hongpilas_copy_range_unchecked(hongpilas_ses
 #define SC_FOLDACTION_TOGGLE          2
 #define SC_FOLDLEVELBASE              0x400
 #define SC_FOLDLEVELHEADERFLAG        0x2000
-#define SC_FOLDLEVELNUMBERMASK        0xFFF
+#define SC_FOLDLEVELNUMBERMASK        0x0FFF
 #define SC_FOLDLEVELWHITEFLAG         0x1000
 #define SC_LASTSTEPINUNDOREDO         0x100
 #define SC_LINE_END_TYPE_DEFAULT      0
@@ -438,14 +438,14 @@ HONGPILAS_MUST_USE hongpilas_answer hongpilas_copy_range_unchecked(hongpilas_ses
 #define SC_MODEVENTMASKALL            0x7FFFFF
 #define SC_MOD_BEFOREDELETE           0x800
 #define SC_MOD_BEFOREINSERT           0x400
-#define SC_MOD_CHANGEFOLD             8
+#define SC_MOD_CHANGEFOLD             0x8
 #define SC_MOD_CHANGEINDICATOR        0x4000
 #define SC_MOD_CHANGELINESTATE        0x8000
 #define SC_MOD_CHANGEMARKER           0x200
-#define SC_MOD_CHANGESTYLE            4
+#define SC_MOD_CHANGESTYLE            0x4
 #define SC_MOD_CONTAINER              0x40000
-#define SC_MOD_DELETETEXT             2
-#define SC_MOD_INSERTTEXT             1
+#define SC_MOD_DELETETEXT             0x2
+#define SC_MOD_INSERTTEXT             0x1
 #define SC_MULTILINEUNDOREDO          0x1000
 #define SC_MULTISTEPUNDOREDO          0x80
 #define SC_PERFORMED_REDO             0x40

@@ -103,6 +103,18 @@ ON_THREADS = (
     "sessions are independent of each other."
 )
 SPEAK_OF_THREADS = (HEADER, "README.md", "docs/PROMISES.md", "docs/PROFILE.md")
+# What Scintilla.h spells otherwise than other constants: the same words in both, so that either may be included first.
+SPELLED = {
+    "SCFIND_WHOLEWORD": "0x2",
+    "SCFIND_MATCHCASE": "0x4",
+    "SCFIND_WORDSTART": "0x00100000",
+    "SC_FOLDLEVELNUMBERMASK": "0x0FFF",
+    "SC_DOCUMENTOPTION_STYLES_NONE": "0x1",
+    "SC_MOD_INSERTTEXT": "0x1",
+    "SC_MOD_DELETETEXT": "0x2",
+    "SC_MOD_CHANGESTYLE": "0x4",
+    "SC_MOD_CHANGEFOLD": "0x8",
+}
 # How README.md counts the messages.
 COUNTED = re.compile(r"\d+(?=\s+of\s+Scintilla's\s+messages)")
 # The library's C, whose calls the header declares; proved calls that only this C makes; and what is written into it.
@@ -202,16 +214,20 @@ def named(table):
         yield from ((it["name"], meaning(it["number"])) for it in re.finditer(pattern, table))
 
 
+def spelled(name, number):
+    return SPELLED.get(name) or (str(number) if number < 10 else f"0x{number:X}")
+
+
 def lines_of(pairs, spelled):
     widest = max(len(name) for name, _ in pairs)
-    return "".join(f"#define {name.ljust(widest)} {spelled(number)}\n" for name, number in pairs)
+    return "".join(f"#define {name.ljust(widest)} {spelled(name, number)}\n" for name, number in pairs)
 
 
 def generated():
     return "\n".join([
-        "/* Messages. */\n" + lines_of(messages(), str),
-        "/* Notifications. */\n" + lines_of(notes(), str),
-        "/* Constants. */\n" + lines_of(constants(), lambda number: str(number) if number < 10 else f"0x{number:X}"),
+        "/* Messages. */\n" + lines_of(messages(), lambda _, number: str(number)),
+        "/* Notifications. */\n" + lines_of(notes(), lambda _, number: str(number)),
+        "/* Constants. */\n" + lines_of(constants(), spelled),
     ])
 
 
