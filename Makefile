@@ -55,7 +55,7 @@ out/libhongpilas.so: out/libhongpilas.a c/hongpilas.map
 	$(CC) -shared -nostartfiles -Wl,-z,relro,-z,now -Wl,-soname,libhongpilas.so.$(MAJOR) -Wl,--version-script=c/hongpilas.map -Wl,--whole-archive out/libhongpilas.a -Wl,--no-whole-archive -o $@
 
 # The Scintilla-compatible interface stands beside the libraries: who does not want it links none of it. An exception may pass through it.
-out/libhongpilas_scintilla.a: c/scintilla.c include/hongpilas_scintilla.h include/hongpilas.h
+out/libhongpilas_scintilla.a: c/scintilla.c c/scintilla_manners.h include/hongpilas_scintilla.h include/hongpilas.h
 	mkdir -p out
 	rm -f $@
 	$(CC) -std=c99 -O2 -fPIC -fexceptions -Iinclude -c $< -o out/scintilla.o

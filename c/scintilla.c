@@ -1,5 +1,5 @@
 /* Hongpilas with Scintilla's own interface, over the library's calls: hongpilas_scintilla.h says what each call does. */
-#include <hongpilas_scintilla.h>
+#include "scintilla_manners.h"
 
 #include <stdlib.h>
 #include <string.h>
@@ -14,16 +14,16 @@ struct hongpilas_scintilla {
   hongpilas_session *session;
   scintilla_view **views; /* those that are open, in the order of their ids */
   size_t view_count, view_room;
-  size_t listeners;       /* how many of them have a notify function */
+  size_t listeners; /* how many of them have a notify function */
   /* The queue: what stands in batches, and then the notifications of the last reply from `next` on. */
   batch *first, *last;
   size_t next;
-  uptr_t w;               /* of the call whose reply it is */
+  uptr_t w; /* of the call whose reply it is */
   sptr_t l;
-  bool is_late;           /* that call has returned: a text that l led to may be gone */
-  bool is_pinned;         /* the function that runs was given bytes of the reply, which is not to be replaced */
-  delivery *running;      /* of the call that notifies; NULL if none does */
-  uint8_t *held;          /* the text of the notification that is delivered, if it is long */
+  bool is_late;      /* that call has returned: a text that l led to may be gone */
+  bool is_pinned;    /* the function that runs was given bytes of the reply, which is not to be replaced */
+  delivery *running; /* of the call that notifies; NULL if none does */
+  uint8_t *held;     /* the text of the notification that is delivered, if it is long */
   size_t held_room;
   uint8_t held_short[SHORT_TEXT];
 };
@@ -36,99 +36,6 @@ struct scintilla_view {
   int status;
   char refusal[64]; /* why a call was last refused, closed by a NUL */
 };
-
-/* ---- How messages take w and l, and answer ---- */
-
-typedef enum takes {
-  NUMBERS, /* two numbers */
-  INT_W,   /* two numbers, the first an int */
-  INT_L,   /* two numbers, the second an int */
-  INTS,    /* two ints */
-  BITS_L,  /* two numbers, the second an int whose bits count */
-  COUNTED, /* l is a text of w bytes */
-  OFFERED, /* the same; a null one is none, and nothing is done */
-  CLOSED,  /* l is a text up to its NUL; a null one is none, and nothing is done */
-  EITHER,  /* l is a text of w bytes, or up to its NUL where w is -1 */
-  ASKED,   /* l is where a text of the document goes to, or null */
-  STYLED,  /* l is a range, with the place where its bytes and styles go to */
-  LENT     /* w and l are the start and the length of bytes that are lent */
-} takes;
-
-typedef enum answers { AS_IT_IS, AS_INT, AS_CHAR, AS_TRUE } answers; /* AS_TRUE: 1 where it is done */
-
-typedef struct manner {
-  unsigned int message;
-  takes taken;
-  answers answered;
-  int refused; /* what is answered where it is refused */
-} manner;
-
-/* By their numbers; what does not stand here takes two numbers, answers one, and 0 where it is refused. Ints are those of Scintilla's
- * documentation, also what it calls by the name of an enumeration. What answers -1 by that documentation if nothing is found or added answers
- * -1 where it is refused. */
-static const manner manners[] = {
-    {SCI_ADDTEXT, OFFERED, AS_IT_IS, 0},
-    {SCI_INSERTTEXT, CLOSED, AS_IT_IS, 0},
-    {SCI_GETCHARAT, NUMBERS, AS_CHAR, 0},
-    {SCI_GETSTYLEAT, NUMBERS, AS_CHAR, 0},
-    {SCI_GETSTYLEDTEXT, STYLED, AS_IT_IS, 0},
-    {SCI_MARKERLINEFROMHANDLE, INT_W, AS_IT_IS, -1},
-    {SCI_MARKERDELETEHANDLE, INT_W, AS_IT_IS, 0},
-    {SCI_GETCURLINE, ASKED, AS_IT_IS, 0},
-    {SCI_CONVERTEOLS, INT_W, AS_IT_IS, 0},
-    {SCI_SETEOLMODE, INT_W, AS_IT_IS, 0},
-    {SCI_SETSTYLING, INT_L, AS_IT_IS, 0},
-    {SCI_MARKERADD, INT_L, AS_IT_IS, -1},
-    {SCI_MARKERDELETE, INT_L, AS_IT_IS, 0},
-    {SCI_MARKERDELETEALL, INT_W, AS_IT_IS, 0},
-    {SCI_MARKERGET, NUMBERS, AS_INT, 0},
-    {SCI_MARKERNEXT, NUMBERS, AS_IT_IS, -1},
-    {SCI_MARKERPREVIOUS, NUMBERS, AS_IT_IS, -1},
-    {SCI_SETSTYLINGEX, OFFERED, AS_IT_IS, 0},
-    {SCI_SETLINESTATE, INT_L, AS_IT_IS, 0},
-    {SCI_GETLINE, ASKED, AS_IT_IS, 0},
-    {SCI_GETSELTEXT, ASKED, AS_IT_IS, 0},
-    {SCI_GETTEXTRANGE, ASKED, AS_IT_IS, 0},
-    {SCI_REPLACESEL, CLOSED, AS_IT_IS, 0},
-    {SCI_SETREADONLY, NUMBERS, AS_TRUE, 0},
-    {SCI_SETTEXT, CLOSED, AS_TRUE, 0},
-    {SCI_GETTEXT, ASKED, AS_IT_IS, 0},
-    {SCI_REPLACETARGET, EITHER, AS_IT_IS, 0},
-    {SCI_SEARCHINTARGET, COUNTED, AS_IT_IS, -1},
-    {SCI_SETSEARCHFLAGS, INT_W, AS_IT_IS, 0},
-    {SCI_SETFOLDLEVEL, INT_L, AS_IT_IS, 0},
-    {SCI_GETLASTCHILD, INT_L, AS_IT_IS, 0},
-    {SCI_GETFOLDPARENT, NUMBERS, AS_IT_IS, -1},
-    {SCI_FOLDLINE, INT_L, AS_IT_IS, 0},
-    {SCI_APPENDTEXT, COUNTED, AS_IT_IS, 0},
-    {SCI_SETMODEVENTMASK, INT_W, AS_IT_IS, 0},
-    {SCI_CREATEDOCUMENT, INT_L, AS_IT_IS, 0},
-    {SCI_COPYTEXT, COUNTED, AS_IT_IS, 0},
-    {SCI_MARKERADDSET, BITS_L, AS_IT_IS, 0},
-    {SCI_SETINDICATORCURRENT, INT_W, AS_IT_IS, 0},
-    {SCI_SETINDICATORVALUE, INT_W, AS_IT_IS, 0},
-    {SCI_INDICATORALLONFOR, NUMBERS, AS_INT, 0},
-    {SCI_INDICATORVALUEAT, INT_W, AS_INT, 0},
-    {SCI_INDICATORSTART, INT_W, AS_IT_IS, 0},
-    {SCI_INDICATOREND, INT_W, AS_IT_IS, 0},
-    {SCI_ADDUNDOACTION, INTS, AS_IT_IS, 0},
-    {SCI_GETRANGEPOINTER, LENT, AS_IT_IS, 0},
-    {SCI_SETLINEENDTYPESALLOWED, INT_W, AS_IT_IS, 0},
-    {SCI_GETTARGETTEXT, ASKED, AS_IT_IS, 0},
-};
-
-static manner manner_of(unsigned int message) {
-  manner plain = {0, NUMBERS, AS_IT_IS, 0};
-  size_t from = 0, to = sizeof manners / sizeof *manners;
-  while (from < to) {
-    size_t middle = (from + to) / 2;
-    if (manners[middle].message == message) return manners[middle];
-    if (manners[middle].message < message) from = middle + 1;
-    else to = middle;
-  }
-  plain.message = message;
-  return plain;
-}
 
 /* ---- Views ---- */
 
@@ -240,9 +147,9 @@ static uintptr_t seal_of(const delivery *at, int i) { return ((uintptr_t)at ^ (u
 
 #if defined(__GNUC__) || defined(__clang__)
 #include <unwind.h>
-#define APART __attribute__((noinline, no_sanitize_address))
+#define APART             __attribute__((noinline, no_sanitize_address))
 #define ENDS_BY(function) __attribute__((cleanup(function)))
-#define STACK() ((uintptr_t)__builtin_frame_address(0))
+#define STACK()           ((uintptr_t)__builtin_frame_address(0))
 
 /* A walk to the frame that has an address: the function of the frame that was seen last, and whether that frame was found. */
 typedef struct walk {
@@ -268,7 +175,7 @@ static bool is_in_frame_of_deliver(const delivery *at) {
 #else
 #define APART
 #define ENDS_BY(function)
-#define STACK() ((uintptr_t)&(volatile char){0})
+#define STACK() ((uintptr_t) & (volatile char){0})
 static bool is_in_frame_of_deliver(const delivery *at) { return at != NULL; }
 #endif
 
@@ -289,9 +196,7 @@ static APART bool is_inside(hongpilas_scintilla *it) {
 }
 
 /* The same for sure. */
-static bool is_surely_inside(hongpilas_scintilla *it) {
-  return is_inside(it) && (is_in_frame_of_deliver(it->running) || forget_delivery(it));
-}
+static bool is_surely_inside(hongpilas_scintilla *it) { return is_inside(it) && (is_in_frame_of_deliver(it->running) || forget_delivery(it)); }
 
 /* The end of a delivery, by return or by an exception. */
 static void end_delivery(delivery *at) {
@@ -447,8 +352,7 @@ static hongpilas_answer give_text(scintilla_view *view, unsigned int message, up
   *value = found.count;
   if (into == NULL) return HONGPILAS_DONE;
   if (is_bounded && (uptr_t)found.count > w) *value = found.count = (int64_t)w;
-  if (found.count > 0)
-    answer = hongpilas_copy_range_unchecked(view->of->session, view->id, (size_t)found.start, (uint8_t *)into, (size_t)found.count);
+  if (found.count > 0) answer = hongpilas_copy_range_unchecked(view->of->session, view->id, (size_t)found.start, (uint8_t *)into, (size_t)found.count);
   if (answer == HONGPILAS_DONE && is_closed) into[found.count] = '\0';
   if (message == SCI_GETCURLINE) *value = ask(view, SCI_GETCURRENTPOS, 0) - found.start;
   return answer;

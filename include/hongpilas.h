@@ -121,7 +121,9 @@ typedef struct hongpilas_limits {
 
 /* All limits at their greatest, as a start for a program that lowers only some:
  * hongpilas_limits limits = HONGPILAS_GREATEST_LIMITS; */
+/* clang-format off */
 #define HONGPILAS_GREATEST_LIMITS {0x7FFFFFFF, 0x10000000000, 0x7FFFFFFF, 0x7FFFFFFF, 0x7FFFFFFF, 1024, 255}
+/* clang-format on */
 
 /* What each call refuses, beside its own refusals, before it does anything else; the first
  * of these that applies:
@@ -140,8 +142,7 @@ typedef struct hongpilas_limits {
  * Refused: OUT_OF_MEMORY; BAD_ARGUMENT if a limit is 0 or above the greatest, if `session`
  * is null, or if `size` is below that of this version or above that of the library. */
 HONGPILAS_MUST_USE hongpilas_answer hongpilas_new(hongpilas_session **session);
-HONGPILAS_MUST_USE hongpilas_answer hongpilas_new_with_limits(hongpilas_session **session,
-                                                              const hongpilas_limits *limits, size_t size);
+HONGPILAS_MUST_USE hongpilas_answer hongpilas_new_with_limits(hongpilas_session **session, const hongpilas_limits *limits, size_t size);
 
 /* Frees a session with all that it owns. Does nothing if it is null. */
 void hongpilas_free(hongpilas_session *session);
@@ -158,9 +159,8 @@ HONGPILAS_MUST_USE hongpilas_answer hongpilas_close_view(hongpilas_session *sess
  * message does, and when it is refused. The text is read in place, and not stored. Sets
  * *value to the value of the reply; `value` may be null. The reply, with its text and its
  * notifications, replaces the last one. */
-HONGPILAS_MUST_USE hongpilas_answer hongpilas_send(hongpilas_session *session, uint32_t view, uint32_t number,
-                                                   int64_t w, int64_t l, const void *text, size_t length,
-                                                   int64_t *value);
+HONGPILAS_MUST_USE hongpilas_answer hongpilas_send(hongpilas_session *session, uint32_t view, uint32_t number, int64_t w, int64_t l, const void *text,
+                                                   size_t length, int64_t *value);
 
 /* Asks a view a question: a message that changes nothing, which docs/MESSAGES.md marks Q.
  * Sets *value to the value with which hongpilas_send would answer it. Neither the session
@@ -169,11 +169,9 @@ HONGPILAS_MUST_USE hongpilas_answer hongpilas_send(hongpilas_session *session, u
  * to its first byte, and *length. The text is valid until the next hongpilas_read of the
  * session, or hongpilas_free; here `value` may be null.
  * Refused: UNKNOWN_MESSAGE if the message is no question; otherwise as by hongpilas_send. */
-HONGPILAS_MUST_USE hongpilas_answer hongpilas_ask(const hongpilas_session *session, uint32_t view, uint32_t number,
-                                                  int64_t w, int64_t l, int64_t *value);
-HONGPILAS_MUST_USE hongpilas_answer hongpilas_read(hongpilas_session *session, uint32_t view, uint32_t number,
-                                                   int64_t w, int64_t l, const uint8_t **text, size_t *length,
-                                                   int64_t *value);
+HONGPILAS_MUST_USE hongpilas_answer hongpilas_ask(const hongpilas_session *session, uint32_t view, uint32_t number, int64_t w, int64_t l, int64_t *value);
+HONGPILAS_MUST_USE hongpilas_answer hongpilas_read(hongpilas_session *session, uint32_t view, uint32_t number, int64_t w, int64_t l, const uint8_t **text,
+                                                   size_t *length, int64_t *value);
 
 /* Sets *value to the value of the last reply: 0 before the first message that was done. */
 HONGPILAS_MUST_USE hongpilas_answer hongpilas_value(const hongpilas_session *session, int64_t *value);
@@ -181,25 +179,23 @@ HONGPILAS_MUST_USE hongpilas_answer hongpilas_value(const hongpilas_session *ses
 /* Lends the last reply's text, as long as the reply is valid: sets *text to its first
  * byte, and *length. The second form copies the bytes from `start` on, as many as there are
  * and as fit, and sets *count to how many that is. */
-HONGPILAS_MUST_USE hongpilas_answer hongpilas_text(const hongpilas_session *session, const uint8_t **text,
-                                                   size_t *length);
-HONGPILAS_MUST_USE hongpilas_answer hongpilas_copy_text(const hongpilas_session *session, size_t start, void *into,
-                                                        size_t room, size_t *count);
+HONGPILAS_MUST_USE hongpilas_answer hongpilas_text(const hongpilas_session *session, const uint8_t **text, size_t *length);
+HONGPILAS_MUST_USE hongpilas_answer hongpilas_copy_text(const hongpilas_session *session, size_t start, void *into, size_t room, size_t *count);
 
 /* A notification of a view. Fields that its code does not use are 0. */
 typedef struct hongpilas_note_data {
-  uint32_t view;       /* the view that is notified */
-  uint32_t code;       /* which notification, such as SCN_MODIFIED */
-  uint32_t kind;       /* Scintilla's modificationType */
-  uint32_t message;    /* the number of a recorded message */
-  int64_t position;    /* a position, in bytes */
-  int64_t length;      /* a length, in bytes */
-  int64_t lines;       /* Scintilla's linesAdded */
-  int64_t line;        /* a line, from 0; -1 for all lines */
-  int64_t now;         /* a fold level after a change: foldLevelNow */
-  int64_t prev;        /* a fold level before it: foldLevelPrev */
-  int64_t token;       /* the token of a container's own undo step */
-  int64_t w;           /* the arguments of a recorded message */
+  uint32_t view;    /* the view that is notified */
+  uint32_t code;    /* which notification, such as SCN_MODIFIED */
+  uint32_t kind;    /* Scintilla's modificationType */
+  uint32_t message; /* the number of a recorded message */
+  int64_t position; /* a position, in bytes */
+  int64_t length;   /* a length, in bytes */
+  int64_t lines;    /* Scintilla's linesAdded */
+  int64_t line;     /* a line, from 0; -1 for all lines */
+  int64_t now;      /* a fold level after a change: foldLevelNow */
+  int64_t prev;     /* a fold level before it: foldLevelPrev */
+  int64_t token;    /* the token of a container's own undo step */
+  int64_t w;        /* the arguments of a recorded message */
   int64_t l;
   const uint8_t *text; /* the notification's text, valid as long as the reply is */
   size_t text_length;  /* its length, in bytes */
@@ -212,23 +208,20 @@ typedef struct hongpilas_note_data {
  * Refused: BAD_ARGUMENT if there is no such notification, or if `size` is below that of this
  * version. */
 HONGPILAS_MUST_USE hongpilas_answer hongpilas_note_count(const hongpilas_session *session, size_t *count);
-HONGPILAS_MUST_USE hongpilas_answer hongpilas_note(const hongpilas_session *session, size_t index,
-                                                   hongpilas_note_data *note, size_t size);
+HONGPILAS_MUST_USE hongpilas_answer hongpilas_note(const hongpilas_session *session, size_t index, hongpilas_note_data *note, size_t size);
 
 /* Copies a notification's text from `start` on, as many bytes as there are and as fit, and
  * sets *count to how many that is. Refused: BAD_ARGUMENT if there is no such notification. */
-HONGPILAS_MUST_USE hongpilas_answer hongpilas_copy_note_text(const hongpilas_session *session, size_t index,
-                                                             size_t start, void *into, size_t room, size_t *count);
+HONGPILAS_MUST_USE hongpilas_answer hongpilas_copy_note_text(const hongpilas_session *session, size_t index, size_t start, void *into, size_t room,
+                                                             size_t *count);
 
 /* Lends the `count` bytes of the view's document from `start` on, without a copy: sets
  * *bytes to the first. They are valid until the next call that does more than read the
  * last reply. The second form copies as many bytes as the buffer has. Neither changes
  * the session or the last reply, and neither allocates.
  * Refused: NO_SUCH_VIEW; BAD_ARGUMENT if the range ends past the end of the text. */
-HONGPILAS_MUST_USE hongpilas_answer hongpilas_lend_range(hongpilas_session *session, uint32_t view, size_t start,
-                                                         size_t count, const uint8_t **bytes);
-HONGPILAS_MUST_USE hongpilas_answer hongpilas_copy_range(hongpilas_session *session, uint32_t view, size_t start,
-                                                         void *into, size_t count);
+HONGPILAS_MUST_USE hongpilas_answer hongpilas_lend_range(hongpilas_session *session, uint32_t view, size_t start, size_t count, const uint8_t **bytes);
+HONGPILAS_MUST_USE hongpilas_answer hongpilas_copy_range(hongpilas_session *session, uint32_t view, size_t start, void *into, size_t count);
 
 /* The unchecked forms: the proved calls themselves. Each does what the call of the same name
  * without `unchecked` does, and tests no pointer and no length. Beside the duties above, the
@@ -238,26 +231,21 @@ HONGPILAS_MUST_USE hongpilas_answer hongpilas_copy_range(hongpilas_session *sess
  * a notification, and sets the members of version 2.0 alone; the text of none is empty. */
 HONGPILAS_MUST_USE hongpilas_answer hongpilas_new_view_unchecked(hongpilas_session *session, uint32_t *view);
 HONGPILAS_MUST_USE hongpilas_answer hongpilas_close_view_unchecked(hongpilas_session *session, uint32_t view);
-HONGPILAS_MUST_USE hongpilas_answer hongpilas_send_unchecked(hongpilas_session *session, uint32_t view,
-                                                             uint32_t number, int64_t w, int64_t l,
+HONGPILAS_MUST_USE hongpilas_answer hongpilas_send_unchecked(hongpilas_session *session, uint32_t view, uint32_t number, int64_t w, int64_t l,
                                                              const uint8_t *text, size_t length, int64_t *value);
-HONGPILAS_MUST_USE hongpilas_answer hongpilas_ask_unchecked(const hongpilas_session *session, uint32_t view,
-                                                            uint32_t number, int64_t w, int64_t l, int64_t *value);
-HONGPILAS_MUST_USE hongpilas_answer hongpilas_read_unchecked(hongpilas_session *session, uint32_t view,
-                                                             uint32_t number, int64_t w, int64_t l,
+HONGPILAS_MUST_USE hongpilas_answer hongpilas_ask_unchecked(const hongpilas_session *session, uint32_t view, uint32_t number, int64_t w, int64_t l,
+                                                            int64_t *value);
+HONGPILAS_MUST_USE hongpilas_answer hongpilas_read_unchecked(hongpilas_session *session, uint32_t view, uint32_t number, int64_t w, int64_t l,
                                                              const uint8_t **text, size_t *length, int64_t *value);
 int64_t hongpilas_value_unchecked(const hongpilas_session *session);
 size_t hongpilas_text_unchecked(const hongpilas_session *session, const uint8_t **text);
 size_t hongpilas_copy_text_unchecked(const hongpilas_session *session, size_t start, uint8_t *into, size_t room);
 size_t hongpilas_note_count_unchecked(const hongpilas_session *session);
 bool hongpilas_note_unchecked(const hongpilas_session *session, size_t index, hongpilas_note_data *note);
-size_t hongpilas_copy_note_text_unchecked(const hongpilas_session *session, size_t index, size_t start, uint8_t *into,
-                                          size_t room);
-HONGPILAS_MUST_USE hongpilas_answer hongpilas_lend_range_unchecked(hongpilas_session *session, uint32_t view,
-                                                                   size_t start, size_t count,
+size_t hongpilas_copy_note_text_unchecked(const hongpilas_session *session, size_t index, size_t start, uint8_t *into, size_t room);
+HONGPILAS_MUST_USE hongpilas_answer hongpilas_lend_range_unchecked(hongpilas_session *session, uint32_t view, size_t start, size_t count,
                                                                    const uint8_t **bytes);
-HONGPILAS_MUST_USE hongpilas_answer hongpilas_copy_range_unchecked(hongpilas_session *session, uint32_t view,
-                                                                   size_t start, uint8_t *into, size_t count);
+HONGPILAS_MUST_USE hongpilas_answer hongpilas_copy_range_unchecked(hongpilas_session *session, uint32_t view, size_t start, uint8_t *into, size_t count);
 
 /* Scintilla's names and numbers, as far as the profile has them. Left out if Scintilla.h was included before. */
 #ifndef SCINTILLA_H

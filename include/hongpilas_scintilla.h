@@ -48,17 +48,17 @@ typedef long Sci_PositionCR;
 typedef sptr_t (*SciFnDirect)(sptr_t ptr, unsigned int iMessage, uptr_t wParam, sptr_t lParam);
 typedef sptr_t (*SciFnDirectStatus)(sptr_t ptr, unsigned int iMessage, uptr_t wParam, sptr_t lParam, int *pStatus);
 
-#define INVALID_POSITION -1
-#define MARKER_MAX 31
+#define INVALID_POSITION          -1
+#define MARKER_MAX                31
 #define SC_DOCUMENTOPTION_DEFAULT 0
-#define SC_MOD_NONE 0
-#define SC_STATUS_OK 0
-#define SC_STATUS_FAILURE 1
-#define SC_STATUS_BADALLOC 2
-#define SCFIND_NONE 0
-#define SCI_SETSTATUS 2382
-#define SCI_GETSTATUS 2383
-#define SCI_GETRANGEPOINTER 2643
+#define SC_MOD_NONE               0
+#define SC_STATUS_OK              0
+#define SC_STATUS_FAILURE         1
+#define SC_STATUS_BADALLOC        2
+#define SCFIND_NONE               0
+#define SCI_SETSTATUS             2382
+#define SCI_GETSTATUS             2383
+#define SCI_GETRANGEPOINTER       2643
 
 /* A range of positions; cpMax may be -1, for the end of the text. */
 struct Sci_CharacterRange {
@@ -89,13 +89,13 @@ struct SCNotification {
   Sci_Position position; /* SCN_MODIFIED, SCN_STYLENEEDED */
   int ch;
   int modifiers;
-  int modificationType;    /* SCN_MODIFIED, as all fields below but those of SCN_MACRORECORD */
-  const char *text;        /* `length` bytes, without a closing NUL */
-  Sci_Position length;     /* in bytes */
+  int modificationType; /* SCN_MODIFIED, as all fields below but those of SCN_MACRORECORD */
+  const char *text;     /* `length` bytes, without a closing NUL */
+  Sci_Position length;  /* in bytes */
   Sci_Position linesAdded;
-  int message;             /* SCN_MACRORECORD, as the two fields below */
+  int message; /* SCN_MACRORECORD, as the two fields below */
   uptr_t wParam;
-  sptr_t lParam;           /* as in the recorded call: a text belongs to its caller */
+  sptr_t lParam; /* as in the recorded call: a text belongs to its caller */
   Sci_Position line;
   int foldLevelNow;
   int foldLevelPrev;

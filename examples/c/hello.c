@@ -6,9 +6,7 @@
 static hongpilas_session *session;
 
 /* Says what was answered; a refusal by its name. */
-static void say(const char *what, hongpilas_answer answer, int64_t value) {
-  printf("%s: %s, %lld\n", what, hongpilas_answer_name(answer), (long long)value);
-}
+static void say(const char *what, hongpilas_answer answer, int64_t value) { printf("%s: %s, %lld\n", what, hongpilas_answer_name(answer), (long long)value); }
 
 static void send(uint32_t view, const char *what, uint32_t number, int64_t w, int64_t l, const char *text) {
   int64_t value = 0;

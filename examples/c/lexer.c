@@ -74,9 +74,9 @@ int main(void) {
   hongpilas_set_notify(view, hear, NULL);
   send(SCI_ADDTEXT, sizeof text - 1, (sptr_t)text);
   show("a text");
-  send(SCI_INSERTTEXT, 4, (sptr_t)"34 and ");
+  send(SCI_INSERTTEXT, 4, (sptr_t) "34 and ");
   show("some words more");
-  send(SCI_INSERTTEXT, 0, (sptr_t)"#");
+  send(SCI_INSERTTEXT, 0, (sptr_t) "#");
   show("a note");
   send(SCI_UNDO, 0, 0);
   show("and back");

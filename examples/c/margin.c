@@ -53,9 +53,9 @@ int main(void) {
   send(SCI_SETFOLDLEVEL, 1, SC_FOLDLEVELBASE + 1);
   send(SCI_SETFOLDLEVEL, 2, SC_FOLDLEVELBASE + 1);
   send(SCI_MARKERADD, 2, BOOKMARK);
-  send(SCI_INSERTTEXT, 8, (sptr_t)"  none\n");
+  send(SCI_INSERTTEXT, 8, (sptr_t) "  none\n");
   send(SCI_FOLDLINE, 0, SC_FOLDACTION_CONTRACT);
-  send(SCI_INSERTTEXT, 0, (sptr_t)"A ");
+  send(SCI_INSERTTEXT, 0, (sptr_t) "A ");
   printf("status %td\n", send(SCI_GETSTATUS, 0, 0));
   hongpilas_scintilla_free(component);
   return 0;

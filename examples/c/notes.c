@@ -19,15 +19,15 @@ typedef struct name {
   const char *text;
 } name;
 
-#define NAMED(constant) {constant, #constant}
+#define NAMED(constant) \
+  { constant, #constant }
 
 /* The bits of a modification. */
 static const name kinds[] = {
-    NAMED(SC_MOD_INSERTTEXT),      NAMED(SC_MOD_DELETETEXT),     NAMED(SC_MOD_CHANGESTYLE),     NAMED(SC_MOD_CHANGEFOLD),
-    NAMED(SC_PERFORMED_USER),      NAMED(SC_PERFORMED_UNDO),     NAMED(SC_PERFORMED_REDO),      NAMED(SC_MULTISTEPUNDOREDO),
-    NAMED(SC_LASTSTEPINUNDOREDO),  NAMED(SC_MOD_CHANGEMARKER),   NAMED(SC_MOD_BEFOREINSERT),    NAMED(SC_MOD_BEFOREDELETE),
-    NAMED(SC_MULTILINEUNDOREDO),   NAMED(SC_STARTACTION),        NAMED(SC_MOD_CHANGEINDICATOR), NAMED(SC_MOD_CHANGELINESTATE),
-    NAMED(SC_MOD_CONTAINER),
+    NAMED(SC_MOD_INSERTTEXT),      NAMED(SC_MOD_DELETETEXT),   NAMED(SC_MOD_CHANGESTYLE),   NAMED(SC_MOD_CHANGEFOLD),     NAMED(SC_PERFORMED_USER),
+    NAMED(SC_PERFORMED_UNDO),      NAMED(SC_PERFORMED_REDO),   NAMED(SC_MULTISTEPUNDOREDO), NAMED(SC_LASTSTEPINUNDOREDO), NAMED(SC_MOD_CHANGEMARKER),
+    NAMED(SC_MOD_BEFOREINSERT),    NAMED(SC_MOD_BEFOREDELETE), NAMED(SC_MULTILINEUNDOREDO), NAMED(SC_STARTACTION),        NAMED(SC_MOD_CHANGEINDICATOR),
+    NAMED(SC_MOD_CHANGELINESTATE), NAMED(SC_MOD_CONTAINER),
 };
 
 static hongpilas_session *session;
@@ -56,8 +56,7 @@ static void show_kind(const hongpilas_note_data *note) {
       printf("%c%s", before, kinds[i].text);
       before = '|';
     }
-  if (note->kind & (SC_MOD_CHANGEFOLD | SC_MOD_CHANGEMARKER | SC_MOD_CHANGELINESTATE))
-    printf(", line %lld", (long long)note->line);
+  if (note->kind & (SC_MOD_CHANGEFOLD | SC_MOD_CHANGEMARKER | SC_MOD_CHANGELINESTATE)) printf(", line %lld", (long long)note->line);
   if (note->kind & SC_MOD_CHANGEFOLD) printf(", level 0x%llx, was 0x%llx", (long long)note->now, (long long)note->prev);
   if (note->kind & SC_MOD_CONTAINER) printf(", token %lld", (long long)note->token);
   if (note->length > 0) printf(", at %lld, length %lld", (long long)note->position, (long long)note->length);
@@ -67,8 +66,7 @@ static void show_kind(const hongpilas_note_data *note) {
 static void show_note(const hongpilas_note_data *note) {
   printf("  view %u: %s", (unsigned)note->view, hongpilas_note_name(note->code));
   if (note->code == SCN_MODIFIED) show_kind(note);
-  if (note->code == SCN_MACRORECORD)
-    printf(" %s, %lld, %lld", hongpilas_message_name(note->message), (long long)note->w, (long long)note->l);
+  if (note->code == SCN_MACRORECORD) printf(" %s, %lld, %lld", hongpilas_message_name(note->message), (long long)note->w, (long long)note->l);
   if (note->code == SCN_STYLENEEDED) printf(" up to %lld", (long long)note->position);
   if (note->text_length > 0) {
     printf(", ");
@@ -99,9 +97,7 @@ static void send(uint32_t view, uint32_t message, int64_t w, int64_t l, const vo
   }
 }
 
-static void quietly(uint32_t view, uint32_t message, int64_t w, int64_t l) {
-  must(hongpilas_send(session, view, message, w, l, NULL, 0, NULL));
-}
+static void quietly(uint32_t view, uint32_t message, int64_t w, int64_t l) { must(hongpilas_send(session, view, message, w, l, NULL, 0, NULL)); }
 
 static void record_macro(uint32_t view) {
   quietly(view, SCI_STARTRECORD, 0, 0);
@@ -116,8 +112,7 @@ static void record_macro(uint32_t view) {
 }
 
 static void replay(uint32_t view) {
-  for (size_t i = 0; i < step_count; i++)
-    send(view, macro[i].message, macro[i].w, macro[i].l, macro[i].text, macro[i].length);
+  for (size_t i = 0; i < step_count; i++) send(view, macro[i].message, macro[i].w, macro[i].l, macro[i].text, macro[i].length);
 }
 
 static void show_document(uint32_t view) {

@@ -81,9 +81,7 @@ static void leave_reply(bool has_note) {
   must(hongpilas_send(session, view, number, value, -1, NULL, 0, NULL) == HONGPILAS_DONE, "a reply is left");
 }
 
-static void print_answer(const char *what, hongpilas_answer answer) {
-  printf("%s: %s\n", what, hongpilas_answer_name(answer));
-}
+static void print_answer(const char *what, hongpilas_answer answer) { printf("%s: %s\n", what, hongpilas_answer_name(answer)); }
 
 /* A call is tried behind a reply with a text and behind one with a note. */
 static struct trial {
@@ -228,7 +226,10 @@ static void print_bytes(const char *what, hongpilas_answer answer, const uint8_t
 
 /* A program with a later version of the struct: what this version does not have is 0. */
 static void try_longer_note(void) {
-  struct { hongpilas_note_data note; int64_t later[2]; } longer;
+  struct {
+    hongpilas_note_data note;
+    int64_t later[2];
+  } longer;
   leave_reply(true);
   memset(&longer, 0xA5, sizeof longer);
   must(hongpilas_note(session, 0, &longer.note, sizeof longer) == HONGPILAS_DONE, "a longer struct is filled");

@@ -247,7 +247,6 @@ int main(int count, char **words) {
   for (int i = is_list ? 2 : 1; i < count; i++) try_example(words[i]);
   for (unsigned number = 0; is_list && number < NUMBERS; number++)
     if (sent[number]) printf("%u\n", number);
-  if (!is_list)
-    printf("%ld commands of %ld examples through the door; %ld are left out, at which %ld examples end\n", commands, examples, left_out, ended);
+  if (!is_list) printf("%ld commands of %ld examples through the door; %ld are left out, at which %ld examples end\n", commands, examples, left_out, ended);
   return 0;
 }

@@ -525,11 +525,10 @@ static void try_command(const script *script, size_t command) {
 
 /* CONVERTEOLS makes 2 bytes of each LF. That 4 bytes are too few for it is found before it takes memory. */
 static void try_limit(void) {
-  static const script full = {"ab\\n\\n in 4 bytes",
-                              3,
-                              {{0, OPEN, 0, 0, NULL, 0},
-                               {1, SCI_INSERTTEXT, 0, 0, (const uint8_t *)"ab\n\n", 4},
-                               {1, SCI_CONVERTEOLS, SC_EOL_CRLF, 0, NULL, 0}}};
+  static const script full = {
+      "ab\\n\\n in 4 bytes",
+      3,
+      {{0, OPEN, 0, 0, NULL, 0}, {1, SCI_INSERTTEXT, 0, 0, (const uint8_t *)"ab\n\n", 4}, {1, SCI_CONVERTEOLS, SC_EOL_CRLF, 0, NULL, 0}}};
   limits.doc_bytes = 4;
   for (size_t i = 0; i < full.count; i++) try_command(&full, i);
   must(records[0].all[records[0].command].answer == HONGPILAS_TOO_LONG, "CONVERTEOLS is too long");

@@ -104,7 +104,7 @@ static void ask(SCNotification *note, void *data) {
 
 static void try_questions(void) {
   open_both(ask, ask);
-  send(a, SCI_ADDTEXT, 2, (sptr_t)"xy");
+  send(a, SCI_ADDTEXT, 2, (sptr_t) "xy");
   must_have_heard("ab bb aL bL aI bI ", "each notification came once, in its order");
   free_all();
 }
@@ -157,7 +157,7 @@ static void move(SCNotification *note, void *data) {
 static void try_recorded(void) {
   open_both(move, hear);
   send(a, SCI_STARTRECORD, 0, 0);
-  send(a, SCI_ADDTEXT, 2, (sptr_t)"xy");
+  send(a, SCI_ADDTEXT, 2, (sptr_t) "xy");
   must_have_heard("ar ab bb aL bL aI bI ar ", "a message that is sent inside is recorded");
   free_all();
 }
@@ -171,7 +171,7 @@ static void open_inside(SCNotification *note, void *data) {
   if (letter_of(note) != 'I') return;
   opened = hongpilas_scintilla_open(component);
   must(opened != 0 && send(opened, SCI_GETLENGTH, 0, 0) == 0, "a view opens inside, on a document of its own");
-  hongpilas_set_notify(opened, hear, (void *)(uintptr_t)"c");
+  hongpilas_set_notify(opened, hear, (void *)(uintptr_t) "c");
   send(opened, SCI_SETDOCPOINTER, 0, send(a, SCI_GETDOCPOINTER, 0, 0));
   send(opened, SCI_MARKERADD, 0, 1);
   hongpilas_scintilla_close(b);
@@ -185,11 +185,11 @@ static void close_itself(SCNotification *note, void *data) {
 static void try_views(void) {
   int status = -1;
   open_both(open_inside, hear);
-  send(a, SCI_ADDTEXT, 2, (sptr_t)"xy");
+  send(a, SCI_ADDTEXT, 2, (sptr_t) "xy");
   must_have_heard("ab bb aL bL aI aM cM ", "a view that is opened inside is notified, and one that is closed is not");
   free_all();
   open_both(close_itself, hear);
-  must(hongpilas_direct_status(a, SCI_ADDTEXT, 2, (sptr_t)"xy", &status) == 0 && status == SC_STATUS_OK, "a view may close itself");
+  must(hongpilas_direct_status(a, SCI_ADDTEXT, 2, (sptr_t) "xy", &status) == 0 && status == SC_STATUS_OK, "a view may close itself");
   must_have_heard("ab bb aL bL bI ", "and is notified no more");
   must(send(b, SCI_GETLENGTH, 0, 0) == 2, "its document stays with the other");
   free_all();
@@ -203,7 +203,7 @@ static void free_inside(SCNotification *note, void *data) {
 static void try_free(void) {
   int status = -1;
   open_both(hear, free_inside);
-  must(hongpilas_direct_status(a, SCI_ADDTEXT, 2, (sptr_t)"xy", &status) == 0 && status == SC_STATUS_OK, "the call returns as usual");
+  must(hongpilas_direct_status(a, SCI_ADDTEXT, 2, (sptr_t) "xy", &status) == 0 && status == SC_STATUS_OK, "the call returns as usual");
   must_have_heard("ab bb aL bL ", "nobody is notified of what was freed");
   must(blocks == 0, "all blocks are given back");
 }
@@ -228,7 +228,7 @@ static void try_many(void) {
   must(hongpilas_scintilla_open(component) == 0, "and no more");
   for (int i = 0; i < VIEWS; i += 3) hongpilas_scintilla_close(views[i]);
   running = 0;
-  send(views[1], SCI_ADDTEXT, 1, (sptr_t)"x");
+  send(views[1], SCI_ADDTEXT, 1, (sptr_t) "x");
   must(running == 3 * (VIEWS - (VIEWS + 2) / 3), "those that are open are notified");
   running = 0;
   free_all();
@@ -265,7 +265,7 @@ static void try_memory(void) {
   memset(text, 'x', sizeof text);
   open_both(want_memory, hear);
   refusals = 0;
-  send(a, SCI_ADDTEXT, 2, (sptr_t)"xy");
+  send(a, SCI_ADDTEXT, 2, (sptr_t) "xy");
   must_have_heard("ab bb aL bL aI bI ", "nothing is lost for want of memory");
   must(refusals == 0 && send(a, SCI_GETCURRENTPOS, 0, 0) == 0, "with memory it is done");
   free_all();
@@ -274,8 +274,8 @@ static void try_memory(void) {
   send(a, SCI_CLEARALL, 0, 0);
   send(a, SCI_SETSAVEPOINT, 0, 0);
   *heard = '\0';
-  hongpilas_set_notify(a, refuse_copies, (void *)(uintptr_t)"a");
-  hongpilas_set_notify(b, refuse_copies, (void *)(uintptr_t)"b");
+  hongpilas_set_notify(a, refuse_copies, (void *)(uintptr_t) "a");
+  hongpilas_set_notify(b, refuse_copies, (void *)(uintptr_t) "b");
   hongpilas_scintilla_close(hongpilas_scintilla_open(component));
   send(a, SCI_ADDTEXT, sizeof text, (sptr_t)text);
   growths_left = -1;
@@ -296,7 +296,7 @@ static void jump(SCNotification *note, void *data) {
 static void send_and_jump(int at) {
   jumps_at = at;
   if (setjmp(outside) == 0) {
-    send(a, SCI_ADDTEXT, 2, (sptr_t)"xy");
+    send(a, SCI_ADDTEXT, 2, (sptr_t) "xy");
     must(false, "the function was left");
   }
 }

@@ -11,7 +11,21 @@
 #include <string.h>
 
 /* A session is opened anew after so many messages. Its texts and its ids are few, so that bounds are met too. */
-enum { SESSIONS = 16, BESIDE = 2, HANDS = 3, WORKERS = 4, MOST_BATCH = 50, MOST_THREADS = 4, MOST_NUMBERS = 1000, LIFE = 5000, MOST_TEXT = 12, MOST_COPIED = 32, DOC_BYTES = 1500, IDS = 300, VIEWS = 4 };
+enum {
+  SESSIONS = 16,
+  BESIDE = 2,
+  HANDS = 3,
+  WORKERS = 4,
+  MOST_BATCH = 50,
+  MOST_THREADS = 4,
+  MOST_NUMBERS = 1000,
+  LIFE = 5000,
+  MOST_TEXT = 12,
+  MOST_COPIED = 32,
+  DOC_BYTES = 1500,
+  IDS = 300,
+  VIEWS = 4
+};
 static const hongpilas_limits limits = {DOC_BYTES, 2 * DOC_BYTES, 200, IDS, 20, VIEWS, 6};
 
 static uint32_t numbers[MOST_NUMBERS];
@@ -50,7 +64,9 @@ static int64_t any_argument(run *it) {
   static const int64_t far[] = {-1, -2, INT64_MIN, INT64_MAX, 0x7FFFFFFF, 0x7FFFFF, 0x100, 0x2400};
   switch (below(it, 8)) {
     case 0: return far[below(it, sizeof far / sizeof *far)];
-    case 1: case 2: case 3: return (int64_t)below(it, 8);
+    case 1:
+    case 2:
+    case 3: return (int64_t)below(it, 8);
     case 4: return (int64_t)below(it, 40);
     default: return (int64_t)below(it, DOC_BYTES);
   }
@@ -149,7 +165,8 @@ static uint64_t make_call(run *it) {
     case 0: return look_at_range(it);
     case 1: return change_views(it);
     case 2: return read_name(it);
-    case 3: case 4: return ask_beside(it);
+    case 3:
+    case 4: return ask_beside(it);
     default: return send(it);
   }
 }
@@ -287,8 +304,8 @@ static size_t try_threads(const char *how, void *(*go)(void *), size_t thread_co
   pthread_barrier_destroy(&w.start);
   pthread_mutex_destroy(&w.lock);
   must(go != go_handing || w.handed > 1, "the session was handed over");
-  printf("threads: %zu sessions %s, %zu messages each, %zu of them done, %zu answered otherwise than one after the other\n", session_count, how, alone[0].count, done,
-         found);
+  printf("threads: %zu sessions %s, %zu messages each, %zu of them done, %zu answered otherwise than one after the other\n", session_count, how, alone[0].count,
+         done, found);
   return found;
 }
 

@@ -63,8 +63,11 @@ static void ask_beside(side *s, const message *m) {
   now.doing = "hongpilas_ask and hongpilas_read";
   give_up_lent(s);
   asked.answer = hongpilas_ask(s->session, m->view, m->number, m->w, m->l, &value);
-  if (m->how % 4 < 2) must_be(hongpilas_read(s->session, m->view, m->number, m->w, m->l, &asked.text, &asked.length, &asked.value), asked.answer, "the answer of reading");
-  else must_be(hongpilas_read_unchecked(s->session, m->view, m->number, m->w, m->l, &asked.text, &asked.length, &asked.value), asked.answer, "the answer of reading");
+  if (m->how % 4 < 2)
+    must_be(hongpilas_read(s->session, m->view, m->number, m->w, m->l, &asked.text, &asked.length, &asked.value), asked.answer, "the answer of reading");
+  else
+    must_be(hongpilas_read_unchecked(s->session, m->view, m->number, m->w, m->l, &asked.text, &asked.length, &asked.value), asked.answer,
+            "the answer of reading");
   must_be(asked.value, value, "the value of a text that is read");
   if (asked.answer != HONGPILAS_DONE) must(asked.text == NULL && asked.length == 77 && value == -77, "a refused question leaves the places");
   counts.calls += 2;
@@ -130,7 +133,8 @@ static void lend_by_call(side *s, uint32_t view, uint64_t start, uint64_t count,
     if (room > 0) memset(into, 0x77, room);
     must_be(hongpilas_copy_range(s->session, view, start, into, count), answer, "the answer");
     if (answer == HONGPILAS_DONE) must_be_text(into, room, wanted, count, "the copied range");
-    else for (size_t i = 0; i < room; i++) must(into[i] == 0x77, "a refused call leaves the buffer");
+    else
+      for (size_t i = 0; i < room; i++) must(into[i] == 0x77, "a refused call leaves the buffer");
   } else {
     must_be(hongpilas_lend_range(s->session, view, start, count, &bytes), answer, "the answer");
     if (answer == HONGPILAS_DONE) must_be_text(bytes, count, wanted, count, "the lent range");
@@ -195,7 +199,7 @@ static void try_null_calls(side *s, uint32_t view, const record *r) {
   compare_reply(s, true);
 }
 
-static const way way_by_calls = {"the calls",  open_by_call, close_by_call, new_view_by_call, close_view_by_call, send_by_call,
-                                 lend_by_call, compare_reply, copy_last,    ask_names,        try_null_calls};
+static const way way_by_calls = {"the calls",  open_by_call,  close_by_call, new_view_by_call, close_view_by_call, send_by_call,
+                                 lend_by_call, compare_reply, copy_last,     ask_names,        try_null_calls};
 
 #endif

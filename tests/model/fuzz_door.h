@@ -84,9 +84,9 @@ static struct {
 
 /* Any message that edits no text and takes none. Its notifications join the queue. */
 static void send_inside(ear *e, uint64_t draw) {
-  static const uint32_t numbers[] = {SCI_MARKERADD, SCI_MARKERDELETE, SCI_STARTSTYLING, SCI_SETSTYLING, SCI_SETFOLDLEVEL, SCI_SETLINESTATE, SCI_COLOURISE,
-                                     SCI_INDICATORFILLRANGE, SCI_SETSEL, SCI_SETSAVEPOINT, SCI_CHARRIGHTEXTEND, SCI_FOLDLINE, SCI_SETMODEVENTMASK,
-                                     SCI_SETINDICATORVALUE, SCI_GETLENGTH, SCI_GETFOLDLEVEL, SCI_GETENDSTYLED, SCI_GETDOCPOINTER};
+  static const uint32_t numbers[] = {SCI_MARKERADD,       SCI_MARKERDELETE,       SCI_STARTSTYLING, SCI_SETSTYLING,   SCI_SETFOLDLEVEL,    SCI_SETLINESTATE,
+                                     SCI_COLOURISE,       SCI_INDICATORFILLRANGE, SCI_SETSEL,       SCI_SETSAVEPOINT, SCI_CHARRIGHTEXTEND, SCI_FOLDLINE,
+                                     SCI_SETMODEVENTMASK, SCI_SETINDICATORVALUE,  SCI_GETLENGTH,    SCI_GETFOLDLEVEL, SCI_GETENDSTYLED,    SCI_GETDOCPOINTER};
   inner_message *m = &inner.messages[inner.count];
   if (inner.count == MOST_INNER) return;
   *m = (inner_message){e, numbers[draw % (sizeof numbers / sizeof *numbers)], (int64_t)(draw / 7 % 5), (int64_t)(draw / 11 % 4), 0, HONGPILAS_DONE};
@@ -102,7 +102,8 @@ static void send_inside(ear *e, uint64_t draw) {
 /* Inside a notify function a message that edits the text is refused, of any view, and reads and writes nothing; others are done. A notify function may be
  * set. */
 static void meddle(heard_note *h) {
-  static const uint32_t edits[] = {SCI_UNDO, SCI_INSERTTEXT, SCI_ADDTEXT, SCI_CLEARALL, SCI_SETTEXT, SCI_APPENDTEXT, SCI_REPLACETARGET, SCI_DELETEBACK, SCI_PASTE};
+  static const uint32_t edits[] = {SCI_UNDO,       SCI_INSERTTEXT,    SCI_ADDTEXT,    SCI_CLEARALL, SCI_SETTEXT,
+                                   SCI_APPENDTEXT, SCI_REPLACETARGET, SCI_DELETEBACK, SCI_PASTE};
   side *s = heard.teller;
   ear *e = &s->ears[heard.count % VIEWS], *other = &s->ears[(heard.count + now.sent) % VIEWS];
   uint32_t number = edits[now.sent % (sizeof edits / sizeof *edits)];
@@ -150,13 +151,13 @@ static void hear(SCNotification *note, void *data) {
 /* A call as the door takes it, and as the model does. */
 typedef struct door_call {
   ear *by;
-  char kind;          /* what l is: a letter of its manners */
+  char kind; /* what l is: a letter of its manners */
   uptr_t w;
   sptr_t l;
   message plain;
-  bool is_nothing;    /* a null text, of which nothing is done */
-  bool is_bad;        /* a null text of which some bytes should be there, or no range */
-  uint8_t *buffer;    /* where a text goes to, or NULL */
+  bool is_nothing;     /* a null text, of which nothing is done */
+  bool is_bad;         /* a null text of which some bytes should be there, or no range */
+  uint8_t *buffer;     /* where a text goes to, or NULL */
   size_t room, wanted; /* how much stands behind it, and how much of that is written */
   uint8_t bytes[ROOM]; /* what is written */
 } door_call;
@@ -180,7 +181,8 @@ static void compare_notification(const heard_note *h, const hongpilas_note_data 
   must_be(n->foldLevelPrev, wanted->prev, "a notification's foldLevelPrev");
   must_be(n->token, wanted->token, "a notification's token");
   must(n->ch == 0 && n->modifiers == 0 && n->margin == 0 && n->listType == 0 && n->x == 0 && n->y == 0 && n->annotationLinesAdded == 0 && n->updated == 0 &&
-           n->listCompletionMethod == 0 && n->characterSource == 0, "what the profile does not have is 0 in a notification");
+           n->listCompletionMethod == 0 && n->characterSource == 0,
+       "what the profile does not have is 0 in a notification");
   if (is_record || wanted->text_length == 0) must(h->text_length == SIZE_MAX, "a notification without a text has none");
   else must_be_text(heard.texts + h->text, h->text_length, wanted->text, wanted->text_length, "a notification's text");
 }
@@ -504,8 +506,9 @@ static void set_status(side *s, uint32_t view, const record *r) {
 
 /* Null texts and null buffers of all messages that take any, no range, and a view that loses its callback, or gets it again. */
 static void try_null_pointers(side *s, uint32_t view, const record *r) {
-  static const uint32_t numbers[] = {SCI_ADDTEXT, SCI_INSERTTEXT, SCI_SETTEXT, SCI_REPLACESEL, SCI_SETSTYLINGEX, SCI_APPENDTEXT, SCI_COPYTEXT, SCI_SEARCHINTARGET,
-                                     SCI_REPLACETARGET, SCI_GETTEXT, SCI_GETCURLINE, SCI_GETLINE, SCI_GETSELTEXT, SCI_GETTEXTRANGE, SCI_GETSTYLEDTEXT, SCI_GETTARGETTEXT};
+  static const uint32_t numbers[] = {SCI_ADDTEXT,    SCI_INSERTTEXT,     SCI_SETTEXT,       SCI_REPLACESEL,   SCI_SETSTYLINGEX, SCI_APPENDTEXT,
+                                     SCI_COPYTEXT,   SCI_SEARCHINTARGET, SCI_REPLACETARGET, SCI_GETTEXT,      SCI_GETCURLINE,   SCI_GETLINE,
+                                     SCI_GETSELTEXT, SCI_GETTEXTRANGE,   SCI_GETSTYLEDTEXT, SCI_GETTARGETTEXT};
   static const uint8_t some[8] = "abcdefg";
   message m = {view, numbers[r->w % (sizeof numbers / sizeof *numbers)], r->l % 4 - 1, -1, some, sizeof some, true, 5 * 4};
   ear *e = ear_of(s, view);
@@ -522,7 +525,7 @@ static void try_null_pointers(side *s, uint32_t view, const record *r) {
   counts.calls += 3;
 }
 
-static const way way_by_door = {"the door",   open_door,    close_door,   open_by_door, close_by_door, send_by_door,
+static const way way_by_door = {"the door",   open_door,    close_door,   open_by_door, close_by_door,    send_by_door,
                                 lend_by_door, compare_ears, read_by_door, set_status,   try_null_pointers};
 
 #endif

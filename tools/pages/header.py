@@ -238,7 +238,7 @@ def rows_of(name, rows):
 
 def tables():
     marked = [(name, number, " | ".join(f"HONGPILAS_MARK_{letter}" for letter in marks) or "0") for name, number, marks in rows()]
-    return rows_of("messages", marked) + "\n" + rows_of("notes", [(name, number, "0") for name, number in notes()])
+    return "/* clang-format off */\n" + rows_of("messages", marked) + "\n" + rows_of("notes", [(name, number, "0") for name, number in notes()]) + "/* clang-format on */\n"
 
 
 def between(text, lines):
