@@ -1,5 +1,5 @@
 /* Refuses each growth in turn: the call that wanted it says so and has changed nothing, what needs no memory goes on, and all is given back.
- * The last reply stays where it is, until another message is done.
+ * The last reply stays where it is, until another message is done. A history that is forgotten gives its memory back, so a host can bound it.
  * Linked as counted_heap.h says. */
 #include "counted_heap.h"
 
@@ -112,8 +112,72 @@ static bool done_with(long growths) {
   return whole;
 }
 
+enum { MOST_HISTORY = 1 << 12, MESSAGES = 1000 };
+
+static uint64_t history; /* in bytes, at most */
+
+/* Counts what the last message added to the history of a document, by the notes of the host's own view `own`, and forgets the history at a bound. */
+static void bound_history(hongpilas_session *session, uint32_t own) {
+  hongpilas_note_data note;
+  for (size_t i = 0; hongpilas_note(session, i, &note, sizeof note) == HONGPILAS_DONE; i++)
+    if (note.view == own && (note.kind & SC_PERFORMED_USER) != 0) history += 32 + (uint64_t)note.length;
+  if ((history += 32) > MOST_HISTORY && hongpilas_send(session, own, SCI_EMPTYUNDOBUFFER, 0, 0, NULL, 0, NULL) == HONGPILAS_DONE) history = 0;
+}
+
+static void must_do(hongpilas_session *session, uint32_t view, uint32_t number, int64_t w, int64_t l) {
+  must(hongpilas_send(session, view, number, w, l, NULL, 0, NULL) == HONGPILAS_DONE, "a message is done");
+}
+
+/* A message that forgets the history gives its two blocks back: that of the steps, and that of their bytes. */
+static void must_give_back(hongpilas_session *session, uint32_t view, uint32_t number) {
+  long before;
+  must_do(session, view, SCI_SETUNDOCOLLECTION, 1, 0);
+  must(send(session, view, SCI_INSERTTEXT, text), "there is memory");
+  before = blocks;
+  must_do(session, view, number, 0, 0);
+  must(blocks == before - 2, "a forgotten history gives its memory back");
+  must_do(session, view, number, 0, 0);
+  must(blocks == before - 2, "a history without steps has no memory");
+}
+
+/* `theirs` is sent messages that are not trusted. `own` watches the same document, and is sent none of them. */
+static void bound_messages(hongpilas_session *session, uint32_t own, uint32_t theirs) {
+  int64_t document = 0;
+  long forgotten = 0;
+  must(hongpilas_send(session, own, SCI_GETDOCPOINTER, 0, 0, NULL, 0, &document) == HONGPILAS_DONE, "a view has a document");
+  must_do(session, theirs, SCI_SETDOCPOINTER, 0, document);
+  must_do(session, own, SCI_SETMODEVENTMASK, SC_MOD_INSERTTEXT | SC_MOD_DELETETEXT, 0);
+  for (int i = 0; i < MESSAGES; i++) {
+    long before;
+    must_do(session, theirs, SCI_ADDUNDOACTION, i, 0);
+    bound_history(session, own);
+    must(send(session, theirs, i % 2 == 0 ? SCI_INSERTTEXT : SCI_CLEARALL, i % 2 == 0 ? text : ""), "there is memory");
+    before = blocks;
+    bound_history(session, own);
+    must(history <= MOST_HISTORY, "the history has its bound");
+    must(history != 0 || blocks == before - 2, "a host gets a history's memory back");
+    forgotten += history == 0;
+  }
+  must(forgotten > 0 && forgotten < MESSAGES / 2, "a host forgets a history at its bound");
+}
+
+static void forget_histories(void) {
+  hongpilas_session *session = NULL;
+  uint32_t own = 0, theirs = 0;
+  growths_left = -1;
+  must(hongpilas_new(&session) == HONGPILAS_DONE && hongpilas_new_view(session, &own) == HONGPILAS_DONE, "a session is opened");
+  must(hongpilas_new_view(session, &theirs) == HONGPILAS_DONE, "another view is opened");
+  must_give_back(session, own, SCI_EMPTYUNDOBUFFER);
+  must_give_back(session, own, SCI_SETUNDOCOLLECTION);
+  must_do(session, own, SCI_SETUNDOCOLLECTION, 1, 0);
+  bound_messages(session, own, theirs);
+  hongpilas_free(session);
+  must(blocks == 0, "all blocks are given back");
+}
+
 int main(void) {
   long growths = 0;
+  forget_histories();
   while (growths < 1000 && !done_with(growths)) {
     must(blocks == 0, "all blocks are given back");
     growths++;

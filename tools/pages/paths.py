@@ -3,9 +3,9 @@
 
     tools/pages/paths.py    names what is not there, and ends with status 1 where there is any
 
-The pages are those at the top and in docs/, and the README.md of each folder at the top and of the wrappers. A page is named by its name in capitals (`MESSAGES.md`), or linked; a path
-stands between backticks, has a slash, and begins at the top, at the page's folder, in crates/ or in a crate (`specs/Table`). A page that is installed
-with the library for C names only pages that are installed too: whoever reads it there may have no more.
+The pages are those of the repository's top and of docs/, and the READMEs of folders and crates. A page is named by its name in capitals
+(`MESSAGES.md`), or linked; a path stands between backticks, has a slash, and begins at the top, at the page's folder, in crates/ or in a crate
+(`specs/Table`). A page that is installed with the library for C names only pages that are installed too: whoever reads it there may have no more.
 """
 import glob
 import os
@@ -13,7 +13,7 @@ import re
 import sys
 
 TOP = os.path.dirname(os.path.dirname(os.path.dirname(os.path.abspath(__file__))))
-PAGES = ("*.md", "docs/*.md", "*/README.md", "bindings/*/README.md")
+PAGES = ("*.md", "docs/*.md", "*/README.md", "*/*/README.md")
 # What `make install` copies, as the Makefile names it.
 INSTALLED = re.compile(r"^DOCS := .*,(.*)\)$", re.M)
 MAKEFILE = "Makefile"

@@ -1,11 +1,11 @@
 #!/usr/bin/env python3
 """Writes the methods of all messages, the constants, the names of notes, Rust's declarations of the calls and the version into the wrappers for C++, Rust and Python,
-what tests of the library for C go through (the questions, and what is drawn of each message beside Scintilla, by drawn.py), and the list of plain questions
+what tests of the library for C go through (the questions, and what is drawn of each message beside Scintilla, by drawn.py), and the list of numeric queries
 into the definitions (message_plans).
 
-A message's name and number come from the definitions (crates/ed_types), its arguments, its answer and its sentence from its row of docs/MESSAGES.md.
-Run it at the top of the repository after a message, a row or a constant has changed. With --check it writes nothing, and fails where a wrapper is not
-what it would write, where a refusal of the crates has no place in a wrapper, or where a row has words that it cannot read.
+A message's name and number come from the definitions (crates/ed_types), its arguments, its answer and its rule from its entry in docs/MESSAGES.md.
+Run it at the top of the repository after a message, an entry or a constant has changed. With --check it writes nothing, and fails where a wrapper is not
+what it would write, where a refusal of the crates has no place in a wrapper, or where an entry has a form that it cannot read.
 """
 import os
 import re
@@ -15,6 +15,7 @@ from dataclasses import dataclass
 
 import drawn
 import header
+import message_page
 
 BEGIN = "Written by tools/pages/wrappers.py: begin"
 END = "Written by tools/pages/wrappers.py: end"
@@ -28,62 +29,24 @@ PYTHON_CONSTANTS = "bindings/python/src/hongpilas/constants.py"
 QUESTIONS = "tests/model/questions.h"
 BESIDE = "tests/beside/messages.c"
 ASKING = "crates/message_plans/specs/Asking.antt"
-# The column "w, l, T" of the table: for each of its forms the arguments of a method, as (place, name). A length in front of a text is
-# the text's own, so that no method takes it.
-ARGUMENTS = {
-    "w, l start and end": [("w", "start"), ("l", "end")],
-    "w, l first and last line": [("w", "first"), ("l", "last")],
-    "w display line": [("w", "display_line")],
-    "w length, T text": [("T", "text")],
-    "w length, T styles": [("T", "styles")],
+# How each language spells a refusal, a flag, and that a call is refused.
+SPELLED = {
+    "C++": (lambda name: f"`Refusal::{name}`", "false", "Refused with"),
+    "Rust": (lambda name: f"[`Refusal::{name}`]", "false", "Refused with"),
+    "Python": (lambda name: f"`Refusal.{in_capitals(name)}`", "False", "Raises `Refused` with"),
 }
-# A flag's name says what it turns on, and no method takes a number for it.
-FLAG = "on"
-# Rows that lean on the row before them, or that say otherwise what a method takes and answers.
-SENTENCES = {
-    "GETLINE": "hands out line w with its end -> its length; of a bad line an empty text",
-    "GETLINESTATE": "-> the state of line w; bad line 0",
-    "GETFOLDLEVEL": "-> the level of line w; bad line 1024 (SC_FOLDLEVELBASE)",
-    "GETMODIFY": "-> 1 if the document is not at its save point, else 0",
-    "GETSELECTIONEMPTY": "-> 1 if anchor and caret are at one place, else 0",
-    "REPLACETARGET": "Replaces the target by T; ts is then where T starts and te where it ends -> its length, or 0 on a read-only document, "
-    "whose target stays",
-    "SETSTYLINGEX": "Styles as many bytes as T has, from end styled on, with the bytes of T, and moves end styled after them; T has at most n-end styled bytes, "
-    "else BadArgument",
-    "SETFOLDEXPANDED": "the expanded flag of line w alone; nothing is shown or hidden",
-    "GETINDICATORCURRENT": "-> the view's current indicator",
-    "GETINDICATORVALUE": "-> the value that this view fills in",
-    "INDICATOREND": "w in 0..31 -> the place just after the longest run of one value that holds l; 0 outside 0..n-1",
-    "GETPASTECONVERTENDINGS": "-> 1 if this view converts what it pastes, else 0",
-    "GETLINEENDTYPESALLOWED": "-> the types of line ends that the document allows",
-    "GETLINEENDTYPESACTIVE": "-> the types of line ends that are active: those that the document allows",
-}
-# What rows say shortly, and a sentence at a method says in full; each is a pattern and what takes its place, in this order.
-IN_FULL = (
-    # Refusals by their numbers.
-    (r"\belse 6\b", "else BadArgument"), (r"\(4; ", "(NoSuchDocument; "), (r"; 4, 7$", "; NoSuchDocument, TooMany"),
-    (r"; 4, also", "; NoSuchDocument, also"), (r"\(7\)", "(TooMany)"), (r"\b7 (if|at) ", r"TooMany \1 "),
-    # Arguments.
-    (r"^length w(\. ?|$)", ""), (r"^flag w\. ", ""), (r"^flag w:", "w:"),
-    (r"^range\.", "w lies in 0..n, and l in w..n or is -1 for the end of the text."),
-    # What is set and answered.
-    (r"(^|\. )[Tt]he (level|state|expanded flag) of line", r"\1Sets the \2 of line"),
-    (r"^-> 1 (?:where|if|while) (.*), else 0", r"-> whether \1"), (r"^(-> whether .*; bad line) 0$", r"\1 false"),
-    (r"\bhands out (.*) -> (.*)$", r"Returns \1; the reply's value is \2"), (r"\bHands out (.*) -> (.*)$", r"Returns \1; the reply's value is \2"),
-    (r"^-> ", "Returns "), (r"\. -> ", ". Returns "), (r" -> ", "; returns "),
-    # Anchor, caret, selection and target.
-    (r"\ba = c = ", "anchor and caret go to "), (r"\b([ac]|ts|te) = ", r"\1 goes to "), (r"\ba and c stand", "anchor and caret stand"),
-    (r"\[lo, hi\)", "the selection"), (r"\bhi-lo\b", "its length"),
-    (r"(?<![\w'`])a (?=goes)|(?<=: )a (?=goes)|(?<=then )a (?=goes)|^a$|(?<=returns )a$|(?<=Returns )a$|\ba(?=, c,)|(?<=p and )a$", "the anchor "),
-    (r"\bc\b", "the caret"), (r"\blo\b", "the selection's start"), (r"\bhi\b", "the selection's end"),
-    (r"\bts\b", "the target's start"), (r"\bte\b", "the target's end"),
-    (r"(?<![\w.(-])n\b(?![\w-]|\.\.)", "the text's length"), (r"(?<![\w.-])L\b(?![\w-]|\.\.)", "the number of lines"),
-)
-# What is explained behind a sentence that has it.
-LEGEND = {
-    r"\bn\b": "n is the text's length", r"\bL\b": "L is the number of lines", r"\bclamped\b": "clamped means brought into 0..n, n the text's length",
-    r"\bbad line\b": "a bad line is one that is not there", r"\bcut\b": "a cut is a place between two characters",
-}
+# How entries spell the types of flags and of texts.
+FLAG, WITH_TEXT = "bool", "position, text"
+
+
+def in_capitals(name):
+    """A name in CamelCase as a constant: BadArgument is BAD_ARGUMENT."""
+    return re.sub(r"(?<!^)(?=[A-Z])", "_", name).upper()
+
+
+def in_snake_case(name):
+    """A name in camelCase with an underscore between words."""
+    return re.sub(r"(?<=[a-z])(?=[A-Z])|(?<=[A-Z])(?=[A-Z][a-z])", "_", name).lower()
 
 
 @dataclass
@@ -95,70 +58,44 @@ class Message:
     number: int
     changes: bool  # whether it can change something
     edits: bool  # whether it edits the text: the mark E
-    arguments: list  # (place, name): w, l or T, and what it is called
+    arguments: list  # (place, name): w, l or T, and what it is called, in snake_case
+    flags: set  # the places of flags
     answers: str  # "nothing", "number", "flag" or "text"
-    sentence: str
+    rule: str  # as the page has it
     takes_length: bool  # whether w is the length of the text, which no method takes
+    is_numeric_query: bool
 
     @property
     def snake(self):
         """The name with an underscore between words."""
-        return re.sub(r"(?<=[a-z])(?=[A-Z])|(?<=[A-Z])(?=[A-Z][a-z])", "_", self.name.replace("EOLs", "Eols")).lower()
+        return in_snake_case(self.name.replace("EOLs", "Eols"))
 
     def kind(self, place):
         """How an argument is passed: as a text, a flag or a number."""
-        if place == "T":
-            return "text"
-        return "flag" if dict(self.arguments)[place] == FLAG else "number"
+        return "text" if place == "T" else "flag" if place in self.flags else "number"
 
     def place(self, place):
         """The name of the argument in a place, or None."""
         return dict(self.arguments).get(place)
 
-
-def arguments(column):
-    """The arguments of a method, from the column "w, l, T"."""
-    if column in ARGUMENTS:
-        return ARGUMENTS[column]
-    found = []
-    for part in filter(None, column.split(", ")):
-        place, name = re.fullmatch(r"(w|l|T) ([a-z]+)", part).groups()
-        found.append((place, FLAG if name == "flag" else name))
-    return found
+    def method(self, language):
+        return self.name if language == "C++" else self.snake
 
 
-def answer(does):
+def answer(entry):
     """What a method answers."""
-    if re.search(r"\bhands out\b", does, re.I):
-        return "text"
-    if re.match(r"-> 1 (where|if|while) .*, else 0", does):
-        return "flag"
-    return "number" if "->" in does else "nothing"
+    return {"": "nothing", FLAG: "flag", WITH_TEXT: "text"}.get(entry.answer, "number")
 
 
-def sentence(does, places):
-    """A row's words as the sentence at a method."""
-    text = does.replace("`", "")
-    for pattern, full in IN_FULL:
-        text = re.sub(pattern, full, text)
-    for place, called in places:
-        if called in ("line", "handle", "document", "display_line"):
-            text = re.sub(rf"\b{called.replace('_', ' ')} {place}\b", place, text)
-    for place, called in places:
-        text = re.sub(rf"(?<![\w`.]){place}(?!\w)|(?<=\.\.){place}\b", f"`{called}`", text)
-    text = " ".join(text.split()).replace(" ,", ",")
-    unread = re.findall(r"(?<![\w`])(?:w|l|T|c|lo|hi|ts|te)(?![\w`])", text)
-    if unread:
-        sys.exit(f"no words for {', '.join(unread)}: {does}")
-    text = text[:1].upper() + text[1:] + "."
-    told = [meaning for pattern, meaning in LEGEND.items() if re.search(pattern, text)]
-    told = told[1:] if len(told) > 1 and "n the text's length" in told[1] else told
-    return text + (f" Here {'; '.join(told)}." if told else "")
-
-
-def rows():
-    """The rows of the table: number, name, marks, arguments, what it does, and notes."""
-    return re.findall(r"^\| (\d{4}) \| SCI_([A-Z]+) \| ([QNER ]*?) ?\| (.*?) ?\| (.*?) ?\| (.*?) ?\|", header.read("docs/MESSAGES.md"), re.M)
+def message(entry, name):
+    """The message of an entry, with its name in CamelCase."""
+    takes_length = "T" in entry.parameters and "w" in entry.parameters and entry.parameters["w"][1] == "length"
+    taken = {place: spelled for place, spelled in entry.parameters.items() if not (takes_length and place == "w")}
+    arguments = [(place, in_snake_case(called)) for place, (_, called) in taken.items()]
+    flags = {place for place, (kind, _) in taken.items() if kind == FLAG}
+    marks = entry.marks.split()
+    return Message(name, entry.name, entry.number, "Q" not in marks, "E" in marks, arguments, flags, answer(entry), entry.rule, takes_length,
+                   entry.is_numeric_query)
 
 
 def messages():
@@ -166,25 +103,38 @@ def messages():
     kinds = dict((spelled[4:], (name, int(number))) for spelled, name, number in
                  re.findall(r"/// `(SCI_\w+)`\n\s*(\w+) = (\d+),", header.read("crates/ed_types/src/kind.rt")))
     found = []
-    for number, spelled, marks, column, does, _ in rows():
-        name, known = kinds.pop(spelled)
-        if known != int(number):
-            sys.exit(f"{spelled} has several numbers: {number} and {known}")
-        name = name.replace("Eol", "EOL")
-        places = arguments(column)
-        told = SENTENCES.get(spelled, does)
-        words = sentence(told, places)
-        takes_length = column.startswith("w length, T")
-        found.append(Message(name, spelled, known, "Q" not in marks.split(), "E" in marks.split(), places, answer(told), words, takes_length))
+    for entry in message_page.entries():
+        name, known = kinds.pop(entry.name)
+        if known != entry.number:
+            sys.exit(f"{entry.name} has several numbers: {entry.number} and {known}")
+        found.append(message(entry, name.replace("Eol", "EOL")))
     if kinds:
-        sys.exit(f"no row of docs/MESSAGES.md: {', '.join(kinds)}")
+        sys.exit(f"no entry in {message_page.PAGE}: {', '.join(kinds)}")
     return sorted(found, key=lambda it: it.number)
 
 
-def told(message, width, before):
+def sentences(message, methods, language):
+    """A message's rule in the words of a language; `methods` has the method of each message."""
+    refusal, no, refused = SPELLED[language]
+    text = message.rule
+    if message.takes_length:
+        text = " ".join(sentence for sentence in re.split(r"(?<=\.) ", text) if "`length`" not in sentence)
+    if language != "C++":
+        text = re.sub(r"`([a-z]+[A-Z]\w*)`", lambda name: f"`{in_snake_case(name[1])}`", text)
+    text = re.sub(r"\b[A-Z]{3,}\b", lambda word: f"`{methods[word[0]]}`" if word[0] in methods else word[0], text)
+    text = re.sub(r"\b(?:BadArgument|NoSuchDocument|TooMany)\b", lambda name: refusal(name[0]), text)
+    return re.sub(r"\bfalse\b", no, text).replace("Refused with", refused).replace("the value is", "the reply's value is")
+
+
+def told(message, methods, language, width, before):
     """The comment of a method, in lines."""
-    text = f"SCI_{message.spelled}, {message.number}. {message.sentence}"
+    text = f"{sentences(message, methods, language)} Message: `SCI_{message.spelled}`."
     return textwrap.wrap(text, width, initial_indent=before, subsequent_indent=before, break_long_words=False, break_on_hyphens=False)
+
+
+def methods_in(found, language):
+    """What each message's method is called in a language."""
+    return {it.spelled: it.method(language) for it in found}
 
 
 CPP_TYPES = {"number": "std::int64_t", "flag": "bool", "text": "std::string_view"}
@@ -210,13 +160,13 @@ def cpp_method(message, name, kind, call, comment):
 
 def cpp(found):
     """The methods of BasicView."""
-    lines = []
+    lines, methods = [], methods_in(found, "C++")
     for message in found:
         kind, call = CPP_ANSWERS[message.answers]
-        comment = [line.replace("display_line", "displayLine") for line in told(message, 118, "  /// ")]
+        comment = told(message, methods, "C++", 118, "  /// ")
         lines += cpp_method(message, message.name, kind, call, comment)
         if message.answers == "text":
-            again = [f"  /// As {message.name}, lent and not copied: it stands until the next message that is done."]
+            again = [f"  /// Like {message.name}, but lent, not copied: the text is valid until the next message that is done."]
             lines += cpp_method(message, message.name + "View", "std::string_view", "as_lent", again)
     return "".join(f"{line}\n" for line in lines)
 
@@ -225,11 +175,11 @@ RUST_TYPES = {"number": "i64", "flag": "bool", "text": "impl AsRef<[u8]>"}
 RUST_ANSWERS = {"nothing": ("()", "as_done"), "number": ("i64", "as_number"), "flag": ("bool", "as_flag"), "text": ("&[u8]", "as_lent")}
 
 
-def rust_method(message):
+def rust_method(message, methods):
     taken = "".join(f", {called}: {RUST_TYPES[message.kind(place)]}" for place, called in message.arguments)
     kind, call = RUST_ANSWERS[message.answers]
     text = message.place("T")
-    w, l = (f"i64::from({name})" if name == FLAG else name or "0" for name in map(message.place, "wl"))
+    w, l = (f"i64::from({message.place(place)})" if place in message.flags else message.place(place) or "0" for place in "wl")
     body = [f"let {text} = {text}.as_ref();"] if message.takes_length else []
     passed = [f"sys::SCI_{message.spelled}", f"length_of({text})" if message.takes_length else w, l,
               text if message.takes_length else f"{text}.as_ref()" if text else "&[]"]
@@ -237,12 +187,13 @@ def rust_method(message):
     # A question that lends nothing may stand among the arguments of another message.
     lender = "&mut self" if message.changes or message.answers == "text" else "&self"
     head = f"    pub fn {message.snake}({lender}{taken}) -> Result<{kind}, Refusal> {{"
-    return [*told(message, 96, "    /// "), head, *(f"        {line}" for line in body), "    }", ""]
+    return [*told(message, methods, "Rust", 96, "    /// "), head, *(f"        {line}" for line in body), "    }", ""]
 
 
 def rust(found):
     """The methods of View."""
-    lines = [line for message in found for line in rust_method(message)]
+    methods = methods_in(found, "Rust")
+    lines = [line for message in found for line in rust_method(message, methods)]
     return "".join(f"{line}\n" for line in lines[:-1])
 
 
@@ -298,7 +249,7 @@ PYTHON_TYPES = {"number": "int", "flag": "bool", "text": "Text"}
 PYTHON_ANSWERS = {"nothing": ("None", "{}"), "number": ("int", "return {}"), "flag": ("bool", "return {} != 0"), "text": ("bytes", None)}
 
 
-def python_method(message):
+def python_method(message, methods):
     taken = "".join(f", {called}: {PYTHON_TYPES[message.kind(place)]}" for place, called in message.arguments)
     kind, answered = PYTHON_ANSWERS[message.answers]
     text = message.place("T")
@@ -309,14 +260,15 @@ def python_method(message):
     call = f"self.send({', '.join(passed)})"
     body = [f"{text} = as_bytes({text})"] if message.takes_length else []
     body += [call, "return self.text()"] if answered is None else [answered.format(call)]
-    comment = "\n".join(told(message, 112, "        ")).lstrip()
+    comment = "\n".join(told(message, methods, "Python", 112, "        ")).lstrip()
     comment = f'"""{comment}"""' if "\n" not in comment else f'"""{comment}\n        """'
     return [f"    def {message.snake}(self{taken}) -> {kind}:", *f"        {comment}".split("\n"), *(f"        {line}" for line in body), ""]
 
 
 def python(found):
     """The methods of Messages."""
-    lines = [line for message in found for line in python_method(message)]
+    methods = methods_in(found, "Python")
+    lines = [line for message in found for line in python_method(message, methods)]
     return "".join(f"{line}\n" for line in lines[:-1])
 
 
@@ -366,18 +318,17 @@ def questions(found):
 
 def call(message, name, on):
     """A method's call in a trial, where a flag is on."""
-    passed = [on if called == FLAG else PASSED[place] for place, called in message.arguments]
+    passed = [on if place in message.flags else PASSED[place] for place, _ in message.arguments]
     return f"{name}({', '.join(passed)})"
 
 
 def expected():
-    """What a trial of all methods sends, from the rows of the table alone, by their numbers."""
-    for number, _, _, column, _, _ in sorted(rows()):
-        letters = re.findall(r"\b[wlT]\b", column)
-        w = "2" if re.match("w length, T", column) else PASSED["w"] if "w" in letters else "0"
-        l = PASSED["l"] if "l" in letters else "0"
-        w, l = ("1" if re.search(rf"\b{place} flag\b", column) else number for place, number in (("w", w), ("l", l)))
-        yield f"""1: {number} {w} {l} {PASSED["T"] if "T" in letters else '""'}"""
+    """What a trial of all methods sends, from the entries of the page alone, by their numbers."""
+    for entry in sorted(message_page.entries(), key=lambda it: it.number):
+        kinds = {place: kind for place, (kind, _) in entry.parameters.items()}
+        w, l = ("0" if place not in kinds else "1" if kinds[place] == FLAG else PASSED[place] for place in "wl")
+        w = "2" if "T" in kinds and entry.parameters.get("w") == ("position", "length") else w
+        yield f"""1: {entry.number} {w} {l} {PASSED["T"] if "T" in kinds else '""'}"""
     yield "given back"
 
 
@@ -415,13 +366,12 @@ def versions():
 
 
 def definitions(found):
-    """The definitions of the plain questions, with those that docs/MESSAGES.md names, by their numbers."""
-    listed = re.search(r"^The plain questions are [^:]*: ([A-Z,\s]*)\.$", header.read("docs/MESSAGES.md"), re.M)[1]
-    named = set(re.split(r",\s+", listed))
-    unknown = named - {it.spelled for it in found}
-    if unknown:
-        sys.exit(f"docs/MESSAGES.md names plain questions that are no messages: {', '.join(sorted(unknown))}")
-    kinds = "".join(f"kinds.{it.name.replace('EOL', 'Eol')} ∷ " for it in found if it.spelled in named)
+    """The definitions of the numeric queries, with those that docs/MESSAGES.md marks A, by their numbers."""
+    named = [it for it in found if it.is_numeric_query]
+    unfit = [it.spelled for it in named if it.changes or it.answers == "text"]
+    if unfit:
+        sys.exit(f"docs/MESSAGES.md marks as numeric queries what changes something or returns a text: {', '.join(unfit)}")
+    kinds = "".join(f"kinds.{it.name.replace('EOL', 'Eol')} ∷ " for it in named)
     yield ASKING, re.sub(r"^questions = .*$", f"questions = {kinds}[]", header.read(ASKING), flags=re.M)
 
 
@@ -432,8 +382,7 @@ def faults():
                        ("bindings/python/src/hongpilas/_library.py", "    {capitals} = {number}\n")):
         text = header.read(path)
         for name, number in named:
-            capitals = re.sub(r"(?<!^)(?=[A-Z])", "_", name).upper()
-            if form.format(name=name, number=number, capitals=capitals) not in text:
+            if form.format(name=name, number=number, capitals=in_capitals(name)) not in text:
                 yield f"{path} has no refusal {name} = {number}"
 
 
