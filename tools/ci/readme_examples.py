@@ -1,17 +1,21 @@
 #!/usr/bin/env python3
 """Cuts the examples out of README.md, as programs that compile: readme_examples.py FOLDER
 
-The page has one block of C and one of Rust, of at most five lines each, with a comment behind each line that prints: what it prints. Into
+The page has one block of C and one of Rust, of at most ten lines each, with a comment behind each line that prints: what it prints. Into
 FOLDER, which is made where it is not there, go `readme.c` and what it prints, `readme.c.out`, and for cargo `Cargo.toml`, `src/main.rs`
 and `readme.rs.out`. `tests/check` and `bindings/check` build and run them, and compare. Ends with status 1 where the page has no such
-block, or one that prints nothing.
+block, or one that prints nothing, or where its first block of text is not twelve rows that follow one another on a screen of
+tests/editor/edit.screens, which `tests/check` compares with the editor's; what is in reverse there is not marked on the page.
+With --check in place of FOLDER it writes nothing.
 """
 import os
 import re
 import sys
 
 TOP = os.path.dirname(os.path.dirname(os.path.dirname(os.path.abspath(__file__))))
-MOST = 5
+MOST = 10
+ROWS = 12
+SCREENS = "tests/editor/edit.screens"
 IN_C = """#include <hongpilas.h>
 #include <stdio.h>
 
@@ -33,10 +37,27 @@ hongpilas = {{ path = "{TOP}/bindings/rust/hongpilas" }}
 """
 
 
+def read(path):
+    with open(os.path.join(TOP, path), encoding="utf-8") as file:
+        return file.read()
+
+
+def blocks(language):
+    return re.findall(rf"^```{language}\n(.*?)^```$", read("README.md"), re.M | re.S)
+
+
+def look_at_screen():
+    """Ends the program unless the page has rows of a screen."""
+    shown = blocks("text")[0].splitlines()
+    screens = re.findall(r"^screen\n((?:\|.*\n)+)", read(SCREENS), re.M)
+    rows = [[re.sub("[«»]", "", row[1:]) for row in screen.splitlines()] for screen in screens]
+    if len(shown) != ROWS or not any(shown == screen[first:first + ROWS] for screen in rows for first in range(len(screen))):
+        sys.exit(f"README.md: its first block of text is not {ROWS} rows of a screen of {SCREENS}")
+
+
 def block(language):
     """The lines of the page's block in a language, and what they print, by their comments."""
-    with open(os.path.join(TOP, "README.md"), encoding="utf-8") as page:
-        found = re.findall(rf"^```{language}\n(.*?)^```$", page.read(), re.M | re.S)
+    found = blocks(language)
     if len(found) != 1:
         sys.exit(f"README.md has {len(found)} blocks in {language}, and not one")
     lines = found[0].splitlines()
@@ -61,6 +82,10 @@ def main():
     if len(sys.argv) != 2:
         sys.exit("readme_examples.py FOLDER")
     folder = sys.argv[1]
+    look_at_screen()
+    if folder == "--check":
+        print(f"README.md has {len(block('c')[0])} lines of C, {len(block('rust')[0])} of Rust, and rows of a screen")
+        return
     lines, printed = block("c")
     write(folder, "readme.c", IN_C.format(text_of(lines, "  ")))
     write(folder, "readme.c.out", text_of(printed))
