@@ -16,7 +16,7 @@ NO_MESSAGES = {"START", "OPTIONAL_START", "LEXER_START"}
 HEAD = """# Is this message here?
 
 For a program that is ported from Scintilla: each message by its name, without `SCI_`. [`MESSAGES.md`](MESSAGES.md) says what those that are here do, and
-[`PROFILE.md`](PROFILE.md) what to do instead of others. A message that is not here returns 0 from `hongpilas_direct`, with no status, and is refused as
+[`FROM_SCINTILLA.md`](FROM_SCINTILLA.md) what to do instead of others. A message that is not here returns 0 from `hongpilas_direct`, with no status, and is refused as
 HONGPILAS_UNKNOWN_MESSAGE by `hongpilas_send`; `hongpilas_message_name` returns NULL for it. The names are those of the Scintilla.h in Debian 12's geany-common.
 `tools/pages/scintilla_messages.py` writes this page.
 """
