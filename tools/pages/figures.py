@@ -14,6 +14,7 @@ import os
 import re
 import subprocess
 import sys
+import textwrap
 from datetime import datetime, timezone
 
 TOP = os.path.dirname(os.path.dirname(os.path.dirname(os.path.abspath(__file__))))
@@ -122,14 +123,18 @@ def beside_scintilla():
     return table(titles, [[name, *(cell for size in SIZES for cell in cells(sizes.get(size)))] for name, sizes in times().items()])
 
 
+def filled(text):
+    return textwrap.fill(text, 160, break_long_words=False, break_on_hyphens=False)
+
+
 def of_tutorial():
     """The tutorial's table, and what a window costs."""
     found = times()
     named = {**ASKED_BY_KEY, **{name: work for name, (_, work) in ASKED_BY_ROW.items()}}
     rows = [[name, *(readable(found[work].get(size, found[work][SIZES[0]])[0]) for size in SIZES)] for name, work in named.items()]
     sums = [sum(count * found[work][size][0] for count, work in ASKED_BY_ROW.values()) * WINDOW / 1000 for size in SIZES]
-    window = " and ".join(f"{it:.0f} µs" for it in sums)
-    return table(["What is asked", *SIZES], rows) + f"\nSo a window of {WINDOW} rows, each drawn anew, asks for {window}.\n"
+    window = " and ".join(f"{it:.0f} µs in {size}" for it, size in zip(sums, SIZES))
+    return table(["What is asked", *SIZES], rows) + f"\nSo the queries for a window of {WINDOW} rows take {window}.\n"
 
 
 def on_memory():
@@ -137,8 +142,8 @@ def on_memory():
     loaded, worked_on = LOADED.search(page), WORKED_ON.search(read(FIGURES))
     if not loaded or not worked_on:
         sys.exit(f"{FIGURES}: no sentence on a loaded text, or no row of 64 MiB, under *Memory*")
-    return f"""**Memory.** Loading {loaded["size"]} took {loaded["times"]} times the bytes of text and line starts. After minutes of random edits, styles and undo, a text of
-64 MiB held {float(worked_on["held"]):.0f} MiB, {float(worked_on["alive"]):.0f} MiB of it in use."""
+    return (f"**Memory.** Loading {loaded['size']} took {loaded['times']} times the bytes of text and line starts. After minutes of random edits, styles "
+            f"and undo, a text of 64 MiB held {float(worked_on['held']):.0f} MiB, {float(worked_on['alive']):.0f} MiB of it in use.")
 
 
 def of_readme():
@@ -148,6 +153,8 @@ def of_readme():
     mean = math.exp(sum(math.log(ours / theirs) for ours, theirs in pairs.values()) / len(pairs))
     quick = sum(float(ratio(pair)) <= 1 for pair in pairs.values())
     (name, size), greatest = max(pairs.items(), key=lambda row: row[1][0] / row[1][1])
+    on_all = (f"Of {len(pairs)} ratios (less is better) {quick} are at most 1; the geometric mean is {mean:.2f}, the greatest {ratio(greatest)} ({name}). "
+              f"By `{BENCH}`, commit {commit_of(head)} ([`FIGURES`]({FIGURES})).")
     cited = [(name, all_times[work][CITED_SIZE]) for name, work in CITED.items()]
     rows = [[name, short(ours), short(theirs), ratio((ours, theirs))] for name, (ours, theirs) in cited]
     return f"""## Figures
@@ -155,10 +162,9 @@ def of_readme():
 | In a text of {CITED_SIZE} | Hongpilas | Scintilla 5.3.3 | ratio |
 |---|---|---|---|
 {"".join("| " + " | ".join(row) + " |" + chr(10) for row in rows)}
-Of {len(pairs)} ratios (less is better) {quick} are at most 1; the geometric mean is {mean:.2f}, the greatest {ratio(greatest)} ({name}). By `{BENCH}`, commit {commit_of(head)}
-([`FIGURES`]({FIGURES})).
+{filled(on_all)}
 
-{on_memory()}
+{filled(on_memory())}
 
 """
 
@@ -177,7 +183,7 @@ def replaced(page, title, pattern, new):
 def pages():
     """What the pages are to be."""
     figures = replaced(read(FIGURES), "Beside Scintilla", r"(^\|[^\n]*\n)+", beside_scintilla())
-    tutorial = replaced(read(TUTORIAL), "What a frame costs", r"(^\|[^\n]*\n)+(\nSo a window of [^\n]*\n)?", of_tutorial())
+    tutorial = replaced(read(TUTORIAL), "What a frame costs", r"(^\|[^\n]*\n)+(\nSo the queries [^\n]*\n)?", of_tutorial())
     return {README: replaced(read(README), "Figures", r"\A.*\Z", of_readme()), FIGURES: figures, TUTORIAL: tutorial}
 
 
