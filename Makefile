@@ -32,7 +32,7 @@ INSTALLED := $(DESTDIR)$(PREFIX)
 INSTALLED_LIB := $(DESTDIR)$(LIBDIR)
 INSTALLED_DOC := $(INSTALLED)/share/doc/hongpilas
 # What the header says to read, and what that refers to.
-DOCS := LICENSE $(addprefix docs/,MESSAGES.md BEHAVIOUR.md PROFILE.md SCRIPTS.md TUTORIAL.md FROM_SCINTILLA.md SCINTILLA_MESSAGES.md)
+DOCS := LICENSE $(addprefix docs/,MESSAGES.md BEHAVIOUR.md PROFILE.md SCRIPTS.md TUTORIAL.md FROM_SCINTILLA.md scintilla_left_out.txt)
 
 all: out/libhongpilas.a out/libhongpilas.so out/libhongpilas_scintilla.a out/hongpilas.pc out/hongpilas_scintilla.pc
 

@@ -1,7 +1,7 @@
 #!/usr/bin/env python3
-"""Writes docs/SCINTILLA_MESSAGES.md, the list of Scintilla's messages that are not here: scintilla_messages.py SCINTILLA_H, a Scintilla.h.
+"""Writes docs/scintilla_left_out.txt, the list of Scintilla's messages that are not here: scintilla_messages.py SCINTILLA_H, a Scintilla.h.
 
-With --check it writes nothing and needs no Scintilla.h: it fails where the page names a message of the definitions.
+With --check it writes nothing and needs no Scintilla.h: it fails where the list names a message of the definitions.
 """
 import os
 import re
@@ -10,13 +10,11 @@ import textwrap
 
 import header
 
-PAGE = "docs/SCINTILLA_MESSAGES.md"
+PAGE = "docs/scintilla_left_out.txt"
 # Numbers at which groups of messages begin.
 NO_MESSAGES = {"START", "OPTIONAL_START", "LEXER_START"}
-HEAD = """# Scintilla's messages that are not here
-
-By name, without `SCI_`, from the Scintilla.h in Debian 12's geany-common. [`MESSAGES.md`](MESSAGES.md) has those that are here, and
-[`FROM_SCINTILLA.md`](FROM_SCINTILLA.md) what to do instead of these. `tools/pages/scintilla_messages.py` writes this page.
+HEAD = """Scintilla's messages that Hongpilas does not have, by name, without SCI_, from the Scintilla.h in Debian 12's geany-common. FROM_SCINTILLA.md says what to do
+instead. Written by tools/pages/scintilla_messages.py.
 
 """
 BY_INTERFACE = {"GETRANGEPOINTER", "GETSTATUS", "SETSTATUS"}
