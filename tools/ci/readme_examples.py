@@ -6,6 +6,7 @@ FOLDER, which is made where it is not there, go `readme.c` and what it prints, `
 and `readme.rs.out`. `tests/check` and `bindings/check` build and run them, and compare. Ends with status 1 where the page has no such
 block, or one that prints nothing, or where its first block of text is not twelve rows that follow one another on a screen of
 tests/editor/edit.screens, which `tests/check` compares with the editor's; what is in reverse there is not marked on the page.
+The block of C of docs/FROM_SCINTILLA.md becomes `from_scintilla.c`, with a notify function that counts; `from_scintilla.out` has the count.
 With --check in place of FOLDER it writes nothing.
 """
 import os
@@ -27,6 +28,20 @@ IN_RUST = """fn main() -> Result<(), hongpilas::Refusal> {{
 {}    Ok(())
 }}
 """
+# A block over the Scintilla-compatible interface: an ADDTEXT into a new document notifies of the insertion before and after it, and of the save point.
+FROM_SCINTILLA = "docs/FROM_SCINTILLA.md"
+OVER_SCINTILLA = """#include <hongpilas_scintilla.h>
+#include <stdio.h>
+
+static int count;
+static void hear(SCNotification *notification, void *data) {{ count += notification != NULL && data == NULL; }}
+
+int main(void) {{
+{}  printf("%d\\n", count);
+  return 0;
+}}
+"""
+COUNTED = "3\n"
 PACKAGE = f"""[package]
 name = "readme"
 version = "0.0.0"
@@ -42,8 +57,8 @@ def read(path):
         return file.read()
 
 
-def blocks(language):
-    return re.findall(rf"^```{language}\n(.*?)^```$", read("README.md"), re.M | re.S)
+def blocks(language, page="README.md"):
+    return re.findall(rf"^```{language}\n(.*?)^```$", read(page), re.M | re.S)
 
 
 def look_at_screen():
@@ -93,6 +108,8 @@ def main():
     write(folder, "src/main.rs", IN_RUST.format(text_of(lines, "    ")))
     write(folder, "readme.rs.out", text_of(printed))
     write(folder, "Cargo.toml", PACKAGE)
+    write(folder, "from_scintilla.c", OVER_SCINTILLA.format(text_of(blocks("c", FROM_SCINTILLA)[0].splitlines(), "  ")))
+    write(folder, "from_scintilla.out", COUNTED)
 
 
 main()
