@@ -3,7 +3,8 @@
 
     tools/refused.py            writes the table
     tools/refused.py --check    writes nothing, and ends with status 1 where the table is not what it would write, where data/mutants.txt
-                                names no body or one that was not refused, or where the gate does not try a body of the page's first table
+                                names no body or one that was not refused, where the gate does not try a body of the page's first table, or
+                                where the table of holes names none
 
 `tools/wrong_bodies --record` writes data/mutants.txt, whose head says what its lines mean. A line `does: WORDS` in a body's block says what the
 body does, where its name does not: it stands behind the name."""
@@ -16,8 +17,8 @@ import sys
 HERE = os.path.dirname(os.path.abspath(__file__))
 TOP = os.path.dirname(HERE)
 PAGE, FILE = "docs/WRONG_BODIES.md", "data/mutants.txt"
-FIRST = "The first to be asked for"
-# A body of the page's first table: a crate, and names behind it; and what a block says of its body.
+FIRST, HOLES = "The first to be asked for", "Holes that were found, and what closes them"
+# Bodies that one of these tables names: a crate, and names behind it; and what a block says of its body.
 NAMED = re.compile(r"`(\w+)`: ((?:`\w+`(?!:)(?:[,;] )?)+)")
 DOES = re.compile(r"^does: (.*)$", re.M)
 # What stands for no clause by its name.
@@ -110,17 +111,18 @@ def page(found, tried, known):
     return before + begin + table(found, tried, known) + end + after
 
 
-def first_bodies():
-    """The bodies that the page's first table names, by crate and name."""
-    section = re.search(rf"^## {FIRST}\n(.*?)^## ", read(PAGE), re.M | re.S)
+def bodies_in(title):
+    """The bodies that the table of one of the page's sections names, by crate and name."""
+    section = re.search(rf"^## {title}\n(.*?)^## ", read(PAGE), re.M | re.S)
     if not section:
-        sys.exit(f"{PAGE} has no section {FIRST}")
+        sys.exit(f"{PAGE} has no section {title}")
     return {(crate, name) for crate, names in NAMED.findall(section[1]) for name in re.findall(r"\w+", names)}
 
 
 def faults(found, tried, known):
     by_gate = {it for it, (_, _, is_gate) in found.items() if is_gate}
-    yield from (f"{PAGE}: the gate does not try {'/'.join(it)}, of its first table" for it in sorted(first_bodies() - by_gate))
+    yield from (f"{PAGE}: the gate does not try {'/'.join(it)}, of its first table" for it in sorted(bodies_in(FIRST) - by_gate))
+    yield from (f"{PAGE}: there is no {'/'.join(it)}, which a hole names" for it in sorted(bodies_in(HOLES) - found.keys()))
     yield from (f"{FILE}: there is no {'/'.join(it)}" for it in sorted(known.keys() - found.keys()))
     yield from (f"{FILE}: {'/'.join(it)} was not refused" for it, words in sorted(known.items()) if words == ["NOT", "REFUSED"])
     if read(PAGE) != page(found, tried, known):
