@@ -34,7 +34,7 @@ static int64_t notified; /* the sum of the lengths of all notifications, so that
 
 /* ---- Ours ---- */
 
-static hongpilas session;
+static hongpilas_session *session;
 static uint32_t view;
 
 static void must(bool holds, const char *what) {
@@ -45,7 +45,8 @@ static void must(bool holds, const char *what) {
 
 static int64_t send_ours(uint32_t number, int64_t w, int64_t l, const char *bytes, size_t length) {
   int64_t value = 0;
-  must(hongpilas_call(&session, view, number, w, l, bytes, length, &value) == HONGPILAS_DONE, "a message was refused");
+  const uint8_t *text = bytes == NULL ? (const uint8_t *)"" : (const uint8_t *)bytes;
+  must(hongpilas_send_unchecked(session, view, number, w, l, text, length, &value) == HONGPILAS_DONE, "a message was refused");
   return value;
 }
 
@@ -65,7 +66,7 @@ static void text_range_ours(int64_t from, int64_t to) { send_ours(SCI_GETTEXTRAN
 static void whole_text_ours(void) { send_ours(SCI_GETTEXT, 0, 0, NULL, 0); }
 static void lent_range_ours(int64_t from, int64_t to) {
   const uint8_t *bytes;
-  must(hongpilas_lend_range(&session, view, (size_t)from, (size_t)(to - from), &bytes) == HONGPILAS_DONE, "no bytes lent");
+  must(hongpilas_lend_range_unchecked(session, view, (size_t)from, (size_t)(to - from), &bytes) == HONGPILAS_DONE, "no bytes lent");
 }
 
 /* ---- Scintilla's ---- */
@@ -537,7 +538,7 @@ static void make_text(void) {
  * whole name of one. */
 int main(int argument_count, char **arguments) {
   bool is_named = argument_count > 1 && arguments[1][0] != '\0';
-  must(hongpilas_new(&session) == HONGPILAS_DONE && hongpilas_new_view(&session, &view) == HONGPILAS_DONE, "no session");
+  must(hongpilas_new(&session) == HONGPILAS_DONE && hongpilas_new_view(session, &view) == HONGPILAS_DONE, "no session");
   make_text();
   bool is_open = is_named && open_theirs(arguments[1]);
   if (!is_open) puts(is_named ? "Scintilla's library could not be used: ours alone." : "No library of Scintilla: ours alone.");
