@@ -81,8 +81,8 @@ struct Times {
 };
 
 enum Group { EDITS, UNDOS, LINES, FOLDS, STYLES, SEARCHES, QUESTIONS, GROUPS };
-static const char *const group_names[GROUPS] = {"insert, delete, replace", "undo, redo", "markers, levels, states", "fold, hide, show", "styles, indicators",
-                                                "search in 64 KiB", "questions, caret"};
+static const char *const group_names[GROUPS] = {"insert, delete, replace", "undo, redo",       "markers, levels, states", "fold, hide, show",
+                                                "styles, indicators",      "search in 64 KiB", "questions, caret"};
 static Times ours[GROUPS], theirs[GROUPS];
 
 static std::uint64_t state;
@@ -94,7 +94,7 @@ static Number below(Number bound) {
 
 // Both sides, and the model.
 
-static hongpilas session;
+static hongpilas_session *session;
 static std::uint32_t view_ids[blocks::VIEWS];
 static blocks::Document plain;
 static std::uint64_t calls, compared, compared_whole;
@@ -121,7 +121,8 @@ static double now_ns() { return double(std::chrono::steady_clock::now().time_sin
 static Number call(Group group, size_t view, std::uint32_t number, Number w = 0, Number l = 0, const Bytes &text = Bytes()) {
   Number value = 0;
   double begun = now_ns();
-  hongpilas_answer answer = hongpilas_send(&session, view_ids[view], number, w, l, reinterpret_cast<const uint8_t *>(text.data()), text.size(), &value);
+  hongpilas_answer answer =
+      hongpilas_send_unchecked(session, view_ids[view], number, w, l, reinterpret_cast<const uint8_t *>(text.data()), text.size(), &value);
   ours[group].add(now_ns() - begun);
   if (answer != HONGPILAS_DONE) fail("an answer", answer, 0);
   calls++;
@@ -137,7 +138,7 @@ static Number call(Group group, size_t view, std::uint32_t number, Number w = 0,
 static Number ask(size_t view, std::uint32_t number, Number w = 0, Number l = 0) {
   Number value = 0;
   static const uint8_t none = 0;
-  if (hongpilas_send(&session, view_ids[view], number, w, l, &none, 0, &value) != HONGPILAS_DONE) fail("a question");
+  if (hongpilas_send_unchecked(session, view_ids[view], number, w, l, &none, 0, &value) != HONGPILAS_DONE) fail("a question");
   return value;
 }
 
@@ -149,11 +150,11 @@ static void must_be(Number found, Number wanted, const char *what) {
 
 static void compare_bytes(Number from, Number to) {
   std::string found(size_t(to - from), 0);
-  if (hongpilas_copy_range(&session, view_ids[0], size_t(from), reinterpret_cast<uint8_t *>(&found[0]), found.size()) != HONGPILAS_DONE) fail("a copied range");
+  if (hongpilas_copy_range(session, view_ids[0], size_t(from), reinterpret_cast<uint8_t *>(&found[0]), found.size()) != HONGPILAS_DONE) fail("a copied range");
   if (found != plain.text(from, to)) fail("the text from", from, to);
   ask(0, SCI_GETSTYLEDTEXT, from, to);
   const uint8_t *styled = nullptr;
-  must_be(Number(hongpilas_text(&session, &styled)), 2 * (to - from), "the length of a styled text");
+  must_be(Number(hongpilas_text_unchecked(session, &styled)), 2 * (to - from), "the length of a styled text");
   Bytes styles = plain.styles(from, to);
   for (Number i = 0; i < to - from; i++)
     if (styled[2 * i + 1] != static_cast<unsigned char>(styles[size_t(i)])) fail("the style at", from + i, styles[size_t(i)]);
@@ -219,8 +220,8 @@ static void compare(bool whole) {
 // Work. Each kind is a few calls, which the model does too.
 
 static Bytes draw_text(Number most) {
-  static const char *const words[] = {"let", "x", "= ", "editor", "(line)", "\n", "\n", "\r\n", "    ",
-                                      "\xC3\xA9", "text_of", ", ", "\xE2\x80\xA8", "\r", "; ", "/* a longer remark */"};
+  static const char *const words[] = {"let",  "x",        "= ",      "editor", "(line)",       "\n", "\n", "\r\n",
+                                      "    ", "\xC3\xA9", "text_of", ", ",     "\xE2\x80\xA8", "\r", "; ", "/* a longer remark */"};
   Bytes text;
   for (Number wanted = 1 + below(most); Number(text.size()) < wanted;) text += words[below(16) == 0 ? 7 + below(9) : below(16)];
   return text;
@@ -452,7 +453,7 @@ static void print_times(const char *whose, const Times *times) {
 static void open_all(const char *scintilla) {
   if (hongpilas_new(&session) != HONGPILAS_DONE) fail("a session");
   for (std::uint32_t &view : view_ids)
-    if (hongpilas_new_view(&session, &view) != HONGPILAS_DONE) fail("a view");
+    if (hongpilas_new_view(session, &view) != HONGPILAS_DONE) fail("a view");
   if (scintilla != nullptr && !open_scintilla(scintilla)) fail("Scintilla's library");
   for (size_t v = 0; v < blocks::VIEWS; v++) {
     Number mask = v == 0 ? 0x7FFFFF : v == 1 ? 0 : 3;
@@ -493,10 +494,13 @@ static int work(double megabytes, double minutes, const char *scintilla) {
   std::uint64_t done = calls, next_compare = calls + 1000;
   while (now_ns() - begun < minutes * 60e9) {
     switch (below(12)) {
-      case 0: case 1: do_typing(); break;
-      case 2: case 3: do_edits(wanted); break;
+      case 0:
+      case 1: do_typing(); break;
+      case 2:
+      case 3: do_edits(wanted); break;
       case 4: do_undo(); break;
-      case 5: case 6: do_lines(); break;
+      case 5:
+      case 6: do_lines(); break;
       case 7: do_folds(); break;
       case 8: do_styles(); break;
       case 9: do_search(); break;
@@ -513,8 +517,8 @@ static int work(double megabytes, double minutes, const char *scintilla) {
   print_moment((now_ns() - begun) / 60e9, done);
   compare(true);
   std::printf("load: %g MiB, %.1f minutes, of which %.1f on a processor, %" PRIu64 " calls; compared %" PRIu64 " times, %" PRIu64
-              " of these over the whole document\n", megabytes, (now_ns() - begun) / 60e9, double(std::clock()) / CLOCKS_PER_SEC / 60, calls - done, compared,
-              compared_whole);
+              " of these over the whole document\n",
+              megabytes, (now_ns() - begun) / 60e9, double(std::clock()) / CLOCKS_PER_SEC / 60, calls - done, compared, compared_whole);
   print_times("Hongpilas, microseconds", ours);
   if (widgets[0] != nullptr) print_times("Scintilla, microseconds", theirs);
   std::printf("load: at the end the library holds %.1f MiB, at the most it held %.1f; alive are %.1f (%" PRId64 " bytes of text, %" PRId64
