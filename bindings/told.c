@@ -25,10 +25,8 @@ hongpilas_answer hongpilas_new_view(hongpilas *session, uint32_t *view) {
 
 hongpilas_answer hongpilas_close_view(hongpilas *session, uint32_t view) { return session == NULL && view == 0; }
 
-hongpilas_answer hongpilas_send(hongpilas *session, uint32_t view, uint32_t number, int64_t w, int64_t l,
-                                const uint8_t *text, size_t length, int64_t *value) {
-  printf("%u: %u %lld %lld \"%.*s\"\n", (unsigned)view, (unsigned)number, (long long)w, (long long)l, (int)length,
-         (const char *)text);
+hongpilas_answer hongpilas_send(hongpilas *session, uint32_t view, uint32_t number, int64_t w, int64_t l, const uint8_t *text, size_t length, int64_t *value) {
+  printf("%u: %u %lld %lld \"%.*s\"\n", (unsigned)view, (unsigned)number, (long long)w, (long long)l, (int)length, (const char *)text);
   fflush(stdout);
   *value = 0;
   return session == NULL;
@@ -43,12 +41,9 @@ size_t hongpilas_text(hongpilas *session, const uint8_t **text) {
 
 size_t hongpilas_note_count(hongpilas *session) { return session == NULL; }
 
-bool hongpilas_note(hongpilas *session, size_t index, hongpilas_note_data *note) {
-  return session == NULL && index == 0 && note == NULL;
-}
+bool hongpilas_note(hongpilas *session, size_t index, hongpilas_note_data *note) { return session == NULL && index == 0 && note == NULL; }
 
-hongpilas_answer hongpilas_lend_range(hongpilas *session, uint32_t view, size_t start, size_t count,
-                                      const uint8_t **bytes) {
+hongpilas_answer hongpilas_lend_range(hongpilas *session, uint32_t view, size_t start, size_t count, const uint8_t **bytes) {
   *bytes = NULL;
   return session == NULL && view == 0 && start == count;
 }

@@ -114,9 +114,9 @@ class [[nodiscard]] Result {
   explicit operator bool() const noexcept { return has_value(); }
   Refusal error() const noexcept { return *std::get_if<1>(&held_); }
 
-  T &operator*() & noexcept { return *std::get_if<0>(&held_); }
-  const T &operator*() const & noexcept { return *std::get_if<0>(&held_); }
-  T &&operator*() && noexcept { return std::move(*std::get_if<0>(&held_)); }
+  T &operator*() &noexcept { return *std::get_if<0>(&held_); }
+  const T &operator*() const &noexcept { return *std::get_if<0>(&held_); }
+  T &&operator*() &&noexcept { return std::move(*std::get_if<0>(&held_)); }
   T *operator->() noexcept { return std::get_if<0>(&held_); }
   const T *operator->() const noexcept { return std::get_if<0>(&held_); }
 
@@ -156,21 +156,14 @@ class [[nodiscard]] Result<void> {
 inline std::string_view note_name(std::uint32_t code) noexcept {
   switch (code) {
     // Written by tools/pages/wrappers.py: begin names
-    case SCN_STYLENEEDED:
-      return "SCN_STYLENEEDED";
-    case SCN_SAVEPOINTREACHED:
-      return "SCN_SAVEPOINTREACHED";
-    case SCN_SAVEPOINTLEFT:
-      return "SCN_SAVEPOINTLEFT";
-    case SCN_MODIFYATTEMPTRO:
-      return "SCN_MODIFYATTEMPTRO";
-    case SCN_MODIFIED:
-      return "SCN_MODIFIED";
-    case SCN_MACRORECORD:
-      return "SCN_MACRORECORD";
+    case SCN_STYLENEEDED: return "SCN_STYLENEEDED";
+    case SCN_SAVEPOINTREACHED: return "SCN_SAVEPOINTREACHED";
+    case SCN_SAVEPOINTLEFT: return "SCN_SAVEPOINTLEFT";
+    case SCN_MODIFYATTEMPTRO: return "SCN_MODIFYATTEMPTRO";
+    case SCN_MODIFIED: return "SCN_MODIFIED";
+    case SCN_MACRORECORD: return "SCN_MACRORECORD";
     // Written by tools/pages/wrappers.py: end names
-    default:
-      return {};
+    default: return {};
   }
 }
 
@@ -249,8 +242,8 @@ inline std::vector<Note> copied(const LentNotes &notes, std::uint32_t view) {
   std::vector<Note> found;
   for (const LentNote &it : notes)
     if (view == 0 || it.view == view)
-      found.push_back({it.view, it.code, it.kind, it.message, it.position, it.length, it.lines,
-                       it.line, it.now,  it.prev, it.token,   it.w,        it.l,      std::string(it.text)});
+      found.push_back(
+          {it.view, it.code, it.kind, it.message, it.position, it.length, it.lines, it.line, it.now, it.prev, it.token, it.w, it.l, std::string(it.text)});
   return found;
 }
 }  // namespace detail
@@ -317,9 +310,7 @@ class BasicView {
 
   /// Lends bytes of the view's document, with no copy. They stand until the next call that does not just look at the
   /// last reply. Refused: BadArgument where the range does not lie in the text.
-  Answer<std::string_view> lend_range(std::int64_t start, std::int64_t count) const {
-    return Policy::answer(lent_range(start, count));
-  }
+  Answer<std::string_view> lend_range(std::int64_t start, std::int64_t count) const { return Policy::answer(lent_range(start, count)); }
 
   /// Closes the view. A document that no view is attached to and that the caller does not hold goes with it.
   Answer<void> close() {
@@ -345,9 +336,7 @@ class BasicView {
   Answer<void> AddText(std::string_view text) { return as_done(SCI_ADDTEXT, length_of(text), 0, text); }
   /// Inserts `text` at `position`, or at the caret if `position` is -1. Refused with `Refusal::BadArgument` unless
   /// `position` is -1 to the text's length. Message: `SCI_INSERTTEXT`.
-  Answer<void> InsertText(std::int64_t position, std::string_view text) {
-    return as_done(SCI_INSERTTEXT, position, 0, text);
-  }
+  Answer<void> InsertText(std::int64_t position, std::string_view text) { return as_done(SCI_INSERTTEXT, position, 0, text); }
   /// Deletes the whole text. Message: `SCI_CLEARALL`.
   Answer<void> ClearAll() { return as_done(SCI_CLEARALL, 0, 0); }
   /// Returns the length of the text. Message: `SCI_GETLENGTH`.
@@ -374,20 +363,14 @@ class BasicView {
   /// Returns each byte from `start` to `end`, followed by its style; the reply's value is the number of bytes
   /// returned. Refused with `Refusal::BadArgument` unless `start` and `end` are a range of the text; an `end` of -1
   /// is its end. Message: `SCI_GETSTYLEDTEXT`.
-  Answer<std::string> GetStyledText(std::int64_t start, std::int64_t end) const {
-    return as_copy(SCI_GETSTYLEDTEXT, start, end);
-  }
+  Answer<std::string> GetStyledText(std::int64_t start, std::int64_t end) const { return as_copy(SCI_GETSTYLEDTEXT, start, end); }
   /// Like GetStyledText, but lent, not copied: the text is valid until the next message that is done.
-  Answer<std::string_view> GetStyledTextView(std::int64_t start, std::int64_t end) const {
-    return as_lent(SCI_GETSTYLEDTEXT, start, end);
-  }
+  Answer<std::string_view> GetStyledTextView(std::int64_t start, std::int64_t end) const { return as_lent(SCI_GETSTYLEDTEXT, start, end); }
   /// Returns whether `Redo` would change something: no group is open, the document is not read-only, and there is a
   /// transaction to redo. Message: `SCI_CANREDO`.
   Answer<bool> CanRedo() const { return as_flag(SCI_CANREDO, 0, 0); }
   /// Returns the line of the marker with `handle`, or -1 if there is none. Message: `SCI_MARKERLINEFROMHANDLE`.
-  Answer<std::int64_t> MarkerLineFromHandle(std::int64_t handle) const {
-    return as_number(SCI_MARKERLINEFROMHANDLE, handle, 0);
-  }
+  Answer<std::int64_t> MarkerLineFromHandle(std::int64_t handle) const { return as_number(SCI_MARKERLINEFROMHANDLE, handle, 0); }
   /// Removes the marker with `handle`. If there is one, sends SCN_MODIFIED (`SC_MOD_CHANGEMARKER`). Message:
   /// `SCI_MARKERDELETEHANDLE`.
   Answer<void> MarkerDeleteHandle(std::int64_t handle) { return as_done(SCI_MARKERDELETEHANDLE, handle, 0); }
@@ -426,9 +409,7 @@ class BasicView {
   /// Adds a marker with `number` to line `line`, after those that it has, and returns its handle; -1 if there is no
   /// such line. If it added one, sends SCN_MODIFIED (`SC_MOD_CHANGEMARKER`). Refused with `Refusal::BadArgument`
   /// unless `number` is 0 to 31, and with `Refusal::TooMany` if marker handles are used up. Message: `SCI_MARKERADD`.
-  Answer<std::int64_t> MarkerAdd(std::int64_t line, std::int64_t number) {
-    return as_number(SCI_MARKERADD, line, number);
-  }
+  Answer<std::int64_t> MarkerAdd(std::int64_t line, std::int64_t number) { return as_number(SCI_MARKERADD, line, number); }
   /// Removes from line `line`, if there is such a line, the first marker with `number`, or all markers if that is -1.
   /// If it removed one, sends SCN_MODIFIED (`SC_MOD_CHANGEMARKER`). Refused with `Refusal::BadArgument` unless
   /// `number` is -1 to 31. Message: `SCI_MARKERDELETE`.
@@ -442,14 +423,10 @@ class BasicView {
   Answer<std::int64_t> MarkerGet(std::int64_t line) const { return as_number(SCI_MARKERGET, line, 0); }
   /// Returns the first line from `line` on that has a marker whose bit is set in the low 32 bits of `mask`, or -1.
   /// Message: `SCI_MARKERNEXT`.
-  Answer<std::int64_t> MarkerNext(std::int64_t line, std::int64_t mask) const {
-    return as_number(SCI_MARKERNEXT, line, mask);
-  }
+  Answer<std::int64_t> MarkerNext(std::int64_t line, std::int64_t mask) const { return as_number(SCI_MARKERNEXT, line, mask); }
   /// Returns the last line up to `line` that has a marker whose bit is set in the low 32 bits of `mask`, or -1.
   /// Message: `SCI_MARKERPREVIOUS`.
-  Answer<std::int64_t> MarkerPrevious(std::int64_t line, std::int64_t mask) const {
-    return as_number(SCI_MARKERPREVIOUS, line, mask);
-  }
+  Answer<std::int64_t> MarkerPrevious(std::int64_t line, std::int64_t mask) const { return as_number(SCI_MARKERPREVIOUS, line, mask); }
   /// Gives each byte from end styled on the style that `styles` has for it, and moves end styled after the last one.
   /// If a style changed, sends SCN_MODIFIED (`SC_MOD_CHANGESTYLE`). Refused with `Refusal::BadArgument` if `styles`
   /// has more bytes than there are from end styled on. Message: `SCI_SETSTYLINGEX`.
@@ -467,9 +444,7 @@ class BasicView {
   Answer<std::int64_t> GetLineState(std::int64_t line) const { return as_number(SCI_GETLINESTATE, line, 0); }
   /// Returns where the line end of line `line` begins; the text's length from the last line on; -1 if `line` is
   /// negative. Message: `SCI_GETLINEENDPOSITION`.
-  Answer<std::int64_t> GetLineEndPosition(std::int64_t line) const {
-    return as_number(SCI_GETLINEENDPOSITION, line, 0);
-  }
+  Answer<std::int64_t> GetLineEndPosition(std::int64_t line) const { return as_number(SCI_GETLINEENDPOSITION, line, 0); }
   /// Returns whether the document is read-only. Message: `SCI_GETREADONLY`.
   Answer<bool> GetReadOnly() const { return as_flag(SCI_GETREADONLY, 0, 0); }
   /// Moves the caret to `position` (clamped to the text); the anchor stays. Message: `SCI_SETCURRENTPOS`.
@@ -502,17 +477,11 @@ class BasicView {
   Answer<std::string_view> GetSelTextView() const { return as_lent(SCI_GETSELTEXT, 0, 0); }
   /// Returns the text from `start` to `end`; the reply's value is its length. Refused with `Refusal::BadArgument`
   /// unless `start` and `end` are a range of the text; an `end` of -1 is its end. Message: `SCI_GETTEXTRANGE`.
-  Answer<std::string> GetTextRange(std::int64_t start, std::int64_t end) const {
-    return as_copy(SCI_GETTEXTRANGE, start, end);
-  }
+  Answer<std::string> GetTextRange(std::int64_t start, std::int64_t end) const { return as_copy(SCI_GETTEXTRANGE, start, end); }
   /// Like GetTextRange, but lent, not copied: the text is valid until the next message that is done.
-  Answer<std::string_view> GetTextRangeView(std::int64_t start, std::int64_t end) const {
-    return as_lent(SCI_GETTEXTRANGE, start, end);
-  }
+  Answer<std::string_view> GetTextRangeView(std::int64_t start, std::int64_t end) const { return as_lent(SCI_GETTEXTRANGE, start, end); }
   /// Returns the line that contains `position` (clamped to the text). Message: `SCI_LINEFROMPOSITION`.
-  Answer<std::int64_t> LineFromPosition(std::int64_t position) const {
-    return as_number(SCI_LINEFROMPOSITION, position, 0);
-  }
+  Answer<std::int64_t> LineFromPosition(std::int64_t position) const { return as_number(SCI_LINEFROMPOSITION, position, 0); }
   /// Returns the start of line `line`. A negative number stands for the line of the selection's start; the number of
   /// lines gives the text's length, and a greater number -1. Message: `SCI_POSITIONFROMLINE`.
   Answer<std::int64_t> PositionFromLine(std::int64_t line) const { return as_number(SCI_POSITIONFROMLINE, line, 0); }
@@ -562,15 +531,11 @@ class BasicView {
   Answer<std::int64_t> GetTargetEnd() const { return as_number(SCI_GETTARGETEND, 0, 0); }
   /// Replaces the text between the target's ends by `text`, makes the inserted text the target, and returns its
   /// length. On a read-only document it returns 0, and the target stays. Message: `SCI_REPLACETARGET`.
-  Answer<std::int64_t> ReplaceTarget(std::string_view text) {
-    return as_number(SCI_REPLACETARGET, length_of(text), 0, text);
-  }
+  Answer<std::int64_t> ReplaceTarget(std::string_view text) { return as_number(SCI_REPLACETARGET, length_of(text), 0, text); }
   /// Searches the target for `text` by the view's search flags. Finds the first match, or the last one if the
   /// target's start is greater than its end; sets the target's start and end to those of the match, and returns its
   /// start. Without a match it returns -1, and the target stays. Message: `SCI_SEARCHINTARGET`.
-  Answer<std::int64_t> SearchInTarget(std::string_view text) {
-    return as_number(SCI_SEARCHINTARGET, length_of(text), 0, text);
-  }
+  Answer<std::int64_t> SearchInTarget(std::string_view text) { return as_number(SCI_SEARCHINTARGET, length_of(text), 0, text); }
   /// Sets the view's search flags to `flags`: 0, or made of `SCFIND_WHOLEWORD` 0x2, `SCFIND_MATCHCASE` 0x4 and
   /// `SCFIND_WORDSTART` 0x100000. Refused with `Refusal::BadArgument` if `flags` has other bits. Message:
   /// `SCI_SETSEARCHFLAGS`.
@@ -579,14 +544,10 @@ class BasicView {
   Answer<std::int64_t> GetSearchFlags() const { return as_number(SCI_GETSEARCHFLAGS, 0, 0); }
   /// Returns the display line of line `line`; for a hidden line that of the last visible line before it; -1 if there
   /// is no such line. Message: `SCI_VISIBLEFROMDOCLINE`.
-  Answer<std::int64_t> VisibleFromDocLine(std::int64_t line) const {
-    return as_number(SCI_VISIBLEFROMDOCLINE, line, 0);
-  }
+  Answer<std::int64_t> VisibleFromDocLine(std::int64_t line) const { return as_number(SCI_VISIBLEFROMDOCLINE, line, 0); }
   /// Returns the line at display line `displayLine`; 0 if that is negative, and the number of lines if it is past the
   /// last. Message: `SCI_DOCLINEFROMVISIBLE`.
-  Answer<std::int64_t> DocLineFromVisible(std::int64_t displayLine) const {
-    return as_number(SCI_DOCLINEFROMVISIBLE, displayLine, 0);
-  }
+  Answer<std::int64_t> DocLineFromVisible(std::int64_t displayLine) const { return as_number(SCI_DOCLINEFROMVISIBLE, displayLine, 0); }
   /// Sets the fold level of line `line`, if there is such a line. If the level changed, sends SCN_MODIFIED
   /// (`SC_MOD_CHANGEFOLD`). Refused with `Refusal::BadArgument` unless `level` is 0 to 2^31-1. Message:
   /// `SCI_SETFOLDLEVEL`.
@@ -598,9 +559,7 @@ class BasicView {
   /// `level`, or that of line `line` if `level` is -1; without such a next line, the last line of the document; -1 if
   /// line `line` does not exist. Refused with `Refusal::BadArgument` unless `level` is -1 to 2^31-1. Message:
   /// `SCI_GETLASTCHILD`.
-  Answer<std::int64_t> GetLastChild(std::int64_t line, std::int64_t level) const {
-    return as_number(SCI_GETLASTCHILD, line, level);
-  }
+  Answer<std::int64_t> GetLastChild(std::int64_t line, std::int64_t level) const { return as_number(SCI_GETLASTCHILD, line, level); }
   /// Returns the fold parent of line `line`: the nearest earlier header with a smaller level number; -1 if there is
   /// none, or no such line. Message: `SCI_GETFOLDPARENT`.
   Answer<std::int64_t> GetFoldParent(std::int64_t line) const { return as_number(SCI_GETFOLDPARENT, line, 0); }
@@ -681,9 +640,7 @@ class BasicView {
   /// `SC_DOCUMENTOPTION_STYLES_NONE` 1 and `SC_DOCUMENTOPTION_TEXT_LARGE` 256. Refused with `Refusal::BadArgument` if
   /// `bytes` is negative or `options` has other bits, and with `Refusal::TooMany` if ids are used up. Message:
   /// `SCI_CREATEDOCUMENT`.
-  Answer<std::int64_t> CreateDocument(std::int64_t bytes, std::int64_t options) {
-    return as_number(SCI_CREATEDOCUMENT, bytes, options);
-  }
+  Answer<std::int64_t> CreateDocument(std::int64_t bytes, std::int64_t options) { return as_number(SCI_CREATEDOCUMENT, bytes, options); }
   /// Adds a reference to `document` that the caller holds. Refused with `Refusal::NoSuchDocument` if there is no such
   /// document, and with `Refusal::TooMany` at the limit of its references. Message: `SCI_ADDREFDOCUMENT`.
   Answer<void> AddRefDocument(std::int64_t document) { return as_done(SCI_ADDREFDOCUMENT, 0, document); }
@@ -697,9 +654,7 @@ class BasicView {
   Answer<std::int64_t> GetDocumentOptions() const { return as_number(SCI_GETDOCUMENTOPTIONS, 0, 0); }
   /// Returns the last character boundary before `position` (clamped to the text), or 0. Message:
   /// `SCI_POSITIONBEFORE`.
-  Answer<std::int64_t> PositionBefore(std::int64_t position) const {
-    return as_number(SCI_POSITIONBEFORE, position, 0);
-  }
+  Answer<std::int64_t> PositionBefore(std::int64_t position) const { return as_number(SCI_POSITIONBEFORE, position, 0); }
   /// Returns the first character boundary after `position` (clamped to the text), or the text's length. Message:
   /// `SCI_POSITIONAFTER`.
   Answer<std::int64_t> PositionAfter(std::int64_t position) const { return as_number(SCI_POSITIONAFTER, position, 0); }
@@ -730,46 +685,32 @@ class BasicView {
   /// Gives the view's current indicator the view's value over the `length` bytes from `start` on. If a value changed,
   /// sends SCN_MODIFIED (`SC_MOD_CHANGEINDICATOR`). Refused with `Refusal::BadArgument` unless these are a range of
   /// the text. Message: `SCI_INDICATORFILLRANGE`.
-  Answer<void> IndicatorFillRange(std::int64_t start, std::int64_t length) {
-    return as_done(SCI_INDICATORFILLRANGE, start, length);
-  }
+  Answer<void> IndicatorFillRange(std::int64_t start, std::int64_t length) { return as_done(SCI_INDICATORFILLRANGE, start, length); }
   /// Gives the view's current indicator the value 0 over the `length` bytes from `start` on. If a value changed,
   /// sends SCN_MODIFIED (`SC_MOD_CHANGEINDICATOR`). Refused with `Refusal::BadArgument` unless these are a range of
   /// the text. Message: `SCI_INDICATORCLEARRANGE`.
-  Answer<void> IndicatorClearRange(std::int64_t start, std::int64_t length) {
-    return as_done(SCI_INDICATORCLEARRANGE, start, length);
-  }
+  Answer<void> IndicatorClearRange(std::int64_t start, std::int64_t length) { return as_done(SCI_INDICATORCLEARRANGE, start, length); }
   /// Returns a mask in which bit k is set if indicator k is not 0 at the byte at `position`; 0 if there is no such
   /// byte. Message: `SCI_INDICATORALLONFOR`.
-  Answer<std::int64_t> IndicatorAllOnFor(std::int64_t position) const {
-    return as_number(SCI_INDICATORALLONFOR, position, 0);
-  }
+  Answer<std::int64_t> IndicatorAllOnFor(std::int64_t position) const { return as_number(SCI_INDICATORALLONFOR, position, 0); }
   /// Returns the value of indicator `number` at the byte at `position`, or 0 if there is no such byte. Refused with
   /// `Refusal::BadArgument` unless `number` is 0 to 31. Message: `SCI_INDICATORVALUEAT`.
-  Answer<std::int64_t> IndicatorValueAt(std::int64_t number, std::int64_t position) const {
-    return as_number(SCI_INDICATORVALUEAT, number, position);
-  }
+  Answer<std::int64_t> IndicatorValueAt(std::int64_t number, std::int64_t position) const { return as_number(SCI_INDICATORVALUEAT, number, position); }
   /// Returns the start of the longest run of one value of indicator `number` around the byte at `position`; 0 if
   /// there is no such byte. Refused with `Refusal::BadArgument` unless `number` is 0 to 31. Message:
   /// `SCI_INDICATORSTART`.
-  Answer<std::int64_t> IndicatorStart(std::int64_t number, std::int64_t position) const {
-    return as_number(SCI_INDICATORSTART, number, position);
-  }
+  Answer<std::int64_t> IndicatorStart(std::int64_t number, std::int64_t position) const { return as_number(SCI_INDICATORSTART, number, position); }
   /// Returns the end of the longest run of one value of indicator `number` around the byte at `position`: the place
   /// after its last byte; 0 if there is no such byte. Refused with `Refusal::BadArgument` unless `number` is 0 to 31.
   /// Message: `SCI_INDICATOREND`.
-  Answer<std::int64_t> IndicatorEnd(std::int64_t number, std::int64_t position) const {
-    return as_number(SCI_INDICATOREND, number, position);
-  }
+  Answer<std::int64_t> IndicatorEnd(std::int64_t number, std::int64_t position) const { return as_number(SCI_INDICATOREND, number, position); }
   /// Moves anchor and caret to `position` (clamped to the text). Message: `SCI_SETEMPTYSELECTION`.
   Answer<void> SetEmptySelection(std::int64_t position) { return as_done(SCI_SETEMPTYSELECTION, position, 0); }
   /// Appends a container action with `token` to the history, also on a read-only document. `flags` is `UNDO_NONE` 0,
   /// or `UNDO_MAY_COALESCE` 1 for an action that may join the last transaction. Sends SCN_SAVEPOINTLEFT if the
   /// document was at its save point. Does nothing while undo is not collected. Refused with `Refusal::BadArgument`
   /// unless `flags` is 0 or 1. Message: `SCI_ADDUNDOACTION`.
-  Answer<void> AddUndoAction(std::int64_t token, std::int64_t flags) {
-    return as_done(SCI_ADDUNDOACTION, token, flags);
-  }
+  Answer<void> AddUndoAction(std::int64_t token, std::int64_t flags) { return as_done(SCI_ADDUNDOACTION, token, flags); }
   /// Deletes the `length` bytes from `start` on. Refused with `Refusal::BadArgument` unless these are a range of the
   /// text. Message: `SCI_DELETERANGE`.
   Answer<void> DeleteRange(std::int64_t start, std::int64_t length) { return as_done(SCI_DELETERANGE, start, length); }
@@ -818,8 +759,7 @@ class BasicView {
     const Result<std::int64_t> result = sent(number, w, l, text);
     return Policy::answer(result ? Result<void>() : Result<void>(result.error()));
   }
-  Answer<std::int64_t> as_number(std::uint32_t number, std::int64_t w, std::int64_t l,
-                                 std::string_view text = {}) const {
+  Answer<std::int64_t> as_number(std::uint32_t number, std::int64_t w, std::int64_t l, std::string_view text = {}) const {
     return Policy::answer(sent(number, w, l, text));
   }
   Answer<bool> as_flag(std::uint32_t number, std::int64_t w, std::int64_t l) const {
@@ -837,8 +777,7 @@ class BasicView {
   Result<std::string_view> lent_range(std::int64_t start, std::int64_t count) const {
     const std::uint8_t *bytes = nullptr;
     if (start < 0 || count < 0) return Refusal::BadArgument;
-    const hongpilas_answer answer =
-        hongpilas_lend_range(session_, id_, static_cast<std::size_t>(start), static_cast<std::size_t>(count), &bytes);
+    const hongpilas_answer answer = hongpilas_lend_range(session_, id_, static_cast<std::size_t>(start), static_cast<std::size_t>(count), &bytes);
     if (answer != HONGPILAS_DONE) return static_cast<Refusal>(answer);
     return detail::lent(bytes, static_cast<std::size_t>(count));
   }

@@ -7,8 +7,7 @@
 #include <ranges>
 static_assert(std::ranges::input_range<hongpilas::LentNotes>);
 #endif
-static_assert(!std::is_copy_constructible_v<hongpilas::Session> &&
-              std::is_nothrow_move_constructible_v<hongpilas::Session>);
+static_assert(!std::is_copy_constructible_v<hongpilas::Session> && std::is_nothrow_move_constructible_v<hongpilas::Session>);
 static_assert(!std::is_copy_assignable_v<hongpilas::Session> && std::is_nothrow_move_assignable_v<hongpilas::Session>);
 
 template class hongpilas::BasicView<hongpilas::Throwing>;

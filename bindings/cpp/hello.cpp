@@ -13,8 +13,8 @@ using hongpilas::View;
 static void tell(const Session &session) {
   for (const Note &note : session.notes())
     if (note.code == SCN_MODIFIED && (note.kind & SC_MOD_INSERTTEXT) != 0)
-      std::cout << "view " << note.view << ", " << hongpilas::note_name(note.code) << ": " << note.text.size()
-                << " bytes at " << note.position << ", " << note.lines << " lines more\n";
+      std::cout << "view " << note.view << ", " << hongpilas::note_name(note.code) << ": " << note.text.size() << " bytes at " << note.position << ", "
+                << note.lines << " lines more\n";
 }
 
 /* A view that is const answers questions alone. */

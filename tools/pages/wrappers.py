@@ -154,7 +154,7 @@ def cpp_method(message, name, kind, call, comment):
     passed = [f"SCI_{message.spelled}", w, camel(message.place("l") or "0"), *([text] if text else [])]
     const = "" if message.changes else " const"
     head, body = f"  Answer<{kind}> {name}({taken}){const} {{", f"return {call}({', '.join(passed)});"
-    lines = [f"{head} {body} }}"] if len(head) + len(body) <= 117 else [head, f"    {body}", "  }"]
+    lines = [f"{head} {body} }}"] if len(head) + len(body) <= 157 else [head, f"    {body}", "  }"]
     return [*comment, *lines]
 
 
@@ -334,7 +334,7 @@ def expected():
 
 def files(found):
     """What stands between the marks of each file, by their titles."""
-    yield CPP, {"": cpp(found), " names": "".join(f'    case {name}:\n      return "{name}";\n' for name, _ in header.notes())}
+    yield CPP, {"": cpp(found), " names": "".join(f'    case {name}: return "{name}";\n' for name, _ in header.notes())}
     yield RUST, {"": rust(found)}
     yield RUST_NOTES, {"": "".join(f'        sys::{name} => Some("{name}"),\n' for name, _ in header.notes())}
     yield RUST_CONSTANTS, {"": constants(rust_constant)}
