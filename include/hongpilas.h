@@ -7,36 +7,42 @@
  * refusal. A refused call changes nothing: neither the session, nor the last reply, nor
  * what any of its pointers points to.
  *
- * Two forms. Each call that takes a pointer has two forms here. hongpilas_send, for
- * example, is proved and tests no pointer. hongpilas_checked_send refuses null pointers
- * and lengths that are too great, by name, and otherwise makes that call. Begin with the
- * checked forms, also in a program that loads the shared object. They are written in C
- * (c/checked.c), and are tested, not proved. The others save about two
- * nanoseconds.
+ * Two forms. hongpilas_send, for example, tests its pointers and lengths, and then makes
+ * the proved call, hongpilas_send_unchecked, which tests none of them. Use the plain
+ * names. The tests are written in C (c/checked.c), and are tested, not proved.
+ * The unchecked forms, at the end of this header, save about two nanoseconds.
  *
- * Threads. A session is used by one call at a time, on the thread that made it; sessions
- * in different threads are independent of each other. In Go this takes
- * runtime.LockOSThread, and a Rust type that wraps a session is !Send.
+ * Threads. A session is used by one call at a time, and may be handed from thread to thread
+ * by whatever orders memory, such as a lock or a channel; sessions are independent of each
+ * other. `const` says what a call changes, not that two threads may make it at once.
  *
  * Duties of the caller, which nothing checks:
- *  - a session is set only by hongpilas_new, hongpilas_new_with_limits and their checked
- *    forms, is not copied, and is used by no call after hongpilas_free;
+ *  - a session is used by no call after hongpilas_free;
  *  - no call is made from a signal handler, nor in the forked child of a process that
  *    has several threads;
- *  - except for the checked forms and hongpilas_call, no pointer is null, even if its
- *    length is 0, no session is null, and no length is above 2^63 - 1;
  *  - a pointer that is not null points to what the call's type says, of that length;
  *  - bytes that were lent are only read, and only as long as they are valid, as stated
  *    below; if their length is 0, the address means nothing;
  *  - a text that is sent, and a buffer that is filled, has none of the bytes that the
- *    session lent: copy them first.
+ *    session lent: copy them first;
+ *  - what the unchecked forms add to this is stated there.
  *
- * Lent bytes. The last reply, with its text and its notes, is valid until the next
- * message that is done, or hongpilas_free: a refused message and all other calls leave
- * it unchanged. Bytes of a document, from hongpilas_lend_range, are valid until the next
- * call on the session, except calls that only read the last reply. Lending or copying a
- * range may move the bytes of a range that was lent before. The name of an answer is
- * never freed.
+ * Lent bytes. The last reply, with its text and its notifications, is valid until the
+ * next message that is done, or hongpilas_free: a refused message and all other calls
+ * leave it unchanged. A text that hongpilas_read lends is valid until the next
+ * hongpilas_read of the session, or hongpilas_free. Bytes of a document, from
+ * hongpilas_lend_range, are valid until the next call on the session, except calls that
+ * only read the last reply. Lending or copying a range may move the bytes of a range that
+ * was lent before.
+ *
+ * Notifications of several steps. A message can take several steps: undo and redo of a
+ * group, CONVERTEOLS, SETTEXT and each replacement. It is done when its notifications are
+ * read, and so the session is in the state after the last step, while the positions and
+ * lines of a notification are those of the text just after its own step. Therefore:
+ *  - to keep a copy of a text equal, apply its insertions and deletions to the copy, in
+ *    their order; take what else you need, such as a line and a column, from the copy as
+ *    it is then, and not from the session;
+ *  - or take a message's notifications together as "this changed", and read the session.
  *
  * Texts are bytes with a length. There is no closing NUL, and a NUL is an ordinary
  * byte. Positions and lengths are in bytes and count from 0.
@@ -49,26 +55,36 @@
 #include <stddef.h>
 #include <stdint.h>
 
+/* A compiler that can, warns of an answer that is dropped. Define this as nothing before the
+ * header is included, and none does. */
+#ifndef HONGPILAS_MUST_USE
+#if defined(__GNUC__) || defined(__clang__)
+#define HONGPILAS_MUST_USE __attribute__((warn_unused_result))
+#else
+#define HONGPILAS_MUST_USE
+#endif
+#endif
+
 #ifdef __cplusplus
 extern "C" {
 #endif
 
-/* The version of this interface: the major number times 1000, plus the minor one.
- * hongpilas_version returns that of the library that is linked. */
-#define HONGPILAS_VERSION 1001
+/* The version of this interface: the major number times 1000, plus the minor one. An
+ * addition raises the minor number; a removal or a change of meaning raises the major one.
+ * hongpilas_version returns that of the library that is linked. A program works with it if
+ * the major numbers are equal: hongpilas_version() / 1000 == HONGPILAS_VERSION / 1000. */
+#define HONGPILAS_VERSION 2000
 uint32_t hongpilas_version(void);
 
-/* A session: one pointer, opaque to the caller. */
-typedef struct hongpilas {
-  void *at;
-} hongpilas;
+/* A session. */
+typedef struct hongpilas_session hongpilas_session;
 
 /* The result of a call. */
 typedef uint32_t hongpilas_answer;
 enum {
   HONGPILAS_DONE = 0,
   HONGPILAS_OUT_OF_MEMORY = 1,    /* an allocation failed */
-  HONGPILAS_NO_SUCH_VIEW = 2,     /* no view has this id */
+  HONGPILAS_NO_SUCH_VIEW = 2,     /* no view has this id, or the session is null */
   HONGPILAS_UNKNOWN_MESSAGE = 3,  /* the profile has no such message */
   HONGPILAS_NO_SUCH_DOCUMENT = 4, /* no document has this id, or the caller holds no reference to it */
   HONGPILAS_TOO_LONG = 5,         /* the text would exceed its limit after some step */
@@ -76,11 +92,21 @@ enum {
   HONGPILAS_TOO_MANY = 7          /* handles, ids, references, the depth of groups or open views are used up */
 };
 
-/* The name of an answer, such as "no such view". Sets *name to its first byte, and
- * returns its length. The name is never freed. The second form copies as many bytes as
- * fit, and returns how many that is. */
-size_t hongpilas_refusal_name(hongpilas_answer answer, const uint8_t **name);
-size_t hongpilas_copy_refusal_name(hongpilas_answer answer, uint8_t *into, size_t room);
+/* Names, as strings that are never freed: of an answer, such as "no such view" ("unknown
+ * refusal" if there is no such answer); of a message, such as "SCI_GETLENGTH"; and of a
+ * notification's code, such as "SCN_MODIFIED". The last two return NULL if the profile
+ * does not have that message or code, and so tell whether it has. */
+const char *hongpilas_answer_name(hongpilas_answer answer);
+const char *hongpilas_message_name(uint32_t number);
+const char *hongpilas_note_name(uint32_t code);
+
+/* The marks of a message in docs/MESSAGES.md, each a bit; 0 if the profile does not have the
+ * message. */
+#define HONGPILAS_MARK_Q 1u /* a question: it changes nothing */
+#define HONGPILAS_MARK_N 2u /* it allocates no memory, unless it is recorded */
+#define HONGPILAS_MARK_E 4u /* it edits the text */
+#define HONGPILAS_MARK_R 8u /* a view that records is notified of it */
+uint32_t hongpilas_message_marks(uint32_t number);
 
 /* The limits of a session. Each is at least 1, and at most the number in its comment. */
 typedef struct hongpilas_limits {
@@ -97,55 +123,73 @@ typedef struct hongpilas_limits {
  * hongpilas_limits limits = HONGPILAS_GREATEST_LIMITS; */
 #define HONGPILAS_GREATEST_LIMITS {0x7FFFFFFF, 0x10000000000, 0x7FFFFFFF, 0x7FFFFFFF, 0x7FFFFFFF, 1024, 255}
 
-/* Opens a session without documents and views, with the greatest limits or with lower
- * ones. *session may be anything before. If it was an open session, that is not freed.
- * Refused: OUT_OF_MEMORY; BAD_ARGUMENT if a limit is 0 or above the greatest. */
-hongpilas_answer hongpilas_new(hongpilas *session);
-hongpilas_answer hongpilas_new_with_limits(hongpilas *session, const hongpilas_limits *limits);
+/* What each call refuses, beside its own refusals, before it does anything else; the first
+ * of these that applies:
+ *
+ *   NO_SUCH_VIEW if the session is null;
+ *   BAD_ARGUMENT if a pointer to a result or to limits is null, unless the call says that
+ *     it may be; if a text or a buffer is null and its length is not 0; and if its length
+ *     is above 2^63 - 1.
+ *
+ * A text or a buffer of length 0 may be null. A start, a count, an index and an id are not
+ * lengths of memory: the call says what it does with each. */
 
-/* Frees an open session with all that it owns. */
-void hongpilas_free(hongpilas session);
+/* Opens a session without documents and views, with the greatest limits or with lower ones,
+ * and sets *session to it. `size` is sizeof(hongpilas_limits): later versions of that struct
+ * may have more members. Those that the caller does not have are at their greatest.
+ * Refused: OUT_OF_MEMORY; BAD_ARGUMENT if a limit is 0 or above the greatest, if `session`
+ * is null, or if `size` is below that of this version or above that of the library. */
+HONGPILAS_MUST_USE hongpilas_answer hongpilas_new(hongpilas_session **session);
+HONGPILAS_MUST_USE hongpilas_answer hongpilas_new_with_limits(hongpilas_session **session,
+                                                              const hongpilas_limits *limits, size_t size);
+
+/* Frees a session with all that it owns. Does nothing if it is null. */
+void hongpilas_free(hongpilas_session *session);
 
 /* Opens a view on a new document, and sets *view to its id: 1, 2, 3 and so on. No id is
  * given twice. Refused: TOO_MANY, OUT_OF_MEMORY. */
-hongpilas_answer hongpilas_new_view(hongpilas *session, uint32_t *view);
+HONGPILAS_MUST_USE hongpilas_answer hongpilas_new_view(hongpilas_session *session, uint32_t *view);
 
 /* Closes a view. A document to which no other view is attached, and which no caller
  * holds, is freed with it. Allocates nothing. Refused: NO_SUCH_VIEW. */
-hongpilas_answer hongpilas_close_view(hongpilas *session, uint32_t view);
+HONGPILAS_MUST_USE hongpilas_answer hongpilas_close_view(hongpilas_session *session, uint32_t view);
 
 /* Sends a message to a view. docs/MESSAGES.md says what w, l and the text mean, what the
  * message does, and when it is refused. The text is read in place, and not stored. Sets
- * *value to the value of the reply. The reply, with its text and its notes, replaces the
- * last one. */
-hongpilas_answer hongpilas_send(hongpilas *session, uint32_t view, uint32_t number, int64_t w, int64_t l,
-                                const uint8_t *text, size_t length, int64_t *value);
+ * *value to the value of the reply; `value` may be null. The reply, with its text and its
+ * notifications, replaces the last one. */
+HONGPILAS_MUST_USE hongpilas_answer hongpilas_send(hongpilas_session *session, uint32_t view, uint32_t number,
+                                                   int64_t w, int64_t l, const void *text, size_t length,
+                                                   int64_t *value);
 
-/* Like hongpilas_send, with the tests of hongpilas_checked_send, below, except that the
- * value may be null. Inline: it calls hongpilas_send. */
-static inline hongpilas_answer hongpilas_call(hongpilas *session, uint32_t view, uint32_t number, int64_t w, int64_t l,
-                                              const void *text, size_t length, int64_t *value) {
-  static const uint8_t none = 0;
-  int64_t unasked = 0;
-  if (session == NULL || session->at == NULL) return HONGPILAS_NO_SUCH_VIEW;
-  if ((text == NULL && length != 0) || length > 0x7FFFFFFFFFFFFFFF) return HONGPILAS_BAD_ARGUMENT;
-  return hongpilas_send(session, view, number, w, l, text == NULL ? &none : (const uint8_t *)text, length,
-                        value == NULL ? &unasked : value);
-}
+/* Asks a view a question: a message that changes nothing, which docs/MESSAGES.md marks Q.
+ * Sets *value to the value with which hongpilas_send would answer it. Neither the session
+ * nor the last reply changes, so that a program may ask while it reads notifications.
+ * hongpilas_read also lends the text with which hongpilas_send would answer: it sets *text
+ * to its first byte, and *length. The text is valid until the next hongpilas_read of the
+ * session, or hongpilas_free; here `value` may be null.
+ * Refused: UNKNOWN_MESSAGE if the message is no question; otherwise as by hongpilas_send. */
+HONGPILAS_MUST_USE hongpilas_answer hongpilas_ask(const hongpilas_session *session, uint32_t view, uint32_t number,
+                                                  int64_t w, int64_t l, int64_t *value);
+HONGPILAS_MUST_USE hongpilas_answer hongpilas_read(hongpilas_session *session, uint32_t view, uint32_t number,
+                                                   int64_t w, int64_t l, const uint8_t **text, size_t *length,
+                                                   int64_t *value);
 
-/* The value of the last reply: 0 before the first message that was done. */
-int64_t hongpilas_value(hongpilas *session);
+/* Sets *value to the value of the last reply: 0 before the first message that was done. */
+HONGPILAS_MUST_USE hongpilas_answer hongpilas_value(const hongpilas_session *session, int64_t *value);
 
 /* Lends the last reply's text, as long as the reply is valid: sets *text to its first
- * byte, and returns its length. The second form copies the bytes from `start` on, as
- * many as there are and as fit, and returns how many that is. */
-size_t hongpilas_text(hongpilas *session, const uint8_t **text);
-size_t hongpilas_copy_text(hongpilas *session, size_t start, uint8_t *into, size_t room);
+ * byte, and *length. The second form copies the bytes from `start` on, as many as there are
+ * and as fit, and sets *count to how many that is. */
+HONGPILAS_MUST_USE hongpilas_answer hongpilas_text(const hongpilas_session *session, const uint8_t **text,
+                                                   size_t *length);
+HONGPILAS_MUST_USE hongpilas_answer hongpilas_copy_text(const hongpilas_session *session, size_t start, void *into,
+                                                        size_t room, size_t *count);
 
-/* A note: a notification of a view. Fields that its code does not use are 0. */
+/* A notification of a view. Fields that its code does not use are 0. */
 typedef struct hongpilas_note_data {
   uint32_t view;       /* the view that is notified */
-  uint32_t code;       /* which note, such as SCN_MODIFIED */
+  uint32_t code;       /* which notification, such as SCN_MODIFIED */
   uint32_t kind;       /* Scintilla's modificationType */
   uint32_t message;    /* the number of a recorded message */
   int64_t position;    /* a position, in bytes */
@@ -157,79 +201,63 @@ typedef struct hongpilas_note_data {
   int64_t token;       /* the token of a container's own undo step */
   int64_t w;           /* the arguments of a recorded message */
   int64_t l;
-  const uint8_t *text; /* the note's text, valid as long as the reply is */
+  const uint8_t *text; /* the notification's text, valid as long as the reply is */
   size_t text_length;  /* its length, in bytes */
 } hongpilas_note_data;
 
-/* The first call returns how many notes the last reply has. The second sets *note to the
- * one with this index, from 0, in the order of notification, and returns true. If there
- * is no such note, it returns false, and *note does not change. */
-size_t hongpilas_note_count(hongpilas *session);
-bool hongpilas_note(hongpilas *session, size_t index, hongpilas_note_data *note);
+/* The first call sets *count to how many notifications the last reply has. The second sets
+ * *note to the one with this index, from 0, in the order of notification. `size` is
+ * sizeof(hongpilas_note_data): later versions of that struct may have more members. Those
+ * that the library does not have are set to 0.
+ * Refused: BAD_ARGUMENT if there is no such notification, or if `size` is below that of this
+ * version. */
+HONGPILAS_MUST_USE hongpilas_answer hongpilas_note_count(const hongpilas_session *session, size_t *count);
+HONGPILAS_MUST_USE hongpilas_answer hongpilas_note(const hongpilas_session *session, size_t index,
+                                                   hongpilas_note_data *note, size_t size);
 
-/* Copies a note's text from `start` on, as many bytes as there are and as fit, and
- * returns how many that is: 0 if there is no such note. */
-size_t hongpilas_copy_note_text(hongpilas *session, size_t index, size_t start, uint8_t *into, size_t room);
+/* Copies a notification's text from `start` on, as many bytes as there are and as fit, and
+ * sets *count to how many that is. Refused: BAD_ARGUMENT if there is no such notification. */
+HONGPILAS_MUST_USE hongpilas_answer hongpilas_copy_note_text(const hongpilas_session *session, size_t index,
+                                                             size_t start, void *into, size_t room, size_t *count);
 
 /* Lends the `count` bytes of the view's document from `start` on, without a copy: sets
  * *bytes to the first. They are valid until the next call that does more than read the
  * last reply. The second form copies as many bytes as the buffer has. Neither changes
  * the session or the last reply, and neither allocates.
  * Refused: NO_SUCH_VIEW; BAD_ARGUMENT if the range ends past the end of the text. */
-hongpilas_answer hongpilas_lend_range(hongpilas *session, uint32_t view, size_t start, size_t count,
-                                      const uint8_t **bytes);
-hongpilas_answer hongpilas_copy_range(hongpilas *session, uint32_t view, size_t start, uint8_t *into, size_t count);
+HONGPILAS_MUST_USE hongpilas_answer hongpilas_lend_range(hongpilas_session *session, uint32_t view, size_t start,
+                                                         size_t count, const uint8_t **bytes);
+HONGPILAS_MUST_USE hongpilas_answer hongpilas_copy_range(hongpilas_session *session, uint32_t view, size_t start,
+                                                         void *into, size_t count);
 
-/* The checked forms. Each tests its arguments, and then makes the call of the same name
- * without `checked`. If a test fails, the call is refused and changes nothing: neither
- * the session, nor the last reply, nor what any pointer points to. It returns the first
- * of these that applies:
- *
- *   NO_SUCH_VIEW if the session is null: the pointer to it, or the pointer in it, as in
- *     hongpilas session = {NULL}, and after hongpilas_checked_free;
- *   BAD_ARGUMENT if a pointer to a result or to limits is null; if a text or a buffer is
- *     null and its length is not 0; and if its length is above 2^63 - 1.
- *
- * A text or a buffer of length 0 may be null. A start, a count, an index and an id are
- * not lengths of memory: the call itself says what it does with each. What a call
- * without `checked` returns, its checked form writes to *length, *count or *value, which
- * do not change if the call is refused. */
-
-/* Like hongpilas_new. A null pointer to the session is BAD_ARGUMENT. */
-hongpilas_answer hongpilas_checked_new(hongpilas *session);
-hongpilas_answer hongpilas_checked_new_with_limits(hongpilas *session, const hongpilas_limits *limits);
-
-/* Frees a session, and sets its pointer to null, so that each later call of a checked
- * form is refused. Does nothing if the session is null. */
-void hongpilas_checked_free(hongpilas *session);
-
-hongpilas_answer hongpilas_checked_new_view(hongpilas *session, uint32_t *view);
-hongpilas_answer hongpilas_checked_close_view(hongpilas *session, uint32_t view);
-hongpilas_answer hongpilas_checked_send(hongpilas *session, uint32_t view, uint32_t number, int64_t w, int64_t l,
-                                        const uint8_t *text, size_t length, int64_t *value);
-
-/* The last reply: its value, its text and the number of its notes. */
-hongpilas_answer hongpilas_checked_value(hongpilas *session, int64_t *value);
-hongpilas_answer hongpilas_checked_text(hongpilas *session, const uint8_t **text, size_t *length);
-hongpilas_answer hongpilas_checked_copy_text(hongpilas *session, size_t start, uint8_t *into, size_t room,
-                                             size_t *count);
-hongpilas_answer hongpilas_checked_note_count(hongpilas *session, size_t *count);
-
-/* A note of the last reply, and its text. If there is no note with this index, the call is
- * refused as BAD_ARGUMENT. */
-hongpilas_answer hongpilas_checked_note(hongpilas *session, size_t index, hongpilas_note_data *note);
-hongpilas_answer hongpilas_checked_copy_note_text(hongpilas *session, size_t index, size_t start, uint8_t *into,
-                                                  size_t room, size_t *count);
-
-hongpilas_answer hongpilas_checked_lend_range(hongpilas *session, uint32_t view, size_t start, size_t count,
-                                              const uint8_t **bytes);
-hongpilas_answer hongpilas_checked_copy_range(hongpilas *session, uint32_t view, size_t start, uint8_t *into,
-                                              size_t count);
-
-/* The name of an answer. These two are refused only as BAD_ARGUMENT. */
-hongpilas_answer hongpilas_checked_refusal_name(hongpilas_answer answer, const uint8_t **name, size_t *length);
-hongpilas_answer hongpilas_checked_copy_refusal_name(hongpilas_answer answer, uint8_t *into, size_t room,
-                                                     size_t *count);
+/* The unchecked forms: the proved calls themselves. Each does what the call of the same name
+ * without `unchecked` does, and tests no pointer and no length. Beside the duties above, the
+ * caller sees to it that no pointer is null, even if its length is 0, and that no length is
+ * above 2^63 - 1. Where a call's type here is no hongpilas_answer, it cannot be refused, and
+ * returns what the other form writes; hongpilas_note_unchecked returns whether there is such
+ * a notification, and sets the members of version 2.0 alone; the text of none is empty. */
+HONGPILAS_MUST_USE hongpilas_answer hongpilas_new_view_unchecked(hongpilas_session *session, uint32_t *view);
+HONGPILAS_MUST_USE hongpilas_answer hongpilas_close_view_unchecked(hongpilas_session *session, uint32_t view);
+HONGPILAS_MUST_USE hongpilas_answer hongpilas_send_unchecked(hongpilas_session *session, uint32_t view,
+                                                             uint32_t number, int64_t w, int64_t l,
+                                                             const uint8_t *text, size_t length, int64_t *value);
+HONGPILAS_MUST_USE hongpilas_answer hongpilas_ask_unchecked(const hongpilas_session *session, uint32_t view,
+                                                            uint32_t number, int64_t w, int64_t l, int64_t *value);
+HONGPILAS_MUST_USE hongpilas_answer hongpilas_read_unchecked(hongpilas_session *session, uint32_t view,
+                                                             uint32_t number, int64_t w, int64_t l,
+                                                             const uint8_t **text, size_t *length, int64_t *value);
+int64_t hongpilas_value_unchecked(const hongpilas_session *session);
+size_t hongpilas_text_unchecked(const hongpilas_session *session, const uint8_t **text);
+size_t hongpilas_copy_text_unchecked(const hongpilas_session *session, size_t start, uint8_t *into, size_t room);
+size_t hongpilas_note_count_unchecked(const hongpilas_session *session);
+bool hongpilas_note_unchecked(const hongpilas_session *session, size_t index, hongpilas_note_data *note);
+size_t hongpilas_copy_note_text_unchecked(const hongpilas_session *session, size_t index, size_t start, uint8_t *into,
+                                          size_t room);
+HONGPILAS_MUST_USE hongpilas_answer hongpilas_lend_range_unchecked(hongpilas_session *session, uint32_t view,
+                                                                   size_t start, size_t count,
+                                                                   const uint8_t **bytes);
+HONGPILAS_MUST_USE hongpilas_answer hongpilas_copy_range_unchecked(hongpilas_session *session, uint32_t view,
+                                                                   size_t start, uint8_t *into, size_t count);
 
 /* Scintilla's names and numbers, as far as the profile has them. Left out if Scintilla.h was included before. */
 #ifndef SCINTILLA_H
@@ -380,7 +408,7 @@ hongpilas_answer hongpilas_checked_copy_refusal_name(hongpilas_answer answer, ui
 #define SCI_STOPRECORD             3002
 #define SCI_COLOURISE              4003
 
-/* Notes. */
+/* Notifications. */
 #define SCN_STYLENEEDED      2000
 #define SCN_SAVEPOINTREACHED 2002
 #define SCN_SAVEPOINTLEFT    2003

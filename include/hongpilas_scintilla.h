@@ -1,22 +1,31 @@
 /* Hongpilas with Scintilla's own interface: a program that calls Scintilla by SciFnDirect calls a view of Hongpilas by
- * hongpilas_direct, with the same messages, texts, structs and notifications. Include this header instead of
- * Scintilla.h. If Scintilla.h is included before, its own types and names are used. If it is included afterwards, it
- * declares nothing.
+ * hongpilas_direct, with the same messages, texts, structs and notifications. Two things differ, and a port has to know them:
+ *
+ *  1. Notifications come when their message is done, and not in the middle of it. Inside a notify function every message is
+ *     performed, except those that edit the text (marked E in docs/MESSAGES.md): they are refused, and the view's status
+ *     becomes SC_STATUS_FAILURE, as Scintilla refuses to change the text inside SCN_MODIFIED. Look at SCI_GETSTATUS.
+ *  2. A message that takes several steps, such as SCI_UNDO of a group, is done as a whole before its notifications come:
+ *     their positions are those of the text just after each step. Apply them in order to a copy (hongpilas.h says more).
+ *
+ * Include this header instead of Scintilla.h. If Scintilla.h is included before, its own types and names are used. If it is
+ * included afterwards, it declares nothing.
  *
  *     SciFnDirect send = hongpilas_direct;
- *     hongpilas_door *door = hongpilas_door_new();
- *     sptr_t view = hongpilas_door_open(door);
+ *     hongpilas_scintilla *component = hongpilas_scintilla_new();
+ *     sptr_t view = hongpilas_scintilla_open(component);
  *     if (view != 0) {
  *       hongpilas_set_notify(view, hear, NULL);
  *       send(view, SCI_ADDTEXT, 5, (sptr_t)"hello");
  *     }
- *     hongpilas_door_free(door);
+ *     hongpilas_scintilla_free(component);
  *
  * docs/MESSAGES.md has the messages. Its column "Beside Scintilla", and docs/PROFILE.md, state the differences.
- * A null door and the view 0 are harmless in every call below, which says what it does with them. The duties of the
- * caller in hongpilas.h hold here, too: one call at a time, on one thread, and none from a signal handler; a door that
- * was freed, and a view that was closed or whose door was freed, is used by no call. A text and a buffer belong to the
- * caller: copy the text of a note before you send it. */
+ * hongpilas_message_name tells whether the profile has a message.
+ * A null component and the view 0 are harmless in every call below, which says what it does with them. The duties of the
+ * caller in hongpilas.h hold here, too: one call at a time, and none from a signal handler; a component may be handed from
+ * thread to thread, but not while one of its notify functions runs; a component that was freed, and a view that was closed
+ * or whose component was freed, is used by no call. A text and a buffer belong to the caller: copy the text of a
+ * notification before you send it. */
 #ifndef HONGPILAS_SCINTILLA_H
 #define HONGPILAS_SCINTILLA_H
 
@@ -107,21 +116,22 @@ struct SCNotification {
 extern "C" {
 #endif
 
-/* A door: a session, and the views that were opened through it. */
-typedef struct hongpilas_door hongpilas_door;
+/* A component: a session, and the views that were opened through it. */
+typedef struct hongpilas_scintilla hongpilas_scintilla;
 
-/* Opens a session without views, with the greatest limits or with lower ones. Returns NULL if an allocation fails, if
- * `limits` is null, or if a limit is out of its range. The third call frees the session with all its views. It does
- * nothing if the door is null, and nothing while a notify function, below, runs. */
-hongpilas_door *hongpilas_door_new(void);
-hongpilas_door *hongpilas_door_new_with_limits(const hongpilas_limits *limits);
-void hongpilas_door_free(hongpilas_door *door);
+/* Opens a session without views, with the greatest limits or with lower ones; `size` is sizeof(hongpilas_limits). Returns
+ * NULL if an allocation fails, if `limits` is null, if a limit is out of its range, or if the size is none of such a struct.
+ * The third call frees the session with all its views, and does nothing if the component is null. A notify function, below,
+ * may make it: then no further one is called, and the call from which it was notified returns as usual. */
+HONGPILAS_MUST_USE hongpilas_scintilla *hongpilas_scintilla_new(void);
+HONGPILAS_MUST_USE hongpilas_scintilla *hongpilas_scintilla_new_with_limits(const hongpilas_limits *limits, size_t size);
+void hongpilas_scintilla_free(hongpilas_scintilla *component);
 
-/* Opens a view on a new document, and returns its handle for all calls below, or 0 if the door is null, an allocation
- * fails or no more views may be open. The second call closes a view, and does nothing if the view is 0. Neither does
- * anything while a notify function runs. */
-sptr_t hongpilas_door_open(hongpilas_door *door);
-void hongpilas_door_close(sptr_t view);
+/* Opens a view on a new document, and returns its handle for all calls below, or 0 if the component is null, an allocation
+ * fails or no more views may be open. The second call closes a view, which is notified no more, and does nothing if the view
+ * is 0. A notify function may make both. */
+HONGPILAS_MUST_USE sptr_t hongpilas_scintilla_open(hongpilas_scintilla *component);
+void hongpilas_scintilla_close(sptr_t view);
 
 /* Sends a message to a view: a SciFnDirect. w, l and the result are Scintilla's:
  *  - a text is a pointer: to bytes that end with a NUL for INSERTTEXT, REPLACESEL and SETTEXT, and for REPLACETARGET if
@@ -140,7 +150,7 @@ void hongpilas_door_close(sptr_t view);
  *
  * Beside the messages of the profile a view has three more: SCI_GETSTATUS and SCI_SETSTATUS, below, and
  * SCI_GETRANGEPOINTER, which lends the l bytes of the document from w on, without a copy and without a closing NUL.
- * They are valid until the next message to a view of the same door. If l is 0, the address means nothing.
+ * They are valid until the next message to a view of the same component. If l is 0, the address means nothing.
  *
  * A refused call changes nothing and writes nothing. The view's status becomes SC_STATUS_BADALLOC if an allocation
  * failed, and SC_STATUS_FAILURE otherwise. The result is 0, or -1 for the messages by which Scintilla says so that
@@ -156,11 +166,21 @@ sptr_t hongpilas_direct_status(sptr_t view, unsigned int message, uptr_t w, sptr
 const char *hongpilas_refusal(sptr_t view);
 
 /* Sets the notify function of a view, which is called with each of its notifications; NULL for none. Does nothing if
- * the view is 0. The functions are called after a message is done and before hongpilas_direct returns: note by note,
- * in their order, for each view that hears the note. What a notification points to is valid until the function returns.
+ * the view is 0. The notifications of a message are kept in a queue, and delivered when the message is done and before
+ * hongpilas_direct returns: one by one, in their order, each to the function that its view has then. What a notification
+ * points to is valid until the function returns, or frees the component.
  *
- * While a notify function runs, no view of the door takes a message except SCI_GETSTATUS and SCI_SETSTATUS. It is
- * refused as "sent while notes are told". The remaining notes are sent as usual. */
+ * Inside a notify function, any view of the component may be sent any message.
+ *  - It is performed at once, and its notifications join the end of the queue: they are delivered after the function has
+ *    returned. If a message is recorded there, lParam of SCN_MACRORECORD is a copy of its text, which a NUL closes.
+ *  - A message that edits the text is refused as "edit inside a notify function", with SC_STATUS_FAILURE.
+ *  - A message that is no question is refused as "out of memory", with SC_STATUS_BADALLOC, if the rest of the queue cannot
+ *    be kept for it. Nothing is lost: what stands in the queue is delivered.
+ *
+ * A notify function may be left by a C++ exception or by longjmp. Its message has been done, and the notification counts as
+ * delivered. What stands in the queue behind it is delivered by the next call of hongpilas_direct for a view of the component,
+ * when the message of that call is done. An exception passes through the interface if it was built with -fexceptions, as
+ * `make` builds it. */
 typedef void (*hongpilas_notify)(SCNotification *notification, void *data);
 void hongpilas_set_notify(sptr_t view, hongpilas_notify notify, void *data);
 

@@ -1,5 +1,6 @@
 #!/usr/bin/env python3
-"""Writes Scintilla's names and numbers into include/hongpilas.h, and their count into README.md, from the definitions.
+"""Writes Scintilla's names and numbers into include/hongpilas.h, names and marks into c/names.c, and the count of messages into README.md, from
+the definitions.
 
 SCI_ has its numbers from the rows of crates/ed_types/specs/Messages.antt; SCN_, SC_, SCFIND_ and UNDO_ have theirs from the definitions of
 crates/ed_model/specs that DEFINED names, and what no definition reads from a constant of the code. Run it at the top of the repository after a
@@ -9,7 +10,8 @@ message or a constant was added. With --check it writes nothing, and fails where
 - the enum `Kind` of ed_types has another message or number than the definitions;
 - docs/MESSAGES.md names a constant or a note that DEFINED does not have, or the other way round, or with another number, or never with its number;
 - its calls and structs, with their names and types, its refusals, its version or the greatest limits are not those of the crates;
-- a checked form is declared otherwise than c/checked.c has it, a call that takes a pointer has no checked form, or one has no such call;
+- a call that tests its arguments is declared otherwise than c/checked.c or c/names.c has it, an unchecked form has no such call, or a
+  call that takes a session as const has a contract that does not say that the session stays the same;
 - the header and a page do not have the same sentence on threads, or README.md has another count of messages, or none.
 """
 import os
@@ -97,13 +99,19 @@ DEFINED = {
 }
 # Where the header and the pages speak of threads, all in this sentence.
 ON_THREADS = (
-    "A session is used by one call at a time, on the thread that made it; sessions in different threads are independent of each other."
+    "A session is used by one call at a time, and may be handed from thread to thread by whatever orders memory, such as a lock or a channel; "
+    "sessions are independent of each other."
 )
 SPEAK_OF_THREADS = (HEADER, "README.md", "docs/PROMISES.md", "docs/PROFILE.md")
 # How README.md counts the messages.
 COUNTED = re.compile(r"\d+(?=\s+of\s+Scintilla's\s+messages)")
-CHECKED = "c/checked.c"
-STRUCTS = {"Handle": "hongpilas", "LimitsInC": "hongpilas_limits", "NoteInC": "hongpilas_note_data"}
+# The library's C, whose calls the header declares; proved calls that only this C makes; and what is written into it.
+NAMES = "c/names.c"
+IN_LIBRARY = ("c/checked.c", NAMES)
+UNCHECKED = "c/unchecked.h"
+STRUCTS = {"Handle": "hongpilas_session", "LimitsInC": "hongpilas_limits", "NoteInC": "hongpilas_note_data"}
+# The clause of a contract that lets the header say const.
+SAME = "ensures same { handle.new.held ≡ handle.old.held }"
 # How C declares a place of each type that exports and structs of the crate have. A slice is two places, and an allocator none.
 IN_C = {
     "Global": "",
@@ -116,11 +124,12 @@ IN_C = {
     "*const u8": "const uint8_t *{}",
     "&mut u32": "uint32_t *{}",
     "&mut i64": "int64_t *{}",
+    "&mut usize": "size_t *{}",
     "&mut *const u8": "const uint8_t **{}",
     "&[u8]": "const uint8_t *{}, size_t length",
     "&mut [u8]": "uint8_t *{}, size_t length",
-    "Handle": "hongpilas {}",
-    "&mut Handle": "hongpilas *{}",
+    "Handle": "hongpilas_session {}",
+    "&mut Handle": "hongpilas_session *{}",
     "&LimitsInC": "const hongpilas_limits *{}",
     "&mut NoteInC": "hongpilas_note_data *{}",
 }
@@ -133,10 +142,18 @@ def read(path):
         return file.read()
 
 
+def rows():
+    """The messages of the profile with their marks, in the order of their numbers, as their rows define them."""
+    text = read("crates/ed_types/specs/Messages.antt")
+    marks = re.findall(r"^(\w+) = marks (true|false) (true|false) (true|false) (true|false)$", text, re.M)
+    bits = {name: "".join(letter for letter, is_set in zip("QNER", set_) if is_set == "true") for name, *set_ in marks}
+    found = re.findall(r"^row_of kinds\.\w+ = row (\d+) (\w+) +-- (\w+)$", text, re.M)
+    return sorted((("SCI_" + name, int(number), bits[mark]) for number, mark, name in found), key=lambda row: row[1])
+
+
 def messages():
-    """The messages of the profile, in the order of their numbers, as their rows define them."""
-    found = re.findall(r"^row_of kinds\.\w+ = row (\d+) \w+ +-- (\w+)$", read("crates/ed_types/specs/Messages.antt"), re.M)
-    return sorted((("SCI_" + name, int(number)) for number, name in found), key=lambda pair: pair[1])
+    """The messages of the profile, in the order of their numbers."""
+    return [(name, number) for name, number, _ in rows()]
 
 
 def kinds():
@@ -193,14 +210,29 @@ def lines_of(pairs, spelled):
 def generated():
     return "\n".join([
         "/* Messages. */\n" + lines_of(messages(), str),
-        "/* Notes. */\n" + lines_of(notes(), str),
+        "/* Notifications. */\n" + lines_of(notes(), str),
         "/* Constants. */\n" + lines_of(constants(), lambda number: str(number) if number < 10 else f"0x{number:X}"),
     ])
 
 
+def rows_of(name, rows):
+    """A table of names.c."""
+    return f"static const named {name}[] = {{\n" + "".join(f'    {{{number}, {marks}, "{spelled}"}},\n' for spelled, number, marks in rows) + "};\n"
+
+
+def tables():
+    marked = [(name, number, " | ".join(f"HONGPILAS_MARK_{letter}" for letter in marks) or "0") for name, number, marks in rows()]
+    return rows_of("messages", marked) + "\n" + rows_of("notes", [(name, number, "0") for name, number in notes()])
+
+
+def between(text, lines):
+    """The text with these lines in the place of those that were written before."""
+    head, rest = text.split(BEGIN)
+    return head + BEGIN + lines + END + rest.split(END)[1]
+
+
 def written(header):
-    head, rest = header.split(BEGIN)
-    return head + BEGIN + generated() + END + rest.split(END)[1]
+    return between(header, generated())
 
 
 def declared(name, kind):
@@ -237,33 +269,48 @@ def structs_of_crate(sources):
 
 
 def declarations(header):
-    """The calls and structs that the header declares."""
-    bare = re.sub(r"/\*.*?\*/", "", header, flags=re.S)
-    yield from map(as_compared, re.findall(r"^(\w[\w *]*\bhongpilas_\w+\([^()]*\));", bare, re.M))
+    """The calls and structs that a header declares."""
+    bare = re.sub(r"/\*.*?\*/|\bHONGPILAS_MUST_USE\b", "", header, flags=re.S)
+    yield from map(as_compared, re.findall(r"^ *(\w[\w *]*\bhongpilas_\w+\([^()]*\));", bare, re.M))
     yield from map(spaced, re.findall(r"^(typedef struct \w+ \{[^{}]*\} \w+);", bare, re.M))
+    yield from (f"typedef {spaced(struct)} {name}" for struct, name in re.findall(r"^(struct (\w+) \{[^{}]*\});", bare, re.M))
 
 
-def without_checked(calls):
-    return {call for call in calls if "hongpilas_checked_" not in call}
+def is_of_crate(declared):
+    """Whether a call is proved, or what is declared is a struct."""
+    return "(" not in declared or "_unchecked(" in declared or "hongpilas_version(" in declared
 
 
-def checked_forms():
-    """What c/checked.c has for others to call."""
-    return {as_compared(call) for call in re.findall(r"^(?!static )(\w[\w *]*\bhongpilas_\w+\([^()]*\)) \{", read(CHECKED), re.M)}
+def without_const(call):
+    return call.replace("const hongpilas_session *", "hongpilas_session *")
+
+
+def calls_in_c():
+    """What the library's C has for others to call."""
+    sources = "".join(map(read, IN_LIBRARY))
+    return {as_compared(call) for call in re.findall(r"^(?!static )(\w[\w *]*\bhongpilas_\w+\([^()]*\)) \{", sources, re.M)}
 
 
 def names_of(calls):
-    return {re.search(r"\bhongpilas_(\w+)\(", call)[1] for call in calls}
+    return {re.search(r"\bhongpilas_(\w+)\(", call)[1] for call in calls if "(" in call}
 
 
 def checked_faults(found):
-    """Where the checked forms among what the header declares are not those of checked.c, or not those of its calls."""
-    ours, theirs = checked_forms(), found - without_checked(found)
-    yield from (f"{CHECKED} has, and the header has not: {it}" for it in sorted(ours - theirs))
-    yield from (f"the header has, and {CHECKED} has not: {it}" for it in sorted(theirs - ours))
-    calls = (call for call in without_checked(found) if "(" in call and ("*" in call or "hongpilas_free(" in call))
-    wanted = {f"checked_{name}" for name in names_of(calls)}
-    yield from (f"no checked form, or no call that has one: {name}" for name in sorted(wanted ^ names_of(theirs)))
+    """Where the calls that test their arguments are not those of the library's C, or an unchecked form has no such call."""
+    ours, theirs = calls_in_c(), {call for call in found if not is_of_crate(call)}
+    yield from (f"the library's C has, and the header has not: {it}" for it in sorted(ours - theirs))
+    yield from (f"the header has, and the library's C has not: {it}" for it in sorted(theirs - ours))
+    for name in sorted(names_of(found)):
+        if name.endswith("_unchecked") and name.removesuffix("_unchecked") not in names_of(theirs):
+            yield f"no call tests the arguments of hongpilas_{name}"
+
+
+def const_faults(found, sources):
+    """Where the header says const of a session, and the contract of the proved call says nothing of it, or only for some results."""
+    for call in found:
+        name = re.search(r"\b(hongpilas_\w+_unchecked)\(const hongpilas_session \*", call)
+        if name and SAME not in re.search(rf"fn {name[1]}\((?:[^{{]|{{[^\n]*}})*", sources)[0]:
+            yield f"{name[1]} takes a const session, and its contract does not say: {SAME}"
 
 
 def page_faults():
@@ -324,7 +371,8 @@ def faults(header):
     folder = "crates/hongpilas_c/src"
     sources = "".join(read(f"{folder}/{file}") for file in sorted(os.listdir(os.path.join(TOP, folder))))
     found = set(declarations(header))
-    ours, theirs = {*calls_of_crate(sources), *structs_of_crate(sources)}, without_checked(found)
+    ours, theirs = {*calls_of_crate(sources), *structs_of_crate(sources)}, {without_const(it) for it in found if is_of_crate(it)}
+    theirs |= set(declarations(read(UNCHECKED)))
     yield from (f"the crate has, and the header has not: {it}" for it in sorted(ours - theirs))
     yield from (f"the header has, and the crate has not: {it}" for it in sorted(theirs - ours))
     if "typedef uint32_t hongpilas_answer;\n" not in header:
@@ -332,6 +380,7 @@ def faults(header):
     wrong = refusals() ^ set(re.findall(r"^  (HONGPILAS_\w+) = (\w+)", header, re.M))
     yield from (f"{name} = {number} is not on both sides" for name, number in sorted(wrong))
     yield from checked_faults(found)
+    yield from const_faults(found, sources)
     yield from page_faults()
     yield from threads_faults()
     yield from count_faults()
@@ -344,12 +393,12 @@ def faults(header):
 
 def main():
     header = read(HEADER)
-    new = written(header)
+    new, names = written(header), between(read(NAMES), tables())
     if "--check" in sys.argv[1:]:
-        wrong = list(faults(header)) + ["constants: run tools/pages/header.py"] * (new != header)
+        wrong = list(faults(header)) + ["constants: run tools/pages/header.py"] * (new != header or names != read(NAMES))
         print("\n".join(wrong) or f"{HEADER} is what it should be: {len(messages())} messages")
         sys.exit(bool(wrong))
-    for path, text in ((HEADER, new), ("README.md", counted(read("README.md")))):
+    for path, text in ((HEADER, new), (NAMES, names), ("README.md", counted(read("README.md")))):
         with open(os.path.join(TOP, path), "w", encoding="utf-8") as file:
             file.write(text)
 

@@ -10,3 +10,4 @@ pub mod Told
 pub mod Names
 pub mod Replies
 pub mod Questions
+pub mod Asked

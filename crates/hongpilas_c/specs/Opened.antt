@@ -8,7 +8,7 @@ use Rattle.hongpilas_c.specs.declared.opening.LimitsInC.{LimitsInC}
 
 -- the session with an empty reply
 abbrev pub fresh : Session → Held
-fresh session = record { session = session; value = pos 0; read = []; reply = record { value = pos 0; text = []; notes = [] } }
+fresh session = record { session = session; value = pos 0; read = []; reply = record { value = pos 0; text = []; notes = [] }; asked = [] }
 
 -- the value behind the handle is this session, just opened
 abbrev pub IsFresh : Result Session Refusal → Option Held → Type 0

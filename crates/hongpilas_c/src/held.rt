@@ -26,6 +26,8 @@ pub struct Held {
     pub read: ReadText,
     /// The last reply's notes, and its text if it was not read.
     pub reply: Reply,
+    /// The text that the last question beside the replies was answered.
+    pub asked: ReadText,
 }
 
 impl Held {
@@ -48,6 +50,7 @@ impl Held {
         ensures session { self.new.session ≡ self.old.session }
         ensures value { self.new.value ≡ self.old.value }
         ensures read { self.new.read ≡ self.old.read }
+        ensures asked { self.new.asked ≡ self.old.asked }
     {
         self.reply = self.read.no_reply();
     }
@@ -58,6 +61,7 @@ impl Held {
         ensures reply { reply_in self.new ≡ response answer self.old.read [] }
         ensures value { self.new.value ≡ answer }
         ensures session { self.new.session ≡ self.old.session }
+        ensures asked { self.new.asked ≡ self.old.asked }
     {
         self.value = answer;
         if self.reply.text().is_empty() && self.reply.note_count() == 0 {
@@ -117,6 +121,7 @@ impl Held {
         ensures value { self.new.value ≡ self.old.value }
         ensures reply { self.new.reply ≡ self.old.reply }
         ensures read { self.new.read ≡ self.old.read }
+        ensures asked { self.new.asked ≡ self.old.asked }
     {
         match self.session.new_view() {
             Ok(opened) => {
@@ -135,6 +140,7 @@ impl Held {
         ensures value { self.new.value ≡ self.old.value }
         ensures reply { self.new.reply ≡ self.old.reply }
         ensures read { self.new.read ≡ self.old.read }
+        ensures asked { self.new.asked ≡ self.old.asked }
     {
         match self.session.close_view(view) {
             Ok(()) => DONE,

@@ -5,6 +5,7 @@
 #![tactic(auto)]
 
 mod answers;
+mod asking;
 mod copies;
 mod handle;
 mod held;

@@ -106,7 +106,11 @@ impl Held {
 
 /// Writes the note of the last reply with this index, from 0, to `note`, and returns whether there is one.
 #[unsafe(no_mangle)]
-pub extern "C" fn hongpilas_note(handle: &mut Handle, index: usize, note: &mut NoteInC) -> bool
+pub extern "C" fn hongpilas_note_unchecked(
+    handle: &mut Handle,
+    index: usize,
+    note: &mut NoteInC,
+) -> bool
     requires { is_some handle.old.held ≡ true }
     ensures found { result ≡ nat_lt index (length (reply_of handle.old.held).notes) }
     ensures told { result ≡ true → IfSome (slice_get (reply_of handle.old.held).notes index) (IsTold note.new) }
@@ -120,7 +124,7 @@ pub extern "C" fn hongpilas_note(handle: &mut Handle, index: usize, note: &mut N
 /// Copies the text of a note of the last reply from `start` on, as many bytes as there are and as fit, and returns how
 /// many that is: 0 if there is no such note.
 #[unsafe(no_mangle)]
-pub extern "C" fn hongpilas_copy_note_text(
+pub extern "C" fn hongpilas_copy_note_text_unchecked(
     handle: &mut Handle,
     index: usize,
     start: usize,

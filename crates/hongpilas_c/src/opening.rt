@@ -48,6 +48,7 @@ fn hold(alloc: Global, session: Session, handle: &mut Handle) -> u32
         value: 0,
         read: ReadText::new(alloc),
         reply,
+        asked: ReadText::new(alloc),
     };
     match Handle::new(alloc, held) {
         Ok(opened) => {
@@ -60,7 +61,7 @@ fn hold(alloc: Global, session: Session, handle: &mut Handle) -> u32
 
 /// Opens a session with the greatest limits. Returns 0, or `OutOfMemory` as a number if an allocation fails.
 #[unsafe(no_mangle)]
-pub extern "C" fn hongpilas_new(alloc: Global, handle: &mut Handle) -> u32
+pub extern "C" fn hongpilas_new_unchecked(alloc: Global, handle: &mut Handle) -> u32
     ensures done { result ≡ 0 → handle.new.held ≡ Some (fresh (new_session greatest_limits)) }
     ensures refused { result ≢ 0 → result ≡ refusal_number OutOfMemory }
     ensures kept { result ≢ 0 → handle.new.held ≡ handle.old.held }
@@ -71,7 +72,7 @@ pub extern "C" fn hongpilas_new(alloc: Global, handle: &mut Handle) -> u32
 /// Opens a session with lower limits. Returns 0, or the number of `BadArgument` if a limit is out of its range, or of
 /// `OutOfMemory` if an allocation fails.
 #[unsafe(no_mangle)]
-pub extern "C" fn hongpilas_new_with_limits(
+pub extern "C" fn hongpilas_new_with_limits_unchecked(
     alloc: Global,
     handle: &mut Handle,
     limits: &LimitsInC,
@@ -97,7 +98,7 @@ pub extern "C" fn hongpilas_new_with_limits(
 
 /// Frees a session with all that it owns.
 #[unsafe(no_mangle)]
-pub extern "C" fn hongpilas_free(handle: Handle)
+pub extern "C" fn hongpilas_free_unchecked(handle: Handle)
     requires { is_some handle.held ≡ true }
 {
     drop(handle.into_box());

@@ -9,7 +9,7 @@ use crate::handle::Handle;
 /// valid until the session's next call, except calls that only read the last reply. Returns 0 or the number of the
 /// refusal.
 #[unsafe(no_mangle)]
-pub extern "C" fn hongpilas_lend_range(
+pub extern "C" fn hongpilas_lend_range_unchecked(
     handle: &mut Handle,
     view: u32,
     start: usize,
@@ -28,7 +28,7 @@ pub extern "C" fn hongpilas_lend_range(
 /// Copies as many bytes of a view's document as the buffer has, from `start` on. Returns 0 or the number of the
 /// refusal.
 #[unsafe(no_mangle)]
-pub extern "C" fn hongpilas_copy_range(
+pub extern "C" fn hongpilas_copy_range_unchecked(
     handle: &mut Handle,
     view: u32,
     start: usize,

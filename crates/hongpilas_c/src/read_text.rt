@@ -1,13 +1,13 @@
 //! The text of a reply that was read without a plan.
 
-ghost use Rattle.std.specs.Prelude.{◌≡◌, [], pos, IfNone};
+ghost use Rattle.std.specs.Prelude.{◌≡◌, [], pos, IfNone, OnOk, OnErr};
 ghost use Rattle.ed_model.specs.Performing.{quiet};
 ghost use Rattle.editor_session.specs.Answers.{message_with};
 ghost use Rattle.hongpilas_c.specs.Questions.{AnswersTextQuestion};
 
 use ed_types::{Bytes, Reply};
 use editor_session::Session;
-use std::alloc::Global;
+use std::alloc::{AllocError, Global};
 use std::marker::Model;
 
 /// The greatest capacity, in bytes, that is kept for the next text question whatever comes before it. Most lines are
@@ -78,6 +78,21 @@ impl ReadText {
             return;
         }
         self.bytes.clear();
+    }
+
+    /// Replaces the bytes by a copy of these.
+    ///
+    /// # Errors
+    ///
+    /// `AllocError` if the allocation fails. The bytes are then as they were.
+    pub(crate) fn replace(&mut self, bytes: &[u8]) -> Result<(), AllocError>
+        ensures replaced { OnOk result (self.new ≡ bytes.now) }
+        ensures same { OnErr result (self.new ≡ self.old) }
+    {
+        let mut copy = Vec::new(self.alloc);
+        copy.extend_from_slice(bytes)?;
+        self.bytes = copy;
+        Ok(())
     }
 
     /// Like `read`, after a large text. The next one is often as large, and uses the same buffer. If it fills less than

@@ -10,7 +10,7 @@ use crate::starts::tell_start;
 
 /// Returns the value of the last reply.
 #[unsafe(no_mangle)]
-pub extern "C" fn hongpilas_value(handle: &mut Handle) -> i64
+pub extern "C" fn hongpilas_value_unchecked(handle: &mut Handle) -> i64
     requires { is_some handle.old.held ≡ true }
     ensures value { result ≡ (reply_of handle.old.held).value }
     ensures same { handle.new.held ≡ handle.old.held }
@@ -21,7 +21,7 @@ pub extern "C" fn hongpilas_value(handle: &mut Handle) -> i64
 
 /// Lends the text of the last reply: sets `text` to the address of its first byte, and returns its length in bytes.
 #[unsafe(no_mangle)]
-pub extern "C" fn hongpilas_text(handle: &mut Handle, text: &mut *const u8) -> usize
+pub extern "C" fn hongpilas_text_unchecked(handle: &mut Handle, text: &mut *const u8) -> usize
     requires { is_some handle.old.held ≡ true }
     ensures length { result ≡ length (reply_of handle.old.held).text }
     ensures same { handle.new.held ≡ handle.old.held }
@@ -33,7 +33,11 @@ pub extern "C" fn hongpilas_text(handle: &mut Handle, text: &mut *const u8) -> u
 /// Copies the text of the last reply from `start` on, as many bytes as there are and as fit, and returns how many that
 /// is.
 #[unsafe(no_mangle)]
-pub extern "C" fn hongpilas_copy_text(handle: &mut Handle, start: usize, into: &mut [u8]) -> usize
+pub extern "C" fn hongpilas_copy_text_unchecked(
+    handle: &mut Handle,
+    start: usize,
+    into: &mut [u8],
+) -> usize
     requires { is_some handle.old.held ≡ true }
     ensures count { result ≡ count_copied (reply_of handle.old.held).text start into.old }
     ensures copied { into.new ≡ copied (reply_of handle.old.held).text start into.old }
@@ -45,7 +49,7 @@ pub extern "C" fn hongpilas_copy_text(handle: &mut Handle, start: usize, into: &
 
 /// Returns how many notes the last reply has.
 #[unsafe(no_mangle)]
-pub extern "C" fn hongpilas_note_count(handle: &mut Handle) -> usize
+pub extern "C" fn hongpilas_note_count_unchecked(handle: &mut Handle) -> usize
     requires { is_some handle.old.held ≡ true }
     ensures count { result ≡ length (reply_of handle.old.held).notes }
     ensures same { handle.new.held ≡ handle.old.held }

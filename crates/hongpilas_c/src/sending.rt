@@ -8,7 +8,7 @@ use crate::handle::Handle;
 
 /// Sends a message with its text, and writes the value of its reply to `value`. Returns 0 or the number of the refusal.
 #[unsafe(no_mangle)]
-pub extern "C" fn hongpilas_send(
+pub extern "C" fn hongpilas_send_unchecked(
     handle: &mut Handle,
     view: u32,
     number: u32,

@@ -8,7 +8,7 @@ use Rattle.editor_session.specs.Plans.{is_free}
 use Rattle.hongpilas_c.specs.Answers.{refused_with}
 use Rattle.hongpilas_c.specs.Calls.{IsSent, IsRefused, IsFree}
 use Rattle.hongpilas_c.specs.Replies.{reply_in}
-use Rattle.hongpilas_c.proofs.sending.hongpilas_send.Goals as goal
+use Rattle.hongpilas_c.proofs.sending.hongpilas_send_unchecked.Goals as goal
 
 pub returns-clause-done : goal.returns-clause-done
 returns-clause-done c done =
