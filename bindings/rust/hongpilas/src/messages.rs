@@ -1,6 +1,6 @@
 //! The messages of the profile, as methods of a view.
 
-use crate::{Refusal, View};
+use crate::{DocumentId, Refusal, View, ViewMut};
 use hongpilas_sys as sys;
 
 /// The length of a text, as an argument. No text is longer than `i64::MAX`.
@@ -8,10 +8,348 @@ fn length_of(text: &[u8]) -> i64 {
     text.len() as i64
 }
 
-/// Messages. Positions, lengths and lines are in bytes and lines, and count from 0. An argument outside the range that a sentence
+/// Questions, which change nothing. Positions, lengths and lines are in bytes and lines, and count from 0. An argument outside the range that a sentence
 /// states is refused as [`Refusal::BadArgument`].
 impl View<'_> {
-    // Written by tools/pages/wrappers.py: begin
+    // Written by tools/pages/wrappers.py: begin questions
+    /// SCI_GETLENGTH, 2006. Returns the text's length.
+    pub fn get_length(&self) -> Result<i64, Refusal> {
+        self.ask(sys::SCI_GETLENGTH, 0, 0)
+    }
+
+    /// SCI_GETCHARAT, 2007. Returns the byte at `position`, 0 to 255; 0 outside 0..n-1. Here n
+    /// is the text's length.
+    pub fn get_char_at(&self, position: i64) -> Result<i64, Refusal> {
+        self.ask(sys::SCI_GETCHARAT, position, 0)
+    }
+
+    /// SCI_GETCURRENTPOS, 2008. Returns the caret.
+    pub fn get_current_pos(&self) -> Result<i64, Refusal> {
+        self.ask(sys::SCI_GETCURRENTPOS, 0, 0)
+    }
+
+    /// SCI_GETANCHOR, 2009. Returns the anchor.
+    pub fn get_anchor(&self) -> Result<i64, Refusal> {
+        self.ask(sys::SCI_GETANCHOR, 0, 0)
+    }
+
+    /// SCI_GETSTYLEAT, 2010. Returns the style of the byte at `position`; 0 outside 0..n-1.
+    /// Here n is the text's length.
+    pub fn get_style_at(&self, position: i64) -> Result<i64, Refusal> {
+        self.ask(sys::SCI_GETSTYLEAT, position, 0)
+    }
+
+    /// SCI_GETSTYLEDTEXT, 2015. `start` lies in 0..n, and `end` in `start`..n or is -1 for the
+    /// end of the text. Returns byte, style, byte, style and so on; the reply's value is
+    /// 2(`end`-`start`). Here n is the text's length.
+    pub fn get_styled_text(&self, start: i64, end: i64) -> Result<Vec<u8>, Refusal> {
+        self.read(sys::SCI_GETSTYLEDTEXT, start, end)
+    }
+
+    /// SCI_CANREDO, 2016. Returns whether no group is open, the document is not read-only and
+    /// the future is not empty.
+    pub fn can_redo(&self) -> Result<bool, Refusal> {
+        self.ask_flag(sys::SCI_CANREDO, 0, 0)
+    }
+
+    /// SCI_MARKERLINEFROMHANDLE, 2017. Returns the line of `handle`, else -1.
+    pub fn marker_line_from_handle(&self, handle: i64) -> Result<i64, Refusal> {
+        self.ask(sys::SCI_MARKERLINEFROMHANDLE, handle, 0)
+    }
+
+    /// SCI_GETUNDOCOLLECTION, 2019. Returns whether undo is collected.
+    pub fn get_undo_collection(&self) -> Result<bool, Refusal> {
+        self.ask_flag(sys::SCI_GETUNDOCOLLECTION, 0, 0)
+    }
+
+    /// SCI_GETCURLINE, 2027. Returns the line of the caret with its end; the reply's value is
+    /// the caret less the line's start.
+    pub fn get_cur_line(&self) -> Result<Vec<u8>, Refusal> {
+        self.read(sys::SCI_GETCURLINE, 0, 0)
+    }
+
+    /// SCI_GETENDSTYLED, 2028. Returns end styled.
+    pub fn get_end_styled(&self) -> Result<i64, Refusal> {
+        self.ask(sys::SCI_GETENDSTYLED, 0, 0)
+    }
+
+    /// SCI_GETEOLMODE, 2030. Returns the line end that NEWLINE and PASTE insert.
+    pub fn get_eol_mode(&self) -> Result<i64, Refusal> {
+        self.ask(sys::SCI_GETEOLMODE, 0, 0)
+    }
+
+    /// SCI_MARKERGET, 2046. Returns the mask of `line`, bit k for number k; bad line 0. Here a
+    /// bad line is one that is not there.
+    pub fn marker_get(&self, line: i64) -> Result<i64, Refusal> {
+        self.ask(sys::SCI_MARKERGET, line, 0)
+    }
+
+    /// SCI_MARKERNEXT, 2047. Returns the least line from `line` on whose mask meets the low 32
+    /// bits of `mask`, else -1.
+    pub fn marker_next(&self, line: i64, mask: i64) -> Result<i64, Refusal> {
+        self.ask(sys::SCI_MARKERNEXT, line, mask)
+    }
+
+    /// SCI_MARKERPREVIOUS, 2048. Returns the greatest line up to `line` whose mask meets the
+    /// low 32 bits of `mask`, else -1.
+    pub fn marker_previous(&self, line: i64, mask: i64) -> Result<i64, Refusal> {
+        self.ask(sys::SCI_MARKERPREVIOUS, line, mask)
+    }
+
+    /// SCI_GETLINESTATE, 2093. Returns the state of `line`; bad line 0. Here a bad line is one
+    /// that is not there.
+    pub fn get_line_state(&self, line: i64) -> Result<i64, Refusal> {
+        self.ask(sys::SCI_GETLINESTATE, line, 0)
+    }
+
+    /// SCI_GETLINEENDPOSITION, 2136. Returns where the end of `line` begins; the text's length
+    /// from the last line on; -1 below 0.
+    pub fn get_line_end_position(&self, line: i64) -> Result<i64, Refusal> {
+        self.ask(sys::SCI_GETLINEENDPOSITION, line, 0)
+    }
+
+    /// SCI_GETREADONLY, 2140. Returns whether the document is read-only.
+    pub fn get_read_only(&self) -> Result<bool, Refusal> {
+        self.ask_flag(sys::SCI_GETREADONLY, 0, 0)
+    }
+
+    /// SCI_GETSELECTIONSTART, 2143. Returns the selection's start.
+    pub fn get_selection_start(&self) -> Result<i64, Refusal> {
+        self.ask(sys::SCI_GETSELECTIONSTART, 0, 0)
+    }
+
+    /// SCI_GETSELECTIONEND, 2145. Returns the selection's end.
+    pub fn get_selection_end(&self) -> Result<i64, Refusal> {
+        self.ask(sys::SCI_GETSELECTIONEND, 0, 0)
+    }
+
+    /// SCI_GETLINE, 2153. Returns `line` with its end; the reply's value is its length; of a
+    /// bad line an empty text. Here a bad line is one that is not there.
+    pub fn get_line(&self, line: i64) -> Result<Vec<u8>, Refusal> {
+        self.read(sys::SCI_GETLINE, line, 0)
+    }
+
+    /// SCI_GETLINECOUNT, 2154. Returns the number of lines.
+    pub fn get_line_count(&self) -> Result<i64, Refusal> {
+        self.ask(sys::SCI_GETLINECOUNT, 0, 0)
+    }
+
+    /// SCI_GETMODIFY, 2159. Returns whether the document is not at its save point.
+    pub fn get_modify(&self) -> Result<bool, Refusal> {
+        self.ask_flag(sys::SCI_GETMODIFY, 0, 0)
+    }
+
+    /// SCI_GETSELTEXT, 2161. Returns the selection; the reply's value is its length.
+    pub fn get_sel_text(&self) -> Result<Vec<u8>, Refusal> {
+        self.read(sys::SCI_GETSELTEXT, 0, 0)
+    }
+
+    /// SCI_GETTEXTRANGE, 2162. `start` lies in 0..n, and `end` in `start`..n or is -1 for the
+    /// end of the text. Returns [`start`, `end`); the reply's value is `end`-`start`. Here n is
+    /// the text's length.
+    pub fn get_text_range(&self, start: i64, end: i64) -> Result<Vec<u8>, Refusal> {
+        self.read(sys::SCI_GETTEXTRANGE, start, end)
+    }
+
+    /// SCI_LINEFROMPOSITION, 2166. Returns the line of `position`, clamped. Here clamped means
+    /// brought into 0..n, n the text's length.
+    pub fn line_from_position(&self, position: i64) -> Result<i64, Refusal> {
+        self.ask(sys::SCI_LINEFROMPOSITION, position, 0)
+    }
+
+    /// SCI_POSITIONFROMLINE, 2167. Returns the start of `line`; below 0 that of the line of the
+    /// selection's start; the text's length for `line` = the number of lines; -1 beyond.
+    pub fn position_from_line(&self, line: i64) -> Result<i64, Refusal> {
+        self.ask(sys::SCI_POSITIONFROMLINE, line, 0)
+    }
+
+    /// SCI_CANPASTE, 2173. Returns whether the document is not read-only.
+    pub fn can_paste(&self) -> Result<bool, Refusal> {
+        self.ask_flag(sys::SCI_CANPASTE, 0, 0)
+    }
+
+    /// SCI_CANUNDO, 2174. Returns whether no group is open, the document is not read-only and
+    /// the past is not empty.
+    pub fn can_undo(&self) -> Result<bool, Refusal> {
+        self.ask_flag(sys::SCI_CANUNDO, 0, 0)
+    }
+
+    /// SCI_GETTEXT, 2182. Returns the whole text; the reply's value is the text's length.
+    pub fn get_text(&self) -> Result<Vec<u8>, Refusal> {
+        self.read(sys::SCI_GETTEXT, 0, 0)
+    }
+
+    /// SCI_GETTEXTLENGTH, 2183. Returns the text's length.
+    pub fn get_text_length(&self) -> Result<i64, Refusal> {
+        self.ask(sys::SCI_GETTEXTLENGTH, 0, 0)
+    }
+
+    /// SCI_GETTARGETSTART, 2191. Returns the target's start.
+    pub fn get_target_start(&self) -> Result<i64, Refusal> {
+        self.ask(sys::SCI_GETTARGETSTART, 0, 0)
+    }
+
+    /// SCI_GETTARGETEND, 2193. Returns the target's end.
+    pub fn get_target_end(&self) -> Result<i64, Refusal> {
+        self.ask(sys::SCI_GETTARGETEND, 0, 0)
+    }
+
+    /// SCI_GETSEARCHFLAGS, 2199. Returns the flags.
+    pub fn get_search_flags(&self) -> Result<i64, Refusal> {
+        self.ask(sys::SCI_GETSEARCHFLAGS, 0, 0)
+    }
+
+    /// SCI_VISIBLEFROMDOCLINE, 2220. Returns the display line of `line`; for a hidden one that
+    /// of the last visible line before it; bad line -1. Here a bad line is one that is not
+    /// there.
+    pub fn visible_from_doc_line(&self, line: i64) -> Result<i64, Refusal> {
+        self.ask(sys::SCI_VISIBLEFROMDOCLINE, line, 0)
+    }
+
+    /// SCI_DOCLINEFROMVISIBLE, 2221. Returns the line shown at `display_line`; 0 up to 0; the
+    /// number of lines past the last.
+    pub fn doc_line_from_visible(&self, display_line: i64) -> Result<i64, Refusal> {
+        self.ask(sys::SCI_DOCLINEFROMVISIBLE, display_line, 0)
+    }
+
+    /// SCI_GETFOLDLEVEL, 2223. Returns the level of `line`; bad line 1024 (SC_FOLDLEVELBASE).
+    /// Here a bad line is one that is not there.
+    pub fn get_fold_level(&self, line: i64) -> Result<i64, Refusal> {
+        self.ask(sys::SCI_GETFOLDLEVEL, line, 0)
+    }
+
+    /// SCI_GETLASTCHILD, 2224. `level` in -1..2^31-1; returns the last child of `line`, by its
+    /// own number for `level` = -1, else by `level`'s low 12 bits; bad line -1. Here a bad line
+    /// is one that is not there.
+    pub fn get_last_child(&self, line: i64, level: i64) -> Result<i64, Refusal> {
+        self.ask(sys::SCI_GETLASTCHILD, line, level)
+    }
+
+    /// SCI_GETFOLDPARENT, 2225. Returns the fold parent of `line`; none, or bad line: -1. Here
+    /// a bad line is one that is not there.
+    pub fn get_fold_parent(&self, line: i64) -> Result<i64, Refusal> {
+        self.ask(sys::SCI_GETFOLDPARENT, line, 0)
+    }
+
+    /// SCI_GETLINEVISIBLE, 2228. Returns whether `line` is visible; bad line false. Here a bad
+    /// line is one that is not there.
+    pub fn get_line_visible(&self, line: i64) -> Result<bool, Refusal> {
+        self.ask_flag(sys::SCI_GETLINEVISIBLE, line, 0)
+    }
+
+    /// SCI_GETFOLDEXPANDED, 2230. Returns whether `line` is expanded; bad line false. Here a
+    /// bad line is one that is not there.
+    pub fn get_fold_expanded(&self, line: i64) -> Result<bool, Refusal> {
+        self.ask_flag(sys::SCI_GETFOLDEXPANDED, line, 0)
+    }
+
+    /// SCI_GETALLLINESVISIBLE, 2236. Returns whether all lines are visible.
+    pub fn get_all_lines_visible(&self) -> Result<bool, Refusal> {
+        self.ask_flag(sys::SCI_GETALLLINESVISIBLE, 0, 0)
+    }
+
+    /// SCI_LINELENGTH, 2350. Returns the length of `line` with its end; bad line 0. Here a bad
+    /// line is one that is not there.
+    pub fn line_length(&self, line: i64) -> Result<i64, Refusal> {
+        self.ask(sys::SCI_LINELENGTH, line, 0)
+    }
+
+    /// SCI_GETDOCPOINTER, 2357. Returns the id of the view's document.
+    pub fn get_doc_pointer(&self) -> Result<DocumentId, Refusal> {
+        self.ask_document(sys::SCI_GETDOCPOINTER, 0, 0)
+    }
+
+    /// SCI_GETMODEVENTMASK, 2378. Returns the mask.
+    pub fn get_mod_event_mask(&self) -> Result<i64, Refusal> {
+        self.ask(sys::SCI_GETMODEVENTMASK, 0, 0)
+    }
+
+    /// SCI_GETDOCUMENTOPTIONS, 2379. Returns the options of the view's document.
+    pub fn get_document_options(&self) -> Result<i64, Refusal> {
+        self.ask(sys::SCI_GETDOCUMENTOPTIONS, 0, 0)
+    }
+
+    /// SCI_POSITIONBEFORE, 2417. Returns the greatest cut below `position` (clamped), or 0.
+    /// Here clamped means brought into 0..n, n the text's length; a cut is a place between two
+    /// characters.
+    pub fn position_before(&self, position: i64) -> Result<i64, Refusal> {
+        self.ask(sys::SCI_POSITIONBEFORE, position, 0)
+    }
+
+    /// SCI_POSITIONAFTER, 2418. Returns the least cut above `position` (clamped), or the text's
+    /// length. Here clamped means brought into 0..n, n the text's length; a cut is a place
+    /// between two characters.
+    pub fn position_after(&self, position: i64) -> Result<i64, Refusal> {
+        self.ask(sys::SCI_POSITIONAFTER, position, 0)
+    }
+
+    /// SCI_GETPASTECONVERTENDINGS, 2468. Returns whether this view converts what it pastes.
+    pub fn get_paste_convert_endings(&self) -> Result<bool, Refusal> {
+        self.ask_flag(sys::SCI_GETPASTECONVERTENDINGS, 0, 0)
+    }
+
+    /// SCI_GETINDICATORCURRENT, 2501. Returns the view's current indicator.
+    pub fn get_indicator_current(&self) -> Result<i64, Refusal> {
+        self.ask(sys::SCI_GETINDICATORCURRENT, 0, 0)
+    }
+
+    /// SCI_GETINDICATORVALUE, 2503. Returns the value that this view fills in.
+    pub fn get_indicator_value(&self) -> Result<i64, Refusal> {
+        self.ask(sys::SCI_GETINDICATORVALUE, 0, 0)
+    }
+
+    /// SCI_INDICATORALLONFOR, 2506. Returns bit k for each indicator k that is not 0 at
+    /// `position`; 0 outside 0..n-1. Here n is the text's length.
+    pub fn indicator_all_on_for(&self, position: i64) -> Result<i64, Refusal> {
+        self.ask(sys::SCI_INDICATORALLONFOR, position, 0)
+    }
+
+    /// SCI_INDICATORVALUEAT, 2507. `number` in 0..31; returns its value at `position`; 0
+    /// outside 0..n-1. Here n is the text's length.
+    pub fn indicator_value_at(&self, number: i64, position: i64) -> Result<i64, Refusal> {
+        self.ask(sys::SCI_INDICATORVALUEAT, number, position)
+    }
+
+    /// SCI_INDICATORSTART, 2508. `number` in 0..31; returns where the longest run of one value
+    /// that holds `position` starts; 0 outside 0..n-1. Here n is the text's length.
+    pub fn indicator_start(&self, number: i64, position: i64) -> Result<i64, Refusal> {
+        self.ask(sys::SCI_INDICATORSTART, number, position)
+    }
+
+    /// SCI_INDICATOREND, 2509. `number` in 0..31; returns the place just after the longest run
+    /// of one value that holds `position`; 0 outside 0..n-1. Here n is the text's length.
+    pub fn indicator_end(&self, number: i64, position: i64) -> Result<i64, Refusal> {
+        self.ask(sys::SCI_INDICATOREND, number, position)
+    }
+
+    /// SCI_GETSELECTIONEMPTY, 2650. Returns whether anchor and caret are at one place.
+    pub fn get_selection_empty(&self) -> Result<bool, Refusal> {
+        self.ask_flag(sys::SCI_GETSELECTIONEMPTY, 0, 0)
+    }
+
+    /// SCI_GETLINEENDTYPESALLOWED, 2657. Returns the types of line ends that the document
+    /// allows.
+    pub fn get_line_end_types_allowed(&self) -> Result<i64, Refusal> {
+        self.ask(sys::SCI_GETLINEENDTYPESALLOWED, 0, 0)
+    }
+
+    /// SCI_GETLINEENDTYPESACTIVE, 2658. Returns the types of line ends that are active: those
+    /// that the document allows.
+    pub fn get_line_end_types_active(&self) -> Result<i64, Refusal> {
+        self.ask(sys::SCI_GETLINEENDTYPESACTIVE, 0, 0)
+    }
+
+    /// SCI_GETTARGETTEXT, 2687. Returns the text between the target's start and the target's
+    /// end, from the lesser on; the reply's value is its length.
+    pub fn get_target_text(&self) -> Result<Vec<u8>, Refusal> {
+        self.read(sys::SCI_GETTARGETTEXT, 0, 0)
+    }
+    // Written by tools/pages/wrappers.py: end questions
+}
+
+/// All other messages, and the texts of questions without a copy.
+impl ViewMut<'_> {
+    // Written by tools/pages/wrappers.py: begin messages
     /// SCI_ADDTEXT, 2001. Inserts `text` at the caret; then anchor and caret stand after it,
     /// for an empty `text` too.
     pub fn add_text(&mut self, text: impl AsRef<[u8]>) -> Result<(), Refusal> {
@@ -28,33 +366,6 @@ impl View<'_> {
     /// SCI_CLEARALL, 2004. Deletes the whole text.
     pub fn clear_all(&mut self) -> Result<(), Refusal> {
         self.as_done(sys::SCI_CLEARALL, 0, 0, &[])
-    }
-
-    /// SCI_GETLENGTH, 2006. Returns the text's length.
-    pub fn get_length(&self) -> Result<i64, Refusal> {
-        self.as_number(sys::SCI_GETLENGTH, 0, 0, &[])
-    }
-
-    /// SCI_GETCHARAT, 2007. Returns the byte at `position`, 0 to 255; 0 outside 0..n-1. Here n
-    /// is the text's length.
-    pub fn get_char_at(&self, position: i64) -> Result<i64, Refusal> {
-        self.as_number(sys::SCI_GETCHARAT, position, 0, &[])
-    }
-
-    /// SCI_GETCURRENTPOS, 2008. Returns the caret.
-    pub fn get_current_pos(&self) -> Result<i64, Refusal> {
-        self.as_number(sys::SCI_GETCURRENTPOS, 0, 0, &[])
-    }
-
-    /// SCI_GETANCHOR, 2009. Returns the anchor.
-    pub fn get_anchor(&self) -> Result<i64, Refusal> {
-        self.as_number(sys::SCI_GETANCHOR, 0, 0, &[])
-    }
-
-    /// SCI_GETSTYLEAT, 2010. Returns the style of the byte at `position`; 0 outside 0..n-1.
-    /// Here n is the text's length.
-    pub fn get_style_at(&self, position: i64) -> Result<i64, Refusal> {
-        self.as_number(sys::SCI_GETSTYLEAT, position, 0, &[])
     }
 
     /// SCI_REDO, 2011. Performs the next transaction again; does nothing inside a group or if
@@ -79,32 +390,14 @@ impl View<'_> {
         self.as_done(sys::SCI_SETSAVEPOINT, 0, 0, &[])
     }
 
-    /// SCI_GETSTYLEDTEXT, 2015. `start` lies in 0..n, and `end` in `start`..n or is -1 for the
-    /// end of the text. Returns byte, style, byte, style and so on; the reply's value is
-    /// 2(`end`-`start`). Here n is the text's length.
-    pub fn get_styled_text(&mut self, start: i64, end: i64) -> Result<&[u8], Refusal> {
-        self.as_lent(sys::SCI_GETSTYLEDTEXT, start, end, &[])
-    }
-
-    /// SCI_CANREDO, 2016. Returns whether no group is open, the document is not read-only and
-    /// the future is not empty.
-    pub fn can_redo(&self) -> Result<bool, Refusal> {
-        self.as_flag(sys::SCI_CANREDO, 0, 0, &[])
-    }
-
-    /// SCI_MARKERLINEFROMHANDLE, 2017. Returns the line of `handle`, else -1.
-    pub fn marker_line_from_handle(&self, handle: i64) -> Result<i64, Refusal> {
-        self.as_number(sys::SCI_MARKERLINEFROMHANDLE, handle, 0, &[])
+    /// As [`get_styled_text`](View::get_styled_text), lent and not copied.
+    pub fn lend_styled_text(&mut self, start: i64, end: i64) -> Result<&[u8], Refusal> {
+        self.lend(sys::SCI_GETSTYLEDTEXT, start, end)
     }
 
     /// SCI_MARKERDELETEHANDLE, 2018. Removes the marker with `handle`, if there is one.
     pub fn marker_delete_handle(&mut self, handle: i64) -> Result<(), Refusal> {
         self.as_done(sys::SCI_MARKERDELETEHANDLE, handle, 0, &[])
-    }
-
-    /// SCI_GETUNDOCOLLECTION, 2019. Returns whether undo is collected.
-    pub fn get_undo_collection(&self) -> Result<bool, Refusal> {
-        self.as_flag(sys::SCI_GETUNDOCOLLECTION, 0, 0, &[])
     }
 
     /// SCI_GOTOLINE, 2024. Anchor and caret go to the start of `line`, brought into 0..L-1.
@@ -125,26 +418,15 @@ impl View<'_> {
         self.as_done(sys::SCI_SETANCHOR, position, 0, &[])
     }
 
-    /// SCI_GETCURLINE, 2027. Returns the line of the caret with its end; the reply's value is
-    /// the caret less the line's start.
-    pub fn get_cur_line(&mut self) -> Result<&[u8], Refusal> {
-        self.as_lent(sys::SCI_GETCURLINE, 0, 0, &[])
-    }
-
-    /// SCI_GETENDSTYLED, 2028. Returns end styled.
-    pub fn get_end_styled(&self) -> Result<i64, Refusal> {
-        self.as_number(sys::SCI_GETENDSTYLED, 0, 0, &[])
+    /// As [`get_cur_line`](View::get_cur_line), lent and not copied.
+    pub fn lend_cur_line(&mut self) -> Result<&[u8], Refusal> {
+        self.lend(sys::SCI_GETCURLINE, 0, 0)
     }
 
     /// SCI_CONVERTEOLS, 2029. `mode` in 0..2. Turns each CRLF, CR and LF into that line end;
     /// Unicode line ends and the mode stay.
     pub fn convert_eols(&mut self, mode: i64) -> Result<(), Refusal> {
         self.as_done(sys::SCI_CONVERTEOLS, mode, 0, &[])
-    }
-
-    /// SCI_GETEOLMODE, 2030. Returns the line end that NEWLINE and PASTE insert.
-    pub fn get_eol_mode(&self) -> Result<i64, Refusal> {
-        self.as_number(sys::SCI_GETEOLMODE, 0, 0, &[])
     }
 
     /// SCI_SETEOLMODE, 2031. `mode` in 0..2: SC_EOL_CRLF 0, SC_EOL_CR 1, SC_EOL_LF 2.
@@ -169,7 +451,7 @@ impl View<'_> {
     /// list; returns its handle; bad line -1; TooMany if handles are used up. Here a bad line
     /// is one that is not there.
     pub fn marker_add(&mut self, line: i64, number: i64) -> Result<i64, Refusal> {
-        self.as_number(sys::SCI_MARKERADD, line, number, &[])
+        self.send(sys::SCI_MARKERADD, line, number, &[])
     }
 
     /// SCI_MARKERDELETE, 2044. `number` in -1..31. Removes the first copy of `number` on
@@ -181,24 +463,6 @@ impl View<'_> {
     /// SCI_MARKERDELETEALL, 2045. `number` in -1..31. Removes all of number `number`; -1: all.
     pub fn marker_delete_all(&mut self, number: i64) -> Result<(), Refusal> {
         self.as_done(sys::SCI_MARKERDELETEALL, number, 0, &[])
-    }
-
-    /// SCI_MARKERGET, 2046. Returns the mask of `line`, bit k for number k; bad line 0. Here a
-    /// bad line is one that is not there.
-    pub fn marker_get(&self, line: i64) -> Result<i64, Refusal> {
-        self.as_number(sys::SCI_MARKERGET, line, 0, &[])
-    }
-
-    /// SCI_MARKERNEXT, 2047. Returns the least line from `line` on whose mask meets the low 32
-    /// bits of `mask`, else -1.
-    pub fn marker_next(&self, line: i64, mask: i64) -> Result<i64, Refusal> {
-        self.as_number(sys::SCI_MARKERNEXT, line, mask, &[])
-    }
-
-    /// SCI_MARKERPREVIOUS, 2048. Returns the greatest line up to `line` whose mask meets the
-    /// low 32 bits of `mask`, else -1.
-    pub fn marker_previous(&self, line: i64, mask: i64) -> Result<i64, Refusal> {
-        self.as_number(sys::SCI_MARKERPREVIOUS, line, mask, &[])
     }
 
     /// SCI_SETSTYLINGEX, 2073. Styles as many bytes as `styles` has, from end styled on, with
@@ -224,23 +488,6 @@ impl View<'_> {
         self.as_done(sys::SCI_SETLINESTATE, line, state, &[])
     }
 
-    /// SCI_GETLINESTATE, 2093. Returns the state of `line`; bad line 0. Here a bad line is one
-    /// that is not there.
-    pub fn get_line_state(&self, line: i64) -> Result<i64, Refusal> {
-        self.as_number(sys::SCI_GETLINESTATE, line, 0, &[])
-    }
-
-    /// SCI_GETLINEENDPOSITION, 2136. Returns where the end of `line` begins; the text's length
-    /// from the last line on; -1 below 0.
-    pub fn get_line_end_position(&self, line: i64) -> Result<i64, Refusal> {
-        self.as_number(sys::SCI_GETLINEENDPOSITION, line, 0, &[])
-    }
-
-    /// SCI_GETREADONLY, 2140. Returns whether the document is read-only.
-    pub fn get_read_only(&self) -> Result<bool, Refusal> {
-        self.as_flag(sys::SCI_GETREADONLY, 0, 0, &[])
-    }
-
     /// SCI_SETCURRENTPOS, 2141. The caret goes to `position`, clamped. Here clamped means
     /// brought into 0..n, n the text's length.
     pub fn set_current_pos(&mut self, position: i64) -> Result<(), Refusal> {
@@ -254,11 +501,6 @@ impl View<'_> {
         self.as_done(sys::SCI_SETSELECTIONSTART, position, 0, &[])
     }
 
-    /// SCI_GETSELECTIONSTART, 2143. Returns the selection's start.
-    pub fn get_selection_start(&self) -> Result<i64, Refusal> {
-        self.as_number(sys::SCI_GETSELECTIONSTART, 0, 0, &[])
-    }
-
     /// SCI_SETSELECTIONEND, 2144. P is `position`, clamped: the caret goes to p, and the anchor
     /// goes to the lesser of p and the anchor. Here clamped means brought into 0..n, n the
     /// text's length.
@@ -266,25 +508,9 @@ impl View<'_> {
         self.as_done(sys::SCI_SETSELECTIONEND, position, 0, &[])
     }
 
-    /// SCI_GETSELECTIONEND, 2145. Returns the selection's end.
-    pub fn get_selection_end(&self) -> Result<i64, Refusal> {
-        self.as_number(sys::SCI_GETSELECTIONEND, 0, 0, &[])
-    }
-
-    /// SCI_GETLINE, 2153. Returns `line` with its end; the reply's value is its length; of a
-    /// bad line an empty text. Here a bad line is one that is not there.
-    pub fn get_line(&mut self, line: i64) -> Result<&[u8], Refusal> {
-        self.as_lent(sys::SCI_GETLINE, line, 0, &[])
-    }
-
-    /// SCI_GETLINECOUNT, 2154. Returns the number of lines.
-    pub fn get_line_count(&self) -> Result<i64, Refusal> {
-        self.as_number(sys::SCI_GETLINECOUNT, 0, 0, &[])
-    }
-
-    /// SCI_GETMODIFY, 2159. Returns whether the document is not at its save point.
-    pub fn get_modify(&self) -> Result<bool, Refusal> {
-        self.as_flag(sys::SCI_GETMODIFY, 0, 0, &[])
+    /// As [`get_line`](View::get_line), lent and not copied.
+    pub fn lend_line(&mut self, line: i64) -> Result<&[u8], Refusal> {
+        self.lend(sys::SCI_GETLINE, line, 0)
     }
 
     /// SCI_SETSEL, 2160. The caret goes to the text's length for `caret` below 0, else `caret`
@@ -294,28 +520,14 @@ impl View<'_> {
         self.as_done(sys::SCI_SETSEL, anchor, caret, &[])
     }
 
-    /// SCI_GETSELTEXT, 2161. Returns the selection; the reply's value is its length.
-    pub fn get_sel_text(&mut self) -> Result<&[u8], Refusal> {
-        self.as_lent(sys::SCI_GETSELTEXT, 0, 0, &[])
+    /// As [`get_sel_text`](View::get_sel_text), lent and not copied.
+    pub fn lend_sel_text(&mut self) -> Result<&[u8], Refusal> {
+        self.lend(sys::SCI_GETSELTEXT, 0, 0)
     }
 
-    /// SCI_GETTEXTRANGE, 2162. `start` lies in 0..n, and `end` in `start`..n or is -1 for the
-    /// end of the text. Returns [`start`, `end`); the reply's value is `end`-`start`. Here n is
-    /// the text's length.
-    pub fn get_text_range(&mut self, start: i64, end: i64) -> Result<&[u8], Refusal> {
-        self.as_lent(sys::SCI_GETTEXTRANGE, start, end, &[])
-    }
-
-    /// SCI_LINEFROMPOSITION, 2166. Returns the line of `position`, clamped. Here clamped means
-    /// brought into 0..n, n the text's length.
-    pub fn line_from_position(&self, position: i64) -> Result<i64, Refusal> {
-        self.as_number(sys::SCI_LINEFROMPOSITION, position, 0, &[])
-    }
-
-    /// SCI_POSITIONFROMLINE, 2167. Returns the start of `line`; below 0 that of the line of the
-    /// selection's start; the text's length for `line` = the number of lines; -1 beyond.
-    pub fn position_from_line(&self, line: i64) -> Result<i64, Refusal> {
-        self.as_number(sys::SCI_POSITIONFROMLINE, line, 0, &[])
+    /// As [`get_text_range`](View::get_text_range), lent and not copied.
+    pub fn lend_text_range(&mut self, start: i64, end: i64) -> Result<&[u8], Refusal> {
+        self.lend(sys::SCI_GETTEXTRANGE, start, end)
     }
 
     /// SCI_REPLACESEL, 2170. Replaces the selection by `text`; anchor and caret stand after
@@ -327,17 +539,6 @@ impl View<'_> {
     /// SCI_SETREADONLY, 2171. `on`: the document is read-only.
     pub fn set_read_only(&mut self, on: bool) -> Result<(), Refusal> {
         self.as_done(sys::SCI_SETREADONLY, i64::from(on), 0, &[])
-    }
-
-    /// SCI_CANPASTE, 2173. Returns whether the document is not read-only.
-    pub fn can_paste(&self) -> Result<bool, Refusal> {
-        self.as_flag(sys::SCI_CANPASTE, 0, 0, &[])
-    }
-
-    /// SCI_CANUNDO, 2174. Returns whether no group is open, the document is not read-only and
-    /// the past is not empty.
-    pub fn can_undo(&self) -> Result<bool, Refusal> {
-        self.as_flag(sys::SCI_CANUNDO, 0, 0, &[])
     }
 
     /// SCI_EMPTYUNDOBUFFER, 2175. Forgets the history and ends groups; makes the current state
@@ -381,14 +582,9 @@ impl View<'_> {
         self.as_done(sys::SCI_SETTEXT, 0, 0, text.as_ref())
     }
 
-    /// SCI_GETTEXT, 2182. Returns the whole text; the reply's value is the text's length.
-    pub fn get_text(&mut self) -> Result<&[u8], Refusal> {
-        self.as_lent(sys::SCI_GETTEXT, 0, 0, &[])
-    }
-
-    /// SCI_GETTEXTLENGTH, 2183. Returns the text's length.
-    pub fn get_text_length(&self) -> Result<i64, Refusal> {
-        self.as_number(sys::SCI_GETTEXTLENGTH, 0, 0, &[])
+    /// As [`get_text`](View::get_text), lent and not copied.
+    pub fn lend_text(&mut self) -> Result<&[u8], Refusal> {
+        self.lend(sys::SCI_GETTEXT, 0, 0)
     }
 
     /// SCI_SETTARGETSTART, 2190. The target's start goes to `position`, clamped. Here clamped
@@ -397,20 +593,10 @@ impl View<'_> {
         self.as_done(sys::SCI_SETTARGETSTART, position, 0, &[])
     }
 
-    /// SCI_GETTARGETSTART, 2191. Returns the target's start.
-    pub fn get_target_start(&self) -> Result<i64, Refusal> {
-        self.as_number(sys::SCI_GETTARGETSTART, 0, 0, &[])
-    }
-
     /// SCI_SETTARGETEND, 2192. The target's end goes to `position`, clamped. Here clamped means
     /// brought into 0..n, n the text's length.
     pub fn set_target_end(&mut self, position: i64) -> Result<(), Refusal> {
         self.as_done(sys::SCI_SETTARGETEND, position, 0, &[])
-    }
-
-    /// SCI_GETTARGETEND, 2193. Returns the target's end.
-    pub fn get_target_end(&self) -> Result<i64, Refusal> {
-        self.as_number(sys::SCI_GETTARGETEND, 0, 0, &[])
     }
 
     /// SCI_REPLACETARGET, 2194. Replaces the target by `text`; the target's start is then where
@@ -418,7 +604,7 @@ impl View<'_> {
     /// read-only document, whose target stays.
     pub fn replace_target(&mut self, text: impl AsRef<[u8]>) -> Result<i64, Refusal> {
         let text = text.as_ref();
-        self.as_number(sys::SCI_REPLACETARGET, length_of(text), 0, text)
+        self.send(sys::SCI_REPLACETARGET, length_of(text), 0, text)
     }
 
     /// SCI_SEARCHINTARGET, 2197. Looks for `text` between the target's start and the target's
@@ -427,7 +613,7 @@ impl View<'_> {
     /// backwards too; returns its start. If there is none: -1, and the target stays.
     pub fn search_in_target(&mut self, text: impl AsRef<[u8]>) -> Result<i64, Refusal> {
         let text = text.as_ref();
-        self.as_number(sys::SCI_SEARCHINTARGET, length_of(text), 0, text)
+        self.send(sys::SCI_SEARCHINTARGET, length_of(text), 0, text)
     }
 
     /// SCI_SETSEARCHFLAGS, 2198. `flags` is made of SCFIND_WHOLEWORD 0x2, SCFIND_MATCHCASE 0x4
@@ -436,46 +622,9 @@ impl View<'_> {
         self.as_done(sys::SCI_SETSEARCHFLAGS, flags, 0, &[])
     }
 
-    /// SCI_GETSEARCHFLAGS, 2199. Returns the flags.
-    pub fn get_search_flags(&self) -> Result<i64, Refusal> {
-        self.as_number(sys::SCI_GETSEARCHFLAGS, 0, 0, &[])
-    }
-
-    /// SCI_VISIBLEFROMDOCLINE, 2220. Returns the display line of `line`; for a hidden one that
-    /// of the last visible line before it; bad line -1. Here a bad line is one that is not
-    /// there.
-    pub fn visible_from_doc_line(&self, line: i64) -> Result<i64, Refusal> {
-        self.as_number(sys::SCI_VISIBLEFROMDOCLINE, line, 0, &[])
-    }
-
-    /// SCI_DOCLINEFROMVISIBLE, 2221. Returns the line shown at `display_line`; 0 up to 0; the
-    /// number of lines past the last.
-    pub fn doc_line_from_visible(&self, display_line: i64) -> Result<i64, Refusal> {
-        self.as_number(sys::SCI_DOCLINEFROMVISIBLE, display_line, 0, &[])
-    }
-
     /// SCI_SETFOLDLEVEL, 2222. `level` in 0..2^31-1. Sets the level of `line`.
     pub fn set_fold_level(&mut self, line: i64, level: i64) -> Result<(), Refusal> {
         self.as_done(sys::SCI_SETFOLDLEVEL, line, level, &[])
-    }
-
-    /// SCI_GETFOLDLEVEL, 2223. Returns the level of `line`; bad line 1024 (SC_FOLDLEVELBASE).
-    /// Here a bad line is one that is not there.
-    pub fn get_fold_level(&self, line: i64) -> Result<i64, Refusal> {
-        self.as_number(sys::SCI_GETFOLDLEVEL, line, 0, &[])
-    }
-
-    /// SCI_GETLASTCHILD, 2224. `level` in -1..2^31-1; returns the last child of `line`, by its
-    /// own number for `level` = -1, else by `level`'s low 12 bits; bad line -1. Here a bad line
-    /// is one that is not there.
-    pub fn get_last_child(&self, line: i64, level: i64) -> Result<i64, Refusal> {
-        self.as_number(sys::SCI_GETLASTCHILD, line, level, &[])
-    }
-
-    /// SCI_GETFOLDPARENT, 2225. Returns the fold parent of `line`; none, or bad line: -1. Here
-    /// a bad line is one that is not there.
-    pub fn get_fold_parent(&self, line: i64) -> Result<i64, Refusal> {
-        self.as_number(sys::SCI_GETFOLDPARENT, line, 0, &[])
     }
 
     /// SCI_SHOWLINES, 2226. Shows each existing line from `first` to `last`.
@@ -488,22 +637,10 @@ impl View<'_> {
         self.as_done(sys::SCI_HIDELINES, first, last, &[])
     }
 
-    /// SCI_GETLINEVISIBLE, 2228. Returns whether `line` is visible; bad line false. Here a bad
-    /// line is one that is not there.
-    pub fn get_line_visible(&self, line: i64) -> Result<bool, Refusal> {
-        self.as_flag(sys::SCI_GETLINEVISIBLE, line, 0, &[])
-    }
-
     /// SCI_SETFOLDEXPANDED, 2229. Sets the expanded flag of `line` alone; nothing is shown or
     /// hidden.
     pub fn set_fold_expanded(&mut self, line: i64, on: bool) -> Result<(), Refusal> {
         self.as_done(sys::SCI_SETFOLDEXPANDED, line, i64::from(on), &[])
-    }
-
-    /// SCI_GETFOLDEXPANDED, 2230. Returns whether `line` is expanded; bad line false. Here a
-    /// bad line is one that is not there.
-    pub fn get_fold_expanded(&self, line: i64) -> Result<bool, Refusal> {
-        self.as_flag(sys::SCI_GETFOLDEXPANDED, line, 0, &[])
     }
 
     /// SCI_TOGGLEFOLD, 2231. Like FOLDLINE with toggle.
@@ -516,11 +653,6 @@ impl View<'_> {
     /// visible line it does nothing.
     pub fn ensure_visible(&mut self, line: i64) -> Result<(), Refusal> {
         self.as_done(sys::SCI_ENSUREVISIBLE, line, 0, &[])
-    }
-
-    /// SCI_GETALLLINESVISIBLE, 2236. Returns whether all lines are visible.
-    pub fn get_all_lines_visible(&self) -> Result<bool, Refusal> {
-        self.as_flag(sys::SCI_GETALLLINESVISIBLE, 0, 0, &[])
     }
 
     /// SCI_FOLDLINE, 2237. `action` in 0..2: SC_FOLDACTION_CONTRACT 0, SC_FOLDACTION_EXPAND 1,
@@ -620,24 +752,13 @@ impl View<'_> {
         self.as_done(sys::SCI_NEWLINE, 0, 0, &[])
     }
 
-    /// SCI_LINELENGTH, 2350. Returns the length of `line` with its end; bad line 0. Here a bad
-    /// line is one that is not there.
-    pub fn line_length(&self, line: i64) -> Result<i64, Refusal> {
-        self.as_number(sys::SCI_LINELENGTH, line, 0, &[])
-    }
-
-    /// SCI_GETDOCPOINTER, 2357. Returns the id of the view's document.
-    pub fn get_doc_pointer(&self) -> Result<i64, Refusal> {
-        self.as_number(sys::SCI_GETDOCPOINTER, 0, 0, &[])
-    }
-
     /// SCI_SETDOCPOINTER, 2358. `document` = 0: a new document (TooMany); else `document` names
     /// one (NoSuchDocument; TooMany at the limit of references). That document gains a
     /// reference, then the old one loses one; the view is attached last, with the anchor, the
     /// caret, the target's start and the target's end 0 and all lines visible and expanded. The
     /// same holds for the view's own document.
-    pub fn set_doc_pointer(&mut self, document: i64) -> Result<(), Refusal> {
-        self.as_done(sys::SCI_SETDOCPOINTER, 0, document, &[])
+    pub fn set_doc_pointer(&mut self, document: impl Into<Option<DocumentId>>) -> Result<(), Refusal> {
+        self.as_done(sys::SCI_SETDOCPOINTER, 0, document.into().map_or(0, i64::from), &[])
     }
 
     /// SCI_SETMODEVENTMASK, 2359. `mask` in 0..0x7FFFFF (SC_MODEVENTMASKALL): the kinds of
@@ -650,43 +771,19 @@ impl View<'_> {
     /// of SC_DOCUMENTOPTION_STYLES_NONE 1 and SC_DOCUMENTOPTION_TEXT_LARGE 256, else
     /// BadArgument; returns the id of a new document with these options, held once by the
     /// caller. TooMany if ids are used up.
-    pub fn create_document(&mut self, bytes: i64, options: i64) -> Result<i64, Refusal> {
-        self.as_number(sys::SCI_CREATEDOCUMENT, bytes, options, &[])
+    pub fn create_document(&mut self, bytes: i64, options: i64) -> Result<DocumentId, Refusal> {
+        self.as_document(sys::SCI_CREATEDOCUMENT, bytes, options, &[])
     }
 
     /// SCI_ADDREFDOCUMENT, 2376. `document` is held once more; NoSuchDocument, TooMany.
-    pub fn add_ref_document(&mut self, document: i64) -> Result<(), Refusal> {
-        self.as_done(sys::SCI_ADDREFDOCUMENT, 0, document, &[])
+    pub fn add_ref_document(&mut self, document: DocumentId) -> Result<(), Refusal> {
+        self.as_done(sys::SCI_ADDREFDOCUMENT, 0, document.into(), &[])
     }
 
     /// SCI_RELEASEDOCUMENT, 2377. `document` is held once less; NoSuchDocument, also if no
     /// caller holds it.
-    pub fn release_document(&mut self, document: i64) -> Result<(), Refusal> {
-        self.as_done(sys::SCI_RELEASEDOCUMENT, 0, document, &[])
-    }
-
-    /// SCI_GETMODEVENTMASK, 2378. Returns the mask.
-    pub fn get_mod_event_mask(&self) -> Result<i64, Refusal> {
-        self.as_number(sys::SCI_GETMODEVENTMASK, 0, 0, &[])
-    }
-
-    /// SCI_GETDOCUMENTOPTIONS, 2379. Returns the options of the view's document.
-    pub fn get_document_options(&self) -> Result<i64, Refusal> {
-        self.as_number(sys::SCI_GETDOCUMENTOPTIONS, 0, 0, &[])
-    }
-
-    /// SCI_POSITIONBEFORE, 2417. Returns the greatest cut below `position` (clamped), or 0.
-    /// Here clamped means brought into 0..n, n the text's length; a cut is a place between two
-    /// characters.
-    pub fn position_before(&self, position: i64) -> Result<i64, Refusal> {
-        self.as_number(sys::SCI_POSITIONBEFORE, position, 0, &[])
-    }
-
-    /// SCI_POSITIONAFTER, 2418. Returns the least cut above `position` (clamped), or the text's
-    /// length. Here clamped means brought into 0..n, n the text's length; a cut is a place
-    /// between two characters.
-    pub fn position_after(&self, position: i64) -> Result<i64, Refusal> {
-        self.as_number(sys::SCI_POSITIONAFTER, position, 0, &[])
+    pub fn release_document(&mut self, document: DocumentId) -> Result<(), Refusal> {
+        self.as_done(sys::SCI_RELEASEDOCUMENT, 0, document.into(), &[])
     }
 
     /// SCI_COPYRANGE, 2419. `start` lies in 0..n, and `end` in `start`..n or is -1 for the end
@@ -714,30 +811,15 @@ impl View<'_> {
         self.as_done(sys::SCI_SETPASTECONVERTENDINGS, i64::from(on), 0, &[])
     }
 
-    /// SCI_GETPASTECONVERTENDINGS, 2468. Returns whether this view converts what it pastes.
-    pub fn get_paste_convert_endings(&self) -> Result<bool, Refusal> {
-        self.as_flag(sys::SCI_GETPASTECONVERTENDINGS, 0, 0, &[])
-    }
-
     /// SCI_SETINDICATORCURRENT, 2500. `number` in 0..31: the view's current indicator.
     pub fn set_indicator_current(&mut self, number: i64) -> Result<(), Refusal> {
         self.as_done(sys::SCI_SETINDICATORCURRENT, number, 0, &[])
-    }
-
-    /// SCI_GETINDICATORCURRENT, 2501. Returns the view's current indicator.
-    pub fn get_indicator_current(&self) -> Result<i64, Refusal> {
-        self.as_number(sys::SCI_GETINDICATORCURRENT, 0, 0, &[])
     }
 
     /// SCI_SETINDICATORVALUE, 2502. `value` in 0..2^31-1, 0 meaning 1: the value that this view
     /// fills in.
     pub fn set_indicator_value(&mut self, value: i64) -> Result<(), Refusal> {
         self.as_done(sys::SCI_SETINDICATORVALUE, value, 0, &[])
-    }
-
-    /// SCI_GETINDICATORVALUE, 2503. Returns the value that this view fills in.
-    pub fn get_indicator_value(&self) -> Result<i64, Refusal> {
-        self.as_number(sys::SCI_GETINDICATORVALUE, 0, 0, &[])
     }
 
     /// SCI_INDICATORFILLRANGE, 2504. `start` in 0..n, `length` in 0..n-`start`. Gives the
@@ -752,30 +834,6 @@ impl View<'_> {
     /// length.
     pub fn indicator_clear_range(&mut self, start: i64, length: i64) -> Result<(), Refusal> {
         self.as_done(sys::SCI_INDICATORCLEARRANGE, start, length, &[])
-    }
-
-    /// SCI_INDICATORALLONFOR, 2506. Returns bit k for each indicator k that is not 0 at
-    /// `position`; 0 outside 0..n-1. Here n is the text's length.
-    pub fn indicator_all_on_for(&self, position: i64) -> Result<i64, Refusal> {
-        self.as_number(sys::SCI_INDICATORALLONFOR, position, 0, &[])
-    }
-
-    /// SCI_INDICATORVALUEAT, 2507. `number` in 0..31; returns its value at `position`; 0
-    /// outside 0..n-1. Here n is the text's length.
-    pub fn indicator_value_at(&self, number: i64, position: i64) -> Result<i64, Refusal> {
-        self.as_number(sys::SCI_INDICATORVALUEAT, number, position, &[])
-    }
-
-    /// SCI_INDICATORSTART, 2508. `number` in 0..31; returns where the longest run of one value
-    /// that holds `position` starts; 0 outside 0..n-1. Here n is the text's length.
-    pub fn indicator_start(&self, number: i64, position: i64) -> Result<i64, Refusal> {
-        self.as_number(sys::SCI_INDICATORSTART, number, position, &[])
-    }
-
-    /// SCI_INDICATOREND, 2509. `number` in 0..31; returns the place just after the longest run
-    /// of one value that holds `position`; 0 outside 0..n-1. Here n is the text's length.
-    pub fn indicator_end(&self, number: i64, position: i64) -> Result<i64, Refusal> {
-        self.as_number(sys::SCI_INDICATOREND, number, position, &[])
     }
 
     /// SCI_SETEMPTYSELECTION, 2556. Anchor and caret go to `position`, clamped. Here clamped
@@ -797,28 +855,11 @@ impl View<'_> {
         self.as_done(sys::SCI_DELETERANGE, start, length, &[])
     }
 
-    /// SCI_GETSELECTIONEMPTY, 2650. Returns whether anchor and caret are at one place.
-    pub fn get_selection_empty(&self) -> Result<bool, Refusal> {
-        self.as_flag(sys::SCI_GETSELECTIONEMPTY, 0, 0, &[])
-    }
-
     /// SCI_SETLINEENDTYPESALLOWED, 2656. `types` in 0..1: SC_LINE_END_TYPE_DEFAULT 0,
     /// SC_LINE_END_TYPE_UNICODE 1, for the document, also a read-only one. Rows and the flags
     /// of every view go to the lines that contain their starts.
     pub fn set_line_end_types_allowed(&mut self, types: i64) -> Result<(), Refusal> {
         self.as_done(sys::SCI_SETLINEENDTYPESALLOWED, types, 0, &[])
-    }
-
-    /// SCI_GETLINEENDTYPESALLOWED, 2657. Returns the types of line ends that the document
-    /// allows.
-    pub fn get_line_end_types_allowed(&self) -> Result<i64, Refusal> {
-        self.as_number(sys::SCI_GETLINEENDTYPESALLOWED, 0, 0, &[])
-    }
-
-    /// SCI_GETLINEENDTYPESACTIVE, 2658. Returns the types of line ends that are active: those
-    /// that the document allows.
-    pub fn get_line_end_types_active(&self) -> Result<i64, Refusal> {
-        self.as_number(sys::SCI_GETLINEENDTYPESACTIVE, 0, 0, &[])
     }
 
     /// SCI_SETTARGETRANGE, 2686. The target's start goes to `start`, the target's end goes to
@@ -827,10 +868,9 @@ impl View<'_> {
         self.as_done(sys::SCI_SETTARGETRANGE, start, end, &[])
     }
 
-    /// SCI_GETTARGETTEXT, 2687. Returns the text between the target's start and the target's
-    /// end, from the lesser on; the reply's value is its length.
-    pub fn get_target_text(&mut self) -> Result<&[u8], Refusal> {
-        self.as_lent(sys::SCI_GETTARGETTEXT, 0, 0, &[])
+    /// As [`get_target_text`](View::get_target_text), lent and not copied.
+    pub fn lend_target_text(&mut self) -> Result<&[u8], Refusal> {
+        self.lend(sys::SCI_GETTARGETTEXT, 0, 0)
     }
 
     /// SCI_TARGETWHOLEDOCUMENT, 2690. The target's start goes to 0, the target's end goes to
@@ -855,5 +895,5 @@ impl View<'_> {
     pub fn colourise(&mut self, start: i64, end: i64) -> Result<(), Refusal> {
         self.as_done(sys::SCI_COLOURISE, start, end, &[])
     }
-    // Written by tools/pages/wrappers.py: end
+    // Written by tools/pages/wrappers.py: end messages
 }
