@@ -9,14 +9,19 @@ from . import constants
 Text = Union[bytes, bytearray, memoryview, str]
 
 
-def as_bytes(text: Text) -> bytes:
-    """The bytes of a text that is sent. Raises TypeError where it is no text: bytes() would make NULs of a number, and bytes of a list."""
+def as_bytes(text: Text) -> bytes | memoryview:
+    """The bytes of a text that is sent, without a copy if it is bytes-like and contiguous. Raises TypeError if it is no text: bytes() would make NULs of
+    a number, and bytes of a list.
+    """
+    if isinstance(text, bytes):
+        return text
     if isinstance(text, str):
         return text.encode()
     try:
-        return memoryview(text).tobytes()
+        view = memoryview(text)
     except TypeError:
         raise TypeError(f"a text is a str or a bytes-like object, and not {type(text).__name__}") from None
+    return view.cast("B") if view.nbytes and view.c_contiguous else view.tobytes()
 
 
 class Messages:
@@ -26,11 +31,15 @@ class Messages:
     """
 
     def send(self, number: int, w: int = 0, l: int = 0, text: Text = b"") -> int:
-        """Sends any message, and returns its value. The message table says what w, l and the text stand for."""
+        """Sends any message, and returns its value. The message table says what w, l and the text mean."""
         raise NotImplementedError
 
-    def text(self) -> bytes:
-        """The text that the last message handed out."""
+    def ask(self, number: int, w: int = 0, l: int = 0) -> int:
+        """Asks any question, and returns its value."""
+        raise NotImplementedError
+
+    def read(self, number: int, w: int = 0, l: int = 0) -> bytes:
+        """Asks any question that returns a text, and returns that."""
         raise NotImplementedError
 
     # Written by tools/pages/wrappers.py: begin
@@ -53,27 +62,27 @@ class Messages:
 
     def get_length(self) -> int:
         """SCI_GETLENGTH, 2006. Returns the text's length."""
-        return self.send(constants.SCI_GETLENGTH)
+        return self.ask(constants.SCI_GETLENGTH)
 
     def get_char_at(self, position: int) -> int:
         """SCI_GETCHARAT, 2007. Returns the byte at `position`, 0 to 255; 0 outside 0..n-1. Here n is the text's
         length.
         """
-        return self.send(constants.SCI_GETCHARAT, position)
+        return self.ask(constants.SCI_GETCHARAT, position)
 
     def get_current_pos(self) -> int:
         """SCI_GETCURRENTPOS, 2008. Returns the caret."""
-        return self.send(constants.SCI_GETCURRENTPOS)
+        return self.ask(constants.SCI_GETCURRENTPOS)
 
     def get_anchor(self) -> int:
         """SCI_GETANCHOR, 2009. Returns the anchor."""
-        return self.send(constants.SCI_GETANCHOR)
+        return self.ask(constants.SCI_GETANCHOR)
 
     def get_style_at(self, position: int) -> int:
         """SCI_GETSTYLEAT, 2010. Returns the style of the byte at `position`; 0 outside 0..n-1. Here n is the
         text's length.
         """
-        return self.send(constants.SCI_GETSTYLEAT, position)
+        return self.ask(constants.SCI_GETSTYLEAT, position)
 
     def redo(self) -> None:
         """SCI_REDO, 2011. Performs the next transaction again; does nothing inside a group or if the future is
@@ -100,18 +109,17 @@ class Messages:
         Returns byte, style, byte, style and so on; the reply's value is 2(`end`-`start`). Here n is the text's
         length.
         """
-        self.send(constants.SCI_GETSTYLEDTEXT, start, end)
-        return self.text()
+        return self.read(constants.SCI_GETSTYLEDTEXT, start, end)
 
     def can_redo(self) -> bool:
         """SCI_CANREDO, 2016. Returns whether no group is open, the document is not read-only and the future is not
         empty.
         """
-        return self.send(constants.SCI_CANREDO) != 0
+        return self.ask(constants.SCI_CANREDO) != 0
 
     def marker_line_from_handle(self, handle: int) -> int:
         """SCI_MARKERLINEFROMHANDLE, 2017. Returns the line of `handle`, else -1."""
-        return self.send(constants.SCI_MARKERLINEFROMHANDLE, handle)
+        return self.ask(constants.SCI_MARKERLINEFROMHANDLE, handle)
 
     def marker_delete_handle(self, handle: int) -> None:
         """SCI_MARKERDELETEHANDLE, 2018. Removes the marker with `handle`, if there is one."""
@@ -119,7 +127,7 @@ class Messages:
 
     def get_undo_collection(self) -> bool:
         """SCI_GETUNDOCOLLECTION, 2019. Returns whether undo is collected."""
-        return self.send(constants.SCI_GETUNDOCOLLECTION) != 0
+        return self.ask(constants.SCI_GETUNDOCOLLECTION) != 0
 
     def goto_line(self, line: int) -> None:
         """SCI_GOTOLINE, 2024. Anchor and caret go to the start of `line`, brought into 0..L-1. Here L is the
@@ -143,12 +151,11 @@ class Messages:
         """SCI_GETCURLINE, 2027. Returns the line of the caret with its end; the reply's value is the caret less
         the line's start.
         """
-        self.send(constants.SCI_GETCURLINE)
-        return self.text()
+        return self.read(constants.SCI_GETCURLINE)
 
     def get_end_styled(self) -> int:
         """SCI_GETENDSTYLED, 2028. Returns end styled."""
-        return self.send(constants.SCI_GETENDSTYLED)
+        return self.ask(constants.SCI_GETENDSTYLED)
 
     def convert_eols(self, mode: int) -> None:
         """SCI_CONVERTEOLS, 2029. `mode` in 0..2. Turns each CRLF, CR and LF into that line end; Unicode line ends
@@ -158,7 +165,7 @@ class Messages:
 
     def get_eol_mode(self) -> int:
         """SCI_GETEOLMODE, 2030. Returns the line end that NEWLINE and PASTE insert."""
-        return self.send(constants.SCI_GETEOLMODE)
+        return self.ask(constants.SCI_GETEOLMODE)
 
     def set_eol_mode(self, mode: int) -> None:
         """SCI_SETEOLMODE, 2031. `mode` in 0..2: SC_EOL_CRLF 0, SC_EOL_CR 1, SC_EOL_LF 2."""
@@ -194,19 +201,19 @@ class Messages:
         """SCI_MARKERGET, 2046. Returns the mask of `line`, bit k for number k; bad line 0. Here a bad line is one
         that is not there.
         """
-        return self.send(constants.SCI_MARKERGET, line)
+        return self.ask(constants.SCI_MARKERGET, line)
 
     def marker_next(self, line: int, mask: int) -> int:
         """SCI_MARKERNEXT, 2047. Returns the least line from `line` on whose mask meets the low 32 bits of `mask`,
         else -1.
         """
-        return self.send(constants.SCI_MARKERNEXT, line, mask)
+        return self.ask(constants.SCI_MARKERNEXT, line, mask)
 
     def marker_previous(self, line: int, mask: int) -> int:
         """SCI_MARKERPREVIOUS, 2048. Returns the greatest line up to `line` whose mask meets the low 32 bits of
         `mask`, else -1.
         """
-        return self.send(constants.SCI_MARKERPREVIOUS, line, mask)
+        return self.ask(constants.SCI_MARKERPREVIOUS, line, mask)
 
     def set_styling_ex(self, styles: Text) -> None:
         """SCI_SETSTYLINGEX, 2073. Styles as many bytes as `styles` has, from end styled on, with the bytes of
@@ -232,17 +239,17 @@ class Messages:
         """SCI_GETLINESTATE, 2093. Returns the state of `line`; bad line 0. Here a bad line is one that is not
         there.
         """
-        return self.send(constants.SCI_GETLINESTATE, line)
+        return self.ask(constants.SCI_GETLINESTATE, line)
 
     def get_line_end_position(self, line: int) -> int:
         """SCI_GETLINEENDPOSITION, 2136. Returns where the end of `line` begins; the text's length from the last
         line on; -1 below 0.
         """
-        return self.send(constants.SCI_GETLINEENDPOSITION, line)
+        return self.ask(constants.SCI_GETLINEENDPOSITION, line)
 
     def get_read_only(self) -> bool:
         """SCI_GETREADONLY, 2140. Returns whether the document is read-only."""
-        return self.send(constants.SCI_GETREADONLY) != 0
+        return self.ask(constants.SCI_GETREADONLY) != 0
 
     def set_current_pos(self, position: int) -> None:
         """SCI_SETCURRENTPOS, 2141. The caret goes to `position`, clamped. Here clamped means brought into 0..n, n
@@ -258,7 +265,7 @@ class Messages:
 
     def get_selection_start(self) -> int:
         """SCI_GETSELECTIONSTART, 2143. Returns the selection's start."""
-        return self.send(constants.SCI_GETSELECTIONSTART)
+        return self.ask(constants.SCI_GETSELECTIONSTART)
 
     def set_selection_end(self, position: int) -> None:
         """SCI_SETSELECTIONEND, 2144. P is `position`, clamped: the caret goes to p, and the anchor goes to the
@@ -268,22 +275,21 @@ class Messages:
 
     def get_selection_end(self) -> int:
         """SCI_GETSELECTIONEND, 2145. Returns the selection's end."""
-        return self.send(constants.SCI_GETSELECTIONEND)
+        return self.ask(constants.SCI_GETSELECTIONEND)
 
     def get_line(self, line: int) -> bytes:
         """SCI_GETLINE, 2153. Returns `line` with its end; the reply's value is its length; of a bad line an empty
         text. Here a bad line is one that is not there.
         """
-        self.send(constants.SCI_GETLINE, line)
-        return self.text()
+        return self.read(constants.SCI_GETLINE, line)
 
     def get_line_count(self) -> int:
         """SCI_GETLINECOUNT, 2154. Returns the number of lines."""
-        return self.send(constants.SCI_GETLINECOUNT)
+        return self.ask(constants.SCI_GETLINECOUNT)
 
     def get_modify(self) -> bool:
         """SCI_GETMODIFY, 2159. Returns whether the document is not at its save point."""
-        return self.send(constants.SCI_GETMODIFY) != 0
+        return self.ask(constants.SCI_GETMODIFY) != 0
 
     def set_sel(self, anchor: int, caret: int) -> None:
         """SCI_SETSEL, 2160. The caret goes to the text's length for `caret` below 0, else `caret` clamped; then
@@ -294,27 +300,25 @@ class Messages:
 
     def get_sel_text(self) -> bytes:
         """SCI_GETSELTEXT, 2161. Returns the selection; the reply's value is its length."""
-        self.send(constants.SCI_GETSELTEXT)
-        return self.text()
+        return self.read(constants.SCI_GETSELTEXT)
 
     def get_text_range(self, start: int, end: int) -> bytes:
         """SCI_GETTEXTRANGE, 2162. `start` lies in 0..n, and `end` in `start`..n or is -1 for the end of the text.
         Returns [`start`, `end`); the reply's value is `end`-`start`. Here n is the text's length.
         """
-        self.send(constants.SCI_GETTEXTRANGE, start, end)
-        return self.text()
+        return self.read(constants.SCI_GETTEXTRANGE, start, end)
 
     def line_from_position(self, position: int) -> int:
         """SCI_LINEFROMPOSITION, 2166. Returns the line of `position`, clamped. Here clamped means brought into
         0..n, n the text's length.
         """
-        return self.send(constants.SCI_LINEFROMPOSITION, position)
+        return self.ask(constants.SCI_LINEFROMPOSITION, position)
 
     def position_from_line(self, line: int) -> int:
         """SCI_POSITIONFROMLINE, 2167. Returns the start of `line`; below 0 that of the line of the selection's
         start; the text's length for `line` = the number of lines; -1 beyond.
         """
-        return self.send(constants.SCI_POSITIONFROMLINE, line)
+        return self.ask(constants.SCI_POSITIONFROMLINE, line)
 
     def replace_sel(self, text: Text) -> None:
         """SCI_REPLACESEL, 2170. Replaces the selection by `text`; anchor and caret stand after `text`."""
@@ -326,13 +330,13 @@ class Messages:
 
     def can_paste(self) -> bool:
         """SCI_CANPASTE, 2173. Returns whether the document is not read-only."""
-        return self.send(constants.SCI_CANPASTE) != 0
+        return self.ask(constants.SCI_CANPASTE) != 0
 
     def can_undo(self) -> bool:
         """SCI_CANUNDO, 2174. Returns whether no group is open, the document is not read-only and the past is not
         empty.
         """
-        return self.send(constants.SCI_CANUNDO) != 0
+        return self.ask(constants.SCI_CANUNDO) != 0
 
     def empty_undo_buffer(self) -> None:
         """SCI_EMPTYUNDOBUFFER, 2175. Forgets the history and ends groups; makes the current state the save point."""
@@ -371,12 +375,11 @@ class Messages:
 
     def get_text(self) -> bytes:
         """SCI_GETTEXT, 2182. Returns the whole text; the reply's value is the text's length."""
-        self.send(constants.SCI_GETTEXT)
-        return self.text()
+        return self.read(constants.SCI_GETTEXT)
 
     def get_text_length(self) -> int:
         """SCI_GETTEXTLENGTH, 2183. Returns the text's length."""
-        return self.send(constants.SCI_GETTEXTLENGTH)
+        return self.ask(constants.SCI_GETTEXTLENGTH)
 
     def set_target_start(self, position: int) -> None:
         """SCI_SETTARGETSTART, 2190. The target's start goes to `position`, clamped. Here clamped means brought
@@ -386,7 +389,7 @@ class Messages:
 
     def get_target_start(self) -> int:
         """SCI_GETTARGETSTART, 2191. Returns the target's start."""
-        return self.send(constants.SCI_GETTARGETSTART)
+        return self.ask(constants.SCI_GETTARGETSTART)
 
     def set_target_end(self, position: int) -> None:
         """SCI_SETTARGETEND, 2192. The target's end goes to `position`, clamped. Here clamped means brought into
@@ -396,7 +399,7 @@ class Messages:
 
     def get_target_end(self) -> int:
         """SCI_GETTARGETEND, 2193. Returns the target's end."""
-        return self.send(constants.SCI_GETTARGETEND)
+        return self.ask(constants.SCI_GETTARGETEND)
 
     def replace_target(self, text: Text) -> int:
         """SCI_REPLACETARGET, 2194. Replaces the target by `text`; the target's start is then where `text` starts
@@ -423,19 +426,19 @@ class Messages:
 
     def get_search_flags(self) -> int:
         """SCI_GETSEARCHFLAGS, 2199. Returns the flags."""
-        return self.send(constants.SCI_GETSEARCHFLAGS)
+        return self.ask(constants.SCI_GETSEARCHFLAGS)
 
     def visible_from_doc_line(self, line: int) -> int:
         """SCI_VISIBLEFROMDOCLINE, 2220. Returns the display line of `line`; for a hidden one that of the last
         visible line before it; bad line -1. Here a bad line is one that is not there.
         """
-        return self.send(constants.SCI_VISIBLEFROMDOCLINE, line)
+        return self.ask(constants.SCI_VISIBLEFROMDOCLINE, line)
 
     def doc_line_from_visible(self, display_line: int) -> int:
         """SCI_DOCLINEFROMVISIBLE, 2221. Returns the line shown at `display_line`; 0 up to 0; the number of lines
         past the last.
         """
-        return self.send(constants.SCI_DOCLINEFROMVISIBLE, display_line)
+        return self.ask(constants.SCI_DOCLINEFROMVISIBLE, display_line)
 
     def set_fold_level(self, line: int, level: int) -> None:
         """SCI_SETFOLDLEVEL, 2222. `level` in 0..2^31-1. Sets the level of `line`."""
@@ -445,19 +448,19 @@ class Messages:
         """SCI_GETFOLDLEVEL, 2223. Returns the level of `line`; bad line 1024 (SC_FOLDLEVELBASE). Here a bad line
         is one that is not there.
         """
-        return self.send(constants.SCI_GETFOLDLEVEL, line)
+        return self.ask(constants.SCI_GETFOLDLEVEL, line)
 
     def get_last_child(self, line: int, level: int) -> int:
         """SCI_GETLASTCHILD, 2224. `level` in -1..2^31-1; returns the last child of `line`, by its own number for
         `level` = -1, else by `level`'s low 12 bits; bad line -1. Here a bad line is one that is not there.
         """
-        return self.send(constants.SCI_GETLASTCHILD, line, level)
+        return self.ask(constants.SCI_GETLASTCHILD, line, level)
 
     def get_fold_parent(self, line: int) -> int:
         """SCI_GETFOLDPARENT, 2225. Returns the fold parent of `line`; none, or bad line: -1. Here a bad line is
         one that is not there.
         """
-        return self.send(constants.SCI_GETFOLDPARENT, line)
+        return self.ask(constants.SCI_GETFOLDPARENT, line)
 
     def show_lines(self, first: int, last: int) -> None:
         """SCI_SHOWLINES, 2226. Shows each existing line from `first` to `last`."""
@@ -471,7 +474,7 @@ class Messages:
         """SCI_GETLINEVISIBLE, 2228. Returns whether `line` is visible; bad line false. Here a bad line is one that
         is not there.
         """
-        return self.send(constants.SCI_GETLINEVISIBLE, line) != 0
+        return self.ask(constants.SCI_GETLINEVISIBLE, line) != 0
 
     def set_fold_expanded(self, line: int, on: bool) -> None:
         """SCI_SETFOLDEXPANDED, 2229. Sets the expanded flag of `line` alone; nothing is shown or hidden."""
@@ -481,7 +484,7 @@ class Messages:
         """SCI_GETFOLDEXPANDED, 2230. Returns whether `line` is expanded; bad line false. Here a bad line is one
         that is not there.
         """
-        return self.send(constants.SCI_GETFOLDEXPANDED, line) != 0
+        return self.ask(constants.SCI_GETFOLDEXPANDED, line) != 0
 
     def toggle_fold(self, line: int) -> None:
         """SCI_TOGGLEFOLD, 2231. Like FOLDLINE with toggle."""
@@ -495,7 +498,7 @@ class Messages:
 
     def get_all_lines_visible(self) -> bool:
         """SCI_GETALLLINESVISIBLE, 2236. Returns whether all lines are visible."""
-        return self.send(constants.SCI_GETALLLINESVISIBLE) != 0
+        return self.ask(constants.SCI_GETALLLINESVISIBLE) != 0
 
     def fold_line(self, line: int, action: int) -> None:
         """SCI_FOLDLINE, 2237. `action` in 0..2: SC_FOLDACTION_CONTRACT 0, SC_FOLDACTION_EXPAND 1,
@@ -586,11 +589,11 @@ class Messages:
         """SCI_LINELENGTH, 2350. Returns the length of `line` with its end; bad line 0. Here a bad line is one that
         is not there.
         """
-        return self.send(constants.SCI_LINELENGTH, line)
+        return self.ask(constants.SCI_LINELENGTH, line)
 
     def get_doc_pointer(self) -> int:
         """SCI_GETDOCPOINTER, 2357. Returns the id of the view's document."""
-        return self.send(constants.SCI_GETDOCPOINTER)
+        return self.ask(constants.SCI_GETDOCPOINTER)
 
     def set_doc_pointer(self, document: int) -> None:
         """SCI_SETDOCPOINTER, 2358. `document` = 0: a new document (TooMany); else `document` names one
@@ -623,23 +626,23 @@ class Messages:
 
     def get_mod_event_mask(self) -> int:
         """SCI_GETMODEVENTMASK, 2378. Returns the mask."""
-        return self.send(constants.SCI_GETMODEVENTMASK)
+        return self.ask(constants.SCI_GETMODEVENTMASK)
 
     def get_document_options(self) -> int:
         """SCI_GETDOCUMENTOPTIONS, 2379. Returns the options of the view's document."""
-        return self.send(constants.SCI_GETDOCUMENTOPTIONS)
+        return self.ask(constants.SCI_GETDOCUMENTOPTIONS)
 
     def position_before(self, position: int) -> int:
         """SCI_POSITIONBEFORE, 2417. Returns the greatest cut below `position` (clamped), or 0. Here clamped means
         brought into 0..n, n the text's length; a cut is a place between two characters.
         """
-        return self.send(constants.SCI_POSITIONBEFORE, position)
+        return self.ask(constants.SCI_POSITIONBEFORE, position)
 
     def position_after(self, position: int) -> int:
         """SCI_POSITIONAFTER, 2418. Returns the least cut above `position` (clamped), or the text's length. Here
         clamped means brought into 0..n, n the text's length; a cut is a place between two characters.
         """
-        return self.send(constants.SCI_POSITIONAFTER, position)
+        return self.ask(constants.SCI_POSITIONAFTER, position)
 
     def copy_range(self, start: int, end: int) -> None:
         """SCI_COPYRANGE, 2419. `start` lies in 0..n, and `end` in `start`..n or is -1 for the end of the text. The
@@ -664,7 +667,7 @@ class Messages:
 
     def get_paste_convert_endings(self) -> bool:
         """SCI_GETPASTECONVERTENDINGS, 2468. Returns whether this view converts what it pastes."""
-        return self.send(constants.SCI_GETPASTECONVERTENDINGS) != 0
+        return self.ask(constants.SCI_GETPASTECONVERTENDINGS) != 0
 
     def set_indicator_current(self, number: int) -> None:
         """SCI_SETINDICATORCURRENT, 2500. `number` in 0..31: the view's current indicator."""
@@ -672,7 +675,7 @@ class Messages:
 
     def get_indicator_current(self) -> int:
         """SCI_GETINDICATORCURRENT, 2501. Returns the view's current indicator."""
-        return self.send(constants.SCI_GETINDICATORCURRENT)
+        return self.ask(constants.SCI_GETINDICATORCURRENT)
 
     def set_indicator_value(self, value: int) -> None:
         """SCI_SETINDICATORVALUE, 2502. `value` in 0..2^31-1, 0 meaning 1: the value that this view fills in."""
@@ -680,7 +683,7 @@ class Messages:
 
     def get_indicator_value(self) -> int:
         """SCI_GETINDICATORVALUE, 2503. Returns the value that this view fills in."""
-        return self.send(constants.SCI_GETINDICATORVALUE)
+        return self.ask(constants.SCI_GETINDICATORVALUE)
 
     def indicator_fill_range(self, start: int, length: int) -> None:
         """SCI_INDICATORFILLRANGE, 2504. `start` in 0..n, `length` in 0..n-`start`. Gives the current indicator the
@@ -698,25 +701,25 @@ class Messages:
         """SCI_INDICATORALLONFOR, 2506. Returns bit k for each indicator k that is not 0 at `position`; 0 outside
         0..n-1. Here n is the text's length.
         """
-        return self.send(constants.SCI_INDICATORALLONFOR, position)
+        return self.ask(constants.SCI_INDICATORALLONFOR, position)
 
     def indicator_value_at(self, number: int, position: int) -> int:
         """SCI_INDICATORVALUEAT, 2507. `number` in 0..31; returns its value at `position`; 0 outside 0..n-1. Here n
         is the text's length.
         """
-        return self.send(constants.SCI_INDICATORVALUEAT, number, position)
+        return self.ask(constants.SCI_INDICATORVALUEAT, number, position)
 
     def indicator_start(self, number: int, position: int) -> int:
         """SCI_INDICATORSTART, 2508. `number` in 0..31; returns where the longest run of one value that holds
         `position` starts; 0 outside 0..n-1. Here n is the text's length.
         """
-        return self.send(constants.SCI_INDICATORSTART, number, position)
+        return self.ask(constants.SCI_INDICATORSTART, number, position)
 
     def indicator_end(self, number: int, position: int) -> int:
         """SCI_INDICATOREND, 2509. `number` in 0..31; returns the place just after the longest run of one value
         that holds `position`; 0 outside 0..n-1. Here n is the text's length.
         """
-        return self.send(constants.SCI_INDICATOREND, number, position)
+        return self.ask(constants.SCI_INDICATOREND, number, position)
 
     def set_empty_selection(self, position: int) -> None:
         """SCI_SETEMPTYSELECTION, 2556. Anchor and caret go to `position`, clamped. Here clamped means brought into
@@ -738,7 +741,7 @@ class Messages:
 
     def get_selection_empty(self) -> bool:
         """SCI_GETSELECTIONEMPTY, 2650. Returns whether anchor and caret are at one place."""
-        return self.send(constants.SCI_GETSELECTIONEMPTY) != 0
+        return self.ask(constants.SCI_GETSELECTIONEMPTY) != 0
 
     def set_line_end_types_allowed(self, types: int) -> None:
         """SCI_SETLINEENDTYPESALLOWED, 2656. `types` in 0..1: SC_LINE_END_TYPE_DEFAULT 0, SC_LINE_END_TYPE_UNICODE
@@ -749,13 +752,13 @@ class Messages:
 
     def get_line_end_types_allowed(self) -> int:
         """SCI_GETLINEENDTYPESALLOWED, 2657. Returns the types of line ends that the document allows."""
-        return self.send(constants.SCI_GETLINEENDTYPESALLOWED)
+        return self.ask(constants.SCI_GETLINEENDTYPESALLOWED)
 
     def get_line_end_types_active(self) -> int:
         """SCI_GETLINEENDTYPESACTIVE, 2658. Returns the types of line ends that are active: those that the document
         allows.
         """
-        return self.send(constants.SCI_GETLINEENDTYPESACTIVE)
+        return self.ask(constants.SCI_GETLINEENDTYPESACTIVE)
 
     def set_target_range(self, start: int, end: int) -> None:
         """SCI_SETTARGETRANGE, 2686. The target's start goes to `start`, the target's end goes to `end`, both
@@ -767,8 +770,7 @@ class Messages:
         """SCI_GETTARGETTEXT, 2687. Returns the text between the target's start and the target's end, from the
         lesser on; the reply's value is its length.
         """
-        self.send(constants.SCI_GETTARGETTEXT)
-        return self.text()
+        return self.read(constants.SCI_GETTARGETTEXT)
 
     def target_whole_document(self) -> None:
         """SCI_TARGETWHOLEDOCUMENT, 2690. The target's start goes to 0, the target's end goes to the text's length."""
