@@ -1,6 +1,6 @@
 # Builds the library for C programs, tests it, measures it and installs it. Run it at the top of the repository.
-#   make                          out/libhongpilas.a and out/libhongpilas.so; out/libhongpilas_scintilla.a, the door in Scintilla's manner
-#   make examples                 out/hello, out/notes, and the editor twice: out/edit, out/edit_scintilla
+#   make                          out/libhongpilas.a and out/libhongpilas.so; out/libhongpilas_scintilla.a, the Scintilla-compatible interface
+#   make examples                 out/hello, out/notes, out/lexer, out/margin, and the editor twice: out/edit, out/edit_scintilla
 #   make test                     tests/check: all that is tested of the library for C, its wrappers and packages
 #   make bench                    bench/messages: what messages take, beside Scintilla where its library is found
 #   make install PREFIX=/usr/local; LIBDIR=.. where the libraries have another place than $PREFIX/lib; both are named from / on
@@ -32,41 +32,41 @@ INSTALLED := $(DESTDIR)$(PREFIX)
 INSTALLED_LIB := $(DESTDIR)$(LIBDIR)
 INSTALLED_DOC := $(INSTALLED)/share/doc/hongpilas
 # What the header says to read, and what that refers to.
-DOCS := LICENSE $(addprefix docs/,MESSAGES.md BEHAVIOUR.md PROFILE.md SCRIPTS.md EXAMPLES.md)
+DOCS := LICENSE $(addprefix docs/,MESSAGES.md BEHAVIOUR.md PROFILE.md SCRIPTS.md)
 
 all: out/libhongpilas.a out/libhongpilas.so out/libhongpilas_scintilla.a out/hongpilas.pc out/hongpilas_scintilla.pc
 
 $(PROVED): $(READ)
 	cd crates/hongpilas_c && python3 ../../tools/ci/proving.py hongpilas_c rt lib
 
-# The calls' checked forms are C, and no proof speaks of them.
-out/checked.o: c/checked.c include/hongpilas.h
+# The calls that test their arguments, and names, are C, and no proof speaks of them.
+out/checked.o out/names.o: out/%.o: c/%.c c/unchecked.h include/hongpilas.h
 	mkdir -p out
 	$(CC) -std=c99 -O2 -fPIC -Iinclude -c $< -o $@
 
-# The proved archive, with the checked forms and the functions that take memory.
-out/libhongpilas.a: $(PROVED) $(HEAP) out/checked.o
+# The proved archive, with this C and the functions that take memory.
+out/libhongpilas.a: $(PROVED) $(HEAP) out/checked.o out/names.o
 	mkdir -p out
 	rm -f $@
-	printf 'create %s\naddlib %s\naddlib %s\naddmod %s\nsave\nend\n' $@ $(PROVED) $(HEAP) out/checked.o | $(AR) -M
+	printf 'create %s\naddlib %s\naddlib %s\naddmod %s\naddmod %s\nsave\nend\n' $@ $(PROVED) $(HEAP) out/checked.o out/names.o | $(AR) -M
 
 # The loader fills its tables before the first call, and nothing writes to them later.
 out/libhongpilas.so: out/libhongpilas.a c/hongpilas.map
 	$(CC) -shared -nostartfiles -Wl,-z,relro,-z,now -Wl,-soname,libhongpilas.so.$(MAJOR) -Wl,--version-script=c/hongpilas.map -Wl,--whole-archive out/libhongpilas.a -Wl,--no-whole-archive -o $@
 
-# The door stands beside the libraries, so that these have proved code alone, and who does not want it links none of it.
-out/libhongpilas_scintilla.a: c/scintilla.c include/hongpilas_scintilla.h include/hongpilas.h
+# The Scintilla-compatible interface stands beside the libraries: who does not want it links none of it. An exception may pass through it.
+out/libhongpilas_scintilla.a: c/scintilla.c c/scintilla_manners.h include/hongpilas_scintilla.h include/hongpilas.h
 	mkdir -p out
 	rm -f $@
-	$(CC) -std=c99 -O2 -fPIC -Iinclude -c $< -o out/scintilla.o
+	$(CC) -std=c99 -O2 -fPIC -fexceptions -Iinclude -c $< -o out/scintilla.o
 	$(AR) rcs $@ out/scintilla.o
 
-examples: out/hello out/notes out/edit out/edit_scintilla
+examples: out/hello out/notes out/lexer out/margin out/edit out/edit_scintilla
 
-programs: examples out/memory out/growths out/door out/door_examples out/checked_test out/threads
+programs: examples out/memory out/growths out/notify out/door out/door_examples out/checked_test out/threads
 
 # These stand between the library and the C library's heap.
-out/memory out/growths out/door: WRAPPED := -Wl,--wrap=malloc,--wrap=calloc,--wrap=realloc,--wrap=free
+out/memory out/growths out/notify out/door: WRAPPED := -Wl,--wrap=malloc,--wrap=calloc,--wrap=realloc,--wrap=free
 out/threads: WRAPPED := -pthread
 
 # By hand: the library under load, beside Scintilla's where its library is named (docs/TESTING.md).
@@ -87,10 +87,10 @@ vpath %.c examples/c tests/c
 out/%: %.c out/libhongpilas.a include/hongpilas.h
 	$(CC) -std=c99 -O2 -Iinclude $< $(DOOR) out/libhongpilas.a $(WRAPPED) -o $@
 
-out/door out/door_examples out/edit_scintilla: DOOR := out/libhongpilas_scintilla.a
-out/door out/door_examples out/edit_scintilla: out/libhongpilas_scintilla.a
+out/door out/door_examples out/notify out/lexer out/margin out/edit_scintilla: DOOR := out/libhongpilas_scintilla.a
+out/door out/door_examples out/notify out/lexer out/margin out/edit_scintilla: out/libhongpilas_scintilla.a
 
-# The editor as it speaks to the door: edit.c, but for a few lines.
+# The editor over the Scintilla-compatible interface: edit.c, but for a few lines.
 out/edit_scintilla.c: examples/c/edit.c examples/c/edit_scintilla.diff
 	mkdir -p out
 	patch -s -o $@ examples/c/edit.c examples/c/edit_scintilla.diff

@@ -20,7 +20,6 @@ enum { RUNS = BENCH_RUNS, SIZES = BENCH_SIZES, LINE = 40, MEBIBYTE = 1 << 20 };
 
 /* One of the two. A text is closed by a NUL that its length does not count. */
 typedef struct side {
-  const char *name;
   int64_t (*send)(uint32_t number, int64_t w, int64_t l, const char *text, size_t length);
   void (*text_range)(int64_t from, int64_t to);
   void (*lent_range)(int64_t from, int64_t to);
@@ -31,10 +30,11 @@ static char *text;   /* lines of 40 bytes, with their ends */
 static size_t room;  /* how many bytes of it there are */
 static size_t size;  /* how many of them the document has at first */
 static char *buffer; /* where texts come back to */
+static int64_t notified; /* the sum of the lengths of all notifications, so that each is read */
 
 /* ---- Ours ---- */
 
-static hongpilas session;
+static hongpilas_session *session;
 static uint32_t view;
 
 static void must(bool holds, const char *what) {
@@ -45,7 +45,20 @@ static void must(bool holds, const char *what) {
 
 static int64_t send_ours(uint32_t number, int64_t w, int64_t l, const char *bytes, size_t length) {
   int64_t value = 0;
-  must(hongpilas_call(&session, view, number, w, l, bytes, length, &value) == HONGPILAS_DONE, "a message was refused");
+  const uint8_t *text = bytes == NULL ? (const uint8_t *)"" : (const uint8_t *)bytes;
+  must(hongpilas_send_unchecked(session, view, number, w, l, text, length, &value) == HONGPILAS_DONE, "a message was refused");
+  return value;
+}
+
+/* Reads all notifications of the last reply, as a program does whose view listens. */
+static int64_t send_ours_and_read(uint32_t number, int64_t w, int64_t l, const char *bytes, size_t length) {
+  int64_t value = send_ours(number, w, l, bytes, length);
+  size_t count = hongpilas_note_count(&session);
+  hongpilas_note_data note;
+  for (size_t i = 0; i < count; i++) {
+    must(hongpilas_note(&session, i, &note), "no such notification");
+    notified += note.length;
+  }
   return value;
 }
 
@@ -53,7 +66,7 @@ static void text_range_ours(int64_t from, int64_t to) { send_ours(SCI_GETTEXTRAN
 static void whole_text_ours(void) { send_ours(SCI_GETTEXT, 0, 0, NULL, 0); }
 static void lent_range_ours(int64_t from, int64_t to) {
   const uint8_t *bytes;
-  must(hongpilas_lend_range(&session, view, (size_t)from, (size_t)(to - from), &bytes) == HONGPILAS_DONE, "no bytes lent");
+  must(hongpilas_lend_range_unchecked(session, view, (size_t)from, (size_t)(to - from), &bytes) == HONGPILAS_DONE, "no bytes lent");
 }
 
 /* ---- Scintilla's ---- */
@@ -87,6 +100,35 @@ static void whole_text_theirs(void) {
   scintilla_send(widget, SCI_GETTEXT, (uintptr_t)scintilla_send(widget, SCI_GETLENGTH, 0, 0) + 1, (intptr_t)buffer);
 }
 
+/* The start of its SCNotification, up to the length. */
+typedef struct scintilla_notification {
+  struct {
+    void *from;
+    uintptr_t id;
+    unsigned code;
+  } head;
+  intptr_t position;
+  int character, modifiers, kind;
+  const char *text;
+  intptr_t length;
+} scintilla_notification;
+
+/* What its signal "sci-notify" calls. */
+static void take_theirs(void *sender, int id, const scintilla_notification *notification, void *data) {
+  (void)sender;
+  (void)id;
+  (void)data;
+  notified += notification->length;
+}
+
+static unsigned long (*connect_signal)(void *sender, const char *signal, void (*called)(void), void *data,
+                                       void *destroy, int flags);
+
+/* Connects the widget's signal, which calls nothing before. */
+static void listen_to_theirs(void) {
+  must(connect_signal(widget, "sci-notify", (void (*)(void))take_theirs, NULL, NULL, 0) != 0, "no signal connected");
+}
+
 /* Opens Scintilla's widget, which is shown nowhere but wants a display all the same. */
 static bool open_theirs(const char *library) {
   void *toolkit = dlopen("libgtk-3.so.0", RTLD_NOW | RTLD_GLOBAL), *scintilla = dlopen(library, RTLD_NOW | RTLD_GLOBAL);
@@ -96,7 +138,8 @@ static bool open_theirs(const char *library) {
   *(void **)&start = dlsym(toolkit, "gtk_init_check");
   *(void **)&make = dlsym(scintilla, "scintilla_new");
   *(void **)&scintilla_send = dlsym(scintilla, "scintilla_send_message");
-  if (start == NULL || make == NULL || scintilla_send == NULL || !start(NULL, NULL)) return false;
+  *(void **)&connect_signal = dlsym(toolkit, "g_signal_connect_data");
+  if (start == NULL || make == NULL || scintilla_send == NULL || connect_signal == NULL || !start(NULL, NULL)) return false;
   widget = make();
   return widget != NULL;
 }
@@ -338,6 +381,16 @@ static void fold_parent(const side *s, long count) {
   for (long i = 0; i < count; i++) s->send(SCI_GETFOLDPARENT, below((int64_t)size / LINE), 0, NULL, 0);
 }
 
+static void load_listening(const side *s, long count) {
+  load(s, count);
+  s->send(SCI_SETMODEVENTMASK, SC_MODEVENTMASKALL, 0, NULL, 0);
+}
+
+static void load_typed_listening(const side *s, long count) {
+  load_typed(s, count);
+  s->send(SCI_SETMODEVENTMASK, SC_MODEVENTMASKALL, 0, NULL, 0);
+}
+
 /* A row: how many operations at 1 and at 16 MiB, 0 for none. */
 typedef struct row {
   const char *name;
@@ -346,7 +399,7 @@ typedef struct row {
   void (*run)(const side *s, long count);
 } row;
 
-static const row rows[] = {
+static const row quiet_rows[] = {
     {"typing, a line end each 40", {50000, 50000}, load, type},
     {"typing from empty", {200000, 0}, load_empty, type},
     {"8 bytes in at random", {1000, 40}, load, insert},
@@ -385,6 +438,15 @@ static const row rows[] = {
     {"GETFOLDPARENT", {5000, 200}, load_levels, fold_parent},
 };
 
+/* The frequent changes again, in a view that listens for all modifications and whose notifications are read. */
+static const row notified_rows[] = {
+    {"typing, notified", {50000, 50000}, load_listening, type},
+    {"undo of typing, notified", {20000, 2000}, load_typed_listening, undo},
+    {"MARKERADD, notified", {5000, 5000}, load_listening, add_markers},
+    {"SETSTYLING of 5 bytes, notified", {100000, 100000}, load_listening, style},
+    {"SETFOLDLEVEL, notified", {26000, 26000}, load_listening, set_levels},
+};
+
 /* ---- The table ---- */
 
 static double now(void) {
@@ -417,7 +479,7 @@ static void print_row(const row *r, const side *sides, int side_count, int mebib
       times[i][run] = timed(&sides[i], r, count);
     }
   for (int i = 0; i < side_count; i++) qsort(times[i], RUNS, sizeof times[i][0], by_size);
-  printf("| %-29s | %2d | %11.1f (%11.1f) |", r->name, mebibytes, times[0][0], times[0][RUNS / 2]);
+  printf("| %-31s | %2d | %11.1f (%11.1f) |", r->name, mebibytes, times[0][0], times[0][RUNS / 2]);
   if (side_count == 2) {
     double ratio = times[0][0] / times[1][0];
     printf(" %11.1f (%11.1f) | %5.2f |", times[1][0], times[1][RUNS / 2], ratio);
@@ -428,17 +490,40 @@ static void print_row(const row *r, const side *sides, int side_count, int mebib
   fflush(stdout);
 }
 
-static void print_table(const side *sides, int side_count, const char *only) {
-  printf("| Work, ns an operation         | MiB | ours: least (median)      |%s\n",
-         side_count == 2 ? " Scintilla                 | ratio |" : "");
-  printf("|---|---|---|%s\n", side_count == 2 ? "---|---|" : "");
-  for (size_t i = 0; i < sizeof rows / sizeof *rows; i++)
+/* Whether a row is wanted by a part of its name, or by `=` and its whole name. */
+static bool is_wanted(const char *name, const char *wanted) {
+  return wanted[0] == '=' ? strcmp(name, wanted + 1) == 0 : strstr(name, wanted) != NULL;
+}
+
+static void print_rows(const row *rows, size_t count, const side *sides, int side_count, const char *wanted) {
+  for (size_t i = 0; i < count; i++)
     for (int large = 0; large < SIZES; large++) {
       size = (size_t)(large ? 16 : 1) * MEBIBYTE;
-      if (rows[i].counts[large] > 0 && strstr(rows[i].name, only) != NULL)
+      if (rows[i].counts[large] > 0 && is_wanted(rows[i].name, wanted))
         print_row(&rows[i], sides, side_count, large ? 16 : 1, rows[i].counts[large]);
     }
-  if (compared > 0) printf("Geometric mean of %d ratios: %.2f\n", compared, exp(log_sum / compared));
+}
+
+/* The mean is that of the rows without notifications. */
+static void print_table(int side_count, const char *wanted) {
+  static const side quiet[] = {
+      {send_ours, text_range_ours, lent_range_ours, whole_text_ours},
+      {send_theirs, text_range_theirs, lent_range_theirs, whole_text_theirs},
+  };
+  static const side notified_sides[] = {
+      {send_ours_and_read, text_range_ours, lent_range_ours, whole_text_ours},
+      {send_theirs, text_range_theirs, lent_range_theirs, whole_text_theirs},
+  };
+  printf("| Work, ns an operation           | MiB | ours: least (median)      |%s\n",
+         side_count == 2 ? " Scintilla                 | ratio |" : "");
+  printf("|---|---|---|%s\n", side_count == 2 ? "---|---|" : "");
+  print_rows(quiet_rows, sizeof quiet_rows / sizeof *quiet_rows, quiet, side_count, wanted);
+  double quiet_sum = log_sum;
+  int quiet_count = compared;
+  if (side_count == 2) listen_to_theirs();
+  print_rows(notified_rows, sizeof notified_rows / sizeof *notified_rows, notified_sides, side_count, wanted);
+  if (quiet_count > 0)
+    printf("Geometric mean of %d ratios without notifications: %.2f\n", quiet_count, exp(quiet_sum / quiet_count));
 }
 
 static void make_text(void) {
@@ -449,18 +534,15 @@ static void make_text(void) {
   for (size_t i = 0; i < room; i++) text[i] = line_text[i % LINE];
 }
 
-/* bench [LIBSCINTILLA [WORK]]: an empty name is none, and WORK is a part of the name of the rows wanted. */
+/* bench [LIBSCINTILLA [WORK]]: an empty name is none, and WORK is a part of the name of the rows wanted, or `=` and the
+ * whole name of one. */
 int main(int argument_count, char **arguments) {
-  static const side sides[] = {
-      {"ours", send_ours, text_range_ours, lent_range_ours, whole_text_ours},
-      {"Scintilla", send_theirs, text_range_theirs, lent_range_theirs, whole_text_theirs},
-  };
   bool is_named = argument_count > 1 && arguments[1][0] != '\0';
-  must(hongpilas_new(&session) == HONGPILAS_DONE && hongpilas_new_view(&session, &view) == HONGPILAS_DONE, "no session");
+  must(hongpilas_new(&session) == HONGPILAS_DONE && hongpilas_new_view(session, &view) == HONGPILAS_DONE, "no session");
   make_text();
   bool is_open = is_named && open_theirs(arguments[1]);
   if (!is_open) puts(is_named ? "Scintilla's library could not be used: ours alone." : "No library of Scintilla: ours alone.");
-  print_table(sides, is_open ? 2 : 1, argument_count > 2 ? arguments[2] : "");
+  print_table(is_open ? 2 : 1, argument_count > 2 ? arguments[2] : "");
   hongpilas_free(session);
   return 0;
 }

@@ -9,9 +9,7 @@
 enum { LIMITS_SIZE = 7 * sizeof(uint64_t), NOTE_SIZE = 4 * sizeof(uint32_t) + 9 * sizeof(int64_t) + sizeof(void *) + sizeof(size_t) };
 
 /* Whether so many bytes can lie there. Of no bytes any address will do. */
-static bool can_hold(const void *bytes, size_t length) {
-  return length <= 0x7FFFFFFFFFFFFFFF && (bytes != NULL || length == 0);
-}
+static bool can_hold(const void *bytes, size_t length) { return length <= 0x7FFFFFFFFFFFFFFF && (bytes != NULL || length == 0); }
 
 /* ---- Sessions and views ---- */
 

@@ -8,6 +8,7 @@ typedef struct named {
 } named;
 
 /* Written by tools/pages/header.py: begin */
+/* clang-format off */
 static const named messages[] = {
     {2001, HONGPILAS_MARK_E | HONGPILAS_MARK_R, "SCI_ADDTEXT"},
     {2003, HONGPILAS_MARK_E | HONGPILAS_MARK_R, "SCI_INSERTTEXT"},
@@ -163,6 +164,7 @@ static const named notes[] = {
     {2008, 0, "SCN_MODIFIED"},
     {2009, 0, "SCN_MACRORECORD"},
 };
+/* clang-format on */
 /* Written by tools/pages/header.py: end */
 
 /* The row with this number, by a binary search; NULL if there is none. */

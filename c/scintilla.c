@@ -1,21 +1,35 @@
-/* Hongpilas in Scintilla's own manner, over the library's calls: hongpilas_scintilla.h says what each call does. */
-#include <hongpilas_scintilla.h>
+/* Hongpilas with Scintilla's own interface, over the library's calls: hongpilas_scintilla.h says what each call does. */
+#include "scintilla_manners.h"
 
 #include <stdlib.h>
 #include <string.h>
 
-typedef struct door_view door_view;
+typedef struct scintilla_view scintilla_view;
+typedef struct batch batch;
+typedef struct delivery delivery;
 
-struct hongpilas_door {
-  hongpilas session;
-  door_view *views;  /* those that are open, the last one first */
-  size_t listeners;  /* how many of them have a callback */
-  bool is_telling;   /* notes are told */
+enum { SHORT_TEXT = 256 };
+
+struct hongpilas_scintilla {
+  hongpilas_session *session;
+  scintilla_view **views; /* those that are open, in the order of their ids */
+  size_t view_count, view_room;
+  size_t listeners; /* how many of them have a notify function */
+  /* The queue: what stands in batches, and then the notifications of the last reply from `next` on. */
+  batch *first, *last;
+  size_t next;
+  uptr_t w; /* of the call whose reply it is */
+  sptr_t l;
+  bool is_late;      /* that call has returned: a text that l led to may be gone */
+  bool is_pinned;    /* the function that runs was given bytes of the reply, which is not to be replaced */
+  delivery *running; /* of the call that notifies; NULL if none does */
+  uint8_t *held;     /* the text of the notification that is delivered, if it is long */
+  size_t held_room;
+  uint8_t held_short[SHORT_TEXT];
 };
 
-struct door_view {
-  hongpilas_door *door;
-  door_view *next;
+struct scintilla_view {
+  hongpilas_scintilla *of;
   hongpilas_notify notify;
   void *data;
   uint32_t id;
@@ -23,150 +37,263 @@ struct door_view {
   char refusal[64]; /* why a call was last refused, closed by a NUL */
 };
 
-/* ---- How messages take w and l, and answer ---- */
+/* ---- Views ---- */
 
-typedef enum takes {
-  NUMBERS, /* two numbers */
-  INT_W,   /* two numbers, the first an int */
-  INT_L,   /* two numbers, the second an int */
-  INTS,    /* two ints */
-  BITS_L,  /* two numbers, the second an int whose bits count */
-  COUNTED, /* l is a text of w bytes */
-  OFFERED, /* the same; a null one is none, and nothing is done */
-  CLOSED,  /* l is a text up to its NUL; a null one is none, and nothing is done */
-  EITHER,  /* l is a text of w bytes, or up to its NUL where w is -1 */
-  ASKED,   /* l is where a text of the document goes to, or null */
-  STYLED,  /* l is a range, with the place where its bytes and styles go to */
-  LENT     /* w and l are the start and the length of bytes that are lent */
-} takes;
-
-typedef enum answers { AS_IT_IS, AS_INT, AS_CHAR, AS_TRUE } answers; /* AS_TRUE: 1 where it is done */
-
-typedef struct manner {
-  unsigned int message;
-  takes taken;
-  answers answered;
-  int refused; /* what is answered where it is refused */
-} manner;
-
-/* By their numbers; what does not stand here takes two numbers, answers one, and 0 where it is refused. Ints are those of Scintilla's
- * documentation, also what it calls by the name of an enumeration. What answers -1 by that documentation if nothing is found or added answers
- * -1 where it is refused. */
-static const manner manners[] = {
-    {SCI_ADDTEXT, OFFERED, AS_IT_IS, 0},
-    {SCI_INSERTTEXT, CLOSED, AS_IT_IS, 0},
-    {SCI_GETCHARAT, NUMBERS, AS_CHAR, 0},
-    {SCI_GETSTYLEAT, NUMBERS, AS_CHAR, 0},
-    {SCI_GETSTYLEDTEXT, STYLED, AS_IT_IS, 0},
-    {SCI_MARKERLINEFROMHANDLE, INT_W, AS_IT_IS, -1},
-    {SCI_MARKERDELETEHANDLE, INT_W, AS_IT_IS, 0},
-    {SCI_GETCURLINE, ASKED, AS_IT_IS, 0},
-    {SCI_CONVERTEOLS, INT_W, AS_IT_IS, 0},
-    {SCI_SETEOLMODE, INT_W, AS_IT_IS, 0},
-    {SCI_SETSTYLING, INT_L, AS_IT_IS, 0},
-    {SCI_MARKERADD, INT_L, AS_IT_IS, -1},
-    {SCI_MARKERDELETE, INT_L, AS_IT_IS, 0},
-    {SCI_MARKERDELETEALL, INT_W, AS_IT_IS, 0},
-    {SCI_MARKERGET, NUMBERS, AS_INT, 0},
-    {SCI_MARKERNEXT, NUMBERS, AS_IT_IS, -1},
-    {SCI_MARKERPREVIOUS, NUMBERS, AS_IT_IS, -1},
-    {SCI_SETSTYLINGEX, OFFERED, AS_IT_IS, 0},
-    {SCI_SETLINESTATE, INT_L, AS_IT_IS, 0},
-    {SCI_GETLINE, ASKED, AS_IT_IS, 0},
-    {SCI_GETSELTEXT, ASKED, AS_IT_IS, 0},
-    {SCI_GETTEXTRANGE, ASKED, AS_IT_IS, 0},
-    {SCI_REPLACESEL, CLOSED, AS_IT_IS, 0},
-    {SCI_SETREADONLY, NUMBERS, AS_TRUE, 0},
-    {SCI_SETTEXT, CLOSED, AS_TRUE, 0},
-    {SCI_GETTEXT, ASKED, AS_IT_IS, 0},
-    {SCI_REPLACETARGET, EITHER, AS_IT_IS, 0},
-    {SCI_SEARCHINTARGET, COUNTED, AS_IT_IS, -1},
-    {SCI_SETSEARCHFLAGS, INT_W, AS_IT_IS, 0},
-    {SCI_SETFOLDLEVEL, INT_L, AS_IT_IS, 0},
-    {SCI_GETLASTCHILD, INT_L, AS_IT_IS, 0},
-    {SCI_GETFOLDPARENT, NUMBERS, AS_IT_IS, -1},
-    {SCI_FOLDLINE, INT_L, AS_IT_IS, 0},
-    {SCI_APPENDTEXT, COUNTED, AS_IT_IS, 0},
-    {SCI_SETMODEVENTMASK, INT_W, AS_IT_IS, 0},
-    {SCI_CREATEDOCUMENT, INT_L, AS_IT_IS, 0},
-    {SCI_COPYTEXT, COUNTED, AS_IT_IS, 0},
-    {SCI_MARKERADDSET, BITS_L, AS_IT_IS, 0},
-    {SCI_SETINDICATORCURRENT, INT_W, AS_IT_IS, 0},
-    {SCI_SETINDICATORVALUE, INT_W, AS_IT_IS, 0},
-    {SCI_INDICATORALLONFOR, NUMBERS, AS_INT, 0},
-    {SCI_INDICATORVALUEAT, INT_W, AS_INT, 0},
-    {SCI_INDICATORSTART, INT_W, AS_IT_IS, 0},
-    {SCI_INDICATOREND, INT_W, AS_IT_IS, 0},
-    {SCI_ADDUNDOACTION, INTS, AS_IT_IS, 0},
-    {SCI_GETRANGEPOINTER, LENT, AS_IT_IS, 0},
-    {SCI_SETLINEENDTYPESALLOWED, INT_W, AS_IT_IS, 0},
-    {SCI_GETTARGETTEXT, ASKED, AS_IT_IS, 0},
-};
-
-static manner manner_of(unsigned int message) {
-  manner plain = {0, NUMBERS, AS_IT_IS, 0};
-  size_t from = 0, to = sizeof manners / sizeof *manners;
+/* Where the view with this id stands, or where it would. */
+static size_t place_of(const hongpilas_scintilla *it, uint32_t id) {
+  size_t from = 0, to = it->view_count;
   while (from < to) {
     size_t middle = (from + to) / 2;
-    if (manners[middle].message == message) return manners[middle];
-    if (manners[middle].message < message) from = middle + 1;
+    if (it->views[middle]->id < id) from = middle + 1;
     else to = middle;
   }
-  plain.message = message;
-  return plain;
+  return from;
 }
 
-/* ---- Sending ---- */
-
-/* Notes a refusal. A message that the profile does not have is none: Scintilla has no status for such a one. */
-static void note_refusal(door_view *view, hongpilas_answer answer) {
-  size_t length;
-  if (answer == HONGPILAS_DONE || answer == HONGPILAS_UNKNOWN_MESSAGE) return;
-  length = hongpilas_copy_refusal_name(answer, (uint8_t *)view->refusal, sizeof view->refusal - 1);
-  view->refusal[length] = '\0';
-  view->status = answer == HONGPILAS_OUT_OF_MEMORY ? SC_STATUS_BADALLOC : SC_STATUS_FAILURE;
+/* The view with this id; NULL if it is closed. */
+static scintilla_view *view_of(const hongpilas_scintilla *it, uint32_t id) {
+  size_t place = place_of(it, id);
+  return place < it->view_count && it->views[place]->id == id ? it->views[place] : NULL;
 }
 
-static void fill_notification(SCNotification *to, const door_view *view, const hongpilas_note_data *note, uptr_t w, sptr_t l) {
-  bool is_record = note->code == SCN_MACRORECORD;
+/* ---- The queue ---- */
+
+/* A notification that is kept until it is delivered. Its text stands behind the notifications of its batch. */
+typedef struct kept_note {
+  hongpilas_note_data note;
+  uptr_t w;
+  sptr_t l;
+} kept_note;
+
+/* The notifications of one reply, in one block, which does not move. */
+struct batch {
+  batch *later;
+  size_t next, count;
+  kept_note notes[1];
+};
+
+static bool is_record(const hongpilas_note_data *note) { return note->code == SCN_MACRORECORD; }
+
+/* Whether l of a recorded message was a text. */
+static bool has_text(unsigned int message) {
+  takes taken = manner_of(message).taken;
+  return taken == COUNTED || taken == OFFERED || taken == CLOSED || taken == EITHER;
+}
+
+static bool has_undelivered(const hongpilas_scintilla *it) { return it->next < hongpilas_note_count_unchecked(it->session); }
+
+/* Copies what is left of the last reply's notifications into a batch. Each text gets a NUL behind it, for a recorded message. */
+static batch *copy_of_rest(const hongpilas_scintilla *it) {
+  hongpilas_note_data note;
+  size_t count = hongpilas_note_count_unchecked(it->session) - it->next, size = 0, i;
+  batch *made;
+  uint8_t *texts;
+  for (i = 0; i < count; i++)
+    if (hongpilas_note_unchecked(it->session, it->next + i, &note)) size += note.text_length + 1;
+  made = (batch *)malloc(sizeof *made + (count - 1) * sizeof *made->notes + size);
+  if (made == NULL) return NULL;
+  made->later = NULL;
+  made->next = 0;
+  made->count = count;
+  texts = (uint8_t *)(made->notes + count);
+  for (i = 0; i < count; i++) {
+    kept_note *kept = &made->notes[i];
+    hongpilas_note_unchecked(it->session, it->next + i, &kept->note);
+    if (kept->note.text_length > 0) memcpy(texts, kept->note.text, kept->note.text_length);
+    texts[kept->note.text_length] = 0;
+    kept->note.text = texts;
+    kept->w = it->w;
+    kept->l = is_record(&kept->note) && has_text(kept->note.message) ? (sptr_t)texts : it->l;
+    texts += kept->note.text_length + 1;
+  }
+  return made;
+}
+
+/* Makes the last reply free to be replaced: what of its notifications is not delivered goes into a batch. Whether that was possible. */
+static bool keep_rest(hongpilas_scintilla *it) {
+  batch *made;
+  if (it->is_pinned) return false;
+  if (!has_undelivered(it)) return true;
+  made = copy_of_rest(it);
+  if (made == NULL) return false;
+  if (it->first == NULL) it->first = made;
+  else it->last->later = made;
+  it->last = made;
+  it->next = (size_t)-1;
+  return true;
+}
+
+static void drop_first(hongpilas_scintilla *it) {
+  batch *dropped = it->first;
+  it->first = dropped->later;
+  free(dropped);
+}
+
+/* ---- Delivering ---- */
+
+/* Stands on the stack of the call that notifies. A notify function that is left by longjmp leaves it behind, and nobody says so; whether it still stands is seen
+ * in two ways. First, a call from inside is made farther down the same stack, and finds all seals as they were. That takes a nanosecond, but another function may
+ * have left them as they were, too, by a large local that it did not write. So where it matters the stack is walked, by the tables that compilers write for
+ * exceptions: the frame in which a delivery stands is that of `deliver`. Where they end before that frame, the first way decides alone. */
+enum { SEALS = 4 };
+struct delivery {
+  hongpilas_scintilla *of; /* NULL once that is freed */
+  uintptr_t seals[SEALS];
+};
+
+static void deliver(hongpilas_scintilla *it);
+
+static uintptr_t seal_of(const delivery *at, int i) { return ((uintptr_t)at ^ (uintptr_t)0x9E3779B97F4A7C15) * (uintptr_t)(2 * i + 3); }
+
+#if defined(__GNUC__) || defined(__clang__)
+#include <unwind.h>
+#define APART             __attribute__((noinline, no_sanitize_address))
+#define ENDS_BY(function) __attribute__((cleanup(function)))
+#define STACK()           ((uintptr_t)__builtin_frame_address(0))
+
+/* A walk to the frame that has an address: the function of the frame that was seen last, and whether that frame was found. */
+typedef struct walk {
+  uintptr_t wanted, function;
+  bool is_found;
+} walk;
+
+static _Unwind_Reason_Code look_at_frame(struct _Unwind_Context *frame, void *data) {
+  walk *w = (walk *)data;
+  if ((uintptr_t)_Unwind_GetCFA(frame) > w->wanted) {
+    w->is_found = true;
+    return _URC_END_OF_STACK;
+  }
+  w->function = (uintptr_t)_Unwind_GetRegionStart(frame);
+  return _URC_NO_REASON;
+}
+
+static bool is_in_frame_of_deliver(const delivery *at) {
+  walk w = {(uintptr_t)at, 0, false};
+  _Unwind_Backtrace(look_at_frame, &w);
+  return !w.is_found || w.function == (uintptr_t)&deliver;
+}
+#else
+#define APART
+#define ENDS_BY(function)
+#define STACK() ((uintptr_t) & (volatile char){0})
+static bool is_in_frame_of_deliver(const delivery *at) { return at != NULL; }
+#endif
+
+/* No notify function runs any more. */
+static bool forget_delivery(hongpilas_scintilla *it) {
+  it->running = NULL;
+  it->is_pinned = false;
+  return false;
+}
+
+/* Whether this call is made from inside a notify function, as far as the seals tell. */
+static APART bool is_inside(hongpilas_scintilla *it) {
+  const volatile delivery *at = it->running;
+  bool stands = at != NULL && STACK() < (uintptr_t)at && at->of == it;
+  int i;
+  for (i = 0; stands && i < SEALS; i++) stands = at->seals[i] == seal_of(it->running, i);
+  return stands || forget_delivery(it);
+}
+
+/* The same for sure. */
+static bool is_surely_inside(hongpilas_scintilla *it) { return is_inside(it) && (is_in_frame_of_deliver(it->running) || forget_delivery(it)); }
+
+/* The end of a delivery, by return or by an exception. */
+static void end_delivery(delivery *at) {
+  if (at->of == NULL || at->of->running != at) return;
+  at->of->running = NULL;
+  at->of->is_pinned = false;
+}
+
+/* The text of a notification of the last reply, for as long as it is delivered: a message that is sent meanwhile replaces the reply. If there is no memory for
+ * the copy, none may. A NUL closes it. */
+static const uint8_t *hold_text(hongpilas_scintilla *it, const uint8_t *text, size_t length) {
+  uint8_t *into = it->held_short;
+  if (length >= SHORT_TEXT) {
+    if (length >= it->held_room) {
+      free(it->held);
+      it->held = (uint8_t *)malloc(length + 1);
+      it->held_room = it->held == NULL ? 0 : length + 1;
+    }
+    into = it->held;
+  }
+  if (into == NULL) {
+    it->is_pinned = true;
+    return text;
+  }
+  if (length > 0) memcpy(into, text, length);
+  into[length] = 0;
+  return into;
+}
+
+/* Takes the next notification out of the queue. Its text stands until the next is taken. */
+static bool take_note(hongpilas_scintilla *it, kept_note *taken) {
+  it->is_pinned = false;
+  while (it->first != NULL && it->first->next == it->first->count) drop_first(it);
+  if (it->first != NULL) {
+    *taken = it->first->notes[it->first->next++];
+    return true;
+  }
+  if (it->next == (size_t)-1 || !hongpilas_note_unchecked(it->session, it->next, &taken->note)) return false;
+  it->next++;
+  taken->w = it->w;
+  taken->l = it->l;
+  if (taken->note.text_length > 0 || is_record(&taken->note)) taken->note.text = hold_text(it, taken->note.text, taken->note.text_length);
+  if (it->is_late && is_record(&taken->note) && has_text(taken->note.message)) taken->l = (sptr_t)taken->note.text;
+  return true;
+}
+
+static void fill_notification(SCNotification *to, const scintilla_view *view, const kept_note *kept) {
+  const hongpilas_note_data *note = &kept->note;
   memset(to, 0, sizeof *to);
-  to->nmhdr.hwndFrom = (void *)view;
+  to->nmhdr.hwndFrom = (void *)(uintptr_t)view;
   to->nmhdr.code = note->code;
   to->position = (Sci_Position)note->position;
   to->modificationType = (int)note->kind;
-  to->text = is_record || note->text_length == 0 ? NULL : (const char *)note->text;
+  to->text = is_record(note) || note->text_length == 0 ? NULL : (const char *)note->text;
   to->length = (Sci_Position)note->length;
   to->linesAdded = (Sci_Position)note->lines;
   to->message = (int)note->message;
-  to->wParam = is_record ? w : 0;
-  to->lParam = is_record ? l : 0;
+  to->wParam = is_record(note) ? kept->w : 0;
+  to->lParam = is_record(note) ? kept->l : 0;
   to->line = (Sci_Position)note->line;
   to->foldLevelNow = (int)note->now;
   to->foldLevelPrev = (int)note->prev;
   to->token = (int)note->token;
 }
 
-/* Tells the notes of the last reply, which came of a call with this w and l. A record is of the caller's own w and l, whose text still stands. */
-static void tell_notes(hongpilas_door *door, uptr_t w, sptr_t l) {
-  hongpilas_note_data note;
+/* Delivers what stands in the queue, and what joins it meanwhile. A notify function may free all of it, or close views. */
+static APART void deliver(hongpilas_scintilla *it) {
+  ENDS_BY(end_delivery) delivery here;
+  kept_note taken;
   SCNotification told;
-  size_t i;
-  door->is_telling = true;
-  for (i = 0; hongpilas_note(&door->session, i, &note); i++) {
-    const door_view *view = door->views;
-    while (view != NULL && view->id != note.view) view = view->next;
+  int i;
+  here.of = it;
+  for (i = 0; i < SEALS; i++) here.seals[i] = seal_of(&here, i);
+  it->running = &here;
+  while (take_note(it, &taken)) {
+    const scintilla_view *view = view_of(it, taken.note.view);
     if (view == NULL || view->notify == NULL) continue;
-    fill_notification(&told, view, &note, w, l);
+    fill_notification(&told, view, &taken);
     view->notify(&told, view->data);
+    if (here.of == NULL || it->running != &here) return;
   }
-  door->is_telling = false;
+  end_delivery(&here);
 }
 
-/* What a question answers that is never refused. */
-static int64_t ask(door_view *view, unsigned int message, int64_t w) {
+/* ---- Sending ---- */
+
+/* Notes a refusal. A message that the profile does not have is none: Scintilla has no status for such a one. */
+static void note_refusal(scintilla_view *view, hongpilas_answer answer) {
+  if (answer == HONGPILAS_DONE || answer == HONGPILAS_UNKNOWN_MESSAGE) return;
+  strncpy(view->refusal, hongpilas_answer_name(answer), sizeof view->refusal - 1);
+  view->status = answer == HONGPILAS_OUT_OF_MEMORY ? SC_STATUS_BADALLOC : SC_STATUS_FAILURE;
+}
+
+/* What a question answers that is never refused. No reply is replaced. */
+static int64_t ask(scintilla_view *view, unsigned int message, int64_t w) {
   int64_t value = 0;
-  hongpilas_call(&view->door->session, view->id, message, w, 0, NULL, 0, &value);
-  return value;
+  return hongpilas_ask_unchecked(view->of->session, view->id, message, w, 0, &value) == HONGPILAS_DONE ? value : 0;
 }
 
 /* ---- Texts that are asked for ---- */
@@ -176,7 +303,7 @@ typedef struct span {
 } span;
 
 /* The range, or one of -1 bytes where it does not lie in the text. */
-static span span_of_range(door_view *view, const struct Sci_TextRange *range) {
+static span span_of_range(scintilla_view *view, const struct Sci_TextRange *range) {
   span none = {0, -1}, found = {0, 0};
   int64_t length = ask(view, SCI_GETLENGTH, 0), end;
   if (range == NULL) return none;
@@ -194,7 +321,7 @@ static span span_between(int64_t from, int64_t to) {
   return found;
 }
 
-static span span_of_line(door_view *view, int64_t line) {
+static span span_of_line(scintilla_view *view, int64_t line) {
   span found = {0, 0};
   found.start = ask(view, SCI_POSITIONFROMLINE, line);
   found.count = ask(view, SCI_LINELENGTH, line);
@@ -202,7 +329,7 @@ static span span_of_line(door_view *view, int64_t line) {
 }
 
 /* The bytes of the document that a message asks for. */
-static span span_of(door_view *view, unsigned int message, uptr_t w, sptr_t l) {
+static span span_of(scintilla_view *view, unsigned int message, uptr_t w, sptr_t l) {
   switch (message) {
     case SCI_GETLINE: return span_of_line(view, (sptr_t)w);
     case SCI_GETCURLINE: return span_of_line(view, ask(view, SCI_LINEFROMPOSITION, ask(view, SCI_GETCURRENTPOS, 0)));
@@ -215,7 +342,7 @@ static span span_of(door_view *view, unsigned int message, uptr_t w, sptr_t l) {
 
 /* Writes the text that is asked for into the caller's buffer, if there is one. Two messages take how many bytes there may be, and two close no
  * text, as in Scintilla. Takes no memory. */
-static hongpilas_answer give_text(door_view *view, unsigned int message, uptr_t w, sptr_t l, int64_t *value) {
+static hongpilas_answer give_text(scintilla_view *view, unsigned int message, uptr_t w, sptr_t l, int64_t *value) {
   span found = span_of(view, message, w, l);
   char *into = message != SCI_GETTEXTRANGE ? (char *)l : l == 0 ? NULL : ((const struct Sci_TextRange *)l)->lpstrText;
   bool is_bounded = message == SCI_GETTEXT || message == SCI_GETCURLINE;
@@ -225,47 +352,53 @@ static hongpilas_answer give_text(door_view *view, unsigned int message, uptr_t 
   *value = found.count;
   if (into == NULL) return HONGPILAS_DONE;
   if (is_bounded && (uptr_t)found.count > w) *value = found.count = (int64_t)w;
-  if (found.count > 0)
-    answer = hongpilas_copy_range(&view->door->session, view->id, (size_t)found.start, (uint8_t *)into, (size_t)found.count);
+  if (found.count > 0) answer = hongpilas_copy_range_unchecked(view->of->session, view->id, (size_t)found.start, (uint8_t *)into, (size_t)found.count);
   if (answer == HONGPILAS_DONE && is_closed) into[found.count] = '\0';
   if (message == SCI_GETCURLINE) *value = ask(view, SCI_GETCURRENTPOS, 0) - found.start;
   return answer;
 }
 
 /* Writes the bytes and styles of a range, behind which two NULs stand. */
-static hongpilas_answer give_styled(door_view *view, const struct Sci_TextRange *range, int64_t *value) {
-  hongpilas *session = &view->door->session;
+static hongpilas_answer give_styled(scintilla_view *view, const struct Sci_TextRange *range, int64_t *value) {
   span found = span_of_range(view, range);
+  const uint8_t *styled = NULL;
   hongpilas_answer answer;
-  size_t length;
+  size_t length = 0;
   if (found.count < 0) return HONGPILAS_BAD_ARGUMENT;
   *value = found.count * 2;
   if (range->lpstrText == NULL) return HONGPILAS_DONE;
-  answer = hongpilas_call(session, view->id, SCI_GETSTYLEDTEXT, found.start, found.start + found.count, NULL, 0, value);
+  answer = hongpilas_read_unchecked(view->of->session, view->id, SCI_GETSTYLEDTEXT, found.start, found.start + found.count, &styled, &length, value);
   if (answer != HONGPILAS_DONE) return answer;
-  length = (size_t)*value;
-  if (length > 0) hongpilas_copy_text(session, 0, (uint8_t *)range->lpstrText, length);
+  if (length > 0) memcpy(range->lpstrText, styled, length);
   memset(range->lpstrText + length, 0, 2);
   return HONGPILAS_DONE;
 }
 
 /* Lends bytes of the document, side by side: the library has a call for it, and Scintilla a message. */
-static hongpilas_answer lend_span(door_view *view, sptr_t start, sptr_t count, int64_t *value) {
+static hongpilas_answer lend_span(scintilla_view *view, sptr_t start, sptr_t count, int64_t *value) {
   const uint8_t *bytes = NULL;
   hongpilas_answer answer = HONGPILAS_BAD_ARGUMENT;
-  if (start >= 0 && count >= 0) answer = hongpilas_lend_range(&view->door->session, view->id, (size_t)start, (size_t)count, &bytes);
+  if (start >= 0 && count >= 0) answer = hongpilas_lend_range_unchecked(view->of->session, view->id, (size_t)start, (size_t)count, &bytes);
   *value = (sptr_t)bytes;
   return answer;
 }
 
 /* ---- The call ---- */
 
-/* Sends a message with a text, or with l where there is none. */
-static hongpilas_answer send_text(door_view *view, unsigned int message, uptr_t w, sptr_t l, const char *text, size_t length,
-                                  int64_t *value) {
-  hongpilas_answer answer =
-      hongpilas_call(&view->door->session, view->id, message, (sptr_t)w, text == NULL ? l : 0, text, length, value);
-  if (answer == HONGPILAS_DONE && view->door->listeners > 0) tell_notes(view->door, w, l);
+/* Sends a message with a text, or with l where there is none. A question replaces no reply; before all others the queue is kept. */
+static hongpilas_answer send_text(scintilla_view *view, unsigned int message, uptr_t w, sptr_t l, const char *text, size_t length, int64_t *value) {
+  hongpilas_scintilla *it = view->of;
+  bool is_queued = it->next != (size_t)-1 && (it->is_pinned || has_undelivered(it));
+  hongpilas_answer answer;
+  if (is_queued && (hongpilas_message_marks(message) & HONGPILAS_MARK_Q) != 0)
+    return hongpilas_ask_unchecked(it->session, view->id, message, (sptr_t)w, l, value);
+  if (is_queued && !keep_rest(it)) return HONGPILAS_OUT_OF_MEMORY;
+  answer = hongpilas_send(it->session, view->id, message, (sptr_t)w, text == NULL ? l : 0, text, length, value);
+  if (answer != HONGPILAS_DONE) return answer;
+  it->next = it->listeners > 0 ? 0 : (size_t)-1;
+  it->w = w;
+  it->l = l;
+  it->is_late = false;
   return answer;
 }
 
@@ -277,7 +410,7 @@ static size_t length_of_text(const manner *way, uptr_t w, const char *text) {
   return (sptr_t)w < 0 ? 0 : w;
 }
 
-static hongpilas_answer send_as(door_view *view, const manner *way, uptr_t w, sptr_t l, int64_t *value) {
+static hongpilas_answer send_as(scintilla_view *view, const manner *way, uptr_t w, sptr_t l, int64_t *value) {
   const char *text = (const char *)l;
   switch (way->taken) {
     case INT_W: return send_text(view, way->message, (uptr_t)(sptr_t)(int)w, l, NULL, 0, value);
@@ -302,97 +435,141 @@ static sptr_t answer_as(answers answered, int64_t value) {
   return (sptr_t)value;
 }
 
-sptr_t hongpilas_direct(sptr_t ptr, unsigned int message, uptr_t w, sptr_t l) {
-  door_view *view = (door_view *)ptr;
-  manner way = manner_of(message);
+/* Refuses a message that edits the text inside a notify function. */
+static void refuse_edit(scintilla_view *view) {
+  strcpy(view->refusal, "edit inside a notify function");
+  view->status = SC_STATUS_FAILURE;
+}
+
+static bool is_marked(const manner *way, uint32_t mark) { return (hongpilas_message_marks(way->message) & mark) != 0; }
+static bool is_question(const manner *way) { return way->taken == LENT || is_marked(way, HONGPILAS_MARK_Q); }
+
+/* Whether a message that is no question is sent from inside a notify function. It is made sure where it matters before the message is done. */
+static bool is_sent_inside(hongpilas_scintilla *it, const manner *way) {
+  if (it->running == NULL || is_question(way)) return false;
+  return is_marked(way, HONGPILAS_MARK_E) || it->is_pinned ? is_surely_inside(it) : is_inside(it);
+}
+
+/* Delivers what stands in the queue behind a message, unless that is a question, or a notify function runs. */
+static void deliver_behind(hongpilas_scintilla *it, const manner *way) {
+  if (it->first == NULL && (it->next == (size_t)-1 || !has_undelivered(it))) return;
+  if (is_question(way) || (it->running != NULL && is_surely_inside(it))) return;
+  deliver(it);
+}
+
+/* Sends a message. The view may be closed by what is delivered behind it: its status is looked at before. */
+static sptr_t perform(scintilla_view *view, const manner *way, uptr_t w, sptr_t l, int *status) {
+  hongpilas_scintilla *it = view->of;
+  bool inside = is_sent_inside(it, way);
   hongpilas_answer answer;
   int64_t value = 0;
-  if (view == NULL) return message == SCI_GETSTATUS ? SC_STATUS_FAILURE : way.refused;
-  if (message == SCI_GETSTATUS) return view->status;
-  if (message == SCI_SETSTATUS) {
-    view->status = (int)w;
-    return 0;
+  sptr_t answered = way->refused;
+  if (inside && is_marked(way, HONGPILAS_MARK_E)) {
+    refuse_edit(view);
+    *status = view->status;
+    return answered;
   }
-  if (view->door->is_telling) {
-    strcpy(view->refusal, "sent while notes are told");
-    view->status = SC_STATUS_FAILURE;
-    return way.refused;
-  }
-  if (l == 0 && (way.taken == OFFERED || way.taken == CLOSED)) return 0;
-  answer = send_as(view, &way, w, l, &value);
+  it->is_late = true;
+  answer = send_as(view, way, w, l, &value);
   note_refusal(view, answer);
-  return answer == HONGPILAS_DONE ? answer_as(way.answered, value) : way.refused;
+  *status = view->status;
+  if (answer == HONGPILAS_DONE) answered = answer_as(way->answered, value);
+  if (inside) it->is_late = true;
+  deliver_behind(it, way);
+  return answered;
 }
 
 sptr_t hongpilas_direct_status(sptr_t ptr, unsigned int message, uptr_t w, sptr_t l, int *status) {
-  sptr_t answer = hongpilas_direct(ptr, message, w, l);
-  if (status != NULL) *status = ptr == 0 ? SC_STATUS_FAILURE : ((const door_view *)ptr)->status;
-  return answer;
+  scintilla_view *view = (scintilla_view *)ptr;
+  manner way = manner_of(message);
+  int unasked = 0;
+  if (status == NULL) status = &unasked;
+  *status = view == NULL ? SC_STATUS_FAILURE : view->status;
+  if (message == SCI_GETSTATUS) return *status;
+  if (view == NULL) return way.refused;
+  if (message == SCI_SETSTATUS) {
+    *status = view->status = (int)w;
+    return 0;
+  }
+  if (l == 0 && (way.taken == OFFERED || way.taken == CLOSED)) return 0;
+  return perform(view, &way, w, l, status);
 }
 
-const char *hongpilas_refusal(sptr_t view) { return view == 0 ? "no such view" : ((const door_view *)view)->refusal; }
+sptr_t hongpilas_direct(sptr_t view, unsigned int message, uptr_t w, sptr_t l) { return hongpilas_direct_status(view, message, w, l, NULL); }
+
+const char *hongpilas_refusal(sptr_t view) { return view == 0 ? "no such view" : ((const scintilla_view *)view)->refusal; }
 
 void hongpilas_set_notify(sptr_t ptr, hongpilas_notify notify, void *data) {
-  door_view *view = (door_view *)ptr;
+  scintilla_view *view = (scintilla_view *)ptr;
   if (view == NULL) return;
-  view->door->listeners += (size_t)(notify != NULL) - (size_t)(view->notify != NULL);
+  view->of->listeners += (size_t)(notify != NULL) - (size_t)(view->notify != NULL);
   view->notify = notify;
   view->data = data;
 }
 
-/* ---- Doors and views ---- */
+/* ---- Components and views ---- */
 
-hongpilas_door *hongpilas_door_new(void) {
+hongpilas_scintilla *hongpilas_scintilla_new(void) {
   const hongpilas_limits greatest = HONGPILAS_GREATEST_LIMITS;
-  return hongpilas_door_new_with_limits(&greatest);
+  return hongpilas_scintilla_new_with_limits(&greatest, sizeof greatest);
 }
 
-hongpilas_door *hongpilas_door_new_with_limits(const hongpilas_limits *limits) {
-  hongpilas_door *door = limits == NULL ? NULL : (hongpilas_door *)malloc(sizeof *door);
-  if (door == NULL) return NULL;
-  if (hongpilas_new_with_limits(&door->session, limits) != HONGPILAS_DONE) {
-    free(door);
-    return NULL;
-  }
-  door->views = NULL;
-  door->listeners = 0;
-  door->is_telling = false;
-  return door;
+hongpilas_scintilla *hongpilas_scintilla_new_with_limits(const hongpilas_limits *limits, size_t size) {
+  hongpilas_scintilla *it = (hongpilas_scintilla *)malloc(sizeof *it);
+  if (it == NULL) return NULL;
+  memset(it, 0, sizeof *it);
+  it->next = (size_t)-1;
+  if (hongpilas_new_with_limits(&it->session, limits, size) == HONGPILAS_DONE) return it;
+  free(it);
+  return NULL;
 }
 
-void hongpilas_door_free(hongpilas_door *door) {
-  if (door == NULL || door->is_telling) return;
-  while (door->views != NULL) {
-    door_view *view = door->views;
-    door->views = view->next;
-    free(view);
-  }
-  hongpilas_free(door->session);
-  free(door);
+void hongpilas_scintilla_free(hongpilas_scintilla *it) {
+  if (it == NULL) return;
+  if (it->running != NULL && is_surely_inside(it)) it->running->of = NULL;
+  while (it->first != NULL) drop_first(it);
+  while (it->view_count > 0) free(it->views[--it->view_count]);
+  free(it->views);
+  free(it->held);
+  hongpilas_free(it->session);
+  free(it);
 }
 
-sptr_t hongpilas_door_open(hongpilas_door *door) {
-  door_view *view;
-  if (door == NULL || door->is_telling) return 0;
-  view = (door_view *)malloc(sizeof *view);
+/* Makes room for one view more. */
+static bool has_room(hongpilas_scintilla *it) {
+  size_t room = it->view_room == 0 ? 4 : 2 * it->view_room;
+  scintilla_view **views;
+  if (it->view_count < it->view_room) return true;
+  views = (scintilla_view **)realloc(it->views, room * sizeof *views);
+  if (views == NULL) return false;
+  it->views = views;
+  it->view_room = room;
+  return true;
+}
+
+sptr_t hongpilas_scintilla_open(hongpilas_scintilla *it) {
+  scintilla_view *view;
+  if (it == NULL || !has_room(it)) return 0;
+  view = (scintilla_view *)malloc(sizeof *view);
   if (view == NULL) return 0;
   memset(view, 0, sizeof *view);
-  if (hongpilas_new_view(&door->session, &view->id) != HONGPILAS_DONE) {
+  if (hongpilas_new_view(it->session, &view->id) != HONGPILAS_DONE) {
     free(view);
     return 0;
   }
-  view->door = door;
-  view->next = door->views;
-  door->views = view;
+  view->of = it;
+  it->views[it->view_count++] = view;
   return (sptr_t)view;
 }
 
-void hongpilas_door_close(sptr_t ptr) {
-  door_view *view = (door_view *)ptr, **at;
-  if (view == NULL || view->door->is_telling) return;
+void hongpilas_scintilla_close(sptr_t ptr) {
+  scintilla_view *view = (scintilla_view *)ptr;
+  hongpilas_scintilla *it = view == NULL ? NULL : view->of;
+  size_t place;
+  if (it == NULL || hongpilas_close_view(it->session, view->id) != HONGPILAS_DONE) return;
   hongpilas_set_notify(ptr, NULL, NULL);
-  for (at = &view->door->views; *at != view; at = &(*at)->next) continue;
-  *at = view->next;
-  hongpilas_close_view(&view->door->session, view->id);
+  place = place_of(it, view->id);
+  it->view_count--;
+  memmove(it->views + place, it->views + place + 1, (it->view_count - place) * sizeof *it->views);
   free(view);
 }

@@ -121,7 +121,9 @@ typedef struct hongpilas_limits {
 
 /* All limits at their greatest, as a start for a program that lowers only some:
  * hongpilas_limits limits = HONGPILAS_GREATEST_LIMITS; */
+/* clang-format off */
 #define HONGPILAS_GREATEST_LIMITS {0x7FFFFFFF, 0x10000000000, 0x7FFFFFFF, 0x7FFFFFFF, 0x7FFFFFFF, 1024, 255}
+/* clang-format on */
 
 /* What each call refuses, beside its own refusals, before it does anything else; the first
  * of these that applies:
@@ -140,8 +142,7 @@ typedef struct hongpilas_limits {
  * Refused: OUT_OF_MEMORY; BAD_ARGUMENT if a limit is 0 or above the greatest, if `session`
  * is null, or if `size` is below that of this version or above that of the library. */
 HONGPILAS_MUST_USE hongpilas_answer hongpilas_new(hongpilas_session **session);
-HONGPILAS_MUST_USE hongpilas_answer hongpilas_new_with_limits(hongpilas_session **session,
-                                                              const hongpilas_limits *limits, size_t size);
+HONGPILAS_MUST_USE hongpilas_answer hongpilas_new_with_limits(hongpilas_session **session, const hongpilas_limits *limits, size_t size);
 
 /* Frees a session with all that it owns. Does nothing if it is null. */
 void hongpilas_free(hongpilas_session *session);
@@ -158,9 +159,8 @@ HONGPILAS_MUST_USE hongpilas_answer hongpilas_close_view(hongpilas_session *sess
  * message does, and when it is refused. The text is read in place, and not stored. Sets
  * *value to the value of the reply; `value` may be null. The reply, with its text and its
  * notifications, replaces the last one. */
-HONGPILAS_MUST_USE hongpilas_answer hongpilas_send(hongpilas_session *session, uint32_t view, uint32_t number,
-                                                   int64_t w, int64_t l, const void *text, size_t length,
-                                                   int64_t *value);
+HONGPILAS_MUST_USE hongpilas_answer hongpilas_send(hongpilas_session *session, uint32_t view, uint32_t number, int64_t w, int64_t l, const void *text,
+                                                   size_t length, int64_t *value);
 
 /* Asks a view a question: a message that changes nothing, which docs/MESSAGES.md marks Q.
  * Sets *value to the value with which hongpilas_send would answer it. Neither the session
@@ -169,11 +169,9 @@ HONGPILAS_MUST_USE hongpilas_answer hongpilas_send(hongpilas_session *session, u
  * to its first byte, and *length. The text is valid until the next hongpilas_read of the
  * session, or hongpilas_free; here `value` may be null.
  * Refused: UNKNOWN_MESSAGE if the message is no question; otherwise as by hongpilas_send. */
-HONGPILAS_MUST_USE hongpilas_answer hongpilas_ask(const hongpilas_session *session, uint32_t view, uint32_t number,
-                                                  int64_t w, int64_t l, int64_t *value);
-HONGPILAS_MUST_USE hongpilas_answer hongpilas_read(hongpilas_session *session, uint32_t view, uint32_t number,
-                                                   int64_t w, int64_t l, const uint8_t **text, size_t *length,
-                                                   int64_t *value);
+HONGPILAS_MUST_USE hongpilas_answer hongpilas_ask(const hongpilas_session *session, uint32_t view, uint32_t number, int64_t w, int64_t l, int64_t *value);
+HONGPILAS_MUST_USE hongpilas_answer hongpilas_read(hongpilas_session *session, uint32_t view, uint32_t number, int64_t w, int64_t l, const uint8_t **text,
+                                                   size_t *length, int64_t *value);
 
 /* Sets *value to the value of the last reply: 0 before the first message that was done. */
 HONGPILAS_MUST_USE hongpilas_answer hongpilas_value(const hongpilas_session *session, int64_t *value);
@@ -181,25 +179,23 @@ HONGPILAS_MUST_USE hongpilas_answer hongpilas_value(const hongpilas_session *ses
 /* Lends the last reply's text, as long as the reply is valid: sets *text to its first
  * byte, and *length. The second form copies the bytes from `start` on, as many as there are
  * and as fit, and sets *count to how many that is. */
-HONGPILAS_MUST_USE hongpilas_answer hongpilas_text(const hongpilas_session *session, const uint8_t **text,
-                                                   size_t *length);
-HONGPILAS_MUST_USE hongpilas_answer hongpilas_copy_text(const hongpilas_session *session, size_t start, void *into,
-                                                        size_t room, size_t *count);
+HONGPILAS_MUST_USE hongpilas_answer hongpilas_text(const hongpilas_session *session, const uint8_t **text, size_t *length);
+HONGPILAS_MUST_USE hongpilas_answer hongpilas_copy_text(const hongpilas_session *session, size_t start, void *into, size_t room, size_t *count);
 
 /* A notification of a view. Fields that its code does not use are 0. */
 typedef struct hongpilas_note_data {
-  uint32_t view;       /* the view that is notified */
-  uint32_t code;       /* which notification, such as SCN_MODIFIED */
-  uint32_t kind;       /* Scintilla's modificationType */
-  uint32_t message;    /* the number of a recorded message */
-  int64_t position;    /* a position, in bytes */
-  int64_t length;      /* a length, in bytes */
-  int64_t lines;       /* Scintilla's linesAdded */
-  int64_t line;        /* a line, from 0; -1 for all lines */
-  int64_t now;         /* a fold level after a change: foldLevelNow */
-  int64_t prev;        /* a fold level before it: foldLevelPrev */
-  int64_t token;       /* the token of a container's own undo step */
-  int64_t w;           /* the arguments of a recorded message */
+  uint32_t view;    /* the view that is notified */
+  uint32_t code;    /* which notification, such as SCN_MODIFIED */
+  uint32_t kind;    /* Scintilla's modificationType */
+  uint32_t message; /* the number of a recorded message */
+  int64_t position; /* a position, in bytes */
+  int64_t length;   /* a length, in bytes */
+  int64_t lines;    /* Scintilla's linesAdded */
+  int64_t line;     /* a line, from 0; -1 for all lines */
+  int64_t now;      /* a fold level after a change: foldLevelNow */
+  int64_t prev;     /* a fold level before it: foldLevelPrev */
+  int64_t token;    /* the token of a container's own undo step */
+  int64_t w;        /* the arguments of a recorded message */
   int64_t l;
   const uint8_t *text; /* the notification's text, valid as long as the reply is */
   size_t text_length;  /* its length, in bytes */
@@ -212,23 +208,20 @@ typedef struct hongpilas_note_data {
  * Refused: BAD_ARGUMENT if there is no such notification, or if `size` is below that of this
  * version. */
 HONGPILAS_MUST_USE hongpilas_answer hongpilas_note_count(const hongpilas_session *session, size_t *count);
-HONGPILAS_MUST_USE hongpilas_answer hongpilas_note(const hongpilas_session *session, size_t index,
-                                                   hongpilas_note_data *note, size_t size);
+HONGPILAS_MUST_USE hongpilas_answer hongpilas_note(const hongpilas_session *session, size_t index, hongpilas_note_data *note, size_t size);
 
 /* Copies a notification's text from `start` on, as many bytes as there are and as fit, and
  * sets *count to how many that is. Refused: BAD_ARGUMENT if there is no such notification. */
-HONGPILAS_MUST_USE hongpilas_answer hongpilas_copy_note_text(const hongpilas_session *session, size_t index,
-                                                             size_t start, void *into, size_t room, size_t *count);
+HONGPILAS_MUST_USE hongpilas_answer hongpilas_copy_note_text(const hongpilas_session *session, size_t index, size_t start, void *into, size_t room,
+                                                             size_t *count);
 
 /* Lends the `count` bytes of the view's document from `start` on, without a copy: sets
  * *bytes to the first. They are valid until the next call that does more than read the
  * last reply. The second form copies as many bytes as the buffer has. Neither changes
  * the session or the last reply, and neither allocates.
  * Refused: NO_SUCH_VIEW; BAD_ARGUMENT if the range ends past the end of the text. */
-HONGPILAS_MUST_USE hongpilas_answer hongpilas_lend_range(hongpilas_session *session, uint32_t view, size_t start,
-                                                         size_t count, const uint8_t **bytes);
-HONGPILAS_MUST_USE hongpilas_answer hongpilas_copy_range(hongpilas_session *session, uint32_t view, size_t start,
-                                                         void *into, size_t count);
+HONGPILAS_MUST_USE hongpilas_answer hongpilas_lend_range(hongpilas_session *session, uint32_t view, size_t start, size_t count, const uint8_t **bytes);
+HONGPILAS_MUST_USE hongpilas_answer hongpilas_copy_range(hongpilas_session *session, uint32_t view, size_t start, void *into, size_t count);
 
 /* The unchecked forms: the proved calls themselves. Each does what the call of the same name
  * without `unchecked` does, and tests no pointer and no length. Beside the duties above, the
@@ -238,175 +231,170 @@ HONGPILAS_MUST_USE hongpilas_answer hongpilas_copy_range(hongpilas_session *sess
  * a notification, and sets the members of version 2.0 alone; the text of none is empty. */
 HONGPILAS_MUST_USE hongpilas_answer hongpilas_new_view_unchecked(hongpilas_session *session, uint32_t *view);
 HONGPILAS_MUST_USE hongpilas_answer hongpilas_close_view_unchecked(hongpilas_session *session, uint32_t view);
-HONGPILAS_MUST_USE hongpilas_answer hongpilas_send_unchecked(hongpilas_session *session, uint32_t view,
-                                                             uint32_t number, int64_t w, int64_t l,
+HONGPILAS_MUST_USE hongpilas_answer hongpilas_send_unchecked(hongpilas_session *session, uint32_t view, uint32_t number, int64_t w, int64_t l,
                                                              const uint8_t *text, size_t length, int64_t *value);
-HONGPILAS_MUST_USE hongpilas_answer hongpilas_ask_unchecked(const hongpilas_session *session, uint32_t view,
-                                                            uint32_t number, int64_t w, int64_t l, int64_t *value);
-HONGPILAS_MUST_USE hongpilas_answer hongpilas_read_unchecked(hongpilas_session *session, uint32_t view,
-                                                             uint32_t number, int64_t w, int64_t l,
+HONGPILAS_MUST_USE hongpilas_answer hongpilas_ask_unchecked(const hongpilas_session *session, uint32_t view, uint32_t number, int64_t w, int64_t l,
+                                                            int64_t *value);
+HONGPILAS_MUST_USE hongpilas_answer hongpilas_read_unchecked(hongpilas_session *session, uint32_t view, uint32_t number, int64_t w, int64_t l,
                                                              const uint8_t **text, size_t *length, int64_t *value);
 int64_t hongpilas_value_unchecked(const hongpilas_session *session);
 size_t hongpilas_text_unchecked(const hongpilas_session *session, const uint8_t **text);
 size_t hongpilas_copy_text_unchecked(const hongpilas_session *session, size_t start, uint8_t *into, size_t room);
 size_t hongpilas_note_count_unchecked(const hongpilas_session *session);
 bool hongpilas_note_unchecked(const hongpilas_session *session, size_t index, hongpilas_note_data *note);
-size_t hongpilas_copy_note_text_unchecked(const hongpilas_session *session, size_t index, size_t start, uint8_t *into,
-                                          size_t room);
-HONGPILAS_MUST_USE hongpilas_answer hongpilas_lend_range_unchecked(hongpilas_session *session, uint32_t view,
-                                                                   size_t start, size_t count,
+size_t hongpilas_copy_note_text_unchecked(const hongpilas_session *session, size_t index, size_t start, uint8_t *into, size_t room);
+HONGPILAS_MUST_USE hongpilas_answer hongpilas_lend_range_unchecked(hongpilas_session *session, uint32_t view, size_t start, size_t count,
                                                                    const uint8_t **bytes);
-HONGPILAS_MUST_USE hongpilas_answer hongpilas_copy_range_unchecked(hongpilas_session *session, uint32_t view,
-                                                                   size_t start, uint8_t *into, size_t count);
+HONGPILAS_MUST_USE hongpilas_answer hongpilas_copy_range_unchecked(hongpilas_session *session, uint32_t view, size_t start, uint8_t *into, size_t count);
 
 /* Scintilla's names and numbers, as far as the profile has them. Left out if Scintilla.h was included before. */
 #ifndef SCINTILLA_H
 /* Written by tools/pages/header.py: begin */
 /* Messages. */
-#define SCI_ADDTEXT                2001
-#define SCI_INSERTTEXT             2003
-#define SCI_CLEARALL               2004
-#define SCI_GETLENGTH              2006
-#define SCI_GETCHARAT              2007
-#define SCI_GETCURRENTPOS          2008
-#define SCI_GETANCHOR              2009
-#define SCI_GETSTYLEAT             2010
-#define SCI_REDO                   2011
-#define SCI_SETUNDOCOLLECTION      2012
-#define SCI_SELECTALL              2013
-#define SCI_SETSAVEPOINT           2014
-#define SCI_GETSTYLEDTEXT          2015
-#define SCI_CANREDO                2016
-#define SCI_MARKERLINEFROMHANDLE   2017
-#define SCI_MARKERDELETEHANDLE     2018
-#define SCI_GETUNDOCOLLECTION      2019
-#define SCI_GOTOLINE               2024
-#define SCI_GOTOPOS                2025
-#define SCI_SETANCHOR              2026
-#define SCI_GETCURLINE             2027
-#define SCI_GETENDSTYLED           2028
-#define SCI_CONVERTEOLS            2029
-#define SCI_GETEOLMODE             2030
-#define SCI_SETEOLMODE             2031
-#define SCI_STARTSTYLING           2032
-#define SCI_SETSTYLING             2033
-#define SCI_MARKERADD              2043
-#define SCI_MARKERDELETE           2044
-#define SCI_MARKERDELETEALL        2045
-#define SCI_MARKERGET              2046
-#define SCI_MARKERNEXT             2047
-#define SCI_MARKERPREVIOUS         2048
-#define SCI_SETSTYLINGEX           2073
-#define SCI_BEGINUNDOACTION        2078
-#define SCI_ENDUNDOACTION          2079
-#define SCI_SETLINESTATE           2092
-#define SCI_GETLINESTATE           2093
-#define SCI_GETLINEENDPOSITION     2136
-#define SCI_GETREADONLY            2140
-#define SCI_SETCURRENTPOS          2141
-#define SCI_SETSELECTIONSTART      2142
-#define SCI_GETSELECTIONSTART      2143
-#define SCI_SETSELECTIONEND        2144
-#define SCI_GETSELECTIONEND        2145
-#define SCI_GETLINE                2153
-#define SCI_GETLINECOUNT           2154
-#define SCI_GETMODIFY              2159
-#define SCI_SETSEL                 2160
-#define SCI_GETSELTEXT             2161
-#define SCI_GETTEXTRANGE           2162
-#define SCI_LINEFROMPOSITION       2166
-#define SCI_POSITIONFROMLINE       2167
-#define SCI_REPLACESEL             2170
-#define SCI_SETREADONLY            2171
-#define SCI_CANPASTE               2173
-#define SCI_CANUNDO                2174
-#define SCI_EMPTYUNDOBUFFER        2175
-#define SCI_UNDO                   2176
-#define SCI_CUT                    2177
-#define SCI_COPY                   2178
-#define SCI_PASTE                  2179
-#define SCI_CLEAR                  2180
-#define SCI_SETTEXT                2181
-#define SCI_GETTEXT                2182
-#define SCI_GETTEXTLENGTH          2183
-#define SCI_SETTARGETSTART         2190
-#define SCI_GETTARGETSTART         2191
-#define SCI_SETTARGETEND           2192
-#define SCI_GETTARGETEND           2193
-#define SCI_REPLACETARGET          2194
-#define SCI_SEARCHINTARGET         2197
-#define SCI_SETSEARCHFLAGS         2198
-#define SCI_GETSEARCHFLAGS         2199
-#define SCI_VISIBLEFROMDOCLINE     2220
-#define SCI_DOCLINEFROMVISIBLE     2221
-#define SCI_SETFOLDLEVEL           2222
-#define SCI_GETFOLDLEVEL           2223
-#define SCI_GETLASTCHILD           2224
-#define SCI_GETFOLDPARENT          2225
-#define SCI_SHOWLINES              2226
-#define SCI_HIDELINES              2227
-#define SCI_GETLINEVISIBLE         2228
-#define SCI_SETFOLDEXPANDED        2229
-#define SCI_GETFOLDEXPANDED        2230
-#define SCI_TOGGLEFOLD             2231
-#define SCI_ENSUREVISIBLE          2232
-#define SCI_GETALLLINESVISIBLE     2236
-#define SCI_FOLDLINE               2237
-#define SCI_APPENDTEXT             2282
-#define SCI_TARGETFROMSELECTION    2287
-#define SCI_CHARLEFT               2304
-#define SCI_CHARLEFTEXTEND         2305
-#define SCI_CHARRIGHT              2306
-#define SCI_CHARRIGHTEXTEND        2307
-#define SCI_HOME                   2312
-#define SCI_HOMEEXTEND             2313
-#define SCI_LINEEND                2314
-#define SCI_LINEENDEXTEND          2315
-#define SCI_DOCUMENTSTART          2316
-#define SCI_DOCUMENTSTARTEXTEND    2317
-#define SCI_DOCUMENTEND            2318
-#define SCI_DOCUMENTENDEXTEND      2319
-#define SCI_DELETEBACK             2326
-#define SCI_NEWLINE                2329
-#define SCI_LINELENGTH             2350
-#define SCI_GETDOCPOINTER          2357
-#define SCI_SETDOCPOINTER          2358
-#define SCI_SETMODEVENTMASK        2359
-#define SCI_CREATEDOCUMENT         2375
-#define SCI_ADDREFDOCUMENT         2376
-#define SCI_RELEASEDOCUMENT        2377
-#define SCI_GETMODEVENTMASK        2378
-#define SCI_GETDOCUMENTOPTIONS     2379
-#define SCI_POSITIONBEFORE         2417
-#define SCI_POSITIONAFTER          2418
-#define SCI_COPYRANGE              2419
-#define SCI_COPYTEXT               2420
-#define SCI_MARKERADDSET           2466
-#define SCI_SETPASTECONVERTENDINGS 2467
-#define SCI_GETPASTECONVERTENDINGS 2468
-#define SCI_SETINDICATORCURRENT    2500
-#define SCI_GETINDICATORCURRENT    2501
-#define SCI_SETINDICATORVALUE      2502
-#define SCI_GETINDICATORVALUE      2503
-#define SCI_INDICATORFILLRANGE     2504
-#define SCI_INDICATORCLEARRANGE    2505
-#define SCI_INDICATORALLONFOR      2506
-#define SCI_INDICATORVALUEAT       2507
-#define SCI_INDICATORSTART         2508
-#define SCI_INDICATOREND           2509
-#define SCI_SETEMPTYSELECTION      2556
-#define SCI_ADDUNDOACTION          2560
-#define SCI_DELETERANGE            2645
-#define SCI_GETSELECTIONEMPTY      2650
-#define SCI_SETLINEENDTYPESALLOWED 2656
-#define SCI_GETLINEENDTYPESALLOWED 2657
-#define SCI_GETLINEENDTYPESACTIVE  2658
-#define SCI_SETTARGETRANGE         2686
-#define SCI_GETTARGETTEXT          2687
-#define SCI_TARGETWHOLEDOCUMENT    2690
-#define SCI_STARTRECORD            3001
-#define SCI_STOPRECORD             3002
-#define SCI_COLOURISE              4003
+#define SCI_ADDTEXT                2001 /* Inserts `text` at the caret, and moves anchor and caret to the end of the inserted text. */
+#define SCI_INSERTTEXT             2003 /* Inserts `text` at `position`, or at the caret if `position` is -1. */
+#define SCI_CLEARALL               2004 /* Deletes the whole text. */
+#define SCI_GETLENGTH              2006 /* Returns the length of the text. */
+#define SCI_GETCHARAT              2007 /* Returns the byte at `position`, 0 to 255, or 0 if there is none. */
+#define SCI_GETCURRENTPOS          2008 /* Returns the position of the caret. */
+#define SCI_GETANCHOR              2009 /* Returns the position of the anchor. */
+#define SCI_GETSTYLEAT             2010 /* Returns the style of the byte at `position`, or 0 if there is none. */
+#define SCI_REDO                   2011 /* Performs again the transaction that was undone last. */
+#define SCI_SETUNDOCOLLECTION      2012 /* Sets whether undo is collected. */
+#define SCI_SELECTALL              2013 /* Moves the anchor to 0 and the caret to the end of the text. */
+#define SCI_SETSAVEPOINT           2014 /* Makes the current state the save point, and always sends SCN_SAVEPOINTREACHED. */
+#define SCI_GETSTYLEDTEXT          2015 /* Returns each byte from `start` to `end`, followed by its style; the value is the number of bytes returned. */
+#define SCI_CANREDO                2016 /* Returns whether REDO would change something. */
+#define SCI_MARKERLINEFROMHANDLE   2017 /* Returns the line of the marker with `handle`, or -1 if there is none. */
+#define SCI_MARKERDELETEHANDLE     2018 /* Removes the marker with `handle`. */
+#define SCI_GETUNDOCOLLECTION      2019 /* Returns whether undo is collected. */
+#define SCI_GOTOLINE               2024 /* Moves anchor and caret to the start of line `line`. */
+#define SCI_GOTOPOS                2025 /* Moves anchor and caret to `position` (clamped to the text). */
+#define SCI_SETANCHOR              2026 /* Moves the anchor to `position` (clamped to the text); the caret stays. */
+#define SCI_GETCURLINE             2027 /* Returns the caret's line with its line end; the value is the caret's distance from the line's start, in bytes. */
+#define SCI_GETENDSTYLED           2028 /* Returns end styled: the position up to which the document is styled. */
+#define SCI_CONVERTEOLS            2029 /* Turns each CRLF, CR and LF of the text into one line end: `SC_EOL_CRLF` 0, `SC_EOL_CR` 1 or `SC_EOL_LF` 2. */
+#define SCI_GETEOLMODE             2030 /* Returns the document's line end: `SC_EOL_CRLF`, `SC_EOL_CR` or `SC_EOL_LF`. */
+#define SCI_SETEOLMODE             2031 /* Sets the document's line end: `SC_EOL_CRLF` 0, `SC_EOL_CR` 1 or `SC_EOL_LF` 2. */
+#define SCI_STARTSTYLING           2032 /* Moves end styled to `position`. */
+#define SCI_SETSTYLING             2033 /* Gives `style` to the `length` bytes from end styled on, and moves end styled after them. */
+#define SCI_MARKERADD              2043 /* Adds a marker with `number` to line `line`, after those that it has, and returns its handle. */
+#define SCI_MARKERDELETE           2044 /* Removes from line `line`, if there is such a line, the first marker with `number`, or all markers if that is -1. */
+#define SCI_MARKERDELETEALL        2045 /* Removes all markers with `number` from the document, or all markers if that is -1. */
+#define SCI_MARKERGET              2046 /* Returns the mask of the markers of line `line`. */
+#define SCI_MARKERNEXT             2047 /* Returns the first line from `line` on that has a marker whose bit is set in the low 32 bits of `mask`, or -1. */
+#define SCI_MARKERPREVIOUS         2048 /* Returns the last line up to `line` that has a marker whose bit is set in the low 32 bits of `mask`, or -1. */
+#define SCI_SETSTYLINGEX           2073 /* Gives each byte from end styled on the style that `styles` has for it, and moves end styled after the last one. */
+#define SCI_BEGINUNDOACTION        2078 /* Opens an undo group, inside those that are open. */
+#define SCI_ENDUNDOACTION          2079 /* Closes the undo group that was opened last. */
+#define SCI_SETLINESTATE           2092 /* Sets the state of line `line`, if there is such a line. */
+#define SCI_GETLINESTATE           2093 /* Returns the state of line `line`, or 0 if there is no such line. */
+#define SCI_GETLINEENDPOSITION     2136 /* Returns where the line end of line `line` begins. */
+#define SCI_GETREADONLY            2140 /* Returns whether the document is read-only. */
+#define SCI_SETCURRENTPOS          2141 /* Moves the caret to `position` (clamped to the text); the anchor stays. */
+#define SCI_SETSELECTIONSTART      2142 /* Moves the anchor to `position` (clamped to the text); if the caret is before it, moves the caret there too. */
+#define SCI_GETSELECTIONSTART      2143 /* Returns the selection's start: the lesser of anchor and caret. */
+#define SCI_SETSELECTIONEND        2144 /* Moves the caret to `position` (clamped to the text); if the anchor is after it, moves the anchor there too. */
+#define SCI_GETSELECTIONEND        2145 /* Returns the selection's end: the greater of anchor and caret. */
+#define SCI_GETLINE                2153 /* Returns line `line` with its line end; the value is its length. */
+#define SCI_GETLINECOUNT           2154 /* Returns the number of lines, which is at least 1. */
+#define SCI_GETMODIFY              2159 /* Returns whether the document is modified, that is, not at its save point. */
+#define SCI_SETSEL                 2160 /* Moves the anchor to `anchor` and the caret to `caret` (both clamped to the text). */
+#define SCI_GETSELTEXT             2161 /* Returns the selected text; the value is its length. */
+#define SCI_GETTEXTRANGE           2162 /* Returns the text from `start` to `end`; the value is its length. */
+#define SCI_LINEFROMPOSITION       2166 /* Returns the line that contains `position` (clamped to the text). */
+#define SCI_POSITIONFROMLINE       2167 /* Returns the start of line `line`. */
+#define SCI_REPLACESEL             2170 /* Replaces the selection by `text`, and moves anchor and caret to the end of the inserted text. */
+#define SCI_SETREADONLY            2171 /* Makes the document read-only, or writable if `on` is false. */
+#define SCI_CANPASTE               2173 /* Returns whether text can be pasted: whether the document is not read-only. */
+#define SCI_CANUNDO                2174 /* Returns whether UNDO would change something. */
+#define SCI_EMPTYUNDOBUFFER        2175 /* Forgets the history, closes all groups, and makes the current state the save point. */
+#define SCI_UNDO                   2176 /* Takes back the last transaction. */
+#define SCI_CUT                    2177 /* Copies the selection to the clipboard and deletes it. */
+#define SCI_COPY                   2178 /* Copies the selection to the clipboard. */
+#define SCI_PASTE                  2179 /* Replaces the selection by the clipboard, and moves anchor and caret to the end of the inserted text. */
+#define SCI_CLEAR                  2180 /* Deletes the selection, or, if that is empty, the bytes from the caret to the next character boundary. */
+#define SCI_SETTEXT                2181 /* Replaces the whole text by `text`. */
+#define SCI_GETTEXT                2182 /* Returns the whole text; the value is its length. */
+#define SCI_GETTEXTLENGTH          2183 /* Returns the length of the text. */
+#define SCI_SETTARGETSTART         2190 /* Sets the target's start to `position` (clamped to the text). */
+#define SCI_GETTARGETSTART         2191 /* Returns the target's start. */
+#define SCI_SETTARGETEND           2192 /* Sets the target's end to `position` (clamped to the text). */
+#define SCI_GETTARGETEND           2193 /* Returns the target's end. */
+#define SCI_REPLACETARGET          2194 /* Replaces the text between the target's ends by `text`, makes the inserted text the target, and returns its length. */
+#define SCI_SEARCHINTARGET         2197 /* Searches the target for `text` by the view's search flags. */
+#define SCI_SETSEARCHFLAGS         2198 /* Sets the view's search flags to `flags`. */
+#define SCI_GETSEARCHFLAGS         2199 /* Returns the view's search flags. */
+#define SCI_VISIBLEFROMDOCLINE     2220 /* Returns the display line of line `line`. */
+#define SCI_DOCLINEFROMVISIBLE     2221 /* Returns the line at display line `displayLine`. */
+#define SCI_SETFOLDLEVEL           2222 /* Sets the fold level of line `line`, if there is such a line. */
+#define SCI_GETFOLDLEVEL           2223 /* Returns the fold level of line `line`, or 1024 (`SC_FOLDLEVELBASE`) if there is no such line. */
+#define SCI_GETLASTCHILD           2224 /* Returns the last child of line `line`. */
+#define SCI_GETFOLDPARENT          2225 /* Returns the fold parent of line `line`, or -1 if it has none or does not exist. */
+#define SCI_SHOWLINES              2226 /* Makes the lines from `first` to `last` visible, as far as they exist. */
+#define SCI_HIDELINES              2227 /* Hides the lines from `first` to `last`, as far as they exist, except line 0. */
+#define SCI_GETLINEVISIBLE         2228 /* Returns whether line `line` is visible; false if there is no such line. */
+#define SCI_SETFOLDEXPANDED        2229 /* Sets whether line `line` is expanded, if there is such a line; shows and hides nothing. */
+#define SCI_GETFOLDEXPANDED        2230 /* Returns whether line `line` is expanded; false if there is no such line. */
+#define SCI_TOGGLEFOLD             2231 /* Contracts line `line` if it is an expanded header, and expands it if it is a contracted one. */
+#define SCI_ENSUREVISIBLE          2232 /* Makes a hidden line `line` visible. */
+#define SCI_GETALLLINESVISIBLE     2236 /* Returns whether all lines are visible. */
+#define SCI_FOLDLINE               2237 /* Contracts, expands or toggles line `line` if it is a header, else its fold parent; does nothing without one. */
+#define SCI_APPENDTEXT             2282 /* Inserts `text` at the end of the document. */
+#define SCI_TARGETFROMSELECTION    2287 /* Sets the target's start and end to those of the selection, the lesser first. */
+#define SCI_CHARLEFT               2304 /* Moves anchor and caret to the selection's start, or, if it is empty, to the character boundary before the caret. */
+#define SCI_CHARLEFTEXTEND         2305 /* Moves the caret to the character boundary before it; the anchor stays. */
+#define SCI_CHARRIGHT              2306 /* Moves anchor and caret to the selection's end, or, if it is empty, to the character boundary after the caret. */
+#define SCI_CHARRIGHTEXTEND        2307 /* Moves the caret to the character boundary after it; the anchor stays. */
+#define SCI_HOME                   2312 /* Moves anchor and caret to the start of the caret's line. */
+#define SCI_HOMEEXTEND             2313 /* Moves the caret to the start of its line; the anchor stays. */
+#define SCI_LINEEND                2314 /* Moves anchor and caret to where the line end of the caret's line begins. */
+#define SCI_LINEENDEXTEND          2315 /* Moves the caret to where the line end of its line begins; the anchor stays. */
+#define SCI_DOCUMENTSTART          2316 /* Moves anchor and caret to 0. */
+#define SCI_DOCUMENTSTARTEXTEND    2317 /* Moves the caret to 0; the anchor stays. */
+#define SCI_DOCUMENTEND            2318 /* Moves anchor and caret to the end of the text. */
+#define SCI_DOCUMENTENDEXTEND      2319 /* Moves the caret to the end of the text; the anchor stays. */
+#define SCI_DELETEBACK             2326 /* Deletes the selection, or, if that is empty, the bytes from the character boundary before the caret to the caret. */
+#define SCI_NEWLINE                2329 /* Replaces the selection by the document's line end, and moves anchor and caret to the end of the inserted text. */
+#define SCI_LINELENGTH             2350 /* Returns the length of line `line` with its line end, or 0 if there is no such line. */
+#define SCI_GETDOCPOINTER          2357 /* Returns the id of the view's document. */
+#define SCI_SETDOCPOINTER          2358 /* Attaches the view to `document`, or to a new document if that is 0. */
+#define SCI_SETMODEVENTMASK        2359 /* Sets the view's mask: the kinds of SCN_MODIFIED that it is subscribed to, a bit for each. */
+#define SCI_CREATEDOCUMENT         2375 /* Creates a document, held once by the caller, and returns its id; `bytes` is not used. */
+#define SCI_ADDREFDOCUMENT         2376 /* Adds a reference to `document` that the caller holds. */
+#define SCI_RELEASEDOCUMENT        2377 /* Gives back a reference to `document` that a caller holds. */
+#define SCI_GETMODEVENTMASK        2378 /* Returns the view's mask: the kinds of SCN_MODIFIED that it is subscribed to. */
+#define SCI_GETDOCUMENTOPTIONS     2379 /* Returns the options of the view's document. */
+#define SCI_POSITIONBEFORE         2417 /* Returns the last character boundary before `position` (clamped to the text), or 0. */
+#define SCI_POSITIONAFTER          2418 /* Returns the first character boundary after `position` (clamped to the text), or the text's length. */
+#define SCI_COPYRANGE              2419 /* Makes the text from `start` to `end` the clipboard, even if that is empty. */
+#define SCI_COPYTEXT               2420 /* Makes `text` the clipboard, even if it is empty. */
+#define SCI_MARKERADDSET           2466 /* Adds to line `line`, if there is such a line, a marker for each bit that is set in `mask`, in rising order. */
+#define SCI_SETPASTECONVERTENDINGS 2467 /* Sets whether this view converts line ends in what it pastes. */
+#define SCI_GETPASTECONVERTENDINGS 2468 /* Returns whether this view converts line ends in what it pastes. */
+#define SCI_SETINDICATORCURRENT    2500 /* Sets the view's current indicator. */
+#define SCI_GETINDICATORCURRENT    2501 /* Returns the view's current indicator. */
+#define SCI_SETINDICATORVALUE      2502 /* Sets the value that this view fills in; 0 stands for 1. */
+#define SCI_GETINDICATORVALUE      2503 /* Returns the value that this view fills in. */
+#define SCI_INDICATORFILLRANGE     2504 /* Gives the view's current indicator the view's value over the `length` bytes from `start` on. */
+#define SCI_INDICATORCLEARRANGE    2505 /* Gives the view's current indicator the value 0 over the `length` bytes from `start` on. */
+#define SCI_INDICATORALLONFOR      2506 /* Returns a mask in which bit k is set if indicator k is not 0 at the byte at `position`. */
+#define SCI_INDICATORVALUEAT       2507 /* Returns the value of indicator `number` at the byte at `position`, or 0 if there is no such byte. */
+#define SCI_INDICATORSTART         2508 /* Returns the start of the longest run of one value of indicator `number` around the byte at `position`. */
+#define SCI_INDICATOREND           2509 /* Returns the end of the longest run of one value of indicator `number` around the byte at `position`. */
+#define SCI_SETEMPTYSELECTION      2556 /* Moves anchor and caret to `position` (clamped to the text). */
+#define SCI_ADDUNDOACTION          2560 /* Appends a container action with `token` to the history, also on a read-only document. */
+#define SCI_DELETERANGE            2645 /* Deletes the `length` bytes from `start` on. */
+#define SCI_GETSELECTIONEMPTY      2650 /* Returns whether the selection is empty. */
+#define SCI_SETLINEENDTYPESALLOWED 2656 /* Sets which line ends the document allows, also if it is read-only. */
+#define SCI_GETLINEENDTYPESALLOWED 2657 /* Returns which line ends the document allows: `SC_LINE_END_TYPE_DEFAULT` or `SC_LINE_END_TYPE_UNICODE`. */
+#define SCI_GETLINEENDTYPESACTIVE  2658 /* Returns which line ends divide the text. */
+#define SCI_SETTARGETRANGE         2686 /* Sets the target's start to `start` and its end to `end` (both clamped to the text). */
+#define SCI_GETTARGETTEXT          2687 /* Returns the text between the target's ends, whichever is the lesser; the value is its length. */
+#define SCI_TARGETWHOLEDOCUMENT    2690 /* Sets the target's start to 0 and its end to the end of the text. */
+#define SCI_STARTRECORD            3001 /* Starts recording in this view: it is notified by SCN_MACRORECORD of each message marked R, before all else. */
+#define SCI_STOPRECORD             3002 /* Stops recording in this view. */
+#define SCI_COLOURISE              4003 /* Asks for styles up to `end`. */
 
 /* Notifications. */
 #define SCN_STYLENEEDED      2000
@@ -417,10 +405,10 @@ HONGPILAS_MUST_USE hongpilas_answer hongpilas_copy_range_unchecked(hongpilas_ses
 #define SCN_MACRORECORD      2009
 
 /* Constants. */
-#define SCFIND_MATCHCASE              4
-#define SCFIND_WHOLEWORD              2
-#define SCFIND_WORDSTART              0x100000
-#define SC_DOCUMENTOPTION_STYLES_NONE 1
+#define SCFIND_MATCHCASE              0x4
+#define SCFIND_WHOLEWORD              0x2
+#define SCFIND_WORDSTART              0x00100000
+#define SC_DOCUMENTOPTION_STYLES_NONE 0x1
 #define SC_DOCUMENTOPTION_TEXT_LARGE  0x100
 #define SC_EOL_CR                     1
 #define SC_EOL_CRLF                   0
@@ -430,7 +418,7 @@ HONGPILAS_MUST_USE hongpilas_answer hongpilas_copy_range_unchecked(hongpilas_ses
 #define SC_FOLDACTION_TOGGLE          2
 #define SC_FOLDLEVELBASE              0x400
 #define SC_FOLDLEVELHEADERFLAG        0x2000
-#define SC_FOLDLEVELNUMBERMASK        0xFFF
+#define SC_FOLDLEVELNUMBERMASK        0x0FFF
 #define SC_FOLDLEVELWHITEFLAG         0x1000
 #define SC_LASTSTEPINUNDOREDO         0x100
 #define SC_LINE_END_TYPE_DEFAULT      0
@@ -438,14 +426,14 @@ HONGPILAS_MUST_USE hongpilas_answer hongpilas_copy_range_unchecked(hongpilas_ses
 #define SC_MODEVENTMASKALL            0x7FFFFF
 #define SC_MOD_BEFOREDELETE           0x800
 #define SC_MOD_BEFOREINSERT           0x400
-#define SC_MOD_CHANGEFOLD             8
+#define SC_MOD_CHANGEFOLD             0x8
 #define SC_MOD_CHANGEINDICATOR        0x4000
 #define SC_MOD_CHANGELINESTATE        0x8000
 #define SC_MOD_CHANGEMARKER           0x200
-#define SC_MOD_CHANGESTYLE            4
+#define SC_MOD_CHANGESTYLE            0x4
 #define SC_MOD_CONTAINER              0x40000
-#define SC_MOD_DELETETEXT             2
-#define SC_MOD_INSERTTEXT             1
+#define SC_MOD_DELETETEXT             0x2
+#define SC_MOD_INSERTTEXT             0x1
 #define SC_MULTILINEUNDOREDO          0x1000
 #define SC_MULTISTEPUNDOREDO          0x80
 #define SC_PERFORMED_REDO             0x40

@@ -551,406 +551,441 @@ class BasicView {
   hongpilas_session *session() const noexcept { return session_; }
 
   // Written by tools/pages/wrappers.py: begin
-  /// SCI_ADDTEXT, 2001. Inserts `text` at the caret; then anchor and caret stand after it, for an empty `text` too.
+  /// Inserts `text` at the caret, and moves anchor and caret to the end of the inserted text. An empty `text` moves
+  /// the anchor to the caret. Message: `SCI_ADDTEXT`.
   Answer<void> AddText(Text text) noexcept(nothrow) { return as_done(SCI_ADDTEXT, length_of(text), 0, text); }
-  /// SCI_INSERTTEXT, 2003. `position` is -1 for the caret, else in 0..n. Inserts `text` at `position`. Here n is the
-  /// text's length.
+  /// Inserts `text` at `position`, or at the caret if `position` is -1. Refused with `Refusal::BadArgument` unless
+  /// `position` is -1 to the text's length. Message: `SCI_INSERTTEXT`.
   Answer<void> InsertText(std::int64_t position, Text text) noexcept(nothrow) { return as_done(SCI_INSERTTEXT, position, 0, text); }
-  /// SCI_CLEARALL, 2004. Deletes the whole text.
+  /// Deletes the whole text. Message: `SCI_CLEARALL`.
   Answer<void> ClearAll() noexcept(nothrow) { return as_done(SCI_CLEARALL, 0, 0); }
-  /// SCI_GETLENGTH, 2006. Returns the text's length.
+  /// Returns the length of the text. Message: `SCI_GETLENGTH`.
   [[nodiscard]] Answer<std::int64_t> GetLength() const noexcept(nothrow) { return ask_number(SCI_GETLENGTH, 0, 0); }
-  /// SCI_GETCHARAT, 2007. Returns the byte at `position`, 0 to 255; 0 outside 0..n-1. Here n is the text's length.
+  /// Returns the byte at `position`, 0 to 255, or 0 if there is none. Message: `SCI_GETCHARAT`.
   [[nodiscard]] Answer<std::int64_t> GetCharAt(std::int64_t position) const noexcept(nothrow) { return ask_number(SCI_GETCHARAT, position, 0); }
-  /// SCI_GETCURRENTPOS, 2008. Returns the caret.
+  /// Returns the position of the caret. Message: `SCI_GETCURRENTPOS`.
   [[nodiscard]] Answer<std::int64_t> GetCurrentPos() const noexcept(nothrow) { return ask_number(SCI_GETCURRENTPOS, 0, 0); }
-  /// SCI_GETANCHOR, 2009. Returns the anchor.
+  /// Returns the position of the anchor. Message: `SCI_GETANCHOR`.
   [[nodiscard]] Answer<std::int64_t> GetAnchor() const noexcept(nothrow) { return ask_number(SCI_GETANCHOR, 0, 0); }
-  /// SCI_GETSTYLEAT, 2010. Returns the style of the byte at `position`; 0 outside 0..n-1. Here n is the text's
-  /// length.
+  /// Returns the style of the byte at `position`, or 0 if there is none. Message: `SCI_GETSTYLEAT`.
   [[nodiscard]] Answer<std::int64_t> GetStyleAt(std::int64_t position) const noexcept(nothrow) { return ask_number(SCI_GETSTYLEAT, position, 0); }
-  /// SCI_REDO, 2011. Performs the next transaction again; does nothing inside a group or if the future is empty.
+  /// Performs again the transaction that was undone last. Does nothing inside a group, or if there is no transaction
+  /// to redo. Message: `SCI_REDO`.
   Answer<void> Redo() noexcept(nothrow) { return as_done(SCI_REDO, 0, 0); }
-  /// SCI_SETUNDOCOLLECTION, 2012. On while on changes nothing; off forgets the history, ends groups and keeps whether
-  /// the document counts as modified.
+  /// Sets whether undo is collected. Off, even if it was off, forgets the history and closes all groups, and keeps
+  /// whether the document counts as modified. On while undo is collected changes nothing. Message:
+  /// `SCI_SETUNDOCOLLECTION`.
   Answer<void> SetUndoCollection(bool on) noexcept(nothrow) { return as_done(SCI_SETUNDOCOLLECTION, on, 0); }
-  /// SCI_SELECTALL, 2013. The anchor goes to 0, the caret goes to the text's length.
+  /// Moves the anchor to 0 and the caret to the end of the text. Message: `SCI_SELECTALL`.
   Answer<void> SelectAll() noexcept(nothrow) { return as_done(SCI_SELECTALL, 0, 0); }
-  /// SCI_SETSAVEPOINT, 2014. Makes the current state the save point.
+  /// Makes the current state the save point, and always sends SCN_SAVEPOINTREACHED. Message: `SCI_SETSAVEPOINT`.
   Answer<void> SetSavePoint() noexcept(nothrow) { return as_done(SCI_SETSAVEPOINT, 0, 0); }
-  /// SCI_GETSTYLEDTEXT, 2015. `start` lies in 0..n, and `end` in `start`..n or is -1 for the end of the text. Returns
-  /// byte, style, byte, style and so on; the reply's value is 2(`end`-`start`). Here n is the text's length.
+  /// Returns each byte from `start` to `end`, followed by its style; the reply's value is the number of bytes
+  /// returned. Refused with `Refusal::BadArgument` unless `start` and `end` are a range of the text; an `end` of -1
+  /// is its end. Message: `SCI_GETSTYLEDTEXT`.
   [[nodiscard]] Answer<std::string> GetStyledText(std::int64_t start, std::int64_t end) const noexcept(nothrow) {
     return read_copy(SCI_GETSTYLEDTEXT, start, end);
   }
-  /// As GetStyledText, borrowed and not copied: valid until the next question that returns a text.
+  /// Like GetStyledText, but lent, not copied: the text is valid until the next question that returns a text.
   [[nodiscard]] Answer<std::string_view> GetStyledTextView(std::int64_t start, std::int64_t end) const noexcept(nothrow) {
     return read_lent(SCI_GETSTYLEDTEXT, start, end);
   }
-  /// SCI_CANREDO, 2016. Returns whether no group is open, the document is not read-only and the future is not empty.
+  /// Returns whether `Redo` would change something: no group is open, the document is not read-only, and there is a
+  /// transaction to redo. Message: `SCI_CANREDO`.
   [[nodiscard]] Answer<bool> CanRedo() const noexcept(nothrow) { return ask_flag(SCI_CANREDO, 0, 0); }
-  /// SCI_MARKERLINEFROMHANDLE, 2017. Returns the line of `handle`, else -1.
+  /// Returns the line of the marker with `handle`, or -1 if there is none. Message: `SCI_MARKERLINEFROMHANDLE`.
   [[nodiscard]] Answer<std::int64_t> MarkerLineFromHandle(std::int64_t handle) const noexcept(nothrow) {
     return ask_number(SCI_MARKERLINEFROMHANDLE, handle, 0);
   }
-  /// SCI_MARKERDELETEHANDLE, 2018. Removes the marker with `handle`, if there is one.
+  /// Removes the marker with `handle`. If there is one, sends SCN_MODIFIED (`SC_MOD_CHANGEMARKER`). Message:
+  /// `SCI_MARKERDELETEHANDLE`.
   Answer<void> MarkerDeleteHandle(std::int64_t handle) noexcept(nothrow) { return as_done(SCI_MARKERDELETEHANDLE, handle, 0); }
-  /// SCI_GETUNDOCOLLECTION, 2019. Returns whether undo is collected.
+  /// Returns whether undo is collected. Message: `SCI_GETUNDOCOLLECTION`.
   [[nodiscard]] Answer<bool> GetUndoCollection() const noexcept(nothrow) { return ask_flag(SCI_GETUNDOCOLLECTION, 0, 0); }
-  /// SCI_GOTOLINE, 2024. Anchor and caret go to the start of `line`, brought into 0..L-1. Here L is the number of
-  /// lines.
+  /// Moves anchor and caret to the start of line `line`; a negative number stands for the first line, one that is too
+  /// great for the last. Message: `SCI_GOTOLINE`.
   Answer<void> GotoLine(std::int64_t line) noexcept(nothrow) { return as_done(SCI_GOTOLINE, line, 0); }
-  /// SCI_GOTOPOS, 2025. Anchor and caret go to `position`, clamped. Here clamped means brought into 0..n, n the
-  /// text's length.
+  /// Moves anchor and caret to `position` (clamped to the text). Message: `SCI_GOTOPOS`.
   Answer<void> GotoPos(std::int64_t position) noexcept(nothrow) { return as_done(SCI_GOTOPOS, position, 0); }
-  /// SCI_SETANCHOR, 2026. The anchor goes to `position`, clamped. Here clamped means brought into 0..n, n the text's
-  /// length.
+  /// Moves the anchor to `position` (clamped to the text); the caret stays. Message: `SCI_SETANCHOR`.
   Answer<void> SetAnchor(std::int64_t position) noexcept(nothrow) { return as_done(SCI_SETANCHOR, position, 0); }
-  /// SCI_GETCURLINE, 2027. Returns the line of the caret with its end; the reply's value is the caret less the line's
-  /// start.
+  /// Returns the caret's line with its line end; the reply's value is the caret's distance from the line's start, in
+  /// bytes. Message: `SCI_GETCURLINE`.
   [[nodiscard]] Answer<std::string> GetCurLine() const noexcept(nothrow) { return read_copy(SCI_GETCURLINE, 0, 0); }
-  /// As GetCurLine, borrowed and not copied: valid until the next question that returns a text.
+  /// Like GetCurLine, but lent, not copied: the text is valid until the next question that returns a text.
   [[nodiscard]] Answer<std::string_view> GetCurLineView() const noexcept(nothrow) { return read_lent(SCI_GETCURLINE, 0, 0); }
-  /// SCI_GETENDSTYLED, 2028. Returns end styled.
+  /// Returns end styled: the position up to which the document is styled. Message: `SCI_GETENDSTYLED`.
   [[nodiscard]] Answer<std::int64_t> GetEndStyled() const noexcept(nothrow) { return ask_number(SCI_GETENDSTYLED, 0, 0); }
-  /// SCI_CONVERTEOLS, 2029. `mode` in 0..2. Turns each CRLF, CR and LF into that line end; Unicode line ends and the
-  /// mode stay.
+  /// Turns each CRLF, CR and LF of the text into one line end: `SC_EOL_CRLF` 0, `SC_EOL_CR` 1 or `SC_EOL_LF` 2.
+  /// Unicode line ends stay, and so does the document's line end. Refused with `Refusal::BadArgument` unless `mode`
+  /// is 0 to 2. Message: `SCI_CONVERTEOLS`.
   Answer<void> ConvertEOLs(std::int64_t mode) noexcept(nothrow) { return as_done(SCI_CONVERTEOLS, mode, 0); }
-  /// SCI_GETEOLMODE, 2030. Returns the line end that NEWLINE and PASTE insert.
+  /// Returns the document's line end: `SC_EOL_CRLF`, `SC_EOL_CR` or `SC_EOL_LF`. Message: `SCI_GETEOLMODE`.
   [[nodiscard]] Answer<std::int64_t> GetEOLMode() const noexcept(nothrow) { return ask_number(SCI_GETEOLMODE, 0, 0); }
-  /// SCI_SETEOLMODE, 2031. `mode` in 0..2: SC_EOL_CRLF 0, SC_EOL_CR 1, SC_EOL_LF 2.
+  /// Sets the document's line end: `SC_EOL_CRLF` 0, `SC_EOL_CR` 1 or `SC_EOL_LF` 2. Refused with
+  /// `Refusal::BadArgument` unless `mode` is 0 to 2. Message: `SCI_SETEOLMODE`.
   Answer<void> SetEOLMode(std::int64_t mode) noexcept(nothrow) { return as_done(SCI_SETEOLMODE, mode, 0); }
-  /// SCI_STARTSTYLING, 2032. `position` in 0..n. End styled becomes `position`. Here n is the text's length.
+  /// Moves end styled to `position`. Refused with `Refusal::BadArgument` unless `position` is 0 to the text's length.
+  /// Message: `SCI_STARTSTYLING`.
   Answer<void> StartStyling(std::int64_t position) noexcept(nothrow) { return as_done(SCI_STARTSTYLING, position, 0); }
-  /// SCI_SETSTYLING, 2033. `style` in 0..255, `length` in 0..n-end styled. Styles `length` bytes from end styled on
-  /// with `style`, and moves end styled after them. Here n is the text's length.
+  /// Gives `style` to the `length` bytes from end styled on, and moves end styled after them. If a style changed,
+  /// sends SCN_MODIFIED (`SC_MOD_CHANGESTYLE`). Refused with `Refusal::BadArgument` unless `style` is 0 to 255, and
+  /// `length` 0 to the number of bytes from end styled on. Message: `SCI_SETSTYLING`.
   Answer<void> SetStyling(std::int64_t length, std::int64_t style) noexcept(nothrow) { return as_done(SCI_SETSTYLING, length, style); }
-  /// SCI_MARKERADD, 2043. `number` in 0..31. Adds marker `number` at the end of `line`'s list; returns its handle;
-  /// bad line -1; TooMany if handles are used up. Here a bad line is one that is not there.
+  /// Adds a marker with `number` to line `line`, after those that it has, and returns its handle; -1 if there is no
+  /// such line. If it added one, sends SCN_MODIFIED (`SC_MOD_CHANGEMARKER`). Refused with `Refusal::BadArgument`
+  /// unless `number` is 0 to 31, and with `Refusal::TooMany` if marker handles are used up. Message: `SCI_MARKERADD`.
   Answer<std::int64_t> MarkerAdd(std::int64_t line, std::int64_t number) noexcept(nothrow) { return as_number(SCI_MARKERADD, line, number); }
-  /// SCI_MARKERDELETE, 2044. `number` in -1..31. Removes the first copy of `number` on `line`; -1: all of the line.
+  /// Removes from line `line`, if there is such a line, the first marker with `number`, or all markers if that is -1.
+  /// If it removed one, sends SCN_MODIFIED (`SC_MOD_CHANGEMARKER`). Refused with `Refusal::BadArgument` unless
+  /// `number` is -1 to 31. Message: `SCI_MARKERDELETE`.
   Answer<void> MarkerDelete(std::int64_t line, std::int64_t number) noexcept(nothrow) { return as_done(SCI_MARKERDELETE, line, number); }
-  /// SCI_MARKERDELETEALL, 2045. `number` in -1..31. Removes all of number `number`; -1: all.
+  /// Removes all markers with `number` from the document, or all markers if that is -1. If it removed one, sends one
+  /// SCN_MODIFIED (`SC_MOD_CHANGEMARKER`) with line -1. Refused with `Refusal::BadArgument` unless `number` is -1 to
+  /// 31. Message: `SCI_MARKERDELETEALL`.
   Answer<void> MarkerDeleteAll(std::int64_t number) noexcept(nothrow) { return as_done(SCI_MARKERDELETEALL, number, 0); }
-  /// SCI_MARKERGET, 2046. Returns the mask of `line`, bit k for number k; bad line 0. Here a bad line is one that is
-  /// not there.
+  /// Returns the mask of the markers of line `line`: bit k is set if it has one with number k; 0 if there is no such
+  /// line. Message: `SCI_MARKERGET`.
   [[nodiscard]] Answer<std::int64_t> MarkerGet(std::int64_t line) const noexcept(nothrow) { return ask_number(SCI_MARKERGET, line, 0); }
-  /// SCI_MARKERNEXT, 2047. Returns the least line from `line` on whose mask meets the low 32 bits of `mask`, else -1.
+  /// Returns the first line from `line` on that has a marker whose bit is set in the low 32 bits of `mask`, or -1.
+  /// Message: `SCI_MARKERNEXT`.
   [[nodiscard]] Answer<std::int64_t> MarkerNext(std::int64_t line, std::int64_t mask) const noexcept(nothrow) { return ask_number(SCI_MARKERNEXT, line, mask); }
-  /// SCI_MARKERPREVIOUS, 2048. Returns the greatest line up to `line` whose mask meets the low 32 bits of `mask`,
-  /// else -1.
+  /// Returns the last line up to `line` that has a marker whose bit is set in the low 32 bits of `mask`, or -1.
+  /// Message: `SCI_MARKERPREVIOUS`.
   [[nodiscard]] Answer<std::int64_t> MarkerPrevious(std::int64_t line, std::int64_t mask) const noexcept(nothrow) {
     return ask_number(SCI_MARKERPREVIOUS, line, mask);
   }
-  /// SCI_SETSTYLINGEX, 2073. Styles as many bytes as `styles` has, from end styled on, with the bytes of `styles`,
-  /// and moves end styled after them; `styles` has at most n-end styled bytes, else BadArgument. Here n is the text's
-  /// length.
+  /// Gives each byte from end styled on the style that `styles` has for it, and moves end styled after the last one.
+  /// If a style changed, sends SCN_MODIFIED (`SC_MOD_CHANGESTYLE`). Refused with `Refusal::BadArgument` if `styles`
+  /// has more bytes than there are from end styled on. Message: `SCI_SETSTYLINGEX`.
   Answer<void> SetStylingEx(Text styles) noexcept(nothrow) { return as_done(SCI_SETSTYLINGEX, length_of(styles), 0, styles); }
-  /// SCI_BEGINUNDOACTION, 2078. Raises the depth of groups by 1; TooMany at its limit.
+  /// Opens an undo group, inside those that are open. Refused with `Refusal::TooMany` at the limit of their depth.
+  /// Message: `SCI_BEGINUNDOACTION`.
   Answer<void> BeginUndoAction() noexcept(nothrow) { return as_done(SCI_BEGINUNDOACTION, 0, 0); }
-  /// SCI_ENDUNDOACTION, 2079. Lowers the depth of groups by 1; does nothing at 0.
+  /// Closes the undo group that was opened last. Does nothing if none is open. Message: `SCI_ENDUNDOACTION`.
   Answer<void> EndUndoAction() noexcept(nothrow) { return as_done(SCI_ENDUNDOACTION, 0, 0); }
-  /// SCI_SETLINESTATE, 2092. `state` in -2^31..2^31-1. Sets the state of `line`.
+  /// Sets the state of line `line`, if there is such a line. If the state changed, sends SCN_MODIFIED
+  /// (`SC_MOD_CHANGELINESTATE`). Refused with `Refusal::BadArgument` unless `state` is -2^31 to 2^31-1. Message:
+  /// `SCI_SETLINESTATE`.
   Answer<void> SetLineState(std::int64_t line, std::int64_t state) noexcept(nothrow) { return as_done(SCI_SETLINESTATE, line, state); }
-  /// SCI_GETLINESTATE, 2093. Returns the state of `line`; bad line 0. Here a bad line is one that is not there.
+  /// Returns the state of line `line`, or 0 if there is no such line. Message: `SCI_GETLINESTATE`.
   [[nodiscard]] Answer<std::int64_t> GetLineState(std::int64_t line) const noexcept(nothrow) { return ask_number(SCI_GETLINESTATE, line, 0); }
-  /// SCI_GETLINEENDPOSITION, 2136. Returns where the end of `line` begins; the text's length from the last line on;
-  /// -1 below 0.
+  /// Returns where the line end of line `line` begins; the text's length from the last line on; -1 if `line` is
+  /// negative. Message: `SCI_GETLINEENDPOSITION`.
   [[nodiscard]] Answer<std::int64_t> GetLineEndPosition(std::int64_t line) const noexcept(nothrow) { return ask_number(SCI_GETLINEENDPOSITION, line, 0); }
-  /// SCI_GETREADONLY, 2140. Returns whether the document is read-only.
+  /// Returns whether the document is read-only. Message: `SCI_GETREADONLY`.
   [[nodiscard]] Answer<bool> GetReadOnly() const noexcept(nothrow) { return ask_flag(SCI_GETREADONLY, 0, 0); }
-  /// SCI_SETCURRENTPOS, 2141. The caret goes to `position`, clamped. Here clamped means brought into 0..n, n the
-  /// text's length.
+  /// Moves the caret to `position` (clamped to the text); the anchor stays. Message: `SCI_SETCURRENTPOS`.
   Answer<void> SetCurrentPos(std::int64_t position) noexcept(nothrow) { return as_done(SCI_SETCURRENTPOS, position, 0); }
-  /// SCI_SETSELECTIONSTART, 2142. P is `position`, clamped: the anchor goes to p, and the caret goes to the greater
-  /// of p and the caret. Here clamped means brought into 0..n, n the text's length.
+  /// Moves the anchor to `position` (clamped to the text); if the caret is before it, moves the caret there too.
+  /// Message: `SCI_SETSELECTIONSTART`.
   Answer<void> SetSelectionStart(std::int64_t position) noexcept(nothrow) { return as_done(SCI_SETSELECTIONSTART, position, 0); }
-  /// SCI_GETSELECTIONSTART, 2143. Returns the selection's start.
+  /// Returns the selection's start: the lesser of anchor and caret. Message: `SCI_GETSELECTIONSTART`.
   [[nodiscard]] Answer<std::int64_t> GetSelectionStart() const noexcept(nothrow) { return ask_number(SCI_GETSELECTIONSTART, 0, 0); }
-  /// SCI_SETSELECTIONEND, 2144. P is `position`, clamped: the caret goes to p, and the anchor goes to the lesser of p
-  /// and the anchor. Here clamped means brought into 0..n, n the text's length.
+  /// Moves the caret to `position` (clamped to the text); if the anchor is after it, moves the anchor there too.
+  /// Message: `SCI_SETSELECTIONEND`.
   Answer<void> SetSelectionEnd(std::int64_t position) noexcept(nothrow) { return as_done(SCI_SETSELECTIONEND, position, 0); }
-  /// SCI_GETSELECTIONEND, 2145. Returns the selection's end.
+  /// Returns the selection's end: the greater of anchor and caret. Message: `SCI_GETSELECTIONEND`.
   [[nodiscard]] Answer<std::int64_t> GetSelectionEnd() const noexcept(nothrow) { return ask_number(SCI_GETSELECTIONEND, 0, 0); }
-  /// SCI_GETLINE, 2153. Returns `line` with its end; the reply's value is its length; of a bad line an empty text.
-  /// Here a bad line is one that is not there.
+  /// Returns line `line` with its line end; the reply's value is its length. If there is no such line, the text is
+  /// empty and the value 0. Message: `SCI_GETLINE`.
   [[nodiscard]] Answer<std::string> GetLine(std::int64_t line) const noexcept(nothrow) { return read_copy(SCI_GETLINE, line, 0); }
-  /// As GetLine, borrowed and not copied: valid until the next question that returns a text.
+  /// Like GetLine, but lent, not copied: the text is valid until the next question that returns a text.
   [[nodiscard]] Answer<std::string_view> GetLineView(std::int64_t line) const noexcept(nothrow) { return read_lent(SCI_GETLINE, line, 0); }
-  /// SCI_GETLINECOUNT, 2154. Returns the number of lines.
+  /// Returns the number of lines, which is at least 1. Message: `SCI_GETLINECOUNT`.
   [[nodiscard]] Answer<std::int64_t> GetLineCount() const noexcept(nothrow) { return ask_number(SCI_GETLINECOUNT, 0, 0); }
-  /// SCI_GETMODIFY, 2159. Returns whether the document is not at its save point.
+  /// Returns whether the document is modified, that is, not at its save point. Message: `SCI_GETMODIFY`.
   [[nodiscard]] Answer<bool> GetModify() const noexcept(nothrow) { return ask_flag(SCI_GETMODIFY, 0, 0); }
-  /// SCI_SETSEL, 2160. The caret goes to the text's length for `caret` below 0, else `caret` clamped; then the anchor
-  /// goes to the caret for `anchor` below 0, else `anchor` clamped. Here clamped means brought into 0..n, n the
-  /// text's length.
+  /// Moves the anchor to `anchor` and the caret to `caret` (both clamped to the text). A negative `caret` stands for
+  /// the end of the text, and a negative `anchor` for where the caret then is. Message: `SCI_SETSEL`.
   Answer<void> SetSel(std::int64_t anchor, std::int64_t caret) noexcept(nothrow) { return as_done(SCI_SETSEL, anchor, caret); }
-  /// SCI_GETSELTEXT, 2161. Returns the selection; the reply's value is its length.
+  /// Returns the selected text; the reply's value is its length. Message: `SCI_GETSELTEXT`.
   [[nodiscard]] Answer<std::string> GetSelText() const noexcept(nothrow) { return read_copy(SCI_GETSELTEXT, 0, 0); }
-  /// As GetSelText, borrowed and not copied: valid until the next question that returns a text.
+  /// Like GetSelText, but lent, not copied: the text is valid until the next question that returns a text.
   [[nodiscard]] Answer<std::string_view> GetSelTextView() const noexcept(nothrow) { return read_lent(SCI_GETSELTEXT, 0, 0); }
-  /// SCI_GETTEXTRANGE, 2162. `start` lies in 0..n, and `end` in `start`..n or is -1 for the end of the text. Returns
-  /// [`start`, `end`); the reply's value is `end`-`start`. Here n is the text's length.
+  /// Returns the text from `start` to `end`; the reply's value is its length. Refused with `Refusal::BadArgument`
+  /// unless `start` and `end` are a range of the text; an `end` of -1 is its end. Message: `SCI_GETTEXTRANGE`.
   [[nodiscard]] Answer<std::string> GetTextRange(std::int64_t start, std::int64_t end) const noexcept(nothrow) {
     return read_copy(SCI_GETTEXTRANGE, start, end);
   }
-  /// As GetTextRange, borrowed and not copied: valid until the next question that returns a text.
+  /// Like GetTextRange, but lent, not copied: the text is valid until the next question that returns a text.
   [[nodiscard]] Answer<std::string_view> GetTextRangeView(std::int64_t start, std::int64_t end) const noexcept(nothrow) {
     return read_lent(SCI_GETTEXTRANGE, start, end);
   }
-  /// SCI_LINEFROMPOSITION, 2166. Returns the line of `position`, clamped. Here clamped means brought into 0..n, n the
-  /// text's length.
+  /// Returns the line that contains `position` (clamped to the text). Message: `SCI_LINEFROMPOSITION`.
   [[nodiscard]] Answer<std::int64_t> LineFromPosition(std::int64_t position) const noexcept(nothrow) { return ask_number(SCI_LINEFROMPOSITION, position, 0); }
-  /// SCI_POSITIONFROMLINE, 2167. Returns the start of `line`; below 0 that of the line of the selection's start; the
-  /// text's length for `line` = the number of lines; -1 beyond.
+  /// Returns the start of line `line`. A negative number stands for the line of the selection's start; the number of
+  /// lines gives the text's length, and a greater number -1. Message: `SCI_POSITIONFROMLINE`.
   [[nodiscard]] Answer<std::int64_t> PositionFromLine(std::int64_t line) const noexcept(nothrow) { return ask_number(SCI_POSITIONFROMLINE, line, 0); }
-  /// SCI_REPLACESEL, 2170. Replaces the selection by `text`; anchor and caret stand after `text`.
+  /// Replaces the selection by `text`, and moves anchor and caret to the end of the inserted text. Message:
+  /// `SCI_REPLACESEL`.
   Answer<void> ReplaceSel(Text text) noexcept(nothrow) { return as_done(SCI_REPLACESEL, 0, 0, text); }
-  /// SCI_SETREADONLY, 2171. `on`: the document is read-only.
+  /// Makes the document read-only, or writable if `on` is false. Message: `SCI_SETREADONLY`.
   Answer<void> SetReadOnly(bool on) noexcept(nothrow) { return as_done(SCI_SETREADONLY, on, 0); }
-  /// SCI_CANPASTE, 2173. Returns whether the document is not read-only.
+  /// Returns whether text can be pasted: whether the document is not read-only. Message: `SCI_CANPASTE`.
   [[nodiscard]] Answer<bool> CanPaste() const noexcept(nothrow) { return ask_flag(SCI_CANPASTE, 0, 0); }
-  /// SCI_CANUNDO, 2174. Returns whether no group is open, the document is not read-only and the past is not empty.
+  /// Returns whether `Undo` would change something: no group is open, the document is not read-only, and there is a
+  /// transaction to undo. Message: `SCI_CANUNDO`.
   [[nodiscard]] Answer<bool> CanUndo() const noexcept(nothrow) { return ask_flag(SCI_CANUNDO, 0, 0); }
-  /// SCI_EMPTYUNDOBUFFER, 2175. Forgets the history and ends groups; makes the current state the save point.
+  /// Forgets the history, closes all groups, and makes the current state the save point. No view is notified.
+  /// Message: `SCI_EMPTYUNDOBUFFER`.
   Answer<void> EmptyUndoBuffer() noexcept(nothrow) { return as_done(SCI_EMPTYUNDOBUFFER, 0, 0); }
-  /// SCI_UNDO, 2176. Takes back the last transaction; does nothing inside a group or if the past is empty.
+  /// Takes back the last transaction. Does nothing inside a group, or if there is no transaction to undo. Message:
+  /// `SCI_UNDO`.
   Answer<void> Undo() noexcept(nothrow) { return as_done(SCI_UNDO, 0, 0); }
-  /// SCI_CUT, 2177. Copies a selection that is not empty to the clipboard, and deletes the selection; on a read-only
-  /// document it does neither.
+  /// Copies the selection to the clipboard and deletes it. Does nothing if the selection is empty; on a read-only
+  /// document the clipboard stays as it is. Message: `SCI_CUT`.
   Answer<void> Cut() noexcept(nothrow) { return as_done(SCI_CUT, 0, 0); }
-  /// SCI_COPY, 2178. Copies a selection that is not empty to the clipboard.
+  /// Copies the selection to the clipboard. Does nothing if the selection is empty. Message: `SCI_COPY`.
   Answer<void> Copy() noexcept(nothrow) { return as_done(SCI_COPY, 0, 0); }
-  /// SCI_PASTE, 2179. Replaces the selection by a clipboard that is not empty, with each CRLF, CR and LF turned into
-  /// the document's line end if the view converts pastes; anchor and caret stand after it. With an empty clipboard it
-  /// does nothing.
+  /// Replaces the selection by the clipboard, and moves anchor and caret to the end of the inserted text. If the view
+  /// converts pastes, each CRLF, CR and LF is inserted as the document's line end. Does nothing if the clipboard is
+  /// empty. Message: `SCI_PASTE`.
   Answer<void> Paste() noexcept(nothrow) { return as_done(SCI_PASTE, 0, 0); }
-  /// SCI_CLEAR, 2180. Deletes the selection, or if that is empty, from the caret to the next cut. Here a cut is a
-  /// place between two characters.
+  /// Deletes the selection, or, if that is empty, the bytes from the caret to the next character boundary. Message:
+  /// `SCI_CLEAR`.
   Answer<void> Clear() noexcept(nothrow) { return as_done(SCI_CLEAR, 0, 0); }
-  /// SCI_SETTEXT, 2181. Replaces the whole text by `text`.
+  /// Replaces the whole text by `text`. Message: `SCI_SETTEXT`.
   Answer<void> SetText(Text text) noexcept(nothrow) { return as_done(SCI_SETTEXT, 0, 0, text); }
-  /// SCI_GETTEXT, 2182. Returns the whole text; the reply's value is the text's length.
+  /// Returns the whole text; the reply's value is its length. Message: `SCI_GETTEXT`.
   [[nodiscard]] Answer<std::string> GetText() const noexcept(nothrow) { return read_copy(SCI_GETTEXT, 0, 0); }
-  /// As GetText, borrowed and not copied: valid until the next question that returns a text.
+  /// Like GetText, but lent, not copied: the text is valid until the next question that returns a text.
   [[nodiscard]] Answer<std::string_view> GetTextView() const noexcept(nothrow) { return read_lent(SCI_GETTEXT, 0, 0); }
-  /// SCI_GETTEXTLENGTH, 2183. Returns the text's length.
+  /// Returns the length of the text. Message: `SCI_GETTEXTLENGTH`.
   [[nodiscard]] Answer<std::int64_t> GetTextLength() const noexcept(nothrow) { return ask_number(SCI_GETTEXTLENGTH, 0, 0); }
-  /// SCI_SETTARGETSTART, 2190. The target's start goes to `position`, clamped. Here clamped means brought into 0..n,
-  /// n the text's length.
+  /// Sets the target's start to `position` (clamped to the text). Message: `SCI_SETTARGETSTART`.
   Answer<void> SetTargetStart(std::int64_t position) noexcept(nothrow) { return as_done(SCI_SETTARGETSTART, position, 0); }
-  /// SCI_GETTARGETSTART, 2191. Returns the target's start.
+  /// Returns the target's start. Message: `SCI_GETTARGETSTART`.
   [[nodiscard]] Answer<std::int64_t> GetTargetStart() const noexcept(nothrow) { return ask_number(SCI_GETTARGETSTART, 0, 0); }
-  /// SCI_SETTARGETEND, 2192. The target's end goes to `position`, clamped. Here clamped means brought into 0..n, n
-  /// the text's length.
+  /// Sets the target's end to `position` (clamped to the text). Message: `SCI_SETTARGETEND`.
   Answer<void> SetTargetEnd(std::int64_t position) noexcept(nothrow) { return as_done(SCI_SETTARGETEND, position, 0); }
-  /// SCI_GETTARGETEND, 2193. Returns the target's end.
+  /// Returns the target's end. Message: `SCI_GETTARGETEND`.
   [[nodiscard]] Answer<std::int64_t> GetTargetEnd() const noexcept(nothrow) { return ask_number(SCI_GETTARGETEND, 0, 0); }
-  /// SCI_REPLACETARGET, 2194. Replaces the target by `text`; the target's start is then where `text` starts and the
-  /// target's end where it ends; returns its length, or 0 on a read-only document, whose target stays.
+  /// Replaces the text between the target's ends by `text`, makes the inserted text the target, and returns its
+  /// length. On a read-only document it returns 0, and the target stays. Message: `SCI_REPLACETARGET`.
   Answer<std::int64_t> ReplaceTarget(Text text) noexcept(nothrow) { return as_number(SCI_REPLACETARGET, length_of(text), 0, text); }
-  /// SCI_SEARCHINTARGET, 2197. Looks for `text` between the target's start and the target's end: the first match if
-  /// the target's start is at most the target's end, else the last. Then the target's start is the start of the match
-  /// and the target's end its end, backwards too; returns its start. If there is none: -1, and the target stays.
+  /// Searches the target for `text` by the view's search flags. Finds the first match, or the last one if the
+  /// target's start is greater than its end; sets the target's start and end to those of the match, and returns its
+  /// start. Without a match it returns -1, and the target stays. Message: `SCI_SEARCHINTARGET`.
   Answer<std::int64_t> SearchInTarget(Text text) noexcept(nothrow) { return as_number(SCI_SEARCHINTARGET, length_of(text), 0, text); }
-  /// SCI_SETSEARCHFLAGS, 2198. `flags` is made of SCFIND_WHOLEWORD 0x2, SCFIND_MATCHCASE 0x4 and SCFIND_WORDSTART
-  /// 0x100000, else BadArgument.
+  /// Sets the view's search flags to `flags`: 0, or made of `SCFIND_WHOLEWORD` 0x2, `SCFIND_MATCHCASE` 0x4 and
+  /// `SCFIND_WORDSTART` 0x100000. Refused with `Refusal::BadArgument` if `flags` has other bits. Message:
+  /// `SCI_SETSEARCHFLAGS`.
   Answer<void> SetSearchFlags(std::int64_t flags) noexcept(nothrow) { return as_done(SCI_SETSEARCHFLAGS, flags, 0); }
-  /// SCI_GETSEARCHFLAGS, 2199. Returns the flags.
+  /// Returns the view's search flags. Message: `SCI_GETSEARCHFLAGS`.
   [[nodiscard]] Answer<std::int64_t> GetSearchFlags() const noexcept(nothrow) { return ask_number(SCI_GETSEARCHFLAGS, 0, 0); }
-  /// SCI_VISIBLEFROMDOCLINE, 2220. Returns the display line of `line`; for a hidden one that of the last visible line
-  /// before it; bad line -1. Here a bad line is one that is not there.
+  /// Returns the display line of line `line`; for a hidden line that of the last visible line before it; -1 if there
+  /// is no such line. Message: `SCI_VISIBLEFROMDOCLINE`.
   [[nodiscard]] Answer<std::int64_t> VisibleFromDocLine(std::int64_t line) const noexcept(nothrow) { return ask_number(SCI_VISIBLEFROMDOCLINE, line, 0); }
-  /// SCI_DOCLINEFROMVISIBLE, 2221. Returns the line shown at `displayLine`; 0 up to 0; the number of lines past the
-  /// last.
+  /// Returns the line at display line `displayLine`; 0 if that is negative, and the number of lines if it is past the
+  /// last. Message: `SCI_DOCLINEFROMVISIBLE`.
   [[nodiscard]] Answer<std::int64_t> DocLineFromVisible(std::int64_t displayLine) const noexcept(nothrow) {
     return ask_number(SCI_DOCLINEFROMVISIBLE, displayLine, 0);
   }
-  /// SCI_SETFOLDLEVEL, 2222. `level` in 0..2^31-1. Sets the level of `line`.
+  /// Sets the fold level of line `line`, if there is such a line. If the level changed, sends SCN_MODIFIED
+  /// (`SC_MOD_CHANGEFOLD`). Refused with `Refusal::BadArgument` unless `level` is 0 to 2^31-1. Message:
+  /// `SCI_SETFOLDLEVEL`.
   Answer<void> SetFoldLevel(std::int64_t line, std::int64_t level) noexcept(nothrow) { return as_done(SCI_SETFOLDLEVEL, line, level); }
-  /// SCI_GETFOLDLEVEL, 2223. Returns the level of `line`; bad line 1024 (SC_FOLDLEVELBASE). Here a bad line is one
-  /// that is not there.
+  /// Returns the fold level of line `line`, or 1024 (`SC_FOLDLEVELBASE`) if there is no such line. Message:
+  /// `SCI_GETFOLDLEVEL`.
   [[nodiscard]] Answer<std::int64_t> GetFoldLevel(std::int64_t line) const noexcept(nothrow) { return ask_number(SCI_GETFOLDLEVEL, line, 0); }
-  /// SCI_GETLASTCHILD, 2224. `level` in -1..2^31-1; returns the last child of `line`, by its own number for `level` =
-  /// -1, else by `level`'s low 12 bits; bad line -1. Here a bad line is one that is not there.
+  /// Returns the last child of line `line`: the line before the next one whose level number is at most that of
+  /// `level`, or that of line `line` if `level` is -1; without such a next line, the last line of the document; -1 if
+  /// line `line` does not exist. Refused with `Refusal::BadArgument` unless `level` is -1 to 2^31-1. Message:
+  /// `SCI_GETLASTCHILD`.
   [[nodiscard]] Answer<std::int64_t> GetLastChild(std::int64_t line, std::int64_t level) const noexcept(nothrow) {
     return ask_number(SCI_GETLASTCHILD, line, level);
   }
-  /// SCI_GETFOLDPARENT, 2225. Returns the fold parent of `line`; none, or bad line: -1. Here a bad line is one that
-  /// is not there.
+  /// Returns the fold parent of line `line`, or -1 if it has none or does not exist. Message: `SCI_GETFOLDPARENT`.
   [[nodiscard]] Answer<std::int64_t> GetFoldParent(std::int64_t line) const noexcept(nothrow) { return ask_number(SCI_GETFOLDPARENT, line, 0); }
-  /// SCI_SHOWLINES, 2226. Shows each existing line from `first` to `last`.
+  /// Makes the lines from `first` to `last` visible, as far as they exist. Message: `SCI_SHOWLINES`.
   Answer<void> ShowLines(std::int64_t first, std::int64_t last) noexcept(nothrow) { return as_done(SCI_SHOWLINES, first, last); }
-  /// SCI_HIDELINES, 2227. Hides each existing line from `first` to `last` except line 0.
+  /// Hides the lines from `first` to `last`, as far as they exist, except line 0. Message: `SCI_HIDELINES`.
   Answer<void> HideLines(std::int64_t first, std::int64_t last) noexcept(nothrow) { return as_done(SCI_HIDELINES, first, last); }
-  /// SCI_GETLINEVISIBLE, 2228. Returns whether `line` is visible; bad line false. Here a bad line is one that is not
-  /// there.
+  /// Returns whether line `line` is visible; false if there is no such line. Message: `SCI_GETLINEVISIBLE`.
   [[nodiscard]] Answer<bool> GetLineVisible(std::int64_t line) const noexcept(nothrow) { return ask_flag(SCI_GETLINEVISIBLE, line, 0); }
-  /// SCI_SETFOLDEXPANDED, 2229. Sets the expanded flag of `line` alone; nothing is shown or hidden.
+  /// Sets whether line `line` is expanded, if there is such a line; shows and hides nothing. Message:
+  /// `SCI_SETFOLDEXPANDED`.
   Answer<void> SetFoldExpanded(std::int64_t line, bool on) noexcept(nothrow) { return as_done(SCI_SETFOLDEXPANDED, line, on); }
-  /// SCI_GETFOLDEXPANDED, 2230. Returns whether `line` is expanded; bad line false. Here a bad line is one that is
-  /// not there.
+  /// Returns whether line `line` is expanded; false if there is no such line. Message: `SCI_GETFOLDEXPANDED`.
   [[nodiscard]] Answer<bool> GetFoldExpanded(std::int64_t line) const noexcept(nothrow) { return ask_flag(SCI_GETFOLDEXPANDED, line, 0); }
-  /// SCI_TOGGLEFOLD, 2231. Like FOLDLINE with toggle.
+  /// Contracts line `line` if it is an expanded header, and expands it if it is a contracted one; if it is no header,
+  /// does so with its fold parent; does nothing without one. Message: `SCI_TOGGLEFOLD`.
   Answer<void> ToggleFold(std::int64_t line) noexcept(nothrow) { return as_done(SCI_TOGGLEFOLD, line, 0); }
-  /// SCI_ENSUREVISIBLE, 2232. Makes a hidden `line` visible; before that, makes each of its fold parents visible and
-  /// expands it if it is contracted, the outermost first. For a visible line it does nothing.
+  /// Makes a hidden line `line` visible; before that, makes each of its fold parents visible, and expands those that
+  /// are contracted, the outermost first. Does nothing for a visible line, or if there is no such line. Message:
+  /// `SCI_ENSUREVISIBLE`.
   Answer<void> EnsureVisible(std::int64_t line) noexcept(nothrow) { return as_done(SCI_ENSUREVISIBLE, line, 0); }
-  /// SCI_GETALLLINESVISIBLE, 2236. Returns whether all lines are visible.
+  /// Returns whether all lines are visible. Message: `SCI_GETALLLINESVISIBLE`.
   [[nodiscard]] Answer<bool> GetAllLinesVisible() const noexcept(nothrow) { return ask_flag(SCI_GETALLLINESVISIBLE, 0, 0); }
-  /// SCI_FOLDLINE, 2237. `action` in 0..2: SC_FOLDACTION_CONTRACT 0, SC_FOLDACTION_EXPAND 1, SC_FOLDACTION_TOGGLE 2.
-  /// Acts on `line` if it is a header, else on its fold parent, if it has one. To contract sets the header's expanded
-  /// flag off and hides its children; to expand sets the flag on and shows its children, except the children of
-  /// contracted headers among them; these it hides.
+  /// Contracts, expands or toggles line `line` if it is a header, else its fold parent; does nothing without one.
+  /// `action` is `SC_FOLDACTION_CONTRACT` 0, `SC_FOLDACTION_EXPAND` 1 or `SC_FOLDACTION_TOGGLE` 2; all else is
+  /// refused with `Refusal::BadArgument`. Message: `SCI_FOLDLINE`.
   Answer<void> FoldLine(std::int64_t line, std::int64_t action) noexcept(nothrow) { return as_done(SCI_FOLDLINE, line, action); }
-  /// SCI_APPENDTEXT, 2282. Inserts `text` at the text's length.
+  /// Inserts `text` at the end of the document. Message: `SCI_APPENDTEXT`.
   Answer<void> AppendText(Text text) noexcept(nothrow) { return as_done(SCI_APPENDTEXT, length_of(text), 0, text); }
-  /// SCI_TARGETFROMSELECTION, 2287. The target's start goes to the selection's start, the target's end goes to the
-  /// selection's end.
+  /// Sets the target's start and end to those of the selection, the lesser first. Message: `SCI_TARGETFROMSELECTION`.
   Answer<void> TargetFromSelection() noexcept(nothrow) { return as_done(SCI_TARGETFROMSELECTION, 0, 0); }
-  /// SCI_CHARLEFT, 2304. Anchor and caret go to the selection's start if the selection is not empty, else the cut
-  /// before the caret. Here a cut is a place between two characters.
+  /// Moves anchor and caret to the selection's start, or, if it is empty, to the character boundary before the caret.
+  /// Message: `SCI_CHARLEFT`.
   Answer<void> CharLeft() noexcept(nothrow) { return as_done(SCI_CHARLEFT, 0, 0); }
-  /// SCI_CHARLEFTEXTEND, 2305. The caret goes to the cut before the caret. Here a cut is a place between two
-  /// characters.
+  /// Moves the caret to the character boundary before it; the anchor stays. Message: `SCI_CHARLEFTEXTEND`.
   Answer<void> CharLeftExtend() noexcept(nothrow) { return as_done(SCI_CHARLEFTEXTEND, 0, 0); }
-  /// SCI_CHARRIGHT, 2306. Anchor and caret go to the selection's end if the selection is not empty, else the cut
-  /// after the caret. Here a cut is a place between two characters.
+  /// Moves anchor and caret to the selection's end, or, if it is empty, to the character boundary after the caret.
+  /// Message: `SCI_CHARRIGHT`.
   Answer<void> CharRight() noexcept(nothrow) { return as_done(SCI_CHARRIGHT, 0, 0); }
-  /// SCI_CHARRIGHTEXTEND, 2307. The caret goes to the cut after the caret. Here a cut is a place between two
-  /// characters.
+  /// Moves the caret to the character boundary after it; the anchor stays. Message: `SCI_CHARRIGHTEXTEND`.
   Answer<void> CharRightExtend() noexcept(nothrow) { return as_done(SCI_CHARRIGHTEXTEND, 0, 0); }
-  /// SCI_HOME, 2312. Anchor and caret go to the start of the line of the caret.
+  /// Moves anchor and caret to the start of the caret's line. Message: `SCI_HOME`.
   Answer<void> Home() noexcept(nothrow) { return as_done(SCI_HOME, 0, 0); }
-  /// SCI_HOMEEXTEND, 2313. The caret goes to the start of the line of the caret.
+  /// Moves the caret to the start of its line; the anchor stays. Message: `SCI_HOMEEXTEND`.
   Answer<void> HomeExtend() noexcept(nothrow) { return as_done(SCI_HOMEEXTEND, 0, 0); }
-  /// SCI_LINEEND, 2314. Anchor and caret go to where the end of the line of the caret begins.
+  /// Moves anchor and caret to where the line end of the caret's line begins. Message: `SCI_LINEEND`.
   Answer<void> LineEnd() noexcept(nothrow) { return as_done(SCI_LINEEND, 0, 0); }
-  /// SCI_LINEENDEXTEND, 2315. The caret goes to where the end of the line of the caret begins.
+  /// Moves the caret to where the line end of its line begins; the anchor stays. Message: `SCI_LINEENDEXTEND`.
   Answer<void> LineEndExtend() noexcept(nothrow) { return as_done(SCI_LINEENDEXTEND, 0, 0); }
-  /// SCI_DOCUMENTSTART, 2316. Anchor and caret go to 0.
+  /// Moves anchor and caret to 0. Message: `SCI_DOCUMENTSTART`.
   Answer<void> DocumentStart() noexcept(nothrow) { return as_done(SCI_DOCUMENTSTART, 0, 0); }
-  /// SCI_DOCUMENTSTARTEXTEND, 2317. The caret goes to 0.
+  /// Moves the caret to 0; the anchor stays. Message: `SCI_DOCUMENTSTARTEXTEND`.
   Answer<void> DocumentStartExtend() noexcept(nothrow) { return as_done(SCI_DOCUMENTSTARTEXTEND, 0, 0); }
-  /// SCI_DOCUMENTEND, 2318. Anchor and caret go to the text's length.
+  /// Moves anchor and caret to the end of the text. Message: `SCI_DOCUMENTEND`.
   Answer<void> DocumentEnd() noexcept(nothrow) { return as_done(SCI_DOCUMENTEND, 0, 0); }
-  /// SCI_DOCUMENTENDEXTEND, 2319. The caret goes to the text's length.
+  /// Moves the caret to the end of the text; the anchor stays. Message: `SCI_DOCUMENTENDEXTEND`.
   Answer<void> DocumentEndExtend() noexcept(nothrow) { return as_done(SCI_DOCUMENTENDEXTEND, 0, 0); }
-  /// SCI_DELETEBACK, 2326. Deletes the selection, or if that is empty, from the cut before the caret to the caret.
-  /// Here a cut is a place between two characters.
+  /// Deletes the selection, or, if that is empty, the bytes from the character boundary before the caret to the
+  /// caret. Message: `SCI_DELETEBACK`.
   Answer<void> DeleteBack() noexcept(nothrow) { return as_done(SCI_DELETEBACK, 0, 0); }
-  /// SCI_NEWLINE, 2329. Like REPLACESEL with the document's line end.
+  /// Replaces the selection by the document's line end, and moves anchor and caret to the end of the inserted text.
+  /// Message: `SCI_NEWLINE`.
   Answer<void> NewLine() noexcept(nothrow) { return as_done(SCI_NEWLINE, 0, 0); }
-  /// SCI_LINELENGTH, 2350. Returns the length of `line` with its end; bad line 0. Here a bad line is one that is not
-  /// there.
+  /// Returns the length of line `line` with its line end, or 0 if there is no such line. Message: `SCI_LINELENGTH`.
   [[nodiscard]] Answer<std::int64_t> LineLength(std::int64_t line) const noexcept(nothrow) { return ask_number(SCI_LINELENGTH, line, 0); }
-  /// SCI_GETDOCPOINTER, 2357. Returns the id of the view's document.
+  /// Returns the id of the view's document. Message: `SCI_GETDOCPOINTER`.
   [[nodiscard]] Answer<std::int64_t> GetDocPointer() const noexcept(nothrow) { return ask_number(SCI_GETDOCPOINTER, 0, 0); }
-  /// SCI_SETDOCPOINTER, 2358. `document` = 0: a new document (TooMany); else `document` names one (NoSuchDocument;
-  /// TooMany at the limit of references). That document gains a reference, then the old one loses one; the view is
-  /// attached last, with the anchor, the caret, the target's start and the target's end 0 and all lines visible and
-  /// expanded. The same holds for the view's own document.
+  /// Attaches the view to `document`, or to a new document if that is 0. That document gains a reference, and then
+  /// the old one loses one; the view is attached last, with anchor, caret and target 0, and with all lines visible
+  /// and expanded. The view's other settings stay. The same holds for the view's own document. Refused with
+  /// `Refusal::NoSuchDocument` if there is no such document; with `Refusal::TooMany` at the limit of its references,
+  /// or if ids for a new one are used up. Message: `SCI_SETDOCPOINTER`.
   Answer<void> SetDocPointer(std::int64_t document) noexcept(nothrow) { return as_done(SCI_SETDOCPOINTER, 0, document); }
-  /// SCI_SETMODEVENTMASK, 2359. `mask` in 0..0x7FFFFF (SC_MODEVENTMASKALL): the kinds of SCN_MODIFIED that this view
-  /// is notified of.
+  /// Sets the view's mask: the kinds of SCN_MODIFIED that it is subscribed to, a bit for each. Refused with
+  /// `Refusal::BadArgument` unless `mask` is 0 to 0x7FFFFF (`SC_MODEVENTMASKALL`). Message: `SCI_SETMODEVENTMASK`.
   Answer<void> SetModEventMask(std::int64_t mask) noexcept(nothrow) { return as_done(SCI_SETMODEVENTMASK, mask, 0); }
-  /// SCI_CREATEDOCUMENT, 2375. `bytes` is not negative, and not used; `options` is 0 or made of
-  /// SC_DOCUMENTOPTION_STYLES_NONE 1 and SC_DOCUMENTOPTION_TEXT_LARGE 256, else BadArgument; returns the id of a new
-  /// document with these options, held once by the caller. TooMany if ids are used up.
+  /// Creates a document, held once by the caller, and returns its id; `bytes` is not used. `options` is 0, or made of
+  /// `SC_DOCUMENTOPTION_STYLES_NONE` 1 and `SC_DOCUMENTOPTION_TEXT_LARGE` 256. Refused with `Refusal::BadArgument` if
+  /// `bytes` is negative or `options` has other bits, and with `Refusal::TooMany` if ids are used up. Message:
+  /// `SCI_CREATEDOCUMENT`.
   Answer<std::int64_t> CreateDocument(std::int64_t bytes, std::int64_t options) noexcept(nothrow) { return as_number(SCI_CREATEDOCUMENT, bytes, options); }
-  /// SCI_ADDREFDOCUMENT, 2376. `document` is held once more; NoSuchDocument, TooMany.
+  /// Adds a reference to `document` that the caller holds. Refused with `Refusal::NoSuchDocument` if there is no such
+  /// document, and with `Refusal::TooMany` at the limit of its references. Message: `SCI_ADDREFDOCUMENT`.
   Answer<void> AddRefDocument(std::int64_t document) noexcept(nothrow) { return as_done(SCI_ADDREFDOCUMENT, 0, document); }
-  /// SCI_RELEASEDOCUMENT, 2377. `document` is held once less; NoSuchDocument, also if no caller holds it.
+  /// Gives back a reference to `document` that a caller holds. Refused with `Refusal::NoSuchDocument` if there is no
+  /// such document, or if no caller holds it. Message: `SCI_RELEASEDOCUMENT`.
   Answer<void> ReleaseDocument(std::int64_t document) noexcept(nothrow) { return as_done(SCI_RELEASEDOCUMENT, 0, document); }
-  /// SCI_GETMODEVENTMASK, 2378. Returns the mask.
+  /// Returns the view's mask: the kinds of SCN_MODIFIED that it is subscribed to. Message: `SCI_GETMODEVENTMASK`.
   [[nodiscard]] Answer<std::int64_t> GetModEventMask() const noexcept(nothrow) { return ask_number(SCI_GETMODEVENTMASK, 0, 0); }
-  /// SCI_GETDOCUMENTOPTIONS, 2379. Returns the options of the view's document.
+  /// Returns the options of the view's document: 0, or made of `SC_DOCUMENTOPTION_STYLES_NONE` and
+  /// `SC_DOCUMENTOPTION_TEXT_LARGE`. Message: `SCI_GETDOCUMENTOPTIONS`.
   [[nodiscard]] Answer<std::int64_t> GetDocumentOptions() const noexcept(nothrow) { return ask_number(SCI_GETDOCUMENTOPTIONS, 0, 0); }
-  /// SCI_POSITIONBEFORE, 2417. Returns the greatest cut below `position` (clamped), or 0. Here clamped means brought
-  /// into 0..n, n the text's length; a cut is a place between two characters.
+  /// Returns the last character boundary before `position` (clamped to the text), or 0. Message:
+  /// `SCI_POSITIONBEFORE`.
   [[nodiscard]] Answer<std::int64_t> PositionBefore(std::int64_t position) const noexcept(nothrow) { return ask_number(SCI_POSITIONBEFORE, position, 0); }
-  /// SCI_POSITIONAFTER, 2418. Returns the least cut above `position` (clamped), or the text's length. Here clamped
-  /// means brought into 0..n, n the text's length; a cut is a place between two characters.
+  /// Returns the first character boundary after `position` (clamped to the text), or the text's length. Message:
+  /// `SCI_POSITIONAFTER`.
   [[nodiscard]] Answer<std::int64_t> PositionAfter(std::int64_t position) const noexcept(nothrow) { return ask_number(SCI_POSITIONAFTER, position, 0); }
-  /// SCI_COPYRANGE, 2419. `start` lies in 0..n, and `end` in `start`..n or is -1 for the end of the text. The
-  /// clipboard becomes [`start`, `end`), even if that is empty. Here n is the text's length.
+  /// Makes the text from `start` to `end` the clipboard, even if that is empty. Refused with `Refusal::BadArgument`
+  /// unless `start` and `end` are a range of the text; an `end` of -1 is its end. Message: `SCI_COPYRANGE`.
   Answer<void> CopyRange(std::int64_t start, std::int64_t end) noexcept(nothrow) { return as_done(SCI_COPYRANGE, start, end); }
-  /// SCI_COPYTEXT, 2420. The clipboard becomes `text`, even if `text` is empty.
+  /// Makes `text` the clipboard, even if it is empty. Message: `SCI_COPYTEXT`.
   Answer<void> CopyText(Text text) noexcept(nothrow) { return as_done(SCI_COPYTEXT, length_of(text), 0, text); }
-  /// SCI_MARKERADDSET, 2466. `mask` in 0..2^32-1. Adds each number whose bit is set, rising; bad line nothing;
-  /// TooMany if handles do not suffice for all. Here a bad line is one that is not there.
+  /// Adds to line `line`, if there is such a line, a marker for each bit that is set in `mask`, in rising order. If
+  /// it added one, sends one SCN_MODIFIED (`SC_MOD_CHANGEMARKER`). Refused with `Refusal::BadArgument` unless `mask`
+  /// is 0 to 2^32-1, and with `Refusal::TooMany` if there are not enough marker handles for all. Message:
+  /// `SCI_MARKERADDSET`.
   Answer<void> MarkerAddSet(std::int64_t line, std::int64_t mask) noexcept(nothrow) { return as_done(SCI_MARKERADDSET, line, mask); }
-  /// SCI_SETPASTECONVERTENDINGS, 2467. `on`: whether this view converts what it pastes.
+  /// Sets whether this view converts line ends in what it pastes. Message: `SCI_SETPASTECONVERTENDINGS`.
   Answer<void> SetPasteConvertEndings(bool on) noexcept(nothrow) { return as_done(SCI_SETPASTECONVERTENDINGS, on, 0); }
-  /// SCI_GETPASTECONVERTENDINGS, 2468. Returns whether this view converts what it pastes.
+  /// Returns whether this view converts line ends in what it pastes. Message: `SCI_GETPASTECONVERTENDINGS`.
   [[nodiscard]] Answer<bool> GetPasteConvertEndings() const noexcept(nothrow) { return ask_flag(SCI_GETPASTECONVERTENDINGS, 0, 0); }
-  /// SCI_SETINDICATORCURRENT, 2500. `number` in 0..31: the view's current indicator.
+  /// Sets the view's current indicator. Refused with `Refusal::BadArgument` unless `number` is 0 to 31. Message:
+  /// `SCI_SETINDICATORCURRENT`.
   Answer<void> SetIndicatorCurrent(std::int64_t number) noexcept(nothrow) { return as_done(SCI_SETINDICATORCURRENT, number, 0); }
-  /// SCI_GETINDICATORCURRENT, 2501. Returns the view's current indicator.
+  /// Returns the view's current indicator. Message: `SCI_GETINDICATORCURRENT`.
   [[nodiscard]] Answer<std::int64_t> GetIndicatorCurrent() const noexcept(nothrow) { return ask_number(SCI_GETINDICATORCURRENT, 0, 0); }
-  /// SCI_SETINDICATORVALUE, 2502. `value` in 0..2^31-1, 0 meaning 1: the value that this view fills in.
+  /// Sets the value that this view fills in; 0 stands for 1. Refused with `Refusal::BadArgument` unless `value` is 0
+  /// to 2^31-1. Message: `SCI_SETINDICATORVALUE`.
   Answer<void> SetIndicatorValue(std::int64_t value) noexcept(nothrow) { return as_done(SCI_SETINDICATORVALUE, value, 0); }
-  /// SCI_GETINDICATORVALUE, 2503. Returns the value that this view fills in.
+  /// Returns the value that this view fills in. Message: `SCI_GETINDICATORVALUE`.
   [[nodiscard]] Answer<std::int64_t> GetIndicatorValue() const noexcept(nothrow) { return ask_number(SCI_GETINDICATORVALUE, 0, 0); }
-  /// SCI_INDICATORFILLRANGE, 2504. `start` in 0..n, `length` in 0..n-`start`. Gives the current indicator the current
-  /// value over `length` bytes from `start` on. Here n is the text's length.
+  /// Gives the view's current indicator the view's value over the `length` bytes from `start` on. If a value changed,
+  /// sends SCN_MODIFIED (`SC_MOD_CHANGEINDICATOR`). Refused with `Refusal::BadArgument` unless these are a range of
+  /// the text. Message: `SCI_INDICATORFILLRANGE`.
   Answer<void> IndicatorFillRange(std::int64_t start, std::int64_t length) noexcept(nothrow) { return as_done(SCI_INDICATORFILLRANGE, start, length); }
-  /// SCI_INDICATORCLEARRANGE, 2505. `start` in 0..n, `length` in 0..n-`start`. Gives the current indicator the value
-  /// 0 over `length` bytes from `start` on. Here n is the text's length.
+  /// Gives the view's current indicator the value 0 over the `length` bytes from `start` on. If a value changed,
+  /// sends SCN_MODIFIED (`SC_MOD_CHANGEINDICATOR`). Refused with `Refusal::BadArgument` unless these are a range of
+  /// the text. Message: `SCI_INDICATORCLEARRANGE`.
   Answer<void> IndicatorClearRange(std::int64_t start, std::int64_t length) noexcept(nothrow) { return as_done(SCI_INDICATORCLEARRANGE, start, length); }
-  /// SCI_INDICATORALLONFOR, 2506. Returns bit k for each indicator k that is not 0 at `position`; 0 outside 0..n-1.
-  /// Here n is the text's length.
+  /// Returns a mask in which bit k is set if indicator k is not 0 at the byte at `position`; 0 if there is no such
+  /// byte. Message: `SCI_INDICATORALLONFOR`.
   [[nodiscard]] Answer<std::int64_t> IndicatorAllOnFor(std::int64_t position) const noexcept(nothrow) { return ask_number(SCI_INDICATORALLONFOR, position, 0); }
-  /// SCI_INDICATORVALUEAT, 2507. `number` in 0..31; returns its value at `position`; 0 outside 0..n-1. Here n is the
-  /// text's length.
+  /// Returns the value of indicator `number` at the byte at `position`, or 0 if there is no such byte. Refused with
+  /// `Refusal::BadArgument` unless `number` is 0 to 31. Message: `SCI_INDICATORVALUEAT`.
   [[nodiscard]] Answer<std::int64_t> IndicatorValueAt(std::int64_t number, std::int64_t position) const noexcept(nothrow) {
     return ask_number(SCI_INDICATORVALUEAT, number, position);
   }
-  /// SCI_INDICATORSTART, 2508. `number` in 0..31; returns where the longest run of one value that holds `position`
-  /// starts; 0 outside 0..n-1. Here n is the text's length.
+  /// Returns the start of the longest run of one value of indicator `number` around the byte at `position`; 0 if
+  /// there is no such byte. Refused with `Refusal::BadArgument` unless `number` is 0 to 31. Message:
+  /// `SCI_INDICATORSTART`.
   [[nodiscard]] Answer<std::int64_t> IndicatorStart(std::int64_t number, std::int64_t position) const noexcept(nothrow) {
     return ask_number(SCI_INDICATORSTART, number, position);
   }
-  /// SCI_INDICATOREND, 2509. `number` in 0..31; returns the place just after the longest run of one value that holds
-  /// `position`; 0 outside 0..n-1. Here n is the text's length.
+  /// Returns the end of the longest run of one value of indicator `number` around the byte at `position`: the place
+  /// after its last byte; 0 if there is no such byte. Refused with `Refusal::BadArgument` unless `number` is 0 to 31.
+  /// Message: `SCI_INDICATOREND`.
   [[nodiscard]] Answer<std::int64_t> IndicatorEnd(std::int64_t number, std::int64_t position) const noexcept(nothrow) {
     return ask_number(SCI_INDICATOREND, number, position);
   }
-  /// SCI_SETEMPTYSELECTION, 2556. Anchor and caret go to `position`, clamped. Here clamped means brought into 0..n, n
-  /// the text's length.
+  /// Moves anchor and caret to `position` (clamped to the text). Message: `SCI_SETEMPTYSELECTION`.
   Answer<void> SetEmptySelection(std::int64_t position) noexcept(nothrow) { return as_done(SCI_SETEMPTYSELECTION, position, 0); }
-  /// SCI_ADDUNDOACTION, 2560. `flags` in 0..1: UNDO_NONE 0 or UNDO_MAY_COALESCE 1. Appends a container's step with
-  /// token `token` while undo is collected, also to a read-only document.
+  /// Appends a container action with `token` to the history, also on a read-only document. `flags` is `UNDO_NONE` 0,
+  /// or `UNDO_MAY_COALESCE` 1 for an action that may join the last transaction. Sends SCN_SAVEPOINTLEFT if the
+  /// document was at its save point. Does nothing while undo is not collected. Refused with `Refusal::BadArgument`
+  /// unless `flags` is 0 or 1. Message: `SCI_ADDUNDOACTION`.
   Answer<void> AddUndoAction(std::int64_t token, std::int64_t flags) noexcept(nothrow) { return as_done(SCI_ADDUNDOACTION, token, flags); }
-  /// SCI_DELETERANGE, 2645. `start` in 0..n, `length` in 0..n-`start`. Deletes the `length` bytes from `start` on.
-  /// Here n is the text's length.
+  /// Deletes the `length` bytes from `start` on. Refused with `Refusal::BadArgument` unless these are a range of the
+  /// text. Message: `SCI_DELETERANGE`.
   Answer<void> DeleteRange(std::int64_t start, std::int64_t length) noexcept(nothrow) { return as_done(SCI_DELETERANGE, start, length); }
-  /// SCI_GETSELECTIONEMPTY, 2650. Returns whether anchor and caret are at one place.
+  /// Returns whether the selection is empty. Message: `SCI_GETSELECTIONEMPTY`.
   [[nodiscard]] Answer<bool> GetSelectionEmpty() const noexcept(nothrow) { return ask_flag(SCI_GETSELECTIONEMPTY, 0, 0); }
-  /// SCI_SETLINEENDTYPESALLOWED, 2656. `types` in 0..1: SC_LINE_END_TYPE_DEFAULT 0, SC_LINE_END_TYPE_UNICODE 1, for
-  /// the document, also a read-only one. Rows and the flags of every view go to the lines that contain their starts.
+  /// Sets which line ends the document allows, also if it is read-only: `SC_LINE_END_TYPE_DEFAULT` 0, or
+  /// `SC_LINE_END_TYPE_UNICODE` 1 for those of Unicode too. Line data, and the line flags of each view, go to the
+  /// lines that contain their starts. Refused with `Refusal::BadArgument` unless `types` is 0 or 1. Message:
+  /// `SCI_SETLINEENDTYPESALLOWED`.
   Answer<void> SetLineEndTypesAllowed(std::int64_t types) noexcept(nothrow) { return as_done(SCI_SETLINEENDTYPESALLOWED, types, 0); }
-  /// SCI_GETLINEENDTYPESALLOWED, 2657. Returns the types of line ends that the document allows.
+  /// Returns which line ends the document allows: `SC_LINE_END_TYPE_DEFAULT` or `SC_LINE_END_TYPE_UNICODE`. Message:
+  /// `SCI_GETLINEENDTYPESALLOWED`.
   [[nodiscard]] Answer<std::int64_t> GetLineEndTypesAllowed() const noexcept(nothrow) { return ask_number(SCI_GETLINEENDTYPESALLOWED, 0, 0); }
-  /// SCI_GETLINEENDTYPESACTIVE, 2658. Returns the types of line ends that are active: those that the document allows.
+  /// Returns which line ends divide the text: those that the document allows, `SC_LINE_END_TYPE_DEFAULT` or
+  /// `SC_LINE_END_TYPE_UNICODE`. Message: `SCI_GETLINEENDTYPESACTIVE`.
   [[nodiscard]] Answer<std::int64_t> GetLineEndTypesActive() const noexcept(nothrow) { return ask_number(SCI_GETLINEENDTYPESACTIVE, 0, 0); }
-  /// SCI_SETTARGETRANGE, 2686. The target's start goes to `start`, the target's end goes to `end`, both clamped. Here
-  /// clamped means brought into 0..n, n the text's length.
+  /// Sets the target's start to `start` and its end to `end` (both clamped to the text). Message:
+  /// `SCI_SETTARGETRANGE`.
   Answer<void> SetTargetRange(std::int64_t start, std::int64_t end) noexcept(nothrow) { return as_done(SCI_SETTARGETRANGE, start, end); }
-  /// SCI_GETTARGETTEXT, 2687. Returns the text between the target's start and the target's end, from the lesser on;
-  /// the reply's value is its length.
+  /// Returns the text between the target's ends, whichever is the lesser; the reply's value is its length. Message:
+  /// `SCI_GETTARGETTEXT`.
   [[nodiscard]] Answer<std::string> GetTargetText() const noexcept(nothrow) { return read_copy(SCI_GETTARGETTEXT, 0, 0); }
-  /// As GetTargetText, borrowed and not copied: valid until the next question that returns a text.
+  /// Like GetTargetText, but lent, not copied: the text is valid until the next question that returns a text.
   [[nodiscard]] Answer<std::string_view> GetTargetTextView() const noexcept(nothrow) { return read_lent(SCI_GETTARGETTEXT, 0, 0); }
-  /// SCI_TARGETWHOLEDOCUMENT, 2690. The target's start goes to 0, the target's end goes to the text's length.
+  /// Sets the target's start to 0 and its end to the end of the text. Message: `SCI_TARGETWHOLEDOCUMENT`.
   Answer<void> TargetWholeDocument() noexcept(nothrow) { return as_done(SCI_TARGETWHOLEDOCUMENT, 0, 0); }
-  /// SCI_STARTRECORD, 3001. The view records.
+  /// Starts recording in this view: it is notified by SCN_MACRORECORD of each message marked R, before all else.
+  /// Message: `SCI_STARTRECORD`.
   Answer<void> StartRecord() noexcept(nothrow) { return as_done(SCI_STARTRECORD, 0, 0); }
-  /// SCI_STOPRECORD, 3002. The view records no longer.
+  /// Stops recording in this view. Message: `SCI_STOPRECORD`.
   Answer<void> StopRecord() noexcept(nothrow) { return as_done(SCI_STOPRECORD, 0, 0); }
-  /// SCI_COLOURISE, 4003. `start` lies in 0..n, and `end` in `start`..n or is -1 for the end of the text. If end
-  /// styled is greater than `start`, it becomes `start`; the sending view is asked to style up to `end`. Here n is
-  /// the text's length.
+  /// Asks for styles up to `end`: moves end styled back to `start` if it is greater, and sends the view
+  /// SCN_STYLENEEDED, even for an empty range. Refused with `Refusal::BadArgument` unless `start` and `end` are a
+  /// range of the text; an `end` of -1 is its end. Message: `SCI_COLOURISE`.
   Answer<void> Colourise(std::int64_t start, std::int64_t end) noexcept(nothrow) { return as_done(SCI_COLOURISE, start, end); }
   // Written by tools/pages/wrappers.py: end
 

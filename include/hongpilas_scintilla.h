@@ -19,7 +19,7 @@
  *     }
  *     hongpilas_scintilla_free(component);
  *
- * docs/MESSAGES.md has the messages. Its column "Beside Scintilla", and docs/PROFILE.md, state the differences.
+ * docs/MESSAGES.md has the messages. It and docs/PROFILE.md state where Scintilla differs.
  * hongpilas_message_name tells whether the profile has a message.
  * A null component and the view 0 are harmless in every call below, which says what it does with them. The duties of the
  * caller in hongpilas.h hold here, too: one call at a time, and none from a signal handler; a component may be handed from
@@ -48,17 +48,17 @@ typedef long Sci_PositionCR;
 typedef sptr_t (*SciFnDirect)(sptr_t ptr, unsigned int iMessage, uptr_t wParam, sptr_t lParam);
 typedef sptr_t (*SciFnDirectStatus)(sptr_t ptr, unsigned int iMessage, uptr_t wParam, sptr_t lParam, int *pStatus);
 
-#define INVALID_POSITION -1
-#define MARKER_MAX 31
+#define INVALID_POSITION          -1
+#define MARKER_MAX                31
 #define SC_DOCUMENTOPTION_DEFAULT 0
-#define SC_MOD_NONE 0
-#define SC_STATUS_OK 0
-#define SC_STATUS_FAILURE 1
-#define SC_STATUS_BADALLOC 2
-#define SCFIND_NONE 0
-#define SCI_SETSTATUS 2382
-#define SCI_GETSTATUS 2383
-#define SCI_GETRANGEPOINTER 2643
+#define SC_MOD_NONE               0
+#define SC_STATUS_OK              0
+#define SC_STATUS_FAILURE         1
+#define SC_STATUS_BADALLOC        2
+#define SCFIND_NONE               0
+#define SCI_SETSTATUS             2382
+#define SCI_GETSTATUS             2383
+#define SCI_GETRANGEPOINTER       2643
 
 /* A range of positions; cpMax may be -1, for the end of the text. */
 struct Sci_CharacterRange {
@@ -89,13 +89,13 @@ struct SCNotification {
   Sci_Position position; /* SCN_MODIFIED, SCN_STYLENEEDED */
   int ch;
   int modifiers;
-  int modificationType;    /* SCN_MODIFIED, as all fields below but those of SCN_MACRORECORD */
-  const char *text;        /* `length` bytes, without a closing NUL */
-  Sci_Position length;     /* in bytes */
+  int modificationType; /* SCN_MODIFIED, as all fields below but those of SCN_MACRORECORD */
+  const char *text;     /* `length` bytes, without a closing NUL */
+  Sci_Position length;  /* in bytes */
   Sci_Position linesAdded;
-  int message;             /* SCN_MACRORECORD, as the two fields below */
+  int message; /* SCN_MACRORECORD, as the two fields below */
   uptr_t wParam;
-  sptr_t lParam;           /* as in the recorded call: a text belongs to its caller */
+  sptr_t lParam; /* as in the recorded call: a text belongs to its caller */
   Sci_Position line;
   int foldLevelNow;
   int foldLevelPrev;
@@ -178,8 +178,8 @@ const char *hongpilas_refusal(sptr_t view);
  *    be kept for it. Nothing is lost: what stands in the queue is delivered.
  *
  * A notify function may be left by a C++ exception or by longjmp. Its message has been done, and the notification counts as
- * delivered. What stands in the queue behind it is delivered by the next call of hongpilas_direct for a view of the component,
- * when the message of that call is done. An exception passes through the interface if it was built with -fexceptions, as
+ * delivered. What stands in the queue behind it is delivered when the next message that is no question is done, from
+ * outside, for any view of the component. An exception passes through the interface if it was built with -fexceptions, as
  * `make` builds it. */
 typedef void (*hongpilas_notify)(SCNotification *notification, void *data);
 void hongpilas_set_notify(sptr_t view, hongpilas_notify notify, void *data);

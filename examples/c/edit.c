@@ -25,7 +25,7 @@ typedef struct pane {
   int64_t left; /* the text's column in the first column */
 } pane;
 
-static hongpilas session;
+static hongpilas_session *session;
 static pane panes[2], bottom; /* bottom is the last row, whose text has a view of its own */
 static int pane_count = 1, active = 0;
 static int rows = 24, columns = 80;
@@ -55,7 +55,7 @@ static void hear_change(const hongpilas_note_data *note) {
 /* Takes up the notes of the last message, as far as they are the first view's: each view of the document is told the same. */
 static void hear(void) {
   hongpilas_note_data note;
-  for (size_t i = 0; hongpilas_note(&session, i, &note); i++) {
+  for (size_t i = 0; hongpilas_note(session, i, &note, sizeof note) == HONGPILAS_DONE; i++) {
     if (note.view != panes[0].view) continue;
     if (note.code == SCN_SAVEPOINTLEFT) heard.is_modified = true;
     if (note.code == SCN_SAVEPOINTREACHED) heard.is_modified = false;
@@ -65,15 +65,13 @@ static void hear(void) {
 
 /* Whether a call was done; the notice is why it was not. */
 static bool is_done(hongpilas_answer answer) {
-  const uint8_t *name;
-  size_t length = hongpilas_refusal_name(answer, &name);
-  if (answer != HONGPILAS_DONE) say("Refused: %.*s", (int)length, (const char *)name);
+  if (answer != HONGPILAS_DONE) say("Refused: %s", hongpilas_answer_name(answer));
   return answer == HONGPILAS_DONE;
 }
 
 static int64_t send_text(const pane *to, uint32_t number, int64_t w, int64_t l, const void *text, size_t length) {
   int64_t value = 0;
-  if (!is_done(hongpilas_call(&session, to->view, number, w, l, text, length, &value))) return 0;
+  if (!is_done(hongpilas_send(session, to->view, number, w, l, text, length, &value))) return 0;
   hear();
   return value;
 }
@@ -81,7 +79,7 @@ static int64_t send_text(const pane *to, uint32_t number, int64_t w, int64_t l, 
 /* A query, of any view. */
 static int64_t ask_of(const pane *p, uint32_t number, int64_t w) {
   int64_t value = 0;
-  return hongpilas_call(&session, p->view, number, w, 0, NULL, 0, &value) == HONGPILAS_DONE ? value : 0;
+  return hongpilas_ask(session, p->view, number, w, 0, &value) == HONGPILAS_DONE ? value : 0;
 }
 
 /* A query, and a command, of the active view. */
@@ -99,7 +97,7 @@ static int64_t last_row(const pane *p) { return ask_of(p, SCI_VISIBLEFROMDOCLINE
 static int64_t pass(const pane *p, int64_t at, int64_t end, int64_t most, int64_t *column) {
   const uint8_t *byte = NULL;
   for (int64_t next; at < end; *column = next) {
-    if (byte == NULL && hongpilas_lend_range(&session, p->view, (size_t)at, (size_t)(end - at), &byte) != HONGPILAS_DONE) break;
+    if (byte == NULL && hongpilas_lend_range(session, p->view, (size_t)at, (size_t)(end - at), &byte) != HONGPILAS_DONE) break;
     next = *byte == '\t' ? (*column / TAB_COLUMNS + 1) * TAB_COLUMNS : *column + 1;
     if (next > most) break;
     bool is_ascii = *byte < 0x80;
@@ -228,7 +226,7 @@ static void draw_text(const pane *p, int64_t line, int64_t width) {
     int64_t behind = pass(p, position, position + 1, INT64_MAX, &column);
     size_t count = (size_t)(behind - position);
     bool is_selected = from <= position && position < to;
-    if (hongpilas_lend_range(&session, p->view, (size_t)position, count, &bytes) != HONGPILAS_DONE) break;
+    if (hongpilas_lend_range(session, p->view, (size_t)position, count, &bytes) != HONGPILAS_DONE) break;
     if (is_selected != is_reverse) fputs(is_selected ? "\x1b[7m" : "\x1b[27m", stdout);
     is_reverse = is_selected;
     draw_character(bytes, count, least(column, end) - shown);
@@ -372,7 +370,7 @@ static bool attach(const pane *p) {
 }
 
 static void close_other_view(void) {
-  hongpilas_close_view(&session, panes[1 - active].view);
+  is_done(hongpilas_close_view(session, panes[1 - active].view));
   panes[0] = panes[active];
   active = 0;
   pane_count = 1;
@@ -386,7 +384,7 @@ static void split(int64_t none) {
   }
   int64_t caret = ask(SCI_GETCURRENTPOS, none);
   panes[1] = panes[0];
-  if (!is_done(hongpilas_new_view(&session, &panes[1].view))) return;
+  if (!is_done(hongpilas_new_view(session, &panes[1].view))) return;
   pane_count = 2;
   if (attach(&panes[1])) send_text(&panes[1], SCI_GOTOPOS, caret, 0, NULL, 0);
   else close_other_view();
@@ -487,7 +485,7 @@ static void save(int64_t is_asking) {
   bool is_other = strcmp(name, file_name) != 0 && access(name, F_OK) == 0;
   if (is_other && !agree("That file is there. Replace it? (y) ")) return;
   size_t length = (size_t)ask(SCI_GETLENGTH, 0);
-  if (!is_done(hongpilas_lend_range(&session, panes[active].view, 0, length, &bytes))) return;
+  if (!is_done(hongpilas_lend_range(session, panes[active].view, 0, length, &bytes))) return;
   int reason = write_file(name, bytes, length);
   say("%s%s", reason == 0 ? "Saved" : "Not saved: ", reason == 0 ? "" : strerror(reason));
   if (reason != 0) return;
@@ -691,7 +689,7 @@ static void edit(const char *name) {
 int main(int argument_count, char **arguments) {
   const char *fault = "out of memory";
   bool is_open = hongpilas_new(&session) == HONGPILAS_DONE;
-  if (is_open && is_done(hongpilas_new_view(&session, &panes[0].view)) && is_done(hongpilas_new_view(&session, &bottom.view)))
+  if (is_open && is_done(hongpilas_new_view(session, &panes[0].view)) && is_done(hongpilas_new_view(session, &bottom.view)))
     fault = take_terminal() ? NULL : "needs a terminal";
   if (fault != NULL) fprintf(stderr, "edit: %s\n", fault);
   else edit(argument_count > 1 ? arguments[1] : NULL);

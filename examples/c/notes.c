@@ -19,48 +19,24 @@ typedef struct name {
   const char *text;
 } name;
 
-#define NAMED(constant) {constant, #constant}
-
-static const name messages[] = {
-    NAMED(SCI_ADDTEXT),      NAMED(SCI_INSERTTEXT), NAMED(SCI_NEWLINE),       NAMED(SCI_HOMEEXTEND),    NAMED(SCI_CHARLEFTEXTEND),
-    NAMED(SCI_COPY),         NAMED(SCI_LINEEND),    NAMED(SCI_PASTE),         NAMED(SCI_DELETEBACK),    NAMED(SCI_UNDO),
-    NAMED(SCI_REDO),         NAMED(SCI_MARKERADD),  NAMED(SCI_SETFOLDLEVEL),  NAMED(SCI_SETLINESTATE),  NAMED(SCI_SETSTYLING),
-    NAMED(SCI_SETSAVEPOINT), NAMED(SCI_COLOURISE),  NAMED(SCI_ADDUNDOACTION), NAMED(SCI_INDICATORFILLRANGE),
-    NAMED(SCI_DOCUMENTEND),
-};
-
-static const name notes[] = {
-    NAMED(SCN_MACRORECORD),  NAMED(SCN_STYLENEEDED),     NAMED(SCN_SAVEPOINTREACHED),
-    NAMED(SCN_SAVEPOINTLEFT), NAMED(SCN_MODIFYATTEMPTRO), NAMED(SCN_MODIFIED),
-};
+#define NAMED(constant) \
+  { constant, #constant }
 
 /* The bits of a modification. */
 static const name kinds[] = {
-    NAMED(SC_MOD_INSERTTEXT),      NAMED(SC_MOD_DELETETEXT),     NAMED(SC_MOD_CHANGESTYLE),     NAMED(SC_MOD_CHANGEFOLD),
-    NAMED(SC_PERFORMED_USER),      NAMED(SC_PERFORMED_UNDO),     NAMED(SC_PERFORMED_REDO),      NAMED(SC_MULTISTEPUNDOREDO),
-    NAMED(SC_LASTSTEPINUNDOREDO),  NAMED(SC_MOD_CHANGEMARKER),   NAMED(SC_MOD_BEFOREINSERT),    NAMED(SC_MOD_BEFOREDELETE),
-    NAMED(SC_MULTILINEUNDOREDO),   NAMED(SC_STARTACTION),        NAMED(SC_MOD_CHANGEINDICATOR), NAMED(SC_MOD_CHANGELINESTATE),
-    NAMED(SC_MOD_CONTAINER),
+    NAMED(SC_MOD_INSERTTEXT),      NAMED(SC_MOD_DELETETEXT),   NAMED(SC_MOD_CHANGESTYLE),   NAMED(SC_MOD_CHANGEFOLD),     NAMED(SC_PERFORMED_USER),
+    NAMED(SC_PERFORMED_UNDO),      NAMED(SC_PERFORMED_REDO),   NAMED(SC_MULTISTEPUNDOREDO), NAMED(SC_LASTSTEPINUNDOREDO), NAMED(SC_MOD_CHANGEMARKER),
+    NAMED(SC_MOD_BEFOREINSERT),    NAMED(SC_MOD_BEFOREDELETE), NAMED(SC_MULTILINEUNDOREDO), NAMED(SC_STARTACTION),        NAMED(SC_MOD_CHANGEINDICATOR),
+    NAMED(SC_MOD_CHANGELINESTATE), NAMED(SC_MOD_CONTAINER),
 };
 
-static hongpilas session;
+static hongpilas_session *session;
 static step macro[MOST_STEPS];
 static size_t step_count;
 
-static const char *name_of(const name *names, size_t count, uint32_t number) {
-  for (size_t i = 0; i < count; i++)
-    if (names[i].number == number) return names[i].text;
-  return "?";
-}
-
-#define NAME_IN(names, number) name_of(names, sizeof(names) / sizeof *(names), number)
-
 static void must(hongpilas_answer answer) {
   if (answer == HONGPILAS_DONE) return;
-  const uint8_t *text = NULL;
-  size_t length = 0;
-  hongpilas_checked_refusal_name(answer, &text, &length);
-  printf("refused: %.*s\n", (int)length, (const char *)text);
+  printf("refused: %s\n", hongpilas_answer_name(answer));
   exit(1);
 }
 
@@ -80,8 +56,7 @@ static void show_kind(const hongpilas_note_data *note) {
       printf("%c%s", before, kinds[i].text);
       before = '|';
     }
-  if (note->kind & (SC_MOD_CHANGEFOLD | SC_MOD_CHANGEMARKER | SC_MOD_CHANGELINESTATE))
-    printf(", line %lld", (long long)note->line);
+  if (note->kind & (SC_MOD_CHANGEFOLD | SC_MOD_CHANGEMARKER | SC_MOD_CHANGELINESTATE)) printf(", line %lld", (long long)note->line);
   if (note->kind & SC_MOD_CHANGEFOLD) printf(", level 0x%llx, was 0x%llx", (long long)note->now, (long long)note->prev);
   if (note->kind & SC_MOD_CONTAINER) printf(", token %lld", (long long)note->token);
   if (note->length > 0) printf(", at %lld, length %lld", (long long)note->position, (long long)note->length);
@@ -89,10 +64,9 @@ static void show_kind(const hongpilas_note_data *note) {
 }
 
 static void show_note(const hongpilas_note_data *note) {
-  printf("  view %u: %s", (unsigned)note->view, NAME_IN(notes, note->code));
+  printf("  view %u: %s", (unsigned)note->view, hongpilas_note_name(note->code));
   if (note->code == SCN_MODIFIED) show_kind(note);
-  if (note->code == SCN_MACRORECORD)
-    printf(" %s, %lld, %lld", NAME_IN(messages, note->message), (long long)note->w, (long long)note->l);
+  if (note->code == SCN_MACRORECORD) printf(" %s, %lld, %lld", hongpilas_message_name(note->message), (long long)note->w, (long long)note->l);
   if (note->code == SCN_STYLENEEDED) printf(" up to %lld", (long long)note->position);
   if (note->text_length > 0) {
     printf(", ");
@@ -115,17 +89,15 @@ static void record(const hongpilas_note_data *note) {
 /* Sends a message, shows the notes that come with its reply, and keeps what is recorded. */
 static void send(uint32_t view, uint32_t message, int64_t w, int64_t l, const void *text, size_t length) {
   hongpilas_note_data note;
-  must(hongpilas_call(&session, view, message, w, l, text, length, NULL));
-  printf("%s to view %u\n", NAME_IN(messages, message), (unsigned)view);
-  for (size_t i = 0; hongpilas_checked_note(&session, i, &note) == HONGPILAS_DONE; i++) {
+  must(hongpilas_send(session, view, message, w, l, text, length, NULL));
+  printf("%s to view %u\n", hongpilas_message_name(message), (unsigned)view);
+  for (size_t i = 0; hongpilas_note(session, i, &note, sizeof note) == HONGPILAS_DONE; i++) {
     show_note(&note);
     if (note.code == SCN_MACRORECORD) record(&note);
   }
 }
 
-static void quietly(uint32_t view, uint32_t message, int64_t w, int64_t l) {
-  must(hongpilas_call(&session, view, message, w, l, NULL, 0, NULL));
-}
+static void quietly(uint32_t view, uint32_t message, int64_t w, int64_t l) { must(hongpilas_send(session, view, message, w, l, NULL, 0, NULL)); }
 
 static void record_macro(uint32_t view) {
   quietly(view, SCI_STARTRECORD, 0, 0);
@@ -140,15 +112,14 @@ static void record_macro(uint32_t view) {
 }
 
 static void replay(uint32_t view) {
-  for (size_t i = 0; i < step_count; i++)
-    send(view, macro[i].message, macro[i].w, macro[i].l, macro[i].text, macro[i].length);
+  for (size_t i = 0; i < step_count; i++) send(view, macro[i].message, macro[i].w, macro[i].l, macro[i].text, macro[i].length);
 }
 
 static void show_document(uint32_t view) {
   const uint8_t *bytes = NULL;
   size_t length = 0;
-  must(hongpilas_call(&session, view, SCI_GETTEXT, 0, 0, NULL, 0, NULL));
-  must(hongpilas_checked_text(&session, &bytes, &length));
+  must(hongpilas_send(session, view, SCI_GETTEXT, 0, 0, NULL, 0, NULL));
+  must(hongpilas_text(session, &bytes, &length));
   printf("view %u has ", (unsigned)view);
   show_text(bytes, length);
   putchar('\n');
@@ -175,7 +146,7 @@ static void show_other_notes(uint32_t view) {
 /* A view hears of what its mask lets through, and of what another view of its document does. */
 static void show_masks(uint32_t view, uint32_t other) {
   int64_t document = 0;
-  must(hongpilas_call(&session, view, SCI_GETDOCPOINTER, 0, 0, NULL, 0, &document));
+  must(hongpilas_send(session, view, SCI_GETDOCPOINTER, 0, 0, NULL, 0, &document));
   quietly(other, SCI_SETDOCPOINTER, 0, document);
   quietly(view, SCI_SETMODEVENTMASK, SC_MOD_DELETETEXT, 0);
   quietly(other, SCI_SETMODEVENTMASK, SC_MOD_INSERTTEXT | SC_MOD_DELETETEXT, 0);
@@ -186,9 +157,9 @@ static void show_masks(uint32_t view, uint32_t other) {
 
 int main(void) {
   uint32_t first = 0, second = 0;
-  must(hongpilas_checked_new(&session));
-  must(hongpilas_checked_new_view(&session, &first));
-  must(hongpilas_checked_new_view(&session, &second));
+  must(hongpilas_new(&session));
+  must(hongpilas_new_view(session, &first));
+  must(hongpilas_new_view(session, &second));
   record_macro(first);
   show_document(first);
   printf("%zu messages recorded\n", step_count);
@@ -197,6 +168,6 @@ int main(void) {
   show_document(second);
   show_other_notes(first);
   show_masks(first, second);
-  hongpilas_checked_free(&session);
+  hongpilas_free(session);
   return 0;
 }

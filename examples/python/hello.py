@@ -7,12 +7,6 @@ import re
 TOP = os.path.dirname(os.path.dirname(os.path.dirname(os.path.abspath(__file__))))
 
 
-class Handle(ctypes.Structure):
-    """A session: one word, which means nothing to the caller."""
-
-    _fields_ = [("at", ctypes.c_void_p)]
-
-
 class Note(ctypes.Structure):
     """What a view is told; hongpilas_note_data of the header. `bytes` stands until the next message that is done; `text` is a copy."""
 
@@ -52,18 +46,19 @@ def constants():
 def library():
     """The shared object, with the types of its calls."""
     lib = ctypes.CDLL(os.environ.get("HONGPILAS", os.path.join(TOP, "out", "libhongpilas.so")))
-    word, size, number = ctypes.POINTER(Handle), ctypes.c_size_t, ctypes.c_int64
-    address, view = ctypes.POINTER(ctypes.c_void_p), ctypes.c_uint32
+    word, size, number = ctypes.c_void_p, ctypes.c_size_t, ctypes.c_int64
+    address, view, length = ctypes.POINTER(ctypes.c_void_p), ctypes.c_uint32, ctypes.POINTER(ctypes.c_size_t)
     types = {
-        "new": (view, [word]),
-        "free": (None, [Handle]),
+        "new": (view, [address]),
+        "free": (None, [word]),
         "new_view": (view, [word, ctypes.POINTER(view)]),
         "close_view": (view, [word, view]),
         "send": (view, [word, view, view, number, number, ctypes.c_char_p, size, ctypes.POINTER(number)]),
-        "text": (size, [word, address]),
-        "note": (ctypes.c_bool, [word, size, ctypes.POINTER(Note)]),
+        "text": (view, [word, address, length]),
+        "note": (view, [word, size, ctypes.POINTER(Note), size]),
         "lend_range": (view, [word, view, size, size, address]),
-        "refusal_name": (size, [view, address]),
+        "answer_name": (ctypes.c_char_p, [view]),
+        "note_name": (ctypes.c_char_p, [view]),
     }
     for name, (result, arguments) in types.items():
         function = getattr(lib, "hongpilas_" + name)
@@ -83,7 +78,7 @@ class Session:
     hands_out = {"getline", "getcurline", "gettext", "gettextrange", "getseltext", "getstyledtext", "gettargettext"}
 
     def __init__(self):
-        self.handle, self.view = Handle(), ctypes.c_uint32()
+        self.handle, self.view = ctypes.c_void_p(), ctypes.c_uint32()
         self.check(self.lib.hongpilas_new(self.handle))
         try:
             self.check(self.lib.hongpilas_new_view(self.handle, self.view))
@@ -105,9 +100,7 @@ class Session:
     def check(self, answer):
         """Raises what a refusal's number stands for."""
         if answer:
-            name = ctypes.c_void_p()
-            length = self.lib.hongpilas_refusal_name(answer, name)
-            raise Refused(lent(name.value, length).decode())
+            raise Refused(self.lib.hongpilas_answer_name(answer).decode())
 
     def send(self, number, w=0, l=0, text=b""):
         """Sends a message, and answers its value."""
@@ -118,14 +111,14 @@ class Session:
 
     def text(self):
         """The text that the last message handed out."""
-        where = ctypes.c_void_p()
-        length = self.lib.hongpilas_text(self.handle, where)
-        return lent(where.value, length)
+        where, length = ctypes.c_void_p(), ctypes.c_size_t()
+        self.check(self.lib.hongpilas_text(self.handle, where, length))
+        return lent(where.value, length.value)
 
     def notes(self):
         """The notes of the last message."""
         told, note = [], Note()
-        while self.lib.hongpilas_note(self.handle, len(told), note):
+        while not self.lib.hongpilas_note(self.handle, len(told), note, ctypes.sizeof(note)):
             note.text = lent(note.bytes, note.byte_count)
             told.append(note)
             note = Note()
@@ -153,11 +146,10 @@ class Session:
 
 
 def main():
-    names = {number: name for name, number in constants().items() if name.startswith("SCN_")}
     with Session() as session:
         session.inserttext(0, "hello,\nworld\n")
         for note in session.notes():
-            print(f"{names[note.code]}: kind {note.kind:#x}, position {note.position}, lines {note.lines}, {note.text}")
+            print(f"{session.lib.hongpilas_note_name(note.code).decode()}: kind {note.kind:#x}, position {note.position}, lines {note.lines}, {note.text}")
         print(session.getlength(), "bytes,", session.getlinecount(), "lines")
         print(session.getline(1), session.gettextrange(3, 8), session.bytes(0, 5))
         session.appendtext(8, "größer")

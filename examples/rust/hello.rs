@@ -1,15 +1,17 @@
-//! Opens a session, writes a text, reads it back, and closes: over the plain calls of hongpilas.h, without a crate.
+//! Opens a session, writes a text, reads it back, and closes: over the calls of hongpilas.h, without a crate.
 //!
 //!     rustc hello.rs -L ../../out -l static=hongpilas
 //!
 //! In ../../bindings/rust are crates whose types keep what the header asks of the caller.
+use std::ffi::{c_char, CStr};
+use std::mem;
 use std::ptr;
 use std::slice;
 
-/// A session: one word, which means nothing to the caller.
+/// What a session's address leads to, which means nothing to the caller.
 #[repr(C)]
-struct Handle {
-    at: *mut u8,
+struct Opaque {
+    _private: [u8; 0],
 }
 
 /// What a view is told; hongpilas_note_data of the header.
@@ -34,11 +36,11 @@ struct Note {
 
 extern "C" {
     fn hongpilas_version() -> u32;
-    fn hongpilas_new(session: *mut Handle) -> u32;
-    fn hongpilas_free(session: Handle);
-    fn hongpilas_new_view(session: *mut Handle, view: *mut u32) -> u32;
+    fn hongpilas_new(session: *mut *mut Opaque) -> u32;
+    fn hongpilas_free(session: *mut Opaque);
+    fn hongpilas_new_view(session: *mut Opaque, view: *mut u32) -> u32;
     fn hongpilas_send(
-        session: *mut Handle,
+        session: *mut Opaque,
         view: u32,
         number: u32,
         w: i64,
@@ -47,11 +49,10 @@ extern "C" {
         length: usize,
         value: *mut i64,
     ) -> u32;
-    fn hongpilas_text(session: *mut Handle, text: *mut *const u8) -> usize;
-    fn hongpilas_note_count(session: *mut Handle) -> usize;
-    fn hongpilas_note(session: *mut Handle, index: usize, note: *mut Note) -> bool;
-    fn hongpilas_lend_range(session: *mut Handle, view: u32, start: usize, count: usize, bytes: *mut *const u8) -> u32;
-    fn hongpilas_refusal_name(answer: u32, name: *mut *const u8) -> usize;
+    fn hongpilas_text(session: *const Opaque, text: *mut *const u8, length: *mut usize) -> u32;
+    fn hongpilas_note(session: *const Opaque, index: usize, note: *mut Note, size: usize) -> u32;
+    fn hongpilas_lend_range(session: *mut Opaque, view: u32, start: usize, count: usize, bytes: *mut *const u8) -> u32;
+    fn hongpilas_answer_name(answer: u32) -> *const c_char;
 }
 
 const SCI_INSERTTEXT: u32 = 2003;
@@ -69,38 +70,35 @@ unsafe fn copied(bytes: *const u8, length: usize) -> String {
 
 /// The name of an answer.
 fn name_of(answer: u32) -> String {
-    let mut name = ptr::null();
-    unsafe {
-        let length = hongpilas_refusal_name(answer, &mut name);
-        copied(name, length)
-    }
+    unsafe { CStr::from_ptr(hongpilas_answer_name(answer)) }.to_string_lossy().into_owned()
 }
 
-/// A session with one view, given back where it is dropped. The raw pointer in it keeps it on its thread.
+/// A session with one view, given back where it is dropped. It may be moved to another thread, and is used by one at a time.
 struct Session {
-    handle: Handle,
+    handle: *mut Opaque,
     view: u32,
 }
 
+unsafe impl Send for Session {}
+
 impl Session {
     fn open() -> Result<Session, u32> {
-        let mut handle = Handle { at: ptr::null_mut() };
-        let answer = unsafe { hongpilas_new(&mut handle) };
-        if answer != 0 {
-            return Err(answer);
+        let mut session = Session { handle: ptr::null_mut(), view: 0 };
+        match unsafe { hongpilas_new(&mut session.handle) } {
+            0 => {}
+            refusal => return Err(refusal),
         }
-        let mut session = Session { handle, view: 0 };
-        match unsafe { hongpilas_new_view(&mut session.handle, &mut session.view) } {
+        match unsafe { hongpilas_new_view(session.handle, &mut session.view) } {
             0 => Ok(session),
             refusal => Err(refusal),
         }
     }
 
-    /// Sends a message. The pointer of a slice is never null, also where it is empty, as the header wants it.
+    /// Sends a message.
     fn send(&mut self, number: u32, w: i64, l: i64, text: &[u8]) -> Result<i64, u32> {
         let mut value = 0;
         let answer =
-            unsafe { hongpilas_send(&mut self.handle, self.view, number, w, l, text.as_ptr(), text.len(), &mut value) };
+            unsafe { hongpilas_send(self.handle, self.view, number, w, l, text.as_ptr(), text.len(), &mut value) };
         if answer == 0 {
             Ok(value)
         } else {
@@ -110,17 +108,17 @@ impl Session {
 
     /// The last reply's text.
     fn text(&mut self) -> String {
-        let mut text = ptr::null();
-        unsafe {
-            let length = hongpilas_text(&mut self.handle, &mut text);
-            copied(text, length)
+        let (mut text, mut length) = (ptr::null(), 0);
+        match unsafe { hongpilas_text(self.handle, &mut text, &mut length) } {
+            0 => unsafe { copied(text, length) },
+            refusal => name_of(refusal),
         }
     }
 
     /// Bytes of the document, lent: they stand as long as the session is borrowed, until its next call.
     fn range(&mut self, start: usize, count: usize) -> Result<&[u8], u32> {
         let mut bytes = ptr::null();
-        match unsafe { hongpilas_lend_range(&mut self.handle, self.view, start, count, &mut bytes) } {
+        match unsafe { hongpilas_lend_range(self.handle, self.view, start, count, &mut bytes) } {
             0 if count == 0 => Ok(&[]),
             0 => Ok(unsafe { slice::from_raw_parts(bytes, count) }),
             refusal => Err(refusal),
@@ -129,22 +127,22 @@ impl Session {
 
     /// Prints the notes of the last reply.
     fn tell_notes(&mut self) {
-        for index in 0..unsafe { hongpilas_note_count(&mut self.handle) } {
-            let mut note: Note = unsafe { std::mem::zeroed() };
-            if unsafe { hongpilas_note(&mut self.handle, index, &mut note) } {
-                let text = unsafe { copied(note.text, note.text_length) };
-                println!(
-                    "  note {} of view {}: kind {}, position {}, lines {}, {:?}",
-                    note.code, note.view, note.kind, note.position, note.lines, text
-                );
-            }
+        let mut note: Note = unsafe { mem::zeroed() };
+        let mut index = 0;
+        while unsafe { hongpilas_note(self.handle, index, &mut note, mem::size_of::<Note>()) } == 0 {
+            let text = unsafe { copied(note.text, note.text_length) };
+            println!(
+                "  note {} of view {}: kind {}, position {}, lines {}, {:?}",
+                note.code, note.view, note.kind, note.position, note.lines, text
+            );
+            index += 1;
         }
     }
 }
 
 impl Drop for Session {
     fn drop(&mut self) {
-        unsafe { hongpilas_free(Handle { at: self.handle.at }) }
+        unsafe { hongpilas_free(self.handle) }
     }
 }
 
@@ -157,8 +155,10 @@ fn say(what: &str, answer: Result<i64, u32>) {
 }
 
 fn main() {
-    assert_eq!(unsafe { hongpilas_version() } / 1000, 1);
-    let mut session = Session::open().unwrap_or_else(|refusal| panic!("{}", name_of(refusal)));
+    assert_eq!(unsafe { hongpilas_version() } / 1000, 2);
+    let session = Session::open().unwrap_or_else(|refusal| panic!("{}", name_of(refusal)));
+    // The session is handed to another thread, and back.
+    let mut session = std::thread::spawn(move || session).join().unwrap();
     say("INSERTTEXT", session.send(SCI_INSERTTEXT, 0, 0, b"hello,\nworld"));
     session.tell_notes();
     say("GETLENGTH", session.send(SCI_GETLENGTH, 0, 0, b""));

@@ -8,8 +8,8 @@
 
 /* What else Scintilla tells, as that it was painted or wants its window brought up to date, the profile leaves out. So it does kinds of changes. */
 enum {
-  KINDS = SC_MOD_INSERTTEXT | SC_MOD_DELETETEXT | SC_MOD_CHANGESTYLE | SC_MOD_CHANGEFOLD | SC_MOD_CHANGEMARKER | SC_MOD_BEFOREINSERT |
-          SC_MOD_BEFOREDELETE | SC_MOD_CHANGEINDICATOR | SC_MOD_CHANGELINESTATE | SC_MOD_CONTAINER
+  KINDS = SC_MOD_INSERTTEXT | SC_MOD_DELETETEXT | SC_MOD_CHANGESTYLE | SC_MOD_CHANGEFOLD | SC_MOD_CHANGEMARKER | SC_MOD_BEFOREINSERT | SC_MOD_BEFOREDELETE |
+          SC_MOD_CHANGEINDICATOR | SC_MOD_CHANGELINESTATE | SC_MOD_CONTAINER
 };
 
 static bool is_left_out(const SCNotification *note) {
@@ -34,8 +34,7 @@ static void hear(side *s, int view, const SCNotification *note) {
     return;
   }
   if (a->notes == NOTES || a->texts_used + length > sizeof a->texts) {
-    fprintf(stderr, "beside: too many notes of %s, the last of kind %d and length %td, after the calls\n", s->name, note->modificationType,
-            note->length);
+    fprintf(stderr, "beside: too many notes of %s, the last of kind %d and length %td, after the calls\n", s->name, note->modificationType, note->length);
     describe_calls(stderr);
     exit(1);
   }
@@ -48,7 +47,10 @@ static void hear(side *s, int view, const SCNotification *note) {
 }
 
 /* One of these for each view is what a callback is given. */
-static struct ear { side *of; int view; } our_ears[VIEWS], their_ears[VIEWS];
+static struct ear {
+  side *of;
+  int view;
+} our_ears[VIEWS], their_ears[VIEWS];
 
 static void hear_ours(SCNotification *note, void *data) {
   struct ear *ear = data;
@@ -125,13 +127,15 @@ bool open_theirs(side *theirs, const char *library) {
 
 /* Puts a widget on a new document, and its settings to where they begin. */
 static void renew(side *theirs, int view) {
-  static const struct { unsigned int number; sptr_t w, l; } settings[] = {
-      {SCI_SETDOCPOINTER, 0, 0},         {SCI_SETTARGETRANGE, 0, 0},        {SCI_SETSEARCHFLAGS, 0, 0},
-      {SCI_SETPASTECONVERTENDINGS, 1, 0}, {SCI_STOPRECORD, 0, 0},            {SCI_SETMODEVENTMASK, SC_MODEVENTMASKALL, 0},
-      {SCI_COPYTEXT, 0, (sptr_t) ""},    {SCI_SETSTATUS, 0, 0},
+  static const struct {
+    unsigned int number;
+    sptr_t w, l;
+  } settings[] = {
+      {SCI_SETDOCPOINTER, 0, 0},          {SCI_SETTARGETRANGE, 0, 0}, {SCI_SETSEARCHFLAGS, 0, 0},
+      {SCI_SETPASTECONVERTENDINGS, 1, 0}, {SCI_STOPRECORD, 0, 0},     {SCI_SETMODEVENTMASK, SC_MODEVENTMASKALL, 0},
+      {SCI_COPYTEXT, 0, (sptr_t) ""},     {SCI_SETSTATUS, 0, 0},
   };
-  for (size_t i = 0; i < sizeof settings / sizeof *settings; i++)
-    theirs->send(theirs->views[view], settings[i].number, (uptr_t)settings[i].w, settings[i].l);
+  for (size_t i = 0; i < sizeof settings / sizeof *settings; i++) theirs->send(theirs->views[view], settings[i].number, (uptr_t)settings[i].w, settings[i].l);
 }
 
 /* ---- Both ---- */
@@ -156,19 +160,19 @@ static int note_document(side *s, sptr_t document) {
 
 int document_of(side *s, int view) { return document_named(s, ask(s, view, SCI_GETDOCPOINTER, 0, 0)); }
 
-static hongpilas_door *door;
+static hongpilas_scintilla *door;
 
 void begin_session(side *ours, side *theirs) {
   for (int i = 0; i < 1000 && iterate(NULL, 0); i++) continue;
-  hongpilas_door_free(door);
-  door = hongpilas_door_new();
+  hongpilas_scintilla_free(door);
+  door = hongpilas_scintilla_new();
   ours->name = "Hongpilas";
   ours->send = hongpilas_direct;
   ours->document_count = theirs->document_count = 0;
 }
 
 void open_view(side *ours, side *theirs, int view) {
-  ours->views[view] = hongpilas_door_open(door);
+  ours->views[view] = hongpilas_scintilla_open(door);
   our_ears[view].of = ours;
   our_ears[view].view = view;
   hongpilas_set_notify(ours->views[view], hear_ours, &our_ears[view]);
@@ -179,7 +183,7 @@ void open_view(side *ours, side *theirs, int view) {
 
 /* A widget is not closed, but leaves its document. */
 void close_view(side *ours, side *theirs, int view) {
-  hongpilas_door_close(ours->views[view]);
+  hongpilas_scintilla_close(ours->views[view]);
   ours->views[view] = 0;
   renew(theirs, view);
 }

@@ -1,5 +1,5 @@
 /* Messages of the profile in Scintilla's manner, as a program sends them that knows Scintilla: prints what comes of them. `door --sent` lists their
- * numbers; door_examples.c sends those of the worked examples. Then null texts, views and doors, what is refused, what is sent while notes are told,
+ * numbers; door_examples.c sends those of the worked examples. Then null texts, views and doors, what is refused, what is sent inside a notify function,
  * and each growth refused in turn, for which it is linked as counted_heap.h says. */
 #include "counted_heap.h"
 
@@ -40,9 +40,8 @@ static void print_bytes(const char *bytes, size_t count) {
 static void hear(SCNotification *note, void *data) {
   printf("    %s hears %u", (const char *)data, note->nmhdr.code);
   if (note->nmhdr.code == SCN_MODIFIED)
-    printf(" of kind 0x%X at %ld, length %ld, lines %ld, line %ld, levels 0x%X 0x%X, token %d", (unsigned int)note->modificationType,
-           (long)note->position, (long)note->length, (long)note->linesAdded, (long)note->line, (unsigned int)note->foldLevelPrev,
-           (unsigned int)note->foldLevelNow, note->token);
+    printf(" of kind 0x%X at %ld, length %ld, lines %ld, line %ld, levels 0x%X 0x%X, token %d", (unsigned int)note->modificationType, (long)note->position,
+           (long)note->length, (long)note->linesAdded, (long)note->line, (unsigned int)note->foldLevelPrev, (unsigned int)note->foldLevelNow, note->token);
   if (note->nmhdr.code == SCN_STYLENEEDED) printf(" up to %ld", (long)note->position);
   if (note->nmhdr.code == SCN_MACRORECORD) printf(" of %d, w %ld, text %s", note->message, (long)note->wParam, (const char *)note->lParam);
   if (note->text != NULL) putchar(' ');
@@ -66,14 +65,22 @@ typedef struct step {
   const char *text;
 } step;
 
-#define SEND(name, w, l) {#name, SCI_##name, NUMBERS, 0, w, l, NULL}
-#define OTHER(name, w, l) {#name, SCI_##name, NUMBERS, 1, w, l, NULL}
-#define TEXT(name, w, text) {#name, SCI_##name, BYTES, 0, w, 0, text}
-#define INTO(name, w) {#name, SCI_##name, BUFFER, 0, w, 0, NULL}
-#define ASK(name, w) {#name, SCI_##name, NONE, 0, w, 0, NULL}
-#define PART(name, from, to) {#name, SCI_##name, RANGE, 0, from, to, NULL}
-#define LOST(name, w, l) {#name, SCI_##name, NUMBERS, NO_VIEW, w, l, NULL}
+#define SEND(name, w, l) \
+  { #name, SCI_##name, NUMBERS, 0, w, l, NULL }
+#define OTHER(name, w, l) \
+  { #name, SCI_##name, NUMBERS, 1, w, l, NULL }
+#define TEXT(name, w, text) \
+  { #name, SCI_##name, BYTES, 0, w, 0, text }
+#define INTO(name, w) \
+  { #name, SCI_##name, BUFFER, 0, w, 0, NULL }
+#define ASK(name, w) \
+  { #name, SCI_##name, NONE, 0, w, 0, NULL }
+#define PART(name, from, to) \
+  { #name, SCI_##name, RANGE, 0, from, to, NULL }
+#define LOST(name, w, l) \
+  { #name, SCI_##name, NUMBERS, NO_VIEW, w, l, NULL }
 
+// clang-format off
 static const step steps[] = {
     TEXT(SETTEXT, 0, "one\ntwo\r\nthr\xC3\xA9" "e"), SEND(GETLENGTH, 0, 0), SEND(GETTEXTLENGTH, 0, 0), SEND(GETLINECOUNT, 0, 0), ASK(GETTEXT, 0),
     INTO(GETTEXT, 100), INTO(GETTEXT, 5), INTO(GETLINE, 1), ASK(GETLINE, 1), INTO(GETLINE, 9), PART(GETTEXTRANGE, 4, 7), PART(GETTEXTRANGE, 9, -1),
@@ -125,6 +132,7 @@ static const step nulls[] = {
     LOST(MARKERLINEFROMHANDLE, 1, 0), LOST(MARKERNEXT, 0, 1), LOST(MARKERPREVIOUS, 0, 1), LOST(GETFOLDPARENT, 0, 0), LOST(SEARCHINTARGET, 0, 0),
     LOST(ADDTEXT, 0, 0), LOST(GETTEXT, 0, 0), LOST(GETRANGEPOINTER, 0, 0),
 };
+// clang-format on
 
 enum { ROOM = 128, UNWRITTEN = '~' };
 
@@ -159,16 +167,16 @@ static void take_step(const sptr_t *views, const step *s) {
 
 static void try_each_message(void) {
   static char names[2][8] = {"first", "second"};
-  hongpilas_door *door = hongpilas_door_new();
+  hongpilas_scintilla *door = hongpilas_scintilla_new();
   sptr_t views[VIEWS] = {0, 0, 0};
   must(door != NULL, "a door opens");
   for (int i = FIRST; i <= SECOND; i++) {
-    views[i] = hongpilas_door_open(door);
+    views[i] = hongpilas_scintilla_open(door);
     hongpilas_set_notify(views[i], hear, names[i]);
   }
   for (size_t i = 0; i < sizeof steps / sizeof *steps; i++) take_step(views, &steps[i]);
-  hongpilas_door_close(views[0]);
-  hongpilas_door_free(door);
+  hongpilas_scintilla_close(views[0]);
+  hongpilas_scintilla_free(door);
   must(blocks == 0, "all blocks are given back");
 }
 
@@ -176,19 +184,19 @@ static void try_each_message(void) {
 
 /* The view 0 and a null door are harmless to each call. */
 static void try_nulls(void) {
-  hongpilas_door *door = hongpilas_door_new();
-  sptr_t views[VIEWS] = {hongpilas_door_open(door), 0, 0};
+  hongpilas_scintilla *door = hongpilas_scintilla_new();
+  sptr_t views[VIEWS] = {hongpilas_scintilla_open(door), 0, 0};
   for (size_t i = 0; i < sizeof nulls / sizeof *nulls; i++) take_step(views, &nulls[i]);
-  printf("hongpilas_direct_status with no place for the status\n  = %ld\n",
-         (long)hongpilas_direct_status(views[FIRST], SCI_GETLINECOUNT, 0, 0, NULL));
+  printf("hongpilas_direct_status with no place for the status\n  = %ld\n", (long)hongpilas_direct_status(views[FIRST], SCI_GETLINECOUNT, 0, 0, NULL));
   printf("hongpilas_refusal of no view\n  = %s\n", hongpilas_refusal(0));
   hongpilas_set_notify(0, hear, NULL);
   hongpilas_set_notify(0, NULL, NULL);
-  hongpilas_door_close(0);
-  hongpilas_door_free(door);
-  printf("hongpilas_door_open of no door\n  = %ld\n", (long)hongpilas_door_open(NULL));
-  printf("hongpilas_door_new_with_limits without limits\n  = %s\n", hongpilas_door_new_with_limits(NULL) == NULL ? "NULL" : "a door");
-  hongpilas_door_free(NULL);
+  hongpilas_scintilla_close(0);
+  hongpilas_scintilla_free(door);
+  printf("hongpilas_scintilla_open of no door\n  = %ld\n", (long)hongpilas_scintilla_open(NULL));
+  printf("hongpilas_scintilla_new_with_limits without limits\n  = %s\n",
+         hongpilas_scintilla_new_with_limits(NULL, sizeof(hongpilas_limits)) == NULL ? "NULL" : "a door");
+  hongpilas_scintilla_free(NULL);
   must(blocks == 0, "all blocks are given back");
 }
 
@@ -196,12 +204,12 @@ static void try_nulls(void) {
 
 static void try_edges(void) {
   SciFnDirect send = hongpilas_direct;
-  hongpilas_door *door = hongpilas_door_new();
-  sptr_t view = hongpilas_door_open(door);
+  hongpilas_scintilla *door = hongpilas_scintilla_new();
+  sptr_t view = hongpilas_scintilla_open(door);
   struct Sci_TextRange range = {{0, -1}, NULL}, widest = {{LONG_MIN, LONG_MAX}, NULL};
   const char lone = 'x'; /* of which a call with a negative length reads nothing behind */
   hongpilas_limits none = {0, 0, 0, 0, 0, 0, 0}, few = HONGPILAS_GREATEST_LIMITS;
-  send(view, SCI_ADDTEXT, 2, (sptr_t)"ab");
+  send(view, SCI_ADDTEXT, 2, (sptr_t) "ab");
   must(send(view, 9999, 1, 1) == 0 && send(view, SCI_GETSTATUS, 0, 0) == SC_STATUS_OK, "an unknown message answers 0, with no status");
   must(send(view, SCI_GETTEXTRANGE, 0, (sptr_t)&range) == 2 && send(view, SCI_GETSTYLEDTEXT, 0, (sptr_t)&range) == 4, "a range into no buffer");
   must(*hongpilas_refusal(view) == '\0', "nothing was refused");
@@ -213,76 +221,101 @@ static void try_edges(void) {
   send(view, SCI_SETSTATUS, SC_STATUS_OK, 0);
   must(send(view, SCI_APPENDTEXT, 1, 0) == 0 && send(view, SCI_ADDTEXT, (uptr_t)-1, (sptr_t)&lone) == 0, "texts that cannot be");
   must(send(view, SCI_GETSTATUS, 0, 0) == SC_STATUS_FAILURE && send(view, SCI_GETLENGTH, 0, 0) == 2, "are refused");
-  hongpilas_door_free(door);
-  must(hongpilas_door_new_with_limits(&none) == NULL, "limits of 0 are refused");
+  hongpilas_scintilla_free(door);
+  must(hongpilas_scintilla_new_with_limits(&none, sizeof none) == NULL, "limits of 0 are refused");
   few.views = 1;
-  door = hongpilas_door_new_with_limits(&few);
-  view = hongpilas_door_open(door);
-  must(view != 0 && hongpilas_door_open(door) == 0, "more views than may be open are refused");
-  hongpilas_door_close(view);
-  must(hongpilas_door_open(door) != 0, "a closed one makes room");
-  hongpilas_door_free(door);
+  door = hongpilas_scintilla_new_with_limits(&few, sizeof few);
+  view = hongpilas_scintilla_open(door);
+  must(view != 0 && hongpilas_scintilla_open(door) == 0, "more views than may be open are refused");
+  hongpilas_scintilla_close(view);
+  must(hongpilas_scintilla_open(door) != 0, "a closed one makes room");
+  hongpilas_scintilla_free(door);
   must(blocks == 0, "all blocks are given back");
 }
 
 /* What Scintilla has as an int is cut down to one: bits above its 32 say nothing. */
 static void try_ints(void) {
-  static const struct { unsigned int message; bool w_is_int, l_is_int; sptr_t w, l; } ints[] = {
-      {SCI_MARKERLINEFROMHANDLE, true, false, 1, 0},  {SCI_MARKERDELETEHANDLE, true, false, 1, 0},     {SCI_CONVERTEOLS, true, false, 2, 0},
-      {SCI_SETEOLMODE, true, false, 2, 0},            {SCI_SETSTYLING, false, true, 0, 5},             {SCI_MARKERADD, false, true, 0, 3},
-      {SCI_MARKERDELETE, false, true, 0, 3},          {SCI_MARKERDELETEALL, true, false, -1, 0},       {SCI_MARKERNEXT, false, true, 0, 1},
-      {SCI_MARKERPREVIOUS, false, true, 0, 1},        {SCI_SETLINESTATE, false, true, 0, 7},           {SCI_SETSEARCHFLAGS, true, false, 4, 0},
-      {SCI_SETFOLDLEVEL, false, true, 0, 0x2400},     {SCI_GETLASTCHILD, false, true, 0, -1},          {SCI_FOLDLINE, false, true, 0, 1},
-      {SCI_SETMODEVENTMASK, true, false, 3, 0},       {SCI_CREATEDOCUMENT, false, true, 0, 256},       {SCI_MARKERADDSET, false, true, 0, 1},
-      {SCI_SETINDICATORCURRENT, true, false, 8, 0},   {SCI_SETINDICATORVALUE, true, false, 2, 0},      {SCI_INDICATORVALUEAT, true, false, 8, 0},
-      {SCI_INDICATORSTART, true, false, 8, 0},        {SCI_INDICATOREND, true, false, 8, 0},           {SCI_ADDUNDOACTION, true, true, 5, 1},
-      {SCI_SETLINEENDTYPESALLOWED, true, false, 1, 0}};
+  static const struct {
+    unsigned int message;
+    bool w_is_int, l_is_int;
+    sptr_t w, l;
+  } ints[] = {{SCI_MARKERLINEFROMHANDLE, true, false, 1, 0},
+              {SCI_MARKERDELETEHANDLE, true, false, 1, 0},
+              {SCI_CONVERTEOLS, true, false, 2, 0},
+              {SCI_SETEOLMODE, true, false, 2, 0},
+              {SCI_SETSTYLING, false, true, 0, 5},
+              {SCI_MARKERADD, false, true, 0, 3},
+              {SCI_MARKERDELETE, false, true, 0, 3},
+              {SCI_MARKERDELETEALL, true, false, -1, 0},
+              {SCI_MARKERNEXT, false, true, 0, 1},
+              {SCI_MARKERPREVIOUS, false, true, 0, 1},
+              {SCI_SETLINESTATE, false, true, 0, 7},
+              {SCI_SETSEARCHFLAGS, true, false, 4, 0},
+              {SCI_SETFOLDLEVEL, false, true, 0, 0x2400},
+              {SCI_GETLASTCHILD, false, true, 0, -1},
+              {SCI_FOLDLINE, false, true, 0, 1},
+              {SCI_SETMODEVENTMASK, true, false, 3, 0},
+              {SCI_CREATEDOCUMENT, false, true, 0, 256},
+              {SCI_MARKERADDSET, false, true, 0, 1},
+              {SCI_SETINDICATORCURRENT, true, false, 8, 0},
+              {SCI_SETINDICATORVALUE, true, false, 2, 0},
+              {SCI_INDICATORVALUEAT, true, false, 8, 0},
+              {SCI_INDICATORSTART, true, false, 8, 0},
+              {SCI_INDICATOREND, true, false, 8, 0},
+              {SCI_ADDUNDOACTION, true, true, 5, 1},
+              {SCI_SETLINEENDTYPESALLOWED, true, false, 1, 0}};
   const uptr_t above = (uptr_t)1 << 32;
-  hongpilas_door *doors[2] = {hongpilas_door_new(), hongpilas_door_new()};
-  sptr_t views[2] = {hongpilas_door_open(doors[0]), hongpilas_door_open(doors[1])};
+  hongpilas_scintilla *doors[2] = {hongpilas_scintilla_new(), hongpilas_scintilla_new()};
+  sptr_t views[2] = {hongpilas_scintilla_open(doors[0]), hongpilas_scintilla_open(doors[1])};
   for (size_t i = 0; i < sizeof ints / sizeof *ints; i++) {
     uptr_t w = (uptr_t)ints[i].w ^ (ints[i].w_is_int ? above : 0), l = (uptr_t)ints[i].l ^ (ints[i].l_is_int ? above : 0);
     sptr_t value = hongpilas_direct(views[0], ints[i].message, (uptr_t)ints[i].w, ints[i].l);
     must(hongpilas_direct(views[1], ints[i].message, w, (sptr_t)l) == value, "an int is cut down: the value");
     must(hongpilas_direct(views[1], SCI_GETSTATUS, 0, 0) == SC_STATUS_OK, "an int is cut down: the status");
   }
-  for (int i = 0; i < 2; i++) hongpilas_door_free(doors[i]);
+  for (int i = 0; i < 2; i++) hongpilas_scintilla_free(doors[i]);
   must(blocks == 0, "all blocks are given back");
 }
 
-/* ---- Messages while notes are told ---- */
+/* ---- Messages inside a notify function; notify.c has more ---- */
 
-typedef struct meddler { hongpilas_door *door; sptr_t view; int notes, refused; } meddler;
-
-/* Messages that answer -1 where nothing is found or added. */
-static const unsigned int finding[] = {
-    SCI_MARKERADD, SCI_MARKERLINEFROMHANDLE, SCI_MARKERNEXT, SCI_MARKERPREVIOUS, SCI_SEARCHINTARGET, SCI_GETFOLDPARENT,
-};
+typedef struct meddler {
+  sptr_t view;
+  int notes, running, edits;
+} meddler;
 
 static void meddle(SCNotification *note, void *data) {
   meddler *m = (meddler *)data;
   m->notes++;
   must(note->nmhdr.hwndFrom == (void *)m->view, "a note names its view");
-  m->refused += hongpilas_direct(m->view, SCI_GETLENGTH, 0, 0) == 0 && hongpilas_direct(m->view, SCI_GETSTATUS, 0, 0) == SC_STATUS_FAILURE &&
-                strcmp(hongpilas_refusal(m->view), "sent while notes are told") == 0;
-  for (size_t i = 0; i < sizeof finding / sizeof *finding; i++) must(hongpilas_direct(m->view, finding[i], 0, 0) == -1, "nothing is found");
-  hongpilas_direct(m->view, SCI_SETSTATUS, SC_STATUS_OK, 0);
-  must(hongpilas_door_open(m->door) == 0, "no view is opened");
-  hongpilas_door_close(m->view);
-  hongpilas_door_free(m->door);
+  must(m->running++ == 0, "no notify function is called inside one");
+  must(hongpilas_direct(m->view, SCI_GETLENGTH, 0, 0) == 2, "a question is answered");
+  must(hongpilas_direct(m->view, SCI_GETSTATUS, 0, 0) == SC_STATUS_OK, "and nothing is refused");
+  m->edits = 0;
+  for (unsigned int number = 2000; number < 5000; number++) {
+    if ((hongpilas_message_marks(number) & HONGPILAS_MARK_E) == 0) continue;
+    m->edits++;
+    must(hongpilas_direct(m->view, number, 0, (sptr_t) "x") == 0, "what edits the text is not done");
+    must(hongpilas_direct(m->view, SCI_GETSTATUS, 0, 0) == SC_STATUS_FAILURE, "it is refused");
+    must(strcmp(hongpilas_refusal(m->view), "edit inside a notify function") == 0, "and why");
+    hongpilas_direct(m->view, SCI_SETSTATUS, SC_STATUS_OK, 0);
+  }
+  must(hongpilas_direct(m->view, SCI_GETLENGTH, 0, 0) == 2, "the text is as it was");
+  m->running--;
 }
 
 static void try_meddling(void) {
-  meddler m = {hongpilas_door_new(), 0, 0, 0};
-  m.view = hongpilas_door_open(m.door);
+  hongpilas_scintilla *door = hongpilas_scintilla_new();
+  meddler m = {0, 0, 0, 0};
+  m.view = hongpilas_scintilla_open(door);
   hongpilas_set_notify(m.view, meddle, &m);
-  hongpilas_direct(m.view, SCI_INSERTTEXT, 0, (sptr_t)"ab");
-  must(m.notes == 3 && m.refused == 3, "each note is told, and what is sent meanwhile is refused");
+  hongpilas_direct(m.view, SCI_INSERTTEXT, 0, (sptr_t) "ab");
+  must(m.notes == 3 && m.edits > 15, "each note is told, and what edits meanwhile is refused");
   must(hongpilas_direct(m.view, SCI_GETLENGTH, 0, 0) == 2, "nothing is lost");
   hongpilas_set_notify(m.view, NULL, NULL);
   hongpilas_direct(m.view, SCI_CLEARALL, 0, 0);
   must(m.notes == 3, "no note is told any more");
-  hongpilas_door_free(m.door);
+  hongpilas_scintilla_free(door);
   must(blocks == 0, "all blocks are given back");
 }
 
@@ -308,10 +341,10 @@ static bool done_with(long growths) {
   int notes = 0;
   bool is_in, is_styled, is_read;
   growths_left = growths;
-  hongpilas_door *door = hongpilas_door_new();
-  sptr_t view = door == NULL ? 0 : hongpilas_door_open(door);
+  hongpilas_scintilla *door = hongpilas_scintilla_new();
+  sptr_t view = door == NULL ? 0 : hongpilas_scintilla_open(door);
   if (view == 0) {
-    hongpilas_door_free(door);
+    hongpilas_scintilla_free(door);
     return false;
   }
   hongpilas_set_notify(view, count_note, &notes);
@@ -321,9 +354,14 @@ static bool done_with(long growths) {
   must(strcmp(text, is_in ? "one\n" : "") == 0, "and is what it is");
   is_styled = is_in && is_done(view, SCI_SETSTYLINGEX, 4, "\x01\x02\x03\x04", &notes);
   is_read = is_done(view, SCI_GETSTYLEDTEXT, 0, (const char *)&range, &notes);
-  must(!is_styled || !is_read || memcmp(styled, "o\x01n\x02" "e\x03\n\x04\0", 10) == 0, "styled text is given");
+  must(!is_styled || !is_read ||
+           memcmp(styled,
+                  "o\x01n\x02"
+                  "e\x03\n\x04\0",
+                  10) == 0,
+       "styled text is given");
   must(is_read || styled[0] == '\0', "a refused call writes nothing");
-  hongpilas_door_free(door);
+  hongpilas_scintilla_free(door);
   return is_in && is_styled && is_read;
 }
 
@@ -348,6 +386,6 @@ int main(int count, char **words) {
   try_ints();
   try_meddling();
   try_growths();
-  printf("refusals, messages while notes are told, and each growth refused in turn\n");
+  printf("refusals, messages inside a notify function, and each growth refused in turn\n");
   return 0;
 }

@@ -125,8 +125,8 @@ static void hear(SCNotification *note, void *data) {
   now.heard[now.heard_count++].note = *note;
 }
 
-static void open_view(hongpilas_door *door, const outcome *wanted) {
-  sptr_t view = hongpilas_door_open(door);
+static void open_view(hongpilas_scintilla *door, const outcome *wanted) {
+  sptr_t view = hongpilas_scintilla_open(door);
   must((view != 0) == wanted->is_done, "whether a view opens");
   if (!wanted->is_done) return;
   must(wanted->value > 0 && wanted->value < VIEWS, "a view's id");
@@ -206,7 +206,7 @@ static void send_command(const command *c, const outcome *wanted, char **at) {
 /* ---- Examples ---- */
 
 /* Makes the call of a line; whether the example goes on. */
-static bool take_line(hongpilas_door *door, const char *line, char **printed) {
+static bool take_line(hongpilas_scintilla *door, const char *line, char **printed) {
   static command c;
   static outcome wanted;
   now.line = line;
@@ -214,7 +214,7 @@ static bool take_line(hongpilas_door *door, const char *line, char **printed) {
   read_outcome(printed, &wanted);
   if (strcmp(line, "open") == 0) open_view(door, &wanted);
   else if (sscanf(line, "close %" SCNu32, &c.view) == 1) {
-    hongpilas_door_close(*view_of(c.view));
+    hongpilas_scintilla_close(*view_of(c.view));
     *view_of(c.view) = 0;
   } else if (read_command(line, &c) && can_be_said(&c)) send_command(&c, &wanted, printed);
   else if (strncmp(line, "expect ", 7) != 0) {
@@ -229,7 +229,7 @@ static void try_example(const char *path) {
   char *at = script, *told = printed, *line;
   size_t length;
   bool goes_on = true;
-  hongpilas_door *door = hongpilas_door_new();
+  hongpilas_scintilla *door = hongpilas_scintilla_new();
   now.path = path;
   now.line = "at its start";
   memset(now.views, 0, sizeof now.views);
@@ -237,7 +237,7 @@ static void try_example(const char *path) {
   next_line(&at); /* the version */
   while (goes_on && (line = next_line(&at)) != NULL) goes_on = take_line(door, line, &told);
   must(!goes_on || *told == '\0', "all that is printed is compared");
-  hongpilas_door_free(door);
+  hongpilas_scintilla_free(door);
   ended += !goes_on;
   examples++;
 }
@@ -247,7 +247,6 @@ int main(int count, char **words) {
   for (int i = is_list ? 2 : 1; i < count; i++) try_example(words[i]);
   for (unsigned number = 0; is_list && number < NUMBERS; number++)
     if (sent[number]) printf("%u\n", number);
-  if (!is_list)
-    printf("%ld commands of %ld examples through the door; %ld are left out, at which %ld examples end\n", commands, examples, left_out, ended);
+  if (!is_list) printf("%ld commands of %ld examples through the door; %ld are left out, at which %ld examples end\n", commands, examples, left_out, ended);
   return 0;
 }

@@ -55,7 +55,7 @@ typedef struct record {
 /* What a run looks at, behind the calls before the command. */
 typedef struct ending {
   const char *name;
-  void (*follow)(hongpilas *session);
+  void (*follow)(hongpilas_session *session);
 } ending;
 
 /* The run that goes on: a script up to a command, of which a growth is refused (0: none), alone or with all that follow; and its ending. */
@@ -248,14 +248,14 @@ static void keep_text(size_t *length, const uint8_t *text, size_t count) {
 }
 
 /* Puts the last reply's text and notes behind the bytes of the record, and answers how many bytes that is. */
-static size_t keep_reply(hongpilas *session) {
-  size_t length = 0, count = hongpilas_note_count(session);
+static size_t keep_reply(hongpilas_session *session) {
+  size_t length = 0, count = hongpilas_note_count_unchecked(session);
   const uint8_t *text = NULL;
-  size_t text_length = hongpilas_text(session, &text);
+  size_t text_length = hongpilas_text_unchecked(session, &text);
   keep_text(&length, text, text_length);
   for (size_t i = 0; i < count; i++) {
     hongpilas_note_data note = {0};
-    must(hongpilas_note(session, i, &note), "there is each note");
+    must(hongpilas_note_unchecked(session, i, &note), "there is each note");
     keep_bytes(&length, &note, offsetof(hongpilas_note_data, text));
     keep_text(&length, note.text, note.text_length);
   }
@@ -286,41 +286,41 @@ static void keep(seen one) {
 
 /* Calls. */
 
-static hongpilas_answer make(hongpilas *session, const call *made, int64_t *value) {
+static hongpilas_answer make(hongpilas_session *session, const call *made, int64_t *value) {
   uint32_t opened = 0;
   hongpilas_answer answer;
   *value = UNSET;
   if (made->number == CLOSE) return hongpilas_close_view(session, made->view);
-  if (made->number != OPEN) return hongpilas_call(session, made->view, made->number, made->w, made->l, made->text, made->length, value);
+  if (made->number != OPEN) return hongpilas_send(session, made->view, made->number, made->w, made->l, made->text, made->length, value);
   answer = hongpilas_new_view(session, &opened);
   if (opened != 0) *value = opened;
   return answer;
 }
 
 /* Keeps what a call has answered. A call that was refused, and one that is no message, has left the last reply where it was. */
-static void keep_answer(hongpilas *session, const call *made, hongpilas_answer answer, int64_t value) {
+static void keep_answer(hongpilas_session *session, const call *made, hongpilas_answer answer, int64_t value) {
   seen one = {*made, answer, value, 0, 0};
   if (answer == HONGPILAS_DONE && made->number > LAST_REPLY) {
-    must(value == hongpilas_value(session), "the last reply has the value");
+    must(value == hongpilas_value_unchecked(session), "the last reply has the value");
     one.length = keep_reply(session);
   }
   keep(one);
 }
 
 /* Makes a call, keeps what it answered, and answers the value. */
-static int64_t try_call(hongpilas *session, const call *made) {
+static int64_t try_call(hongpilas_session *session, const call *made) {
   int64_t value;
   hongpilas_answer answer = make(session, made, &value);
   keep_answer(session, made, answer, value);
   return value;
 }
 
-static int64_t send(hongpilas *session, uint32_t view, uint32_t number, int64_t w, int64_t l) {
+static int64_t send(hongpilas_session *session, uint32_t view, uint32_t number, int64_t w, int64_t l) {
   call made = {view, number, w, l, NULL, 0};
   return try_call(session, &made);
 }
 
-static bool is_open(hongpilas *session, uint32_t view) { return send(session, view, SCI_GETLENGTH, 0, 0) != UNSET; }
+static bool is_open(hongpilas_session *session, uint32_t view) { return send(session, view, SCI_GETLENGTH, 0, 0) != UNSET; }
 
 /* Questions. */
 
@@ -340,7 +340,7 @@ static int64_t value_in(domain asked, int64_t place) {
   return asked == LEVELS && place > 2 ? SC_FOLDLEVELBASE + place - 4 : place - 2;
 }
 
-static void ask(hongpilas *session, uint32_t view, const question *asked, int64_t length, int64_t lines) {
+static void ask(hongpilas_session *session, uint32_t view, const question *asked, int64_t length, int64_t lines) {
   int64_t ws = count_in(asked->w, length, lines), ls = count_in(asked->l, length, lines);
   for (int64_t i = 0; i < ws; i++)
     for (int64_t k = 0; k < ls; k++) send(session, view, asked->number, value_in(asked->w, i), value_in(asked->l, k));
@@ -348,14 +348,14 @@ static void ask(hongpilas *session, uint32_t view, const question *asked, int64_
 }
 
 /* Keeps the last reply. */
-static void look_at_reply(hongpilas *session) {
-  seen reply = {{0, LAST_REPLY, 0, 0, NULL, 0}, HONGPILAS_DONE, hongpilas_value(session), 0, 0};
+static void look_at_reply(hongpilas_session *session) {
+  seen reply = {{0, LAST_REPLY, 0, 0, NULL, 0}, HONGPILAS_DONE, hongpilas_value_unchecked(session), 0, 0};
   reply.length = keep_reply(session);
   keep(reply);
 }
 
 /* Asks each view all. A view that is not open refuses what it is asked first. */
-static void ask_all(hongpilas *session) {
+static void ask_all(hongpilas_session *session) {
   for (uint32_t view = 0; view <= LAST_VIEW; view++) {
     int64_t length = send(session, view, SCI_GETLENGTH, 0, 0), lines = send(session, view, SCI_GETLINECOUNT, 0, 0);
     questions += 2;
@@ -366,12 +366,12 @@ static void ask_all(hongpilas *session) {
 /* Endings. */
 
 /* Goes to an end of a view's history. */
-static void go_to_end(hongpilas *session, uint32_t view, uint32_t question, uint32_t step) {
+static void go_to_end(hongpilas_session *session, uint32_t view, uint32_t question, uint32_t step) {
   for (int i = 0; i < MOST_TRANSACTIONS && send(session, view, question, 0, 0) == 1; i++) send(session, view, step, 0, 0);
 }
 
 /* Ends groups one by one, which shows how many are open, undoes all and redoes all. */
-static void go_through_history(hongpilas *session, uint32_t view, bool is_asked) {
+static void go_through_history(hongpilas_session *session, uint32_t view, bool is_asked) {
   send(session, view, SCI_SETREADONLY, 0, 0);
   for (int i = 0; i < DEPTH; i++) {
     send(session, view, SCI_CANUNDO, 0, 0);
@@ -383,13 +383,13 @@ static void go_through_history(hongpilas *session, uint32_t view, bool is_asked)
   if (is_asked) ask_all(session);
 }
 
-static void follow_history(hongpilas *session) {
+static void follow_history(hongpilas_session *session) {
   for (uint32_t view = 1; view <= LAST_VIEW; view++)
     if (is_open(session, view)) go_through_history(session, view, true);
 }
 
 /* What no question tells shows by changes: whether a step joins, who records and who hears, the clipboard, and the next handle. */
-static void change(hongpilas *session, uint32_t view) {
+static void change(hongpilas_session *session, uint32_t view) {
   call typing = {view, SCI_ADDTEXT, 1, 0, (const uint8_t *)"q", 1};
   send(session, view, SCI_SETREADONLY, 0, 0);
   send(session, view, SCI_ADDUNDOACTION, 7, UNDO_MAY_COALESCE);
@@ -401,7 +401,7 @@ static void change(hongpilas *session, uint32_t view) {
 }
 
 /* Which documents there are, how often each is held, and which ids come next. */
-static void count_documents(hongpilas *session) {
+static void count_documents(hongpilas_session *session) {
   call opening = {0, OPEN, 0, 0, NULL, 0};
   uint32_t view = (uint32_t)try_call(session, &opening);
   send(session, view, SCI_CREATEDOCUMENT, 0, 0);
@@ -411,7 +411,7 @@ static void count_documents(hongpilas *session) {
   }
 }
 
-static void follow_changes(hongpilas *session) {
+static void follow_changes(hongpilas_session *session) {
   for (uint32_t view = 1; view <= LAST_VIEW; view++)
     if (is_open(session, view)) change(session, view);
   count_documents(session);
@@ -419,14 +419,14 @@ static void follow_changes(hongpilas *session) {
 }
 
 /* What is behind the command, once it is done. */
-static void look_behind(hongpilas *session) {
+static void look_behind(hongpilas_session *session) {
   ask_all(session);
   follow_history(session);
   follow_changes(session);
 }
 
 /* The last reply and all questions; then the command once more, with memory. */
-static void follow_again(hongpilas *session) {
+static void follow_again(hongpilas_session *session) {
   look_at_reply(session);
   ask_all(session);
   if (now.growth == 0) now.record->command = now.record->count;
@@ -444,7 +444,7 @@ static record records[ENDINGS];
 typedef enum outcome { REFUSED, SPARED, UNASKED } outcome;
 
 /* Makes the command with a growth refused. Where it is done, its answer is the full one, and what is behind it is as with memory. */
-static outcome refuse(hongpilas *session) {
+static outcome refuse(hongpilas_session *session) {
   record *full = &records[0];
   bool is_refused_with_memory = full->all[full->command].answer != HONGPILAS_DONE;
   int64_t value;
@@ -470,17 +470,17 @@ static outcome refuse(hongpilas *session) {
 /* Runs the script up to the command; then, for a growth above 0, the command with that growth refused; then an ending, where it is not done. */
 static outcome run(size_t chosen, long growth) {
   outcome came = REFUSED;
-  hongpilas session;
+  hongpilas_session *session = NULL;
   int64_t value;
   now.growth = growth;
   now.ending = &endings[chosen];
   now.record = &records[chosen];
   now.record->next = 0;
   if (growth == 0) now.record->count = now.record->used = 0;
-  must(hongpilas_new_with_limits(&session, &limits) == HONGPILAS_DONE, "a session opens");
-  for (size_t i = 0; i < now.command; i++) make(&session, &now.script->calls[i], &value);
-  if (growth > 0) came = refuse(&session);
-  if (came == REFUSED) now.ending->follow(&session);
+  must(hongpilas_new_with_limits(&session, &limits, sizeof limits) == HONGPILAS_DONE, "a session opens");
+  for (size_t i = 0; i < now.command; i++) make(session, &now.script->calls[i], &value);
+  if (growth > 0) came = refuse(session);
+  if (came == REFUSED) now.ending->follow(session);
   must(growth == 0 || now.differs || now.record->next == now.record->count, "a run is looked at to its end");
   hongpilas_free(session);
   must(blocks == 0, "all blocks are given back");
@@ -525,11 +525,10 @@ static void try_command(const script *script, size_t command) {
 
 /* CONVERTEOLS makes 2 bytes of each LF. That 4 bytes are too few for it is found before it takes memory. */
 static void try_limit(void) {
-  static const script full = {"ab\\n\\n in 4 bytes",
-                              3,
-                              {{0, OPEN, 0, 0, NULL, 0},
-                               {1, SCI_INSERTTEXT, 0, 0, (const uint8_t *)"ab\n\n", 4},
-                               {1, SCI_CONVERTEOLS, SC_EOL_CRLF, 0, NULL, 0}}};
+  static const script full = {
+      "ab\\n\\n in 4 bytes",
+      3,
+      {{0, OPEN, 0, 0, NULL, 0}, {1, SCI_INSERTTEXT, 0, 0, (const uint8_t *)"ab\n\n", 4}, {1, SCI_CONVERTEOLS, SC_EOL_CRLF, 0, NULL, 0}}};
   limits.doc_bytes = 4;
   for (size_t i = 0; i < full.count; i++) try_command(&full, i);
   must(records[0].all[records[0].command].answer == HONGPILAS_TOO_LONG, "CONVERTEOLS is too long");

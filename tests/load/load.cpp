@@ -94,7 +94,7 @@ static Number below(Number bound) {
 
 // Both sides, and the model.
 
-static hongpilas session;
+static hongpilas_session *session;
 static std::uint32_t view_ids[blocks::VIEWS];
 static blocks::Document plain;
 static std::uint64_t calls, compared, compared_whole;
@@ -121,7 +121,7 @@ static double now_ns() { return double(std::chrono::steady_clock::now().time_sin
 static Number call(Group group, size_t view, std::uint32_t number, Number w = 0, Number l = 0, const Bytes &text = Bytes()) {
   Number value = 0;
   double begun = now_ns();
-  hongpilas_answer answer = hongpilas_send(&session, view_ids[view], number, w, l, reinterpret_cast<const uint8_t *>(text.data()), text.size(), &value);
+  hongpilas_answer answer = hongpilas_send_unchecked(session, view_ids[view], number, w, l, reinterpret_cast<const uint8_t *>(text.data()), text.size(), &value);
   ours[group].add(now_ns() - begun);
   if (answer != HONGPILAS_DONE) fail("an answer", answer, 0);
   calls++;
@@ -137,7 +137,7 @@ static Number call(Group group, size_t view, std::uint32_t number, Number w = 0,
 static Number ask(size_t view, std::uint32_t number, Number w = 0, Number l = 0) {
   Number value = 0;
   static const uint8_t none = 0;
-  if (hongpilas_send(&session, view_ids[view], number, w, l, &none, 0, &value) != HONGPILAS_DONE) fail("a question");
+  if (hongpilas_send_unchecked(session, view_ids[view], number, w, l, &none, 0, &value) != HONGPILAS_DONE) fail("a question");
   return value;
 }
 
@@ -149,11 +149,11 @@ static void must_be(Number found, Number wanted, const char *what) {
 
 static void compare_bytes(Number from, Number to) {
   std::string found(size_t(to - from), 0);
-  if (hongpilas_copy_range(&session, view_ids[0], size_t(from), reinterpret_cast<uint8_t *>(&found[0]), found.size()) != HONGPILAS_DONE) fail("a copied range");
+  if (hongpilas_copy_range(session, view_ids[0], size_t(from), reinterpret_cast<uint8_t *>(&found[0]), found.size()) != HONGPILAS_DONE) fail("a copied range");
   if (found != plain.text(from, to)) fail("the text from", from, to);
   ask(0, SCI_GETSTYLEDTEXT, from, to);
   const uint8_t *styled = nullptr;
-  must_be(Number(hongpilas_text(&session, &styled)), 2 * (to - from), "the length of a styled text");
+  must_be(Number(hongpilas_text_unchecked(session, &styled)), 2 * (to - from), "the length of a styled text");
   Bytes styles = plain.styles(from, to);
   for (Number i = 0; i < to - from; i++)
     if (styled[2 * i + 1] != static_cast<unsigned char>(styles[size_t(i)])) fail("the style at", from + i, styles[size_t(i)]);
@@ -452,7 +452,7 @@ static void print_times(const char *whose, const Times *times) {
 static void open_all(const char *scintilla) {
   if (hongpilas_new(&session) != HONGPILAS_DONE) fail("a session");
   for (std::uint32_t &view : view_ids)
-    if (hongpilas_new_view(&session, &view) != HONGPILAS_DONE) fail("a view");
+    if (hongpilas_new_view(session, &view) != HONGPILAS_DONE) fail("a view");
   if (scintilla != nullptr && !open_scintilla(scintilla)) fail("Scintilla's library");
   for (size_t v = 0; v < blocks::VIEWS; v++) {
     Number mask = v == 0 ? 0x7FFFFF : v == 1 ? 0 : 3;

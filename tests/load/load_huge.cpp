@@ -23,7 +23,7 @@ static constexpr Number REPEAT = 1 << 20;
 
 static Bytes repeated;                     // the text that repeats
 static std::vector<Number> ends_before;    // how many LF stand before a place of it
-static hongpilas session;
+static hongpilas_session *session;
 static std::uint32_t views[3];
 static std::uint64_t calls, compared;
 static std::vector<double> loading, near_times, far_times, question_times;
@@ -44,7 +44,7 @@ static double now_us() { return double(std::chrono::steady_clock::now().time_sin
 static Number call(std::vector<double> &times, size_t view, std::uint32_t number, Number w = 0, Number l = 0, const Bytes &text = Bytes()) {
   Number value = 0;
   double begun = now_us();
-  hongpilas_answer answer = hongpilas_send(&session, views[view], number, w, l, reinterpret_cast<const uint8_t *>(text.data()), text.size(), &value);
+  hongpilas_answer answer = hongpilas_send_unchecked(session, views[view], number, w, l, reinterpret_cast<const uint8_t *>(text.data()), text.size(), &value);
   times.push_back(now_us() - begun);
   if (answer != HONGPILAS_DONE) fail("an answer", answer);
   calls++;
@@ -178,7 +178,7 @@ static void compare(Number from, Number to) {
   to = std::min(to, length);
   if (from >= to) return;
   Bytes found(size_t(to - from), 0), wanted = text(from, to);
-  if (hongpilas_copy_range(&session, views[0], size_t(from), reinterpret_cast<uint8_t *>(&found[0]), found.size()) != HONGPILAS_DONE) fail("a copied range");
+  if (hongpilas_copy_range(session, views[0], size_t(from), reinterpret_cast<uint8_t *>(&found[0]), found.size()) != HONGPILAS_DONE) fail("a copied range");
   if (found != wanted) fail("the text from", from, to);
 }
 
@@ -252,9 +252,9 @@ static void stage(const char *what) {
 static void open_all() {
   hongpilas_limits limits = HONGPILAS_GREATEST_LIMITS;
   limits.large_bytes = std::uint64_t(wanted + SPARE);
-  if (hongpilas_new_with_limits(&session, &limits) != HONGPILAS_DONE) fail("a session");
+  if (hongpilas_new_with_limits(&session, &limits, sizeof limits) != HONGPILAS_DONE) fail("a session");
   for (std::uint32_t &view : views)
-    if (hongpilas_new_view(&session, &view) != HONGPILAS_DONE) fail("a view");
+    if (hongpilas_new_view(session, &view) != HONGPILAS_DONE) fail("a view");
   Number document = ask(SCI_CREATEDOCUMENT, 0, SC_DOCUMENTOPTION_TEXT_LARGE);
   for (size_t v = 0; v < 3; v++) call(question_times, v, SCI_SETDOCPOINTER, 0, document);
   for (size_t v = 0; v < 3; v++) call(question_times, v, SCI_SETMODEVENTMASK, v == 1 ? 0 : 3);
@@ -360,19 +360,19 @@ static void known(Number found, Number expected, const char *what) {
 // The reply's text is what the model has from one place to another.
 static void replies(Number from, Number to, const char *what) {
   const uint8_t *bytes = nullptr;
-  size_t count = hongpilas_text(&session, &bytes);
+  size_t count = hongpilas_text_unchecked(session, &bytes);
   known(Bytes(reinterpret_cast<const char *>(bytes), count) == text(from, to), true, what);
 }
 
 static void refused(std::uint32_t number, Number w, Number l, const Bytes &sent, hongpilas_answer expected, const char *what) {
   Number value = 0;
-  known(hongpilas_call(&session, views[0], number, w, l, sent.data(), sent.size(), &value), expected, what);
+  known(hongpilas_send(session, views[0], number, w, l, sent.data(), sent.size(), &value), expected, what);
 }
 
 // The last reply's note of this index.
 static void told(size_t index, size_t view, std::uint32_t code, std::uint32_t kind, Number position, Number count, Number lines) {
   hongpilas_note_data note;
-  known(hongpilas_note(&session, index, &note), true, "whether there is a note");
+  known(hongpilas_note_unchecked(session, index, &note), true, "whether there is a note");
   known(note.view, views[view], "a note's view");
   known(note.code, code, "a note's code");
   known(note.kind, kind, "a note's kind");
@@ -409,7 +409,7 @@ static void look_up() {
   known(tell(SCI_GETTEXTRANGE, length - 20, -1), 20, "GETTEXTRANGE to the end");
   replies(length - 20, length, "GETTEXTRANGE to the end");
   const uint8_t *bytes = nullptr;
-  known(hongpilas_lend_range(&session, views[0], size_t(far_place - 20), 40, &bytes), HONGPILAS_DONE, "lending a range");
+  known(hongpilas_lend_range(session, views[0], size_t(far_place - 20), 40, &bytes), HONGPILAS_DONE, "lending a range");
   known(Bytes(reinterpret_cast<const char *>(bytes), 40) == text(far_place - 20, far_place + 20), true, "the lent range");
   refused(SCI_GETTEXTRANGE, far_place, length + 1, "", HONGPILAS_BAD_ARGUMENT, "GETTEXTRANGE past the end");
   stage("lengths, lines and bytes looked up");

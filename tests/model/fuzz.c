@@ -47,8 +47,8 @@ typedef struct side {
   model *plain;
   uint32_t views[VIEWS];
   size_t view_count;
-  hongpilas session;
-  hongpilas_door *door;
+  hongpilas_session *session;
+  hongpilas_scintilla *door;
   ear ears[VIEWS];
   const uint8_t *text; /* where the last reply's text lies */
   const uint8_t *lent; /* bytes that were lent and stand, or NULL */
@@ -89,18 +89,16 @@ static const way *by; /* the one that is taken */
 
 static struct {
   const uint8_t *data;
-  size_t size, at;      /* the input, and where the record that goes on begins */
-  uint64_t sent;        /* messages since the input began */
-  const char *doing;    /* what is done, for a failure */
-  uint32_t number;      /* the message */
+  size_t size, at;   /* the input, and where the record that goes on begins */
+  uint64_t sent;     /* messages since the input began */
+  const char *doing; /* what is done, for a failure */
+  uint32_t number;   /* the message */
   int64_t w, l;
 } now;
 
 /* What was done: records, messages that were sent, all calls; of them refused for memory; requests for memory, and refused ones. Through the door:
  * notifications that were heard, and messages that were sent while they were told. */
-static struct {
-  uint64_t inputs, records, messages, calls, out_of_memory, requests, refused, looks, answers[8], heard, meddled;
-} counts;
+static struct { uint64_t inputs, records, messages, calls, out_of_memory, requests, refused, looks, answers[8], heard, meddled; } counts;
 
 static void fail(const char *what) {
   fprintf(stderr, "fuzz: FAILED by call %" PRIu64 ", record %zu of its input: %s; doing %s, message %" PRIu32 " %" PRId64 " %" PRId64 "\n", counts.records,
@@ -390,38 +388,53 @@ static void do_record(side *s, const record *r) {
   if (r->operation < count) send_drawn(s, view, numbers[r->operation], r);
   else if (r->operation < 224) send_drawn(s, view, favoured[r->operation % (sizeof favoured / sizeof *favoured)], r);
   else switch (r->operation) {
-    case 224: case 225: case 226:
-      if (s->view_count < VIEWS) {
-        if (r->who >= 208) refuse_in = 1 + r->who % 3, refuse_all_then = r->who % 2 == 0;
-        open_view(s);
-        int64_t document = model_peek(s->plain, s->views[0], SCI_GETDOCPOINTER);
-        if (r->w % 4 != 0) send_numbers(s, s->views[s->view_count - 1], SCI_SETDOCPOINTER, 0, document);
-      }
-      break;
-    case 227:
-      if (r->w % 2 == 0) close_view(s, view, (r->who >> 1) % s->view_count);
-      break;
-    case 228: close_view(s, s->view_count < VIEWS ? 1000 + r->w : 0, VIEWS); break;
-    case 229: case 230: case 231: case 232: case 233: case 234:
-    case 235: case 236: case 237: case 238: do_lend(s, view, r); break;
-    case 239: case 240: case 241: case 242: by->read_last(s, view, r); break;
-    case 243: by->ask_names(s, view, r); break;
-    case 244: /* a number that is no message, and a view that is none */
-      send_drawn(s, view, r->w_kind < 128 ? 2000u + r->w * 9u % 2100u : (uint32_t)hostile_number(r->w_kind, r->w, &(around){0}), r);
-      break;
-    case 245: send_numbers(s, 5000 + r->w, numbers[r->l % count], r->w, r->l); break;
-    case 246: by->try_edges(s, view, r); break;
-    case 247: /* a new session in place of this one */
-      if (r->who < 64) {
-        close_session(s);
-        open_session(s, r, r->t_kind % 2 == 0);
-      }
-      break;
-    case 248: case 249: case 250: case 251: dress(s, view, r); break;
-    default: look_at(s, view, 4); break;
-  }
-  if (counts.records % LOOK_EVERY == 0 && s->view_count > 0)
-    look_at(s, s->views[(r->who >> 1) % s->view_count], 8);
+      case 224:
+      case 225:
+      case 226:
+        if (s->view_count < VIEWS) {
+          if (r->who >= 208) refuse_in = 1 + r->who % 3, refuse_all_then = r->who % 2 == 0;
+          open_view(s);
+          int64_t document = model_peek(s->plain, s->views[0], SCI_GETDOCPOINTER);
+          if (r->w % 4 != 0) send_numbers(s, s->views[s->view_count - 1], SCI_SETDOCPOINTER, 0, document);
+        }
+        break;
+      case 227:
+        if (r->w % 2 == 0) close_view(s, view, (r->who >> 1) % s->view_count);
+        break;
+      case 228: close_view(s, s->view_count < VIEWS ? 1000 + r->w : 0, VIEWS); break;
+      case 229:
+      case 230:
+      case 231:
+      case 232:
+      case 233:
+      case 234:
+      case 235:
+      case 236:
+      case 237:
+      case 238: do_lend(s, view, r); break;
+      case 239:
+      case 240:
+      case 241:
+      case 242: by->read_last(s, view, r); break;
+      case 243: by->ask_names(s, view, r); break;
+      case 244: /* a number that is no message, and a view that is none */
+        send_drawn(s, view, r->w_kind < 128 ? 2000u + r->w * 9u % 2100u : (uint32_t)hostile_number(r->w_kind, r->w, &(around){0}), r);
+        break;
+      case 245: send_numbers(s, 5000 + r->w, numbers[r->l % count], r->w, r->l); break;
+      case 246: by->try_edges(s, view, r); break;
+      case 247: /* a new session in place of this one */
+        if (r->who < 64) {
+          close_session(s);
+          open_session(s, r, r->t_kind % 2 == 0);
+        }
+        break;
+      case 248:
+      case 249:
+      case 250:
+      case 251: dress(s, view, r); break;
+      default: look_at(s, view, 4); break;
+    }
+  if (counts.records % LOOK_EVERY == 0 && s->view_count > 0) look_at(s, s->views[(r->who >> 1) % s->view_count], 8);
 }
 
 int LLVMFuzzerTestOneInput(const uint8_t *data, size_t size);
@@ -497,8 +510,9 @@ static void print_counts(double seconds) {
          " calls in all, in %.0f seconds\n",
          by == NULL ? "nothing" : by->name, counts.inputs, counts.records, counts.messages, counts.looks, counts.calls, seconds);
   printf("fuzz: answers of messages: done %" PRIu64 ", out of memory %" PRIu64 ", no such view %" PRIu64 ", unknown message %" PRIu64
-         ", no such document %" PRIu64 ", too long %" PRIu64 ", bad argument %" PRIu64 ", too many %" PRIu64 "\n", counts.answers[0], counts.answers[1], counts.answers[2], counts.answers[3],
-         counts.answers[4], counts.answers[5], counts.answers[6], counts.answers[7]);
+         ", no such document %" PRIu64 ", too long %" PRIu64 ", bad argument %" PRIu64 ", too many %" PRIu64 "\n",
+         counts.answers[0], counts.answers[1], counts.answers[2], counts.answers[3], counts.answers[4], counts.answers[5], counts.answers[6],
+         counts.answers[7]);
   printf("fuzz: requests for memory: %" PRIu64 ", refused %" PRIu64 "; calls that were refused for it %" PRIu64 "\n", counts.requests, counts.refused,
          counts.out_of_memory);
   if (counts.heard > 0) printf("fuzz: notifications heard: %" PRIu64 "; messages sent while they were told: %" PRIu64 "\n", counts.heard, counts.meddled);

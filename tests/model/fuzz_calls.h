@@ -22,9 +22,9 @@ static void compare_note(const hongpilas_note_data *a, const hongpilas_note_data
 /* The last reply is that of the last message that was done: looked at through each call that lends. `stays` where it has to lie where it lay. */
 static void compare_reply(side *s, bool stays) {
   const uint8_t *text = NULL, *wanted = NULL;
-  size_t length = hongpilas_text(&s->session, &text), count = hongpilas_note_count(&s->session);
+  size_t length = hongpilas_text_unchecked(s->session, &text), count = hongpilas_note_count_unchecked(s->session);
   size_t wanted_length = model_text(s->plain, &wanted);
-  must_be(hongpilas_value(&s->session), model_value(s->plain), "the last value");
+  must_be(hongpilas_value_unchecked(s->session), model_value(s->plain), "the last value");
   must_be_text(text, length, wanted, wanted_length, "the last text");
   if (stays && length > 0) must(text == s->text, "the last text lies where it lay");
   s->text = text;
@@ -32,29 +32,74 @@ static void compare_reply(side *s, bool stays) {
   counts.calls += 3 + count;
   for (size_t i = 0; i < count; i++) {
     hongpilas_note_data a, b;
-    must(hongpilas_note(&s->session, i, &a) && model_note(s->plain, i, &b), "there is a note");
+    must(hongpilas_note_unchecked(s->session, i, &a) && model_note(s->plain, i, &b), "there is a note");
     compare_note(&a, &b);
   }
 }
 
 static hongpilas_answer open_by_call(side *s, const hongpilas_limits *limits) {
-  return limits == NULL ? hongpilas_new(&s->session) : hongpilas_new_with_limits(&s->session, limits);
+  return limits == NULL ? hongpilas_new(&s->session) : hongpilas_new_with_limits(&s->session, limits, sizeof *limits);
 }
 
 static void close_by_call(side *s) { hongpilas_free(s->session); }
-static hongpilas_answer new_view_by_call(side *s, uint32_t *view) { return hongpilas_new_view(&s->session, view); }
-static hongpilas_answer close_view_by_call(side *s, uint32_t view) { return hongpilas_close_view(&s->session, view); }
+static hongpilas_answer new_view_by_call(side *s, uint32_t *view) { return hongpilas_new_view(s->session, view); }
+static hongpilas_answer close_view_by_call(side *s, uint32_t view) { return hongpilas_close_view(s->session, view); }
 
-/* Sends a message to both, by hongpilas_send or by hongpilas_call. */
+/* What a question is answered beside the reply, by both forms; the last reply stays. */
+static struct {
+  hongpilas_answer answer;
+  int64_t value;
+  const uint8_t *text;
+  size_t length;
+} asked;
+
+static void ask_beside(side *s, const message *m) {
+  int64_t value = -77;
+  long armed = refuse_in;
+  refuse_in = 0;
+  asked.value = -77;
+  asked.text = NULL;
+  asked.length = 77;
+  now.doing = "hongpilas_ask and hongpilas_read";
+  give_up_lent(s);
+  asked.answer = hongpilas_ask(s->session, m->view, m->number, m->w, m->l, &value);
+  if (m->how % 4 < 2)
+    must_be(hongpilas_read(s->session, m->view, m->number, m->w, m->l, &asked.text, &asked.length, &asked.value), asked.answer, "the answer of reading");
+  else
+    must_be(hongpilas_read_unchecked(s->session, m->view, m->number, m->w, m->l, &asked.text, &asked.length, &asked.value), asked.answer,
+            "the answer of reading");
+  must_be(asked.value, value, "the value of a text that is read");
+  if (asked.answer != HONGPILAS_DONE) must(asked.text == NULL && asked.length == 77 && value == -77, "a refused question leaves the places");
+  counts.calls += 2;
+  compare_reply(s, true);
+  refuse_in = armed;
+}
+
+/* It was answered as the message was; that is compared behind the message, which leaves the text that was lent. */
+static void compare_asked(side *s, const message *m, hongpilas_answer answer) {
+  const uint8_t *text = NULL;
+  size_t length = model_text(s->plain, &text);
+  if (model_marks(m->number) == NULL || strchr(model_marks(m->number), 'Q') == NULL) {
+    must_be(asked.answer, HONGPILAS_UNKNOWN_MESSAGE, "the answer to what is no question");
+    return;
+  }
+  must_be(asked.answer, answer, "the answer to a question beside the reply");
+  if (answer != HONGPILAS_DONE) return;
+  must_be(asked.value, model_value(s->plain), "the value of a question beside the reply");
+  must_be_text(asked.text, asked.length, text, length, "the text of a question beside the reply");
+}
+
+/* Sends a message to both, by the call that tests its arguments or by the unchecked one. */
 static hongpilas_answer send_by_call(side *s, const message *m) {
   int64_t value = -77, wanted_value = -77;
-  bool is_inline = m->how % 2 == 1;
+  bool is_checked = m->how % 2 == 1;
   uint8_t *text = place_for(0, m->length, m->at_end);
   hongpilas_answer answer, wanted;
   memcpy(text, m->text, m->length);
-  begin_message(s, m, is_inline ? "hongpilas_call" : "hongpilas_send");
-  if (is_inline) answer = hongpilas_call(&s->session, m->view, m->number, m->w, m->l, m->length == 0 ? NULL : text, m->length, &value);
-  else answer = hongpilas_send(&s->session, m->view, m->number, m->w, m->l, text, m->length, &value);
+  ask_beside(s, m);
+  begin_message(s, m, is_checked ? "hongpilas_send" : "hongpilas_send_unchecked");
+  if (is_checked) answer = hongpilas_send(s->session, m->view, m->number, m->w, m->l, m->length == 0 ? NULL : text, m->length, &value);
+  else answer = hongpilas_send_unchecked(s->session, m->view, m->number, m->w, m->l, text, m->length, &value);
   refuse_in = 0;
   if (answer == HONGPILAS_OUT_OF_MEMORY) {
     look_at_refused_growth(s, m);
@@ -67,6 +112,7 @@ static hongpilas_answer send_by_call(side *s, const message *m) {
   must_be(value, wanted_value, "the value");
   counts.answers[answer & 7]++;
   compare_reply(s, answer != HONGPILAS_DONE);
+  compare_asked(s, m, answer);
   return answer;
 }
 
@@ -85,11 +131,12 @@ static void lend_by_call(side *s, uint32_t view, uint64_t start, uint64_t count,
     size_t room = count > PAGE ? 0 : (size_t)count;
     uint8_t *into = place_for(1, room, count % 2 == 0);
     if (room > 0) memset(into, 0x77, room);
-    must_be(hongpilas_copy_range(&s->session, view, start, into, count), answer, "the answer");
+    must_be(hongpilas_copy_range(s->session, view, start, into, count), answer, "the answer");
     if (answer == HONGPILAS_DONE) must_be_text(into, room, wanted, count, "the copied range");
-    else for (size_t i = 0; i < room; i++) must(into[i] == 0x77, "a refused call leaves the buffer");
+    else
+      for (size_t i = 0; i < room; i++) must(into[i] == 0x77, "a refused call leaves the buffer");
   } else {
-    must_be(hongpilas_lend_range(&s->session, view, start, count, &bytes), answer, "the answer");
+    must_be(hongpilas_lend_range(s->session, view, start, count, &bytes), answer, "the answer");
     if (answer == HONGPILAS_DONE) must_be_text(bytes, count, wanted, count, "the lent range");
     else must(bytes == NULL, "a refused call leaves the pointer");
   }
@@ -109,7 +156,7 @@ static void copy_last(side *s, uint32_t view, const record *r) {
   now.doing = "hongpilas_copy_text";
   counts.calls += 3;
   memset(into, 0x77, room);
-  must_be((int64_t)hongpilas_copy_text(&s->session, start, into, room), (int64_t)wanted, "how much was copied");
+  must_be((int64_t)hongpilas_copy_text_unchecked(s->session, start, into, room), (int64_t)wanted, "how much was copied");
   if (wanted > 0) must_be_text(into, wanted, text + start, wanted, "the copied text");
   for (size_t i = wanted; i < room; i++) must(into[i] == 0x77, "a copy leaves the rest of the buffer");
   now.doing = "hongpilas_copy_note_text";
@@ -117,45 +164,42 @@ static void copy_last(side *s, uint32_t view, const record *r) {
   size_t index = r->t_kind % 16 == 0 ? SIZE_MAX : model_note_count(s->plain) == 0 ? 0 : r->t_kind % (model_note_count(s->plain) + 1);
   bool is_there = model_note(s->plain, index, &note);
   memset(&found, 0x77, sizeof found);
-  must_be(hongpilas_note(&s->session, index, &found), is_there, "whether there is such a note");
+  must_be(hongpilas_note_unchecked(s->session, index, &found), is_there, "whether there is such a note");
   if (!is_there) {
     must(found.view == 0x77777777, "no note leaves the place for one");
-    must_be((int64_t)hongpilas_copy_note_text(&s->session, index, start, into, room), 0, "the text of no note");
+    must_be((int64_t)hongpilas_copy_note_text_unchecked(s->session, index, start, into, room), 0, "the text of no note");
     return;
   }
   compare_note(&found, &note);
   rest = start < note.text_length ? note.text_length - start : 0;
   wanted = rest < room ? rest : room;
-  must_be((int64_t)hongpilas_copy_note_text(&s->session, index, start, into, room), (int64_t)wanted, "how much of a note was copied");
+  must_be((int64_t)hongpilas_copy_note_text_unchecked(s->session, index, start, into, room), (int64_t)wanted, "how much of a note was copied");
   if (wanted > 0) must_be_text(into, wanted, note.text + start, wanted, "a note's copied text");
 }
 
 static void ask_names(side *s, uint32_t view, const record *r) {
-  const uint8_t *name = NULL;
-  uint32_t answer = r->w_kind < 208 ? r->w % 9 : (uint32_t)hostile_number(r->w_kind, r->w, &(around){0});
-  size_t length = hongpilas_refusal_name(answer, &name), room = r->l % 24, wanted = length < room ? length : room;
-  uint8_t *into = place_for(1, room, true);
+  uint32_t number = r->w_kind < 208 ? r->w % 9 : (uint32_t)hostile_number(r->w_kind, r->w, &(around){0});
+  const char *name = hongpilas_answer_name(number), *message = hongpilas_message_name(number), *code = hongpilas_note_name(number);
   (void)s, (void)view;
-  now.doing = "hongpilas_refusal_name";
-  counts.calls += 3;
+  now.doing = "hongpilas_answer_name";
+  counts.calls += 4;
   must_be(hongpilas_version(), HONGPILAS_VERSION, "the version");
-  if (answer >= 1 && answer <= 7)
-    must_be_text(name, length, (const uint8_t *)answer_names[answer], strlen(answer_names[answer]), "the name of a refusal");
-  must_be((int64_t)hongpilas_copy_refusal_name(answer, into, room), (int64_t)wanted, "how much of a name was copied");
-  must_be_text(into, wanted, name, wanted, "the copied name");
+  if (number >= 1 && number <= 7) must(strcmp(name, answer_names[number]) == 0, "the name of an answer");
+  must(message == NULL || strncmp(message, "SCI_", 4) == 0, "the name of a message");
+  must(code == NULL || strncmp(code, "SCN_", 4) == 0, "the name of a code");
 }
 
-/* What hongpilas_call takes beside hongpilas_send. */
+/* What is refused before the proved call is made. */
 static void try_null_calls(side *s, uint32_t view, const record *r) {
-  now.doing = "hongpilas_call";
+  now.doing = "hongpilas_send";
   give_up_lent(s);
-  must_be(hongpilas_call(NULL, view, SCI_GETLENGTH, 0, 0, NULL, 0, NULL), HONGPILAS_NO_SUCH_VIEW, "no session");
-  must_be(hongpilas_call(&s->session, view, SCI_INSERTTEXT, 0, 0, NULL, 1 + r->w, NULL), HONGPILAS_BAD_ARGUMENT, "no text");
+  must_be(hongpilas_send(NULL, view, SCI_GETLENGTH, 0, 0, NULL, 0, NULL), HONGPILAS_NO_SUCH_VIEW, "no session");
+  must_be(hongpilas_send(s->session, view, SCI_INSERTTEXT, 0, 0, NULL, 1 + r->w, NULL), HONGPILAS_BAD_ARGUMENT, "no text");
   counts.calls += 2;
   compare_reply(s, true);
 }
 
-static const way way_by_calls = {"the calls",  open_by_call, close_by_call, new_view_by_call, close_view_by_call, send_by_call,
-                                 lend_by_call, compare_reply, copy_last,    ask_names,        try_null_calls};
+static const way way_by_calls = {"the calls",  open_by_call,  close_by_call, new_view_by_call, close_view_by_call, send_by_call,
+                                 lend_by_call, compare_reply, copy_last,     ask_names,        try_null_calls};
 
 #endif

@@ -49,34 +49,78 @@ static void must_stand(ear *e, int status) {
   must(strcmp(hongpilas_refusal(e->view), e->refusal) == 0, "why a call was last refused");
 }
 
+/* The same of a call that may be refused for a cause that is compared later: which one. */
+static hongpilas_answer stands_or_fails(ear *e, int status) {
+  hongpilas_answer answer = HONGPILAS_DONE;
+  if (status != e->status) {
+    for (answer = HONGPILAS_OUT_OF_MEMORY; answer < HONGPILAS_TOO_MANY && strcmp(hongpilas_refusal(e->view), answer_names[answer]) != 0; answer++) continue;
+    must_be(status, answer == HONGPILAS_OUT_OF_MEMORY ? SC_STATUS_BADALLOC : SC_STATUS_FAILURE, "the status of what is refused inside a notify function");
+    e->status = status;
+    e->refusal = answer_names[answer];
+  }
+  must_stand(e, status);
+  return answer;
+}
+
 static sptr_t status_of(ear *e) {
   counts.calls++;
   return hongpilas_direct(e->view, SCI_GETSTATUS, (uptr_t)-1, -1);
 }
 
-/* What is sent while notes are told is refused, of any view; none is opened or closed, and nothing is given back. A callback may be set. */
+/* A message that was sent inside a notify function and not refused for memory. The model is sent it when it has done the message of the call. */
+typedef struct inner_message {
+  ear *by;
+  uint32_t number;
+  int64_t w, l;
+  sptr_t value;
+  hongpilas_answer answer;
+} inner_message;
+
+enum { MOST_INNER = 8 };
+static struct {
+  inner_message messages[MOST_INNER];
+  size_t count;
+} inner;
+
+/* Any message that edits no text and takes none. Its notifications join the queue. */
+static void send_inside(ear *e, uint64_t draw) {
+  static const uint32_t numbers[] = {SCI_MARKERADD,       SCI_MARKERDELETE,       SCI_STARTSTYLING, SCI_SETSTYLING,   SCI_SETFOLDLEVEL,    SCI_SETLINESTATE,
+                                     SCI_COLOURISE,       SCI_INDICATORFILLRANGE, SCI_SETSEL,       SCI_SETSAVEPOINT, SCI_CHARRIGHTEXTEND, SCI_FOLDLINE,
+                                     SCI_SETMODEVENTMASK, SCI_SETINDICATORVALUE,  SCI_GETLENGTH,    SCI_GETFOLDLEVEL, SCI_GETENDSTYLED,    SCI_GETDOCPOINTER};
+  inner_message *m = &inner.messages[inner.count];
+  if (inner.count == MOST_INNER) return;
+  *m = (inner_message){e, numbers[draw % (sizeof numbers / sizeof *numbers)], (int64_t)(draw / 7 % 5), (int64_t)(draw / 11 % 4), 0, HONGPILAS_DONE};
+  int status = 0;
+  mark_status(e);
+  m->value = hongpilas_direct_status(e->view, m->number, (uptr_t)m->w, (sptr_t)m->l, &status);
+  m->answer = stands_or_fails(e, status);
+  counts.calls++;
+  if (m->answer != HONGPILAS_OUT_OF_MEMORY) inner.count++;
+  else must(was_refused, "memory runs out only where a growth was refused");
+}
+
+/* Inside a notify function a message that edits the text is refused, of any view, and reads and writes nothing; others are done. A notify function may be
+ * set. */
 static void meddle(heard_note *h) {
-  static const uint32_t numbers[] = {SCI_GETLENGTH, SCI_GETTEXT, SCI_MARKERADD, SCI_SEARCHINTARGET, SCI_UNDO, SCI_GETRANGEPOINTER, SCI_GETSTYLEDTEXT, SCI_INSERTTEXT,
-                                     SCI_ADDTEXT, SCI_MARKERLINEFROMHANDLE, SCI_SETDOCPOINTER, SCI_CLEARALL, SCI_MARKERNEXT, SCI_MARKERPREVIOUS, SCI_GETFOLDPARENT};
+  static const uint32_t edits[] = {SCI_UNDO,       SCI_INSERTTEXT,    SCI_ADDTEXT,    SCI_CLEARALL, SCI_SETTEXT,
+                                   SCI_APPENDTEXT, SCI_REPLACETARGET, SCI_DELETEBACK, SCI_PASTE};
   side *s = heard.teller;
   ear *e = &s->ears[heard.count % VIEWS], *other = &s->ears[(heard.count + now.sent) % VIEWS];
-  uint32_t number = numbers[now.sent % (sizeof numbers / sizeof *numbers)];
-  uint8_t *into = place_for(1, 0, true); /* nothing may be written or read */
+  uint32_t number = edits[now.sent % (sizeof edits / sizeof *edits)];
+  uint8_t *text = place_for(1, 0, true); /* nothing may be written or read */
   uint64_t requests = counts.requests;
   size_t had = blocks;
   if (e->id == 0) e = ear_of(s, h->by->id);
   counts.meddled++;
   mark_status(e);
-  must_be(status_of(e), e->status, "the status while notes are told");
-  must_be(hongpilas_direct(e->view, number, 1, (sptr_t)into), refused_value(number), "what is answered while notes are told");
+  must_be(status_of(e), e->status, "the status inside a notify function");
+  must_be(hongpilas_direct(e->view, number, 1, (sptr_t)text), 0, "what an edit inside a notify function answers");
   e->status = SC_STATUS_FAILURE;
-  e->refusal = "sent while notes are told";
+  e->refusal = "edit inside a notify function";
   must_stand(e, (int)status_of(e));
-  must(hongpilas_door_open(s->door) == 0, "no view opens while notes are told");
-  hongpilas_door_close(e->view);
-  hongpilas_door_free(s->door);
-  must(counts.requests == requests && blocks == had, "no memory is taken or given back while notes are told");
-  counts.calls += 4;
+  must(counts.requests == requests && blocks == had, "an edit that is refused takes no memory, and gives none back");
+  counts.calls += 2;
+  for (uint64_t draw = now.sent + heard.count; draw % 4 != 0; draw++) send_inside(draw % 2 == 0 ? e : ear_of(s, h->by->id), draw * 2654435761u >> 3);
   if (other->id == 0 || now.sent % 3 != 0) return;
   other->hears = !other->hears;
   hongpilas_set_notify(other->view, other->hears ? hear : NULL, other);
@@ -107,13 +151,13 @@ static void hear(SCNotification *note, void *data) {
 /* A call as the door takes it, and as the model does. */
 typedef struct door_call {
   ear *by;
-  char kind;          /* what l is: a letter of its manners */
+  char kind; /* what l is: a letter of its manners */
   uptr_t w;
   sptr_t l;
   message plain;
-  bool is_nothing;    /* a null text, of which nothing is done */
-  bool is_bad;        /* a null text of which some bytes should be there, or no range */
-  uint8_t *buffer;    /* where a text goes to, or NULL */
+  bool is_nothing;     /* a null text, of which nothing is done */
+  bool is_bad;         /* a null text of which some bytes should be there, or no range */
+  uint8_t *buffer;     /* where a text goes to, or NULL */
   size_t room, wanted; /* how much stands behind it, and how much of that is written */
   uint8_t bytes[ROOM]; /* what is written */
 } door_call;
@@ -137,24 +181,43 @@ static void compare_notification(const heard_note *h, const hongpilas_note_data 
   must_be(n->foldLevelPrev, wanted->prev, "a notification's foldLevelPrev");
   must_be(n->token, wanted->token, "a notification's token");
   must(n->ch == 0 && n->modifiers == 0 && n->margin == 0 && n->listType == 0 && n->x == 0 && n->y == 0 && n->annotationLinesAdded == 0 && n->updated == 0 &&
-           n->listCompletionMethod == 0 && n->characterSource == 0, "what the profile does not have is 0 in a notification");
+           n->listCompletionMethod == 0 && n->characterSource == 0,
+       "what the profile does not have is 0 in a notification");
   if (is_record || wanted->text_length == 0) must(h->text_length == SIZE_MAX, "a notification without a text has none");
   else must_be_text(heard.texts + h->text, h->text_length, wanted->text, wanted->text_length, "a notification's text");
 }
 
-/* Each note of the model was told, in its order, to each view that had a callback then. */
-static void compare_heard(side *s, const door_call *c) {
+/* Each note of the model's last reply was told, in its order, to each view that had a callback then; `*next` is the first of those that were heard. */
+static void compare_notes(side *s, const door_call *c, size_t *next) {
   hongpilas_note_data note;
-  size_t next = 0;
   for (size_t i = 0; model_note(s->plain, i, &note); i++) {
     ear *e = ear_of(s, note.view);
     must(e != NULL, "a note is of a view that is open");
     if (!e->told) continue;
-    must(next < heard.count, "each note is told");
-    compare_notification(&heard.notes[next], &note, c);
-    ear *switched = heard.notes[next].switched;
+    must(*next < heard.count, "each note is told");
+    compare_notification(&heard.notes[*next], &note, c);
+    ear *switched = heard.notes[*next].switched;
     if (switched != NULL) switched->told = !switched->told;
-    next++;
+    ++*next;
+  }
+}
+
+/* The notes of the call, and then those of the messages that were sent inside, as the model does them now. */
+static void compare_heard(side *s, const door_call *c) {
+  static door_call within;
+  size_t next = 0;
+  compare_notes(s, c, &next);
+  for (size_t i = 0; i < inner.count; i++) {
+    const inner_message *m = &inner.messages[i];
+    static const uint8_t none;
+    int64_t value = 0;
+    hongpilas_answer answer = model_send(s->plain, m->by->id, m->number, m->w, m->l, &none, 0, &value);
+    must_be(m->answer, answer, "the answer of a message inside a notify function");
+    must_be(m->value, answer == HONGPILAS_DONE ? answered_value(m->number, value) : refused_value(m->number), "its value");
+    if (answer != HONGPILAS_DONE) continue;
+    within.w = (uptr_t)m->w;
+    within.l = (sptr_t)m->l;
+    compare_notes(s, &within, &next);
   }
   must_be((int64_t)heard.count, (int64_t)next, "how many notes are told");
 }
@@ -231,10 +294,13 @@ static sptr_t make_call(side *s, const door_call *c, int *status) {
   bool has_range = (c->kind == 't' || c->kind == 'u') && c->l != 0;
   if (has_range) memcpy(&range, (const void *)c->l, sizeof range);
   for (size_t i = 0; i < VIEWS; i++) s->ears[i].told = s->ears[i].hears;
-  heard.count = heard.texts_used = 0;
+  heard.count = heard.texts_used = inner.count = 0;
   heard.teller = s;
   if (c->plain.how / 2 % 2 == 0) {
+    int before = c->by->status;
     value = hongpilas_direct_status(c->by->view, c->plain.number, c->w, c->l, status);
+    if (heard.count > 0) must_be(*status, before, "the status of a call is not that of messages inside it");
+    if (heard.count > 0) *status = (int)status_of(c->by);
   } else {
     value = hongpilas_direct(c->by->view, c->plain.number, c->w, c->l);
     *status = (int)status_of(c->by);
@@ -308,7 +374,7 @@ static hongpilas_answer send_by_door(side *s, const message *m) {
   if (refuse_in != 0 || c.by->status == SC_STATUS_BADALLOC || now.sent % 4 != 0) mark_status(c.by);
   uint64_t requests = counts.requests;
   sptr_t value = make_call(s, &c, &status);
-  if (was_refused && status == SC_STATUS_BADALLOC) return see_refused_growth(s, &c, value);
+  if (was_refused && status == SC_STATUS_BADALLOC && heard.count == 0) return see_refused_growth(s, &c, value);
   if (!takes_buffer(c.kind)) answer = answer_of_model(s, &c);
   else if (m->number != SCI_GETSTYLEDTEXT) must(requests == counts.requests, "a text is given without memory");
   counts.answers[answer & 7]++;
@@ -337,21 +403,21 @@ static void compare_ears(side *s, bool stays) {
 }
 
 static hongpilas_answer open_door(side *s, const hongpilas_limits *limits) {
-  s->door = limits == NULL ? hongpilas_door_new() : hongpilas_door_new_with_limits(limits);
+  s->door = limits == NULL ? hongpilas_scintilla_new() : hongpilas_scintilla_new_with_limits(limits, sizeof *limits);
   if (s->door != NULL) return HONGPILAS_DONE;
   return was_refused ? HONGPILAS_OUT_OF_MEMORY : HONGPILAS_BAD_ARGUMENT;
 }
 
 static void close_door(side *s) {
-  hongpilas_door_free(s->door);
-  hongpilas_door_free(NULL);
+  hongpilas_scintilla_free(s->door);
+  hongpilas_scintilla_free(NULL);
   counts.calls++;
 }
 
 /* A view takes memory of the door before what else may refuse it is looked at. */
 static hongpilas_answer open_by_door(side *s, uint32_t *view) {
   uint32_t wanted = 0;
-  sptr_t opened = hongpilas_door_open(s->door);
+  sptr_t opened = hongpilas_scintilla_open(s->door);
   model *aside = model_copy(s->plain);
   hongpilas_answer answer = model_new_view(aside, &wanted);
   model_free(aside);
@@ -367,7 +433,7 @@ static hongpilas_answer open_by_door(side *s, uint32_t *view) {
 
 static hongpilas_answer close_by_door(side *s, uint32_t view) {
   ear *e = ear_of(s, view);
-  hongpilas_door_close(e == NULL ? 0 : e->view);
+  hongpilas_scintilla_close(e == NULL ? 0 : e->view);
   if (e == NULL) return HONGPILAS_NO_SUCH_VIEW;
   e->id = 0;
   return HONGPILAS_DONE;
@@ -420,7 +486,7 @@ static void try_no_view(const record *r) {
   must_be(status, SC_STATUS_FAILURE, "the status of no view");
   must(strcmp(hongpilas_refusal(0), answer_names[HONGPILAS_NO_SUCH_VIEW]) == 0, "why no view refuses");
   hongpilas_set_notify(0, r->l % 2 == 0 ? hear : NULL, NULL);
-  must(hongpilas_door_open(NULL) == 0 && hongpilas_door_new_with_limits(NULL) == NULL, "what no door opens, and no limits");
+  must(hongpilas_scintilla_open(NULL) == 0 && hongpilas_scintilla_new_with_limits(NULL, sizeof(hongpilas_limits)) == NULL, "what no door opens, and no limits");
   counts.calls += 7;
 }
 
@@ -440,8 +506,9 @@ static void set_status(side *s, uint32_t view, const record *r) {
 
 /* Null texts and null buffers of all messages that take any, no range, and a view that loses its callback, or gets it again. */
 static void try_null_pointers(side *s, uint32_t view, const record *r) {
-  static const uint32_t numbers[] = {SCI_ADDTEXT, SCI_INSERTTEXT, SCI_SETTEXT, SCI_REPLACESEL, SCI_SETSTYLINGEX, SCI_APPENDTEXT, SCI_COPYTEXT, SCI_SEARCHINTARGET,
-                                     SCI_REPLACETARGET, SCI_GETTEXT, SCI_GETCURLINE, SCI_GETLINE, SCI_GETSELTEXT, SCI_GETTEXTRANGE, SCI_GETSTYLEDTEXT, SCI_GETTARGETTEXT};
+  static const uint32_t numbers[] = {SCI_ADDTEXT,    SCI_INSERTTEXT,     SCI_SETTEXT,       SCI_REPLACESEL,   SCI_SETSTYLINGEX, SCI_APPENDTEXT,
+                                     SCI_COPYTEXT,   SCI_SEARCHINTARGET, SCI_REPLACETARGET, SCI_GETTEXT,      SCI_GETCURLINE,   SCI_GETLINE,
+                                     SCI_GETSELTEXT, SCI_GETTEXTRANGE,   SCI_GETSTYLEDTEXT, SCI_GETTARGETTEXT};
   static const uint8_t some[8] = "abcdefg";
   message m = {view, numbers[r->w % (sizeof numbers / sizeof *numbers)], r->l % 4 - 1, -1, some, sizeof some, true, 5 * 4};
   ear *e = ear_of(s, view);
@@ -454,11 +521,11 @@ static void try_null_pointers(side *s, uint32_t view, const record *r) {
   must_stand(e, status);
   e->hears = r->t_kind % 4 != 0;
   hongpilas_set_notify(e->view, e->hears ? hear : NULL, e);
-  hongpilas_door_close(0);
+  hongpilas_scintilla_close(0);
   counts.calls += 3;
 }
 
-static const way way_by_door = {"the door",   open_door,    close_door,   open_by_door, close_by_door, send_by_door,
+static const way way_by_door = {"the door",   open_door,    close_door,   open_by_door, close_by_door,    send_by_door,
                                 lend_by_door, compare_ears, read_by_door, set_status,   try_null_pointers};
 
 #endif

@@ -1,7 +1,7 @@
 #!/bin/sh
 # Checks that what is taken of the heap is given back, by the program and by the tests of all libraries, that no block is larger than what was asked
-# for justifies, and that tests of large sizes do with as many bytes as these justify. It takes the programs that `rt ci` left (`rt run` in
-# crates/sci_console and `rt test` leave them too). Run it anywhere in the repository.
+# for justifies, that tests of large sizes do with as many bytes as these justify, and that a history which is forgotten frees its memory. It takes
+# the programs that `rt ci` left (`rt run` in crates/sci_console and `rt test` leave them too). Run it anywhere in the repository.
 set -u
 top=$(cd "$(dirname "$0")/../.." && pwd)
 program=$top/crates/sci_console/out/sci_console
@@ -66,6 +66,27 @@ kept 'a hundred thousand insertions' 40000000 "$program" run "$work/many.sci"
 done_within 'a hundred thousand insertions' 40000000 "$program" run "$work/many.sci"
 kept 'a thousand views' 4000000 "$program" run "$work/views.sci"
 done_within 'a thousand views' 1000000 "$program" run "$work/views.sci"
+
+# Four documents one after the other have 8 MiB of history, in a block that the allocator made larger, and then forget it: by EMPTYUNDOBUFFER, and by
+# SETUNDOCOLLECTION off. All that is held beside one history, the script, the texts and the clipboard among it, fits into 1 MiB.
+awk '
+    function send(view, message) { print "send " view " " message " 0 0 \"\"" }
+    BEGIN {
+        print "sci 1"
+        for (view = 1; view <= 4; view++) print "open"
+        for (i = 0; i < 64; i++) text = text "abcdefghijklmnop"
+        print "send 1 2003 0 0 \"" text "\""
+        for (i = 0; i < 7; i++) { send(1, 2013); send(1, 2178); send(1, 2318); if (i < 6) send(1, 2179) }
+        for (view = 1; view <= 4; view++) {
+            send(view, 2359); send(view, 2004); send(view, 2175)
+            for (i = 0; i < 64; i++) { send(view, 2179); send(view, 2004) }
+            send(view, view % 2 == 0 ? 2012 : 2175)
+        }
+    }' >"$work/forgotten.sci"
+HEAP_PEAK=$((8388608 + 1048576))
+export HEAP_PEAK
+done_within 'histories that are forgotten' 2000000000 "$program" run --quiet "$work/forgotten.sci"
+unset HEAP_PEAK
 
 # The most bytes that a test of a large size may hold at once. The texts of `large_tests` have 1,048,576 bytes, in 65,536 lines. Where a block grows, the old
 # one of half the size is there beside it, unless the allocator makes it larger, as where no item stands behind the gap. 40,000 bytes are for what the heap

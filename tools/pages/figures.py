@@ -1,31 +1,28 @@
 #!/usr/bin/env python3
 """Writes the tables of measured figures in README.md and docs/FIGURES.md, from tools/data/figures.txt.
 
-tools/data/figures.txt has a part for each program that measures: a head (`== PROGRAM: commit, date, machine`), and a line for each row (its
-name, a colon, and its values, each behind its word and with its unit). `bench/messages --record` and `bench/figures.sh --record` measure
-anew and hand what they print to this tool, which replaces their part:
+tools/data/figures.txt has a head (`== commit, date, machine`), and a line for each row (its name, a colon, and its values, each behind its word
+and with its unit). `bench/messages --record` measures anew and hands what it prints to this tool, which replaces the file:
 
-    tools/pages/figures.py                      writes the tables
-    tools/pages/figures.py --record PROGRAM     replaces a part by what is read from standard input, and writes the tables
-    tools/pages/figures.py --check              writes nothing, and ends with status 1 where a table is not that of the file, or where the text above a
-                                          table does not name the file's commit
+    tools/pages/figures.py              writes the tables
+    tools/pages/figures.py --record     replaces the file by what is read from standard input, and writes the tables
+    tools/pages/figures.py --check      writes nothing, and ends with status 1 where a table is not that of the file, or where the text above a
+                                  table does not name the file's commit
 """
 import math
 import os
 import re
 import subprocess
 import sys
-import textwrap
 from datetime import datetime, timezone
 
 TOP = os.path.dirname(os.path.dirname(os.path.dirname(os.path.abspath(__file__))))
 FILE, README, FIGURES = "tools/data/figures.txt", "README.md", "docs/FIGURES.md"
-BENCH, SESSIONS = "bench/messages", "bench/figures.sh"
-HEAD = """# What was measured last. Each part is of one commit and one machine. Written by `bench/messages --record` and `bench/figures.sh --record`;
-# tools/pages/figures.py writes the tables of README.md and docs/FIGURES.md from it.
+BENCH = "bench/messages"
+HEAD = f"""# What was measured last, at one commit and on one machine. Written by `{BENCH} --record`; tools/pages/figures.py writes the tables of README.md and
+# docs/FIGURES.md from it.
 """
 SIZES = ("1 MiB", "16 MiB")
-MISSED = "Aims that are missed in the middle of the runs:"
 # The rows of the README: what it calls them, and what `bench/messages` does.
 CITED = {
     "typing": "typing, a line end each 40",
@@ -35,11 +32,10 @@ CITED = {
     "searching forwards": "SEARCHINTARGET, all of it",
     "the display line of a line, among folds": "VISIBLEFROMDOCLINE",
 }
-# Rows that each program prints; times of `bench/messages` are followed by their medians.
-PRINTED = {
-    BENCH: re.compile(r"^\| (?P<name>.+?) +\| +(?P<size>\d+) \| +(?P<ours>[\d.]+) .*?\| +(?P<Scintilla>[\d.]+) .*?\| +[\d.]+ \|$", re.M),
-    SESSIONS: re.compile(r"^(?P<name>\S.*?) +(?P<least>-|[\d.]+) +(?P<middle>-?[\d.]+) +(?P<greatest>-|[\d.]+) (?P<unit>ns|us|times) *(?P<aim>.*?)$", re.M),
-}
+# How the rows of the benchmark are named whose view listens. The README counts the others alone.
+NOTIFIED = ", notified"
+# The rows that it prints; times are followed by their medians.
+PRINTED = re.compile(r"^\| (?P<name>.+?) +\| +(?P<size>\d+) \| +(?P<ours>[\d.]+) .*?\| +(?P<Scintilla>[\d.]+) .*?\| +[\d.]+ \|$", re.M)
 
 
 def read(path):
@@ -52,10 +48,10 @@ def write(path, text):
         file.write(text)
 
 
-def parts():
-    """The file's parts by their programs: the rest of the head, and the lines of the rows."""
-    found = re.findall(r"^== (\S+): (.*)\n((?:(?!== ).*\n)*)", read(FILE), re.M)
-    return {program: (head, [row for row in rows.splitlines() if row and row[0] != "#"]) for program, head, rows in found}
+def recorded():
+    """The file's head, and the lines of its rows."""
+    head, rows = re.search(r"^== ([^\n]*)\n(.*)", read(FILE), re.M | re.S).groups()
+    return head, rows.splitlines()
 
 
 def commit_of(head):
@@ -77,7 +73,7 @@ def number(value):
 def times():
     """Each row's times here and in Scintilla, in nanoseconds, by its name and size."""
     found = {}
-    for row in parts()[BENCH][1]:
+    for row in recorded()[1]:
         name, values = values_of(row)
         name, size = name.rsplit(", ", 1)
         found.setdefault(name, {})[size] = number(values["ours"]), number(values["Scintilla"])
@@ -107,7 +103,7 @@ def beside_scintilla():
 
 def of_readme():
     """The README's section on figures."""
-    all_times, head = times(), parts()[BENCH][0]
+    all_times, head = {name: sizes for name, sizes in times().items() if not name.endswith(NOTIFIED)}, recorded()[0]
     pairs = [pair for sizes in all_times.values() for pair in sizes.values()]
     mean = math.exp(sum(math.log(ours / theirs) for ours, theirs in pairs) / len(pairs))
     quick = sum(float(ratio(pair)) <= 1 for pair in pairs)
@@ -115,38 +111,12 @@ def of_readme():
     rows = [[name, *(ratio(all_times[work][size]) for size in SIZES)] for name, work in CITED.items()]
     return f"""## Figures
 
-Time as a part of what Scintilla 5.3.3 takes for the same work, notifications off; below 1 Hongpilas is faster. By `bench/messages`, at commit {commit_of(head)}:
+Time as a part of what Scintilla 5.3.3 takes for the same work, notifications off; below 1 Hongpilas is faster. By `{BENCH}`, at commit {commit_of(head)}:
 
 {table(["Work in a document of", *SIZES], rows)}
 Of all {len(pairs)} such figures the geometric mean is {mean:.2f} and the greatest {ratio(greatest)}; {quick} are at or below 1 (`docs/FIGURES.md`).
 
 """
-
-
-# ---- What was measured of sessions ----
-
-def with_commas(text):
-    return re.sub(r"\d{4,}", lambda digits: f"{int(digits[0]):,}", text).replace(" us", " µs")
-
-
-def of_sessions():
-    def cells(row):
-        name, values = values_of(row)
-        least, middle, greatest = (values.get(word, "") for word in ("least", "middle", "greatest"))
-        spread = f"{least.split()[0]} to {greatest}" if least else ""
-        return [name, spread, middle if not least else middle.split()[0], values.get("aim", "")]
-    rows = parts()[SESSIONS][1]
-    return table(["What", "Least to greatest", "In the middle", "Aim"], [[with_commas(cell) for cell in cells(row)] for row in rows]) + missed(rows)
-
-
-def missed(rows):
-    """Which rows are above an aim that is a number: a paragraph below the table."""
-    above = []
-    for name, values in map(values_of, rows):
-        aim = re.fullmatch(r"([\d.]+) (\w+)", values.get("aim", ""))
-        if aim and number(values["middle"]) > float(aim[1]):
-            above.append(f"{name} ({number(values['middle']):g} instead of {aim[1]} {aim[2]})")
-    return "\n" + textwrap.fill(with_commas(f"{MISSED} {'; '.join(above) or 'none'}."), 160) + "\n"
 
 
 # ---- The pages ----
@@ -162,8 +132,7 @@ def replaced(page, title, pattern, new):
 
 def pages():
     """What the pages are to be."""
-    figures = replaced(read(FIGURES), "Messages to a session", rf"(^\|[^\n]*\n)+(\n{MISSED}(?:[^\n]+\n)+)?", of_sessions())
-    figures = replaced(figures, "Beside Scintilla", r"(^\|[^\n]*\n)+", beside_scintilla())
+    figures = replaced(read(FIGURES), "Beside Scintilla", r"(^\|[^\n]*\n)+", beside_scintilla())
     return {README: replaced(read(README), "Figures", r"\A.*\Z", of_readme()), FIGURES: figures}
 
 
@@ -171,11 +140,10 @@ def faults():
     for path, wanted in pages().items():
         if read(path) != wanted:
             yield f"{path}: the figures are not those of {FILE}: run tools/pages/figures.py"
-    for title, program in (("Messages to a session", SESSIONS), ("Beside Scintilla", BENCH)):
-        commit = commit_of(parts()[program][0])
-        section = re.search(rf"^## {title}\n(.*?)^\|", read(FIGURES), re.M | re.S)
-        if commit not in section[1]:
-            yield f"{FIGURES}: the text of *{title}* does not name the commit of its table, {commit}"
+    commit = commit_of(recorded()[0])
+    section = re.search(r"^## Beside Scintilla\n(.*?)^\|", read(FIGURES), re.M | re.S)
+    if commit not in section[1]:
+        yield f"{FIGURES}: the text of *Beside Scintilla* does not name the commit of its table, {commit}"
 
 
 # ---- Recording ----
@@ -195,10 +163,10 @@ def commit_here():
     return subprocess.run(command, check=True, capture_output=True, text=True).stdout.strip()
 
 
-def rows_of_bench(printed):
-    """The least of all sets."""
+def rows_of(printed):
+    """The rows, each with the least of all sets."""
     least, sets = {}, {}
-    for row in PRINTED[BENCH].finditer(printed):
+    for row in PRINTED.finditer(printed):
         name = f"{row['name']}, {row['size']} MiB"
         pair = float(row["ours"]), float(row["Scintilla"])
         least[name] = tuple(map(min, least.get(name, pair), pair))
@@ -208,15 +176,6 @@ def rows_of_bench(printed):
     return [f"{name}: ours {ours:.10g} ns, Scintilla {theirs:.10g} ns" for name, (ours, theirs) in least.items()]
 
 
-def rows_of_sessions(printed):
-    rows = []
-    for row in PRINTED[SESSIONS].finditer(printed):
-        spread = ", ".join(f"{word} {row[word]} {row['unit']}" for word in ("least", "middle", "greatest") if row[word] != "-")
-        aim = row["aim"] if not re.fullmatch(r"[\d.]+", row["aim"]) else f"{row['aim']} {row['unit']}"
-        rows.append(f"{row['name']}: {spread}" + (f", aim {aim}" if aim else ""))
-    return rows
-
-
 def shown(lines):
     """The lines, each shown as it comes: a run takes minutes."""
     for line in lines:
@@ -224,23 +183,22 @@ def shown(lines):
         yield line
 
 
-def record(program):
+def record():
     commit = commit_here()
-    rows = {BENCH: rows_of_bench, SESSIONS: rows_of_sessions}[program]("".join(shown(sys.stdin)))
-    kept = parts()
+    rows = rows_of("".join(shown(sys.stdin)))
     # A row that went by another name before, or failed, is told.
-    before, now = ({with_commas(values_of(row)[0]) for row in lines} for lines in (kept[program][1], rows))
+    before, now = ({values_of(row)[0] for row in lines} for lines in (recorded()[1], rows))
     if before - now:
         sys.exit("not measured: " + "; ".join(sorted(before - now)))
-    kept[program] = f"commit {commit}, {datetime.now(timezone.utc):%Y-%m-%d}, {machine()}", rows
-    write(FILE, HEAD + "".join(f"\n== {name}: {head}\n" + "".join(f"{row}\n" for row in lines) for name, (head, lines) in kept.items()))
-    print(f"{FILE}: {len(rows)} rows of {program}")
+    head = f"commit {commit}, {datetime.now(timezone.utc):%Y-%m-%d}, {machine()}"
+    write(FILE, f"{HEAD}\n== {head}\n" + "".join(f"{row}\n" for row in rows))
+    print(f"{FILE}: {len(rows)} rows")
 
 
 def main():
     words = sys.argv[1:]
     if words[:1] == ["--record"]:
-        record(words[1])
+        record()
     elif words == ["--check"]:
         wrong = list(faults())
         print("\n".join(wrong) or f"the figures of {README} and {FIGURES} are those of {FILE}")

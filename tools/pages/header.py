@@ -2,7 +2,7 @@
 """Writes Scintilla's names and numbers into include/hongpilas.h, names and marks into c/names.c, and the count of messages into README.md, from
 the definitions.
 
-SCI_ has its numbers from the rows of crates/ed_types/specs/Messages.antt; SCN_, SC_, SCFIND_ and UNDO_ have theirs from the definitions of
+Beside each message stands what docs/MESSAGES.md says of it first. SCI_ has its numbers from the rows of crates/ed_types/specs/Messages.antt; SCN_, SC_, SCFIND_ and UNDO_ have theirs from the definitions of
 crates/ed_model/specs that DEFINED names, and what no definition reads from a constant of the code. Run it at the top of the repository after a
 message or a constant was added. With --check it writes nothing, and fails where
 
@@ -18,15 +18,19 @@ import os
 import re
 import sys
 
+import message_page
+
 TOP = os.path.dirname(os.path.dirname(os.path.dirname(os.path.abspath(__file__))))
 HEADER = "include/hongpilas.h"
 BEGIN = "/* Written by tools/pages/header.py: begin */\n"
 END = "/* Written by tools/pages/header.py: end */\n"
 CONSTANT = r"(?:SC|SCFIND|INDIC|UNDO)_?[A-Z0-9_]+"
 NUMBER = r"(?P<number>0x[0-9A-Fa-f]+|\d+)"
-# What looks like a constant in the tables, of whatever kind.
+# How long a comment beside a message's number may be, so that its line has at most 160 columns.
+BRIEF = 114
+# What looks like a constant on the page, of whatever kind.
 NAME = r"`((?!SCI_|SCN_)[A-Z][A-Z0-9]*_[A-Z0-9_]+)`"
-# How the tables name a constant, each with what its number means: before it, behind it, or as a count of low bits.
+# How the page names a constant, each with what its number means: before it, behind it, or as a count of low bits.
 NAMINGS = (
     (rf"`(?P<name>{CONSTANT})` {NUMBER}\b", lambda number: int(number, 0)),
     (rf"{NUMBER} \(`(?P<name>{CONSTANT})`\)", lambda number: int(number, 0)),
@@ -103,6 +107,18 @@ ON_THREADS = (
     "sessions are independent of each other."
 )
 SPEAK_OF_THREADS = (HEADER, "README.md", "docs/PROMISES.md", "docs/PROFILE.md")
+# What Scintilla.h spells otherwise than other constants: the same words in both, so that either may be included first.
+SPELLED = {
+    "SCFIND_WHOLEWORD": "0x2",
+    "SCFIND_MATCHCASE": "0x4",
+    "SCFIND_WORDSTART": "0x00100000",
+    "SC_FOLDLEVELNUMBERMASK": "0x0FFF",
+    "SC_DOCUMENTOPTION_STYLES_NONE": "0x1",
+    "SC_MOD_INSERTTEXT": "0x1",
+    "SC_MOD_DELETETEXT": "0x2",
+    "SC_MOD_CHANGESTYLE": "0x4",
+    "SC_MOD_CHANGEFOLD": "0x8",
+}
 # How README.md counts the messages.
 COUNTED = re.compile(r"\d+(?=\s+of\s+Scintilla's\s+messages)")
 # The library's C, whose calls the header declares; proved calls that only this C makes; and what is written into it.
@@ -197,21 +213,46 @@ def notes_of_page(table):
 
 
 def named(table):
-    """The constants that the tables name, each with its number, as often as they do."""
+    """The constants that the page names, each with its number, as often as it does, in one line or two."""
     for pattern, meaning in NAMINGS:
-        yield from ((it["name"], meaning(it["number"])) for it in re.finditer(pattern, table))
+        yield from ((it["name"], meaning(it["number"])) for it in re.finditer(pattern, " ".join(table.split())))
+
+
+def spelled(name, number):
+    return SPELLED.get(name) or (str(number) if number < 10 else f"0x{number:X}")
+
+
+def plain(name, number):
+    return str(number)
 
 
 def lines_of(pairs, spelled):
     widest = max(len(name) for name, _ in pairs)
-    return "".join(f"#define {name.ljust(widest)} {spelled(number)}\n" for name, number in pairs)
+    return "".join(f"#define {name.ljust(widest)} {spelled(name, number)}\n" for name, number in pairs)
+
+
+def brief(entry):
+    """What the page says first of a message: the first sentence of its rule, or the first part of that, if it is long."""
+    sentence = message_page.first_sentence(entry.rule)
+    if len(sentence) > BRIEF:
+        sentence = re.split("[;:] ", sentence)[0] + "."
+    if len(sentence) > BRIEF:
+        sys.exit(f"{message_page.PAGE}: {entry.name} begins with more than {BRIEF} characters: {sentence}")
+    return sentence
+
+
+def lines_of_messages():
+    """The messages, each with what the page says first of it."""
+    told = {entry.name: brief(entry) for entry in message_page.entries()}
+    lines = lines_of(messages(), plain).splitlines()
+    return "".join(f"{line} /* {told[name[4:]]} */\n" for line, (name, _) in zip(lines, messages()))
 
 
 def generated():
     return "\n".join([
-        "/* Messages. */\n" + lines_of(messages(), str),
-        "/* Notifications. */\n" + lines_of(notes(), str),
-        "/* Constants. */\n" + lines_of(constants(), lambda number: str(number) if number < 10 else f"0x{number:X}"),
+        "/* Messages. */\n" + lines_of_messages(),
+        "/* Notifications. */\n" + lines_of(notes(), plain),
+        "/* Constants. */\n" + lines_of(constants(), spelled),
     ])
 
 
@@ -222,7 +263,7 @@ def rows_of(name, rows):
 
 def tables():
     marked = [(name, number, " | ".join(f"HONGPILAS_MARK_{letter}" for letter in marks) or "0") for name, number, marks in rows()]
-    return rows_of("messages", marked) + "\n" + rows_of("notes", [(name, number, "0") for name, number in notes()])
+    return "/* clang-format off */\n" + rows_of("messages", marked) + "\n" + rows_of("notes", [(name, number, "0") for name, number in notes()]) + "/* clang-format on */\n"
 
 
 def between(text, lines):
@@ -319,7 +360,7 @@ def page_faults():
     ours, theirs = {*notes(), *constants()}, {*notes_of_page(table), *named(table)}
     yield from (f"the definitions have, and docs/MESSAGES.md has not: {name} = {number:#x}" for name, number in sorted(ours - theirs))
     yield from (f"docs/MESSAGES.md has, and the definitions have not: {name} = {number:#x}" for name, number in sorted(theirs - ours))
-    yield from (f"{name} has no number in the tables" for name in nameless(table))
+    yield from (f"{name} has no number on the page" for name in nameless(table))
     yield from (f"the definitions and `Kind` do not agree on {name} = {number}" for name, number in sorted({*messages()} ^ {*kinds()}))
 
 
@@ -347,7 +388,7 @@ def refusals():
 
 
 def nameless(table):
-    """What the tables name as a constant, and never with its number."""
+    """What the page names as a constant, and never with its number."""
     return sorted(set(re.findall(NAME, table)) - {name for name, _ in named(table)})
 
 

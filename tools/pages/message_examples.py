@@ -1,27 +1,21 @@
 #!/usr/bin/env python3
-"""Writes docs/EXAMPLES.md: for each message a line of a script that runs, and what it prints, taken from examples/messages.
+"""Checks docs/MESSAGES.md: each message of the table in crates/ed_types has an entry with its name, number and marks, and the script that an entry links
+sends its message. The page has the refusals of ed_types with their numbers, and names no refusal, message or notification that is not there.
 
-Run it at the top of the repository or anywhere in it. With --check it writes nothing, and ends with status 1 where docs/EXAMPLES.md is not what it would
-write, where a message has no example, or where a row of docs/MESSAGES.md has not the number, name and marks of the table in crates/ed_types.
+Run it at the top of the repository or anywhere in it. It writes nothing, with or without --check, and ends with status 1 where an entry is wrong; what it
+then prints also names a script that sends the message.
 """
 import os
 import re
 import sys
 
-TOP = os.path.dirname(os.path.dirname(os.path.dirname(os.path.abspath(__file__))))
-MARKS = {
-    "query": "Q", "query_without_memory": "Q N", "without_memory": "N", "recorded_without_memory": "N R",
-    "recorded": "R", "edit": "E", "recorded_edit": "E R", "unmarked": "",
-}
-HEAD = """# One line for each message
+import header
+import message_page
 
-Each line is part of a script in `examples/messages`; the last column names the script, and `sci_console run` runs it whole. *What it prints* is what that
-run prints for the line, without the notes: `= VALUE "TEXT"` is a reply, and `! NUMBER` a refusal. The outputs of the examples are theorems of `ed_model`.
-`tools/pages/message_examples.py` writes this page from the examples, and the gate checks that it is up to date.
-
-| Number | Message | A line that runs | What it prints | In |
-|---|---|---|---|---|
-"""
+TOP = message_page.TOP
+EXAMPLES = os.path.join("examples", "messages")
+# Words of the page in capitals that are no messages, beside the names of pages.
+WORDS = {"ASCII", "EXTEND"}
 
 
 def read(*path):
@@ -29,75 +23,69 @@ def read(*path):
         return file.read()
 
 
+def marks():
+    """The letters that each name of a row's marks stands for."""
+    found = re.findall(r"^(\w+) = marks (true|false) (true|false) (true|false) (true|false)$", read("crates", "ed_types", "specs", "Messages.antt"), re.M)
+    return {name: " ".join(letter for letter, is_set in zip("QNER", columns) if is_set == "true") for name, *columns in found}
+
+
 def table():
     """The messages of the table in the definitions: number, name and marks."""
     row = r"row_of kinds\.\w+ = row (\d+) (\w+) +-- (\w+)"
+    letters = marks()
     found = re.findall(row, read("crates", "ed_types", "specs", "Messages.antt"))
-    return [(int(number), name, MARKS[marks]) for number, marks, name in found]
+    return [(int(number), name, letters[marked]) for number, marked, name in found]
 
 
-def answers(name):
-    """The commands of an example, each with the line that it prints."""
-    commands = read("examples", "messages", name + ".sci").splitlines()[1:]
-    printed = [line for line in read("examples", "messages", name + ".out").splitlines() if not line.startswith("@")]
-    return list(zip(commands, printed))
-
-
-def examples():
-    """For each message's number the pairs of a line and its answer, with the example's name."""
-    lines = {}
-    for file in sorted(os.listdir(os.path.join(TOP, "examples", "messages"))):
+def scripts():
+    """For each message's number the scripts that send it, those first in which it is done."""
+    found = {}
+    for file in sorted(os.listdir(os.path.join(TOP, EXAMPLES))):
         if not file.endswith(".sci"):
             continue
-        for command, printed in answers(file[:-4]):
+        commands = read(EXAMPLES, file).splitlines()[1:]
+        printed = [line for line in read(EXAMPLES, file[:-4] + ".out").splitlines() if not line.startswith("@")]
+        for command, outcome in zip(commands, printed):
             words = command.split(" ")
             if words[0] == "send":
-                lines.setdefault(int(words[2]), []).append((command, printed, file[:-4]))
-    return lines
+                found.setdefault(int(words[2]), []).append((outcome.startswith("!"), file[:-4]))
+    return {number: list(dict.fromkeys(name for _, name in sorted(names))) for number, names in found.items()}
 
 
-def telling(line):
-    """A short line comes first that is done, not on a read-only document, that answers something, and that sends a text where others do."""
-    command, printed, name = line
-    return (printed.startswith("!"), "read_only" in name, printed == '= 0 ""', printed.startswith("= -1"), command.endswith(' ""'),
-            len(command) + len(printed), command, name)
+def faults():
+    entries = {entry.name: entry for entry in message_page.entries()}
+    rows, sent = table(), scripts()
+    yield from (f"{message_page.PAGE}: there is no message {name}" for name in sorted(set(entries) - {name for _, name, _ in rows}))
+    for number, name, letters in rows:
+        entry = entries.get(name)
+        if entry is None:
+            yield f"{message_page.PAGE}: no entry of {name}, {number}"
+        elif (entry.number, entry.marks) != (number, letters):
+            yield f"{message_page.PAGE}: {name} is {number}, {letters}, and not {entry.number}, {entry.marks}"
+        elif entry.example not in sent.get(number, []):
+            yield f"{message_page.PAGE}: the example of {name} does not send it; these do: {', '.join(sent.get(number, [])) or 'none'}"
 
 
-def cell(text):
-    return "`" + text.replace("|", "\\|") + "`"
-
-
-def page():
-    lines, rows, missing = examples(), [], []
-    for number, name, _ in sorted(table()):
-        if number not in lines:
-            missing.append(name)
-            continue
-        command, printed, example = min(lines[number], key=telling)
-        rows.append("| %d | SCI_%s | %s | %s | %s |\n" % (number, name, cell(command), cell(printed), example))
-    return HEAD + "".join(rows), missing
-
-
-def wrong_rows():
-    """The messages whose row of docs/MESSAGES.md is missing, or has another name or other marks."""
-    row = r"^\| (\d{4}) \| SCI_([A-Z]+)(?: •)? \| ([QNER ]*?) ?\|"
-    found = {int(number): (name, marks) for number, name, marks in re.findall(row, read("docs", "MESSAGES.md"), re.M)}
-    return [name for number, name, marks in table() if found.get(number) != (name, marks)]
+def names_faults():
+    """Where the page names what is not there, in its prose, or has other refusals than the code."""
+    page = read(message_page.PAGE)
+    refusals = set(re.findall(r"^    (\w+) = (\d+),", read("crates", "ed_types", "src", "refusal.rt"), re.M))
+    listed = {(name, number) for name, number in re.findall(r"^\| \d \| (\w+) \| (\d+) \|", page, re.M)}
+    yield from (f"{message_page.PAGE}: {name} = {number} is not on both sides" for name, number in sorted(refusals ^ listed))
+    known = {name for name, _ in refusals}
+    refused = {name for names in re.findall(r"[Rr]efused with ([A-Z]\w+)|and with ([A-Z]\w+)", page) for name in names if name}
+    yield from (f"{message_page.PAGE}: there is no refusal {name}" for name in sorted(refused - known))
+    notes = {name for name, _ in header.notes()}
+    yield from (f"{message_page.PAGE}: there is no notification {name}" for name in sorted(set(re.findall(r"\bSCN_\w+", page)) - notes))
+    messages = {name for _, name, _ in table()} | WORDS
+    named = set(re.findall(r"(?<![\w`./-])(?:SCI_)?([A-Z]{5,})(?![\w.])", re.sub(r"`[^`]*`", "", page)))
+    yield from (f"{message_page.PAGE}: there is no message {name}" for name in sorted(named - messages))
 
 
 def main():
-    text, missing = page()
-    place = os.path.join(TOP, "docs", "EXAMPLES.md")
-    if "--check" not in sys.argv[1:]:
-        with open(place, "w", encoding="utf-8") as file:
-            file.write(text)
-    faults = ["no example of %s" % name for name in missing]
-    faults += ["docs/MESSAGES.md: the row of %s is not that of the table" % name for name in wrong_rows()]
-    if "--check" in sys.argv[1:] and (not os.path.exists(place) or read("docs", "EXAMPLES.md") != text):
-        faults.append("docs/EXAMPLES.md is not what tools/pages/message_examples.py writes")
-    for fault in faults:
-        print(fault)
-    sys.exit(1 if faults else 0)
+    found = [*faults(), *names_faults()]
+    print("\n".join(found) or f"{message_page.PAGE} has the messages of the definitions, each with a script that sends it")
+    sys.exit(bool(found))
 
 
 main()

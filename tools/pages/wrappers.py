@@ -1,11 +1,11 @@
 #!/usr/bin/env python3
 """Writes the methods of all messages, the constants, Rust's declarations of the calls and the version into the wrappers for C++, Rust and Python,
-what tests of the library for C go through (the questions, and what is drawn of each message beside Scintilla, by drawn.py), and the list of plain questions
+what tests of the library for C go through (the questions, and what is drawn of each message beside Scintilla, by drawn.py), and the list of numeric queries
 into the definitions (message_plans).
 
-A message's name and number come from the definitions (crates/ed_types), its arguments, its answer and its sentence from its row of docs/MESSAGES.md.
-Run it at the top of the repository after a message, a row or a constant has changed. With --check it writes nothing, and fails where a wrapper is not
-what it would write, where a refusal of the crates has no place in a wrapper, or where a row has words that it cannot read.
+A message's name and number come from the definitions (crates/ed_types), its arguments, its answer and its rule from its entry in docs/MESSAGES.md.
+Run it at the top of the repository after a message, an entry or a constant has changed. With --check it writes nothing, and fails where a wrapper is not
+what it would write, where a refusal of the crates has no place in a wrapper, or where an entry has a form that it cannot read.
 """
 import os
 import re
@@ -15,6 +15,7 @@ from dataclasses import dataclass
 
 import drawn
 import header
+import message_page
 
 BEGIN = "Written by tools/pages/wrappers.py: begin"
 END = "Written by tools/pages/wrappers.py: end"
@@ -27,62 +28,26 @@ PYTHON_CONSTANTS = "bindings/python/src/hongpilas/constants.py"
 QUESTIONS = "tests/model/questions.h"
 BESIDE = "tests/beside/messages.c"
 ASKING = "crates/message_plans/specs/Asking.antt"
-# The column "w, l, T" of the table: for each of its forms the arguments of a method, as (place, name). A length in front of a text is
-# the text's own, so that no method takes it.
-ARGUMENTS = {
-    "w, l start and end": [("w", "start"), ("l", "end")],
-    "w, l first and last line": [("w", "first"), ("l", "last")],
-    "w display line": [("w", "display_line")],
-    "w length, T text": [("T", "text")],
-    "w length, T styles": [("T", "styles")],
+# How each language spells a refusal, a flag, and that a call is refused.
+SPELLED = {
+    "C++": (lambda name: f"`Refusal::{name}`", "false", "Refused with"),
+    "Rust": (lambda name: f"[`Refusal::{name}`]", "false", "Refused with"),
+    "Python": (lambda name: f"`Refusal.{in_capitals(name)}`", "False", "Raises `Refused` with"),
 }
-# A flag's name says what it turns on, and no method takes a number for it.
-FLAG = "on"
-# Rows that lean on the row before them, or that say otherwise what a method takes and answers.
-SENTENCES = {
-    "GETLINE": "hands out line w with its end -> its length; of a bad line an empty text",
-    "GETLINESTATE": "-> the state of line w; bad line 0",
-    "GETFOLDLEVEL": "-> the level of line w; bad line 1024 (SC_FOLDLEVELBASE)",
-    "GETMODIFY": "-> 1 if the document is not at its save point, else 0",
-    "GETSELECTIONEMPTY": "-> 1 if anchor and caret are at one place, else 0",
-    "REPLACETARGET": "Replaces the target by T; ts is then where T starts and te where it ends -> its length, or 0 on a read-only document, "
-    "whose target stays",
-    "SETSTYLINGEX": "Styles as many bytes as T has, from end styled on, with the bytes of T, and moves end styled after them; T has at most n-end styled bytes, "
-    "else BadArgument",
-    "SETFOLDEXPANDED": "the expanded flag of line w alone; nothing is shown or hidden",
-    "GETINDICATORCURRENT": "-> the view's current indicator",
-    "GETINDICATORVALUE": "-> the value that this view fills in",
-    "INDICATOREND": "w in 0..31 -> the place just after the longest run of one value that holds l; 0 outside 0..n-1",
-    "GETPASTECONVERTENDINGS": "-> 1 if this view converts what it pastes, else 0",
-    "GETLINEENDTYPESALLOWED": "-> the types of line ends that the document allows",
-    "GETLINEENDTYPESACTIVE": "-> the types of line ends that are active: those that the document allows",
-}
-# What rows say shortly, and a sentence at a method says in full; each is a pattern and what takes its place, in this order.
-IN_FULL = (
-    # Refusals by their numbers.
-    (r"\belse 6\b", "else BadArgument"), (r"\(4; ", "(NoSuchDocument; "), (r"; 4, 7$", "; NoSuchDocument, TooMany"),
-    (r"; 4, also", "; NoSuchDocument, also"), (r"\(7\)", "(TooMany)"), (r"\b7 (if|at) ", r"TooMany \1 "),
-    # Arguments.
-    (r"^length w(\. ?|$)", ""), (r"^flag w\. ", ""), (r"^flag w:", "w:"),
-    (r"^range\.", "w lies in 0..n, and l in w..n or is -1 for the end of the text."),
-    # What is set and answered.
-    (r"(^|\. )[Tt]he (level|state|expanded flag) of line", r"\1Sets the \2 of line"),
-    (r"^-> 1 (?:where|if|while) (.*), else 0", r"-> whether \1"), (r"^(-> whether .*; bad line) 0$", r"\1 false"),
-    (r"\bhands out (.*) -> (.*)$", r"Returns \1; the reply's value is \2"), (r"\bHands out (.*) -> (.*)$", r"Returns \1; the reply's value is \2"),
-    (r"^-> ", "Returns "), (r"\. -> ", ". Returns "), (r" -> ", "; returns "),
-    # Anchor, caret, selection and target.
-    (r"\ba = c = ", "anchor and caret go to "), (r"\b([ac]|ts|te) = ", r"\1 goes to "), (r"\ba and c stand", "anchor and caret stand"),
-    (r"\[lo, hi\)", "the selection"), (r"\bhi-lo\b", "its length"),
-    (r"(?<![\w'`])a (?=goes)|(?<=: )a (?=goes)|(?<=then )a (?=goes)|^a$|(?<=returns )a$|(?<=Returns )a$|\ba(?=, c,)|(?<=p and )a$", "the anchor "),
-    (r"\bc\b", "the caret"), (r"\blo\b", "the selection's start"), (r"\bhi\b", "the selection's end"),
-    (r"\bts\b", "the target's start"), (r"\bte\b", "the target's end"),
-    (r"(?<![\w.(-])n\b(?![\w-]|\.\.)", "the text's length"), (r"(?<![\w.-])L\b(?![\w-]|\.\.)", "the number of lines"),
-)
-# What is explained behind a sentence that has it.
-LEGEND = {
-    r"\bn\b": "n is the text's length", r"\bL\b": "L is the number of lines", r"\bclamped\b": "clamped means brought into 0..n, n the text's length",
-    r"\bbad line\b": "a bad line is one that is not there", r"\bcut\b": "a cut is a place between two characters",
-}
+# How entries spell the types of flags, of documents' ids and of texts.
+FLAG, DOCUMENT, WITH_TEXT = "bool", "document", "position, text"
+# What the value is called among the places of documents' ids, and the message that also takes none.
+VALUE, TAKES_NO_DOCUMENT = "value", "SETDOCPOINTER"
+
+
+def in_capitals(name):
+    """A name in CamelCase as a constant: BadArgument is BAD_ARGUMENT."""
+    return re.sub(r"(?<!^)(?=[A-Z])", "_", name).upper()
+
+
+def in_snake_case(name):
+    """A name in camelCase with an underscore between words."""
+    return re.sub(r"(?<=[a-z])(?=[A-Z])|(?<=[A-Z])(?=[A-Z][a-z])", "_", name).lower()
 
 
 @dataclass
@@ -94,70 +59,46 @@ class Message:
     number: int
     changes: bool  # whether it can change something
     edits: bool  # whether it edits the text: the mark E
-    arguments: list  # (place, name): w, l or T, and what it is called
+    arguments: list  # (place, name): w, l or T, and what it is called, in snake_case
+    flags: set  # the places of flags
+    documents: set  # the places of documents' ids, with VALUE among them
     answers: str  # "nothing", "number", "flag" or "text"
-    sentence: str
+    rule: str  # as the page has it
     takes_length: bool  # whether w is the length of the text, which no method takes
+    is_numeric_query: bool
 
     @property
     def snake(self):
         """The name with an underscore between words."""
-        return re.sub(r"(?<=[a-z])(?=[A-Z])|(?<=[A-Z])(?=[A-Z][a-z])", "_", self.name.replace("EOLs", "Eols")).lower()
+        return in_snake_case(self.name.replace("EOLs", "Eols"))
 
     def kind(self, place):
         """How an argument is passed: as a text, a flag or a number."""
-        if place == "T":
-            return "text"
-        return "flag" if dict(self.arguments)[place] == FLAG else "number"
+        return "text" if place == "T" else "flag" if place in self.flags else "number"
 
     def place(self, place):
         """The name of the argument in a place, or None."""
         return dict(self.arguments).get(place)
 
-
-def arguments(column):
-    """The arguments of a method, from the column "w, l, T"."""
-    if column in ARGUMENTS:
-        return ARGUMENTS[column]
-    found = []
-    for part in filter(None, column.split(", ")):
-        place, name = re.fullmatch(r"(w|l|T) ([a-z]+)", part).groups()
-        found.append((place, FLAG if name == "flag" else name))
-    return found
+    def method(self, language):
+        return self.name if language == "C++" else self.snake
 
 
-def answer(does):
+def answer(entry):
     """What a method answers."""
-    if re.search(r"\bhands out\b", does, re.I):
-        return "text"
-    if re.match(r"-> 1 (where|if|while) .*, else 0", does):
-        return "flag"
-    return "number" if "->" in does else "nothing"
+    return {"": "nothing", FLAG: "flag", WITH_TEXT: "text"}.get(entry.answer, "number")
 
 
-def sentence(does, places):
-    """A row's words as the sentence at a method."""
-    text = does.replace("`", "")
-    for pattern, full in IN_FULL:
-        text = re.sub(pattern, full, text)
-    for place, called in places:
-        if called in ("line", "handle", "document", "display_line"):
-            text = re.sub(rf"\b{called.replace('_', ' ')} {place}\b", place, text)
-    for place, called in places:
-        text = re.sub(rf"(?<![\w`.]){place}(?!\w)|(?<=\.\.){place}\b", f"`{called}`", text)
-    text = " ".join(text.split()).replace(" ,", ",")
-    unread = re.findall(r"(?<![\w`])(?:w|l|T|c|lo|hi|ts|te)(?![\w`])", text)
-    if unread:
-        sys.exit(f"no words for {', '.join(unread)}: {does}")
-    text = text[:1].upper() + text[1:] + "."
-    told = [meaning for pattern, meaning in LEGEND.items() if re.search(pattern, text)]
-    told = told[1:] if len(told) > 1 and "n the text's length" in told[1] else told
-    return text + (f" Here {'; '.join(told)}." if told else "")
-
-
-def rows():
-    """The rows of the table: number, name, marks, arguments, what it does, and notes."""
-    return re.findall(r"^\| (\d{4}) \| SCI_([A-Z]+) \| ([QNER ]*?) ?\| (.*?) ?\| (.*?) ?\| (.*?) ?\|", header.read("docs/MESSAGES.md"), re.M)
+def message(entry, name):
+    """The message of an entry, with its name in CamelCase."""
+    takes_length = "T" in entry.parameters and "w" in entry.parameters and entry.parameters["w"][1] == "length"
+    taken = {place: spelled for place, spelled in entry.parameters.items() if not (takes_length and place == "w")}
+    arguments = [(place, in_snake_case(called)) for place, (_, called) in taken.items()]
+    flags = {place for place, (kind, _) in taken.items() if kind == FLAG}
+    documents = {place for place, kind in ((VALUE, entry.answer), *((place, kind) for place, (kind, _) in taken.items())) if kind == DOCUMENT}
+    marks = entry.marks.split()
+    return Message(name, entry.name, entry.number, "Q" not in marks, "E" in marks, arguments, flags, documents, answer(entry), entry.rule, takes_length,
+                   entry.is_numeric_query)
 
 
 def messages():
@@ -165,18 +106,13 @@ def messages():
     kinds = dict((spelled[4:], (name, int(number))) for spelled, name, number in
                  re.findall(r"/// `(SCI_\w+)`\n\s*(\w+) = (\d+),", header.read("crates/ed_types/src/kind.rt")))
     found = []
-    for number, spelled, marks, column, does, _ in rows():
-        name, known = kinds.pop(spelled)
-        if known != int(number):
-            sys.exit(f"{spelled} has several numbers: {number} and {known}")
-        name = name.replace("Eol", "EOL")
-        places = arguments(column)
-        told = SENTENCES.get(spelled, does)
-        words = sentence(told, places)
-        takes_length = column.startswith("w length, T")
-        found.append(Message(name, spelled, known, "Q" not in marks.split(), "E" in marks.split(), places, answer(told), words, takes_length))
+    for entry in message_page.entries():
+        name, known = kinds.pop(entry.name)
+        if known != entry.number:
+            sys.exit(f"{entry.name} has several numbers: {entry.number} and {known}")
+        found.append(message(entry, name.replace("Eol", "EOL")))
     if kinds:
-        sys.exit(f"no row of docs/MESSAGES.md: {', '.join(kinds)}")
+        sys.exit(f"no entry in {message_page.PAGE}: {', '.join(kinds)}")
     for it in found:
         # A question is asked by a call that takes no text and replaces no reply; only such a call lends a text.
         if it.changes and it.answers in ("flag", "text") or not it.changes and (it.answers == "nothing" or it.place("T")):
@@ -184,10 +120,28 @@ def messages():
     return sorted(found, key=lambda it: it.number)
 
 
-def told(message, width, before):
+def sentences(message, methods, language):
+    """A message's rule in the words of a language; `methods` has the method of each message."""
+    refusal, no, refused = SPELLED[language]
+    text = message.rule
+    if message.takes_length:
+        text = " ".join(sentence for sentence in re.split(r"(?<=\.) ", text) if "`length`" not in sentence)
+    if language != "C++":
+        text = re.sub(r"`([a-z]+[A-Z]\w*)`", lambda name: f"`{in_snake_case(name[1])}`", text)
+    text = re.sub(r"\b[A-Z]{3,}\b", lambda word: f"`{methods[word[0]]}`" if word[0] in methods else word[0], text)
+    text = re.sub(r"\b(?:BadArgument|NoSuchDocument|TooMany)\b", lambda name: refusal(name[0]), text)
+    return re.sub(r"\bfalse\b", no, text).replace("Refused with", refused).replace("the value is", "the reply's value is")
+
+
+def told(message, methods, language, width, before):
     """The comment of a method, in lines."""
-    text = f"SCI_{message.spelled}, {message.number}. {message.sentence}"
+    text = f"{sentences(message, methods, language)} Message: `SCI_{message.spelled}`."
     return textwrap.wrap(text, width, initial_indent=before, subsequent_indent=before, break_long_words=False, break_on_hyphens=False)
+
+
+def methods_in(found, language):
+    """What each message's method is called in a language."""
+    return {it.spelled: it.method(language) for it in found}
 
 
 CPP_TYPES = {"number": "std::int64_t", "flag": "bool", "text": "Text"}
@@ -218,13 +172,13 @@ def cpp_method(message, name, kind, call, comment):
 
 def cpp(found):
     """The methods of BasicView."""
-    lines = []
+    lines, methods = [], methods_in(found, "C++")
     for message in found:
         kind, sent, asked = CPP_ANSWERS[message.answers]
-        comment = [line.replace("display_line", "displayLine") for line in told(message, 118, "  /// ")]
+        comment = told(message, methods, "C++", 118, "  /// ")
         lines += cpp_method(message, message.name, kind, sent if message.changes else asked, comment)
         if message.answers == "text":
-            again = [f"  /// As {message.name}, borrowed and not copied: valid until the next question that returns a text."]
+            again = [f"  /// Like {message.name}, but lent, not copied: the text is valid until the next question that returns a text."]
             lines += cpp_method(message, message.name + "View", "std::string_view", "read_lent", again)
     return "".join(f"{line}\n" for line in lines)
 
@@ -235,15 +189,11 @@ RUST_ANSWERS = {
     "nothing": ("()", "as_done", None), "number": ("i64", "send", "ask"), "document": ("DocumentId", "as_document", "ask_document"),
     "flag": ("bool", None, "ask_flag"), "text": ("Vec<u8>", None, "read"),
 }
-# What is a document's id, and no other number: what these answer, and an argument of that name, for which SETDOCPOINTER also takes none.
-ANSWER_DOCUMENTS = ("GETDOCPOINTER", "CREATEDOCUMENT")
-DOCUMENT = "document"
-TAKES_NO_DOCUMENT = "SETDOCPOINTER"
 
 
 def rust_kind(message, place):
     """The type of an argument."""
-    if message.place(place) != DOCUMENT:
+    if place not in message.documents:
         return RUST_TYPES[message.kind(place)]
     return "impl Into<Option<DocumentId>>" if message.spelled == TAKES_NO_DOCUMENT else RUST_TYPES[DOCUMENT]
 
@@ -251,9 +201,9 @@ def rust_kind(message, place):
 def rust_number(message, place):
     """What is passed for w or l."""
     name = message.place(place)
-    if name == DOCUMENT:
+    if place in message.documents:
         return f"{name}.into().map_or(0, i64::from)" if message.spelled == TAKES_NO_DOCUMENT else f"{name}.into()"
-    return f"i64::from({name})" if name == FLAG else name or "0"
+    return f"i64::from({name})" if place in message.flags else name or "0"
 
 
 def rust_function(message, name, borrows, kind, call, comment):
@@ -269,21 +219,22 @@ def rust_function(message, name, borrows, kind, call, comment):
     return [*comment, head, *(f"        {line}" for line in body), "    }", ""]
 
 
-def rust_methods(message):
+def rust_methods(message, methods):
     """The methods of a message: a question is asked of a View, all else is sent by a ViewMut, which lends texts, too."""
-    answered = DOCUMENT if message.spelled in ANSWER_DOCUMENTS else message.answers
+    answered = DOCUMENT if VALUE in message.documents else message.answers
     kind, sent, asked = RUST_ANSWERS[answered]
-    comment = told(message, 96, "    /// ")
+    comment = told(message, methods, "Rust", 96, "    /// ")
     yield message.changes, rust_function(message, message.snake, "&mut self" if message.changes else "&self", kind, sent if message.changes else asked, comment)
     if answered == "text":
         name = re.sub("^get_", "lend_", message.snake)
-        again = [f"    /// As [`{message.snake}`](View::{message.snake}), lent and not copied."]
+        again = [f"    /// Like [`{message.snake}`](View::{message.snake}), but lent, not copied: the text is valid until the next call."]
         yield True, rust_function(message, name, "&mut self", "&[u8]", "lend", again)
 
 
 def rust(found, changes):
     """The methods of ViewMut or of View."""
-    lines = [line for message in found for is_of_mut, method in rust_methods(message) if is_of_mut == changes for line in method]
+    methods = methods_in(found, "Rust")
+    lines = [line for message in found for is_of_mut, method in rust_methods(message, methods) if is_of_mut == changes for line in method]
     return "".join(f"{line}\n" for line in lines[:-1])
 
 
@@ -345,7 +296,7 @@ PYTHON_TYPES = {"number": "int", "flag": "bool", "text": "Text"}
 PYTHON_ANSWERS = {"nothing": ("None", "{}"), "number": ("int", "return {}"), "flag": ("bool", "return {} != 0"), "text": ("bytes", "return {}")}
 
 
-def python_method(message):
+def python_method(message, methods):
     taken = "".join(f", {called}: {PYTHON_TYPES[message.kind(place)]}" for place, called in message.arguments)
     kind, answered = PYTHON_ANSWERS[message.answers]
     text = message.place("T")
@@ -356,14 +307,15 @@ def python_method(message):
     sent = "send" if message.changes else "read" if message.answers == "text" else "ask"
     body = [f"{text} = as_bytes({text})"] if message.takes_length else []
     body += [answered.format(f"self.{sent}({', '.join(passed)})")]
-    comment = "\n".join(told(message, 112, "        ")).lstrip()
+    comment = "\n".join(told(message, methods, "Python", 112, "        ")).lstrip()
     comment = f'"""{comment}"""' if "\n" not in comment else f'"""{comment}\n        """'
     return [f"    def {message.snake}(self{taken}) -> {kind}:", *f"        {comment}".split("\n"), *(f"        {line}" for line in body), ""]
 
 
 def python(found):
     """The methods of Messages."""
-    lines = [line for message in found for line in python_method(message)]
+    methods = methods_in(found, "Python")
+    lines = [line for message in found for line in python_method(message, methods)]
     return "".join(f"{line}\n" for line in lines[:-1])
 
 
@@ -446,21 +398,20 @@ def questions(found):
 
 def call(message, name, on, document="{}"):
     """A method's call in a trial, where a flag is on, with a document's id as it is spelled."""
-    passed = [on if called == FLAG else document.format(PASSED[place]) if called == DOCUMENT else PASSED[place] for place, called in message.arguments]
+    passed = [on if place in message.flags else (document if place in message.documents else "{}").format(PASSED[place]) for place, _ in message.arguments]
     return f"{name}({', '.join(passed)})"
 
 
 def expected():
-    """What a trial of all methods sends, from the rows of the table alone, by their numbers: a question is asked, or read if it hands out a text."""
-    for number, spelled, marks, column, does, _ in sorted(rows()):
-        letters = re.findall(r"\b[wlT]\b", column)
-        w = "2" if re.match("w length, T", column) else PASSED["w"] if "w" in letters else "0"
-        l = PASSED["l"] if "l" in letters else "0"
-        w, l = ("1" if re.search(rf"\b{place} flag\b", column) else number for place, number in (("w", w), ("l", l)))
-        if "Q" not in marks:
-            yield f"""1: send {number} {w} {l} {PASSED["T"] if "T" in letters else '""'}"""
+    """What a trial of all methods sends, from the entries of the page alone, by their numbers: a question is asked, or read if it returns a text."""
+    for entry in sorted(message_page.entries(), key=lambda it: it.number):
+        kinds = {place: kind for place, (kind, _) in entry.parameters.items()}
+        w, l = ("0" if place not in kinds else "1" if kinds[place] == FLAG else PASSED[place] for place in "wl")
+        w = "2" if "T" in kinds and entry.parameters.get("w") == ("position", "length") else w
+        if "Q" in entry.marks.split():
+            yield f"1: {'read' if entry.answer == WITH_TEXT else 'ask'} {entry.number} {w} {l}"
         else:
-            yield f"1: {'read' if answer(SENTENCES.get(spelled, does)) == 'text' else 'ask'} {number} {w} {l}"
+            yield f"""1: send {entry.number} {w} {l} {PASSED["T"] if "T" in kinds else '""'}"""
     yield "given back"
 
 
@@ -503,13 +454,12 @@ def versions():
 
 
 def definitions(found):
-    """The definitions of the plain questions, with those that docs/MESSAGES.md names, by their numbers."""
-    listed = re.search(r"^The plain questions are [^:]*: ([A-Z,\s]*)\.$", header.read("docs/MESSAGES.md"), re.M)[1]
-    named = set(re.split(r",\s+", listed))
-    unknown = named - {it.spelled for it in found}
-    if unknown:
-        sys.exit(f"docs/MESSAGES.md names plain questions that are no messages: {', '.join(sorted(unknown))}")
-    kinds = "".join(f"kinds.{it.name.replace('EOL', 'Eol')} ∷ " for it in found if it.spelled in named)
+    """The definitions of the numeric queries, with those that docs/MESSAGES.md marks A, by their numbers."""
+    named = [it for it in found if it.is_numeric_query]
+    unfit = [it.spelled for it in named if it.changes or it.answers == "text"]
+    if unfit:
+        sys.exit(f"docs/MESSAGES.md marks as numeric queries what changes something or returns a text: {', '.join(unfit)}")
+    kinds = "".join(f"kinds.{it.name.replace('EOL', 'Eol')} ∷ " for it in named)
     yield ASKING, re.sub(r"^questions = .*$", f"questions = {kinds}[]", header.read(ASKING), flags=re.M)
 
 
@@ -520,8 +470,7 @@ def faults():
                        ("bindings/python/src/hongpilas/_library.py", "    {capitals} = {number}\n")):
         text = header.read(path)
         for name, number in named:
-            capitals = re.sub(r"(?<!^)(?=[A-Z])", "_", name).upper()
-            if form.format(name=name, number=number, capitals=capitals) not in text:
+            if form.format(name=name, number=number, capitals=in_capitals(name)) not in text:
                 yield f"{path} has no refusal {name} = {number}"
 
 

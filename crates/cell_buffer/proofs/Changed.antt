@@ -1,10 +1,6 @@
 -- The smallest range with all changed styles, when one style after another is written.
-use Rattle.std.proofs.Common.{◌≡◌, ◌<◌, ◌+◌, ◌-◌, ℕ, zero, suc, List, [], ◌∷◌, ◌++◌, length, take, drop, get_or, Bool, true, false, refl, eq-eqb, ap, ap₂, sym, ◌∙◌, arith, append_assoc}
-use Rattle.std.specs.Prelude.{Option, Some, if◌then◌else◌, not, ◌==◌, slice_index, unwrap_or, filter}
+use Rattle.cell_buffer.proofs.Names.{◌≡◌, ◌<◌, ◌+◌, ◌-◌, ℕ, zero, suc, List, [], ◌∷◌, ◌++◌, length, take, drop, get_or, Bool, true, false, refl, eq-eqb, ap, ap₂, sym, ◌∙◌, arith, append_assoc, Option, Some, if◌then◌else◌, not, ◌==◌, slice_index, unwrap_or, filter, length-append, length-take-le, drop_more, take-append-drop, append-nil, changed_places, changed_range, extent, overwritten, widened}
 use Rattle.std.specs.List.{range_with_len, last_or}
-use Rattle.std.proofs.lemmas.List.{length-append, length-take-le, drop_more, take-append-drop, append-nil}
-use Rattle.ed_model.specs.Indicators.{changed_places, changed_range, extent}
-use Rattle.cell_buffer.specs.Buffer.{overwritten, widened}
 
 -- the places at which two lists differ, the first of their items standing at the place k
 abbrev differing : ℕ → List ℕ → List ℕ → List ℕ

@@ -1,7 +1,5 @@
 -- The counters of both gap buffers stay within the promised cost.
-use Rattle.std.proofs.Common.{◌≡◌, ℕ, zero, suc, inl, inr, ap, ◌∙◌, arith}
-use Rattle.split_vector.specs.Split.{gap_after, moved_after, gap_closed, moved_closed}
-use Rattle.cell_buffer.specs.Buffer.{Buffer, CostsAtMost, CostsBoth}
+use Rattle.cell_buffer.proofs.Names.{◌≡◌, ℕ, zero, suc, inl, inr, ap, ◌∙◌, arith, gap_after, moved_after, gap_closed, moved_closed, Buffer, CostsAtMost, CostsBoth}
 
 insertion_cost : (place count gap moved gap' moved' : ℕ) → gap' ≡ gap_after place count gap → moved' ≡ moved_after place count gap moved → CostsAtMost place count gap moved gap' moved'
 insertion_cost place zero gap moved gap' moved' g m = record { cost = omega arith; at_an_end = λ h. absurd (omega arith) }

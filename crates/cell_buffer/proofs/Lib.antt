@@ -1,3 +1,4 @@
+pub mod Names
 pub mod Pairs
 pub mod Stored
 pub mod Costs

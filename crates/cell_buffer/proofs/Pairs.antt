@@ -1,14 +1,8 @@
 -- Bytes and styles as cells: `paired` with take, drop, ++ and the words of the definitions.
-use Rattle.std.proofs.Common.{◌≡◌, ◌≤◌, ◌<◌, ◌+◌, ◌-◌, ℕ, zero, suc, List, [], ◌∷◌, ◌++◌, length, take, drop, set, replicate, get_or, ◌⊎◌, inl, inr, refl, ap, sym, ◌∙◌, arith, append_assoc}
-use Rattle.std.specs.Prelude.{Some, min, slice_get}
+use Rattle.cell_buffer.proofs.Names.{◌≡◌, ◌≤◌, ◌<◌, ◌+◌, ◌-◌, ℕ, zero, suc, List, [], ◌∷◌, ◌++◌, length, take, drop, set, replicate, get_or, ◌⊎◌, inl, inr, refl, ap, sym, ◌∙◌, arith, append_assoc, Some, min, slice_get, length-take-le, length-drop, length-append, length-take, length-replicate, set_at, append-nil, take_all, drop_all, drop_more, drop-drop, take-append-drop, bytes_of, styles_of, plain_cell, plain_cells, Insert, edited_cells, inserted, deleted, paired, overwritten}
 use Rattle.std.proofs.Math.Nat.{min-eq_left, min-eq_right}
 use Rattle.std.proofs.lemmas.Bool.{cases_lt}
-use Rattle.std.proofs.lemmas.List.{length-take-le, length-drop, length-append, length-take, length-replicate, set_at, append-nil, take_all, drop_all, drop_more, drop-drop, take-append-drop}
-use Rattle.ed_model.specs.Text.{bytes_of, styles_of, plain_cell, plain_cells}
-use Rattle.ed_model.specs.Steps.{Insert, edited_cells}
 use Rattle.ed_model.specs.Changes.{restyled}
-use Rattle.split_vector.specs.Split.{inserted, deleted}
-use Rattle.cell_buffer.specs.Buffer.{paired, overwritten}
 
 -- bytes without a stored style
 pub plain_pairs : (bs : List ℕ) → paired bs [] ≡ plain_cells bs

@@ -1,13 +1,7 @@
 -- The bytes and the stored styles as cells: how both are read and changed.
-use Rattle.std.proofs.Common.{◌≡◌, ◌≤◌, ◌<◌, ◌+◌, ◌-◌, ℕ, List, [], ◌∷◌, ◌++◌, length, take, drop, replicate, get_or, ap, ap₂, sym, ◌∙◌, arith, append-nil}
-use Rattle.std.specs.Prelude.{Some, min, slice_get, slice_range}
-use Rattle.std.proofs.lemmas.List.{length-append, length-take, length-drop, length-map, length-replicate, take_all, drop_all, take-append-le, drop-append-le}
+use Rattle.cell_buffer.proofs.Names.{◌≡◌, ◌≤◌, ◌<◌, ◌+◌, ◌-◌, ℕ, List, [], ◌∷◌, ◌++◌, length, take, drop, replicate, get_or, ap, ap₂, sym, ◌∙◌, arith, Some, min, slice_get, slice_range, length-append, length-take, length-drop, length-map, length-replicate, take_all, drop_all, take-append-le, drop-append-le, bytes_of, styles_of, plain_cells, Insert, edited_cells, changed_range, inserted, deleted, paired, overwritten}
+use Rattle.std.proofs.Common.{append-nil}
 use Rattle.std.proofs.Math.Seq.{take-append-add, drop-append-add}
-use Rattle.ed_model.specs.Text.{bytes_of, styles_of, plain_cells}
-use Rattle.ed_model.specs.Steps.{Insert, edited_cells}
-use Rattle.ed_model.specs.Indicators.{changed_range}
-use Rattle.split_vector.specs.Split.{inserted, deleted}
-use Rattle.cell_buffer.specs.Buffer.{paired, overwritten}
 use Rattle.cell_buffer.proofs.Pairs.{pairs_length, pairs_bytes, pairs_styles, plain_pairs, zeros_stored, read_item, deleted_pairs, deleted_all, overwritten_length}
 use Rattle.cell_buffer.proofs.Changed.{range_in_front}
 

@@ -1,16 +1,5 @@
 -- The flags after an edit of the lines, in terms of the fields.
-use Rattle.std.proofs.Common.{◌≡◌, ℕ, suc, ◌+◌, ◌-◌, ◌<◌, ◌≤◌, false, List, [], ◌∷◌, ◌++◌, length, get_or, take, drop, replicate, sym, refl, ap, ◌∙◌, inl, inr, arith}
-use Rattle.std.specs.Prelude.{slice_range}
-use Rattle.std.proofs.lemmas.Bool.{cases_lt, cases_order, lt-ltb, le-ltb}
-use Rattle.std.proofs.lemmas.List.{ext_get_or, length-append, length-take-le, length-drop, length-replicate, get_or-take, get_or-drop, get_or-replicate, get_or_append_left, get_or-append_right, get_or_at}
-use Rattle.std.proofs.lemmas.List.Edits.{get_or-between}
-use Rattle.ed_model.specs.Rows.{Flags, fresh_flags, flags_together}
-use Rattle.line_index.specs.declared.edit.LineEdit.{LineEdit}
-use Rattle.line_index.specs.declared.edit.LineEdit.TheVariants.{Come, Join, Restart}
-use Rattle.line_index.specs.Edits.{with_fresh, with_joined, after_edit, lines_after_edit, FitsLines, FitLines, fresh_by, fresh_lines}
-use Rattle.partitioning.specs.Partitions.{Partitions}
-use Rattle.contraction.specs.LineSets.{holds, holds_with_fresh, holds_without}
-use Rattle.contraction.specs.ViewLines.{ViewLines, view_lines, flags_kept}
+use Rattle.contraction.proofs.Names.{◌≡◌, ℕ, suc, ◌+◌, ◌-◌, ◌<◌, ◌≤◌, false, List, [], ◌∷◌, ◌++◌, length, get_or, take, drop, replicate, sym, refl, ap, ◌∙◌, inl, inr, arith, slice_range, cases_lt, cases_order, lt-ltb, le-ltb, ext_get_or, length-append, length-take-le, length-drop, length-replicate, get_or-take, get_or-drop, get_or-replicate, get_or_append_left, get_or-append_right, get_or_at, get_or-between, Flags, fresh_flags, flags_together, LineEdit, Come, Join, Restart, with_fresh, with_joined, after_edit, lines_after_edit, FitsLines, FitLines, fresh_by, fresh_lines, Partitions, holds, holds_with_fresh, holds_without, ViewLines, view_lines, flags_kept}
 use Rattle.contraction.proofs.Kept.{flags_of, length-kept, kept_at}
 
 module _ (h h' c c' : List ℕ) (n line count : ℕ) where

@@ -1,10 +1,5 @@
 -- The flags after a change of flags, in terms of the fields.
-use Rattle.std.proofs.Common.{◌≡◌, ℕ, ◌+◌, ◌<◌, ◌≤◌, max, Bool, true, false, ◌&&◌, ◌||◌, cond, ltb, leb, eqb, refl, ap, ◌∙◌, arith}
-use Rattle.std.proofs.lemmas.Bool.{and_parts, and_from, leb-true, le-leb, ltb-true, lt-ltb, eqb-true, eq-eqb}
-use Rattle.ed_model.specs.Folding.{is_between, lines_shown, lines_hidden, with_expanded}
-use Rattle.partitioning.specs.Partitions.{Partitions}
-use Rattle.contraction.specs.LineSets.{holds, holds_outside}
-use Rattle.contraction.specs.ViewLines.{ViewLines, view_lines, flags_kept}
+use Rattle.contraction.proofs.Names.{◌≡◌, ℕ, ◌+◌, ◌<◌, ◌≤◌, max, Bool, true, false, ◌&&◌, ◌||◌, cond, ltb, leb, eqb, refl, ap, ◌∙◌, arith, and_parts, and_from, leb-true, le-leb, ltb-true, lt-ltb, eqb-true, eq-eqb, is_between, lines_shown, lines_hidden, with_expanded, Partitions, holds, holds_outside, ViewLines, view_lines, flags_kept}
 use Rattle.contraction.proofs.LineSets.{same_tests}
 use Rattle.contraction.proofs.Kept.{with_visible_kept, with_expanded_kept}
 

@@ -1,16 +1,6 @@
 -- The children of a header when it is contracted or expanded.
-use Rattle.std.proofs.Common.{◌≡◌, ℕ, zero, suc, ◌+◌, ◌-◌, ◌<◌, ◌≤◌, Bool, true, false, not, ◌&&◌, ◌||◌, cond, ltb, leb, List, length, map, sym, refl, ap, ◌∙◌, inl, inr, arith, le_refl}
-use Rattle.std.specs.List.{range_with_len, list_all}
-use Rattle.std.proofs.Math.Bool.{and-false}
-use Rattle.std.proofs.lemmas.Bool.{cases_eq, cases_Bool, and_parts, and_from, false≢true, not-true, leb-true, le-leb, ltb-true, lt-ltb, le-ltb}
-use Rattle.std.proofs.lemmas.List.{get_or-set_other, length-set}
-use Rattle.std.proofs.lemmas.List.Folds.{list_all-append}
-use Rattle.std.proofs.lemmas.List.FromFn.{length-map-range_with_len, get_or-map-range_with_len}
-use Rattle.ed_model.specs.Rows.{Flags, fresh_flags}
-use Rattle.ed_model.specs.Folding.{flags_at, is_expanded, with_visible, with_expanded, is_between, lines_shown, lines_hidden, expanded, is_open_between, is_header, is_child, last_child}
-use Rattle.ed_model.specs.proved.Rising.{range-append, map_range_agree}
+use Rattle.contraction.proofs.Names.{◌≡◌, ℕ, zero, suc, ◌+◌, ◌-◌, ◌<◌, ◌≤◌, Bool, true, false, not, ◌&&◌, ◌||◌, cond, ltb, leb, List, length, map, sym, refl, ap, ◌∙◌, inl, inr, arith, le_refl, range_with_len, list_all, and-false, cases_eq, cases_Bool, and_parts, and_from, false≢true, not-true, leb-true, le-leb, ltb-true, lt-ltb, le-ltb, get_or-set_other, length-set, list_all-append, length-map-range_with_len, get_or-map-range_with_len, Flags, fresh_flags, flags_at, is_expanded, with_visible, with_expanded, is_between, lines_shown, lines_hidden, expanded, is_open_between, is_header, is_child, last_child, range-append, map_range_agree, is_closed, closed_at, behind_closed}
 use Rattle.contraction.proofs.LineSets.{same_tests}
-use Rattle.contraction.specs.Folding.{is_closed, closed_at, behind_closed}
 use Rattle.contraction.proofs.Nesting.{last_child_is, nested}
 
 -- a line after some were shown or hidden

@@ -1,9 +1,5 @@
 -- The lines of folds: the first one behind a line, and the last one before it, that passes a test.
-use Rattle.std.proofs.Common.{◌≡◌, ℕ, suc, ◌+◌, ◌-◌, ◌<◌, Bool, true, false, ◌∷◌, reverse, Option, Some, refl, ap, ◌∙◌, arith, zero-add}
-use Rattle.std.specs.Prelude.{find}
-use Rattle.std.specs.List.{range_with_len}
-use Rattle.std.proofs.lemmas.List.{reverse-append}
-use Rattle.ed_model.specs.proved.Rising.{range-append}
+use Rattle.contraction.proofs.Names.{◌≡◌, ℕ, suc, ◌+◌, ◌-◌, ◌<◌, Bool, true, false, ◌∷◌, reverse, Option, Some, refl, ap, ◌∙◌, arith, zero-add, find, range_with_len, reverse-append, range-append}
 
 -- the first number from one on, up to another, that passes
 abbrev pub first_from : (ℕ → Bool) → ℕ → ℕ → Option ℕ

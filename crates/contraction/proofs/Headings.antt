@@ -1,7 +1,5 @@
 -- The last number before another that passes a test, part by part.
-use Rattle.std.proofs.Common.{◌≡◌, ℕ, zero, suc, ◌+◌, ◌-◌, ◌<◌, ◌≤◌, List, length, slice_index, Bool, true, false, Option, Some, None, refl, sym, ap, ◌∙◌, arith}
-use Rattle.ed_model.specs.Rows.{base_level}
-use Rattle.contraction.specs.Headings.{heads, last_heading, HeadFrom}
+use Rattle.contraction.proofs.Names.{◌≡◌, ℕ, zero, suc, ◌+◌, ◌-◌, ◌<◌, ◌≤◌, List, length, slice_index, Bool, true, false, Option, Some, None, refl, sym, ap, ◌∙◌, arith, base_level, heads, last_heading, HeadFrom}
 use Rattle.contraction.proofs.Least.{less_heads}
 use Rattle.contraction.proofs.FoldLines.{last_before, last_here, last_earlier}
 

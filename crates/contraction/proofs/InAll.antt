@@ -1,10 +1,5 @@
 -- How many lines in all may be contracted.
-use Rattle.std.proofs.Common.{◌≡◌, ℕ, ◌+◌, Bool, true, false, cond, List, length, refl, ap, arith}
-use Rattle.ed_model.specs.Rows.{Flags}
-use Rattle.ed_model.specs.Folding.{is_between, lines_shown, lines_hidden, last_child}
-use Rattle.partitioning.specs.Partitions.{Partitions, ArePartitions}
-use Rattle.contraction.specs.Folding.{is_closed, closed_at}
-use Rattle.contraction.specs.ViewLines.{ViewLines, view_lines, contracted_lines, contracted_in_all}
+use Rattle.contraction.proofs.Names.{◌≡◌, ℕ, ◌+◌, Bool, true, false, cond, List, length, refl, ap, arith, Flags, is_between, lines_shown, lines_hidden, last_child, Partitions, ArePartitions, is_closed, closed_at, ViewLines, view_lines, contracted_lines, contracted_in_all}
 use Rattle.contraction.specs.proved.Contracted.{with_visible_contracted}
 use Rattle.contraction.proofs.Kept.{contracted_count}
 

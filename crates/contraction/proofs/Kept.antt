@@ -1,22 +1,9 @@
 -- The flags that two sets of lines stand for.
-use Rattle.std.proofs.Common.{◌≡◌, ℕ, ◌+◌, ◌-◌, ◌*◌, ◌<◌, ◌≤◌, max, Bool, true, false, not, cond, eqb, List, [], ◌∷◌, length, get_or, set, take, map, replicate, filter, count_by, refl, sym, ap, ◌∙◌, ◌⊎◌, inl, inr, arith}
-use Rattle.std.specs.List.{range_with_len}
-use Rattle.std.specs.Prelude.{slice_get, unwrap_or, Result, Ok, Err, OnOk}
-use Rattle.std.proofs.lemmas.Bool.{cases_lt, cases_eq, eq-eqb, ne_eqb, false≢true}
-use Rattle.std.proofs.lemmas.List.Folds.{list_all_at}
+use Rattle.contraction.proofs.Names.{◌≡◌, ℕ, ◌+◌, ◌-◌, ◌*◌, ◌<◌, ◌≤◌, max, Bool, true, false, not, cond, eqb, List, [], ◌∷◌, length, get_or, set, take, map, replicate, filter, count_by, refl, sym, ap, ◌∙◌, ◌⊎◌, inl, inr, arith, range_with_len, slice_get, unwrap_or, Result, Ok, Err, OnOk, cases_lt, cases_eq, eq-eqb, ne_eqb, false≢true, list_all_at, list_all-from_AllPass, sum_by-cons, get_or_default, ext_get_or, length-replicate, get_or-replicate, length-set, get_or-set_same, get_or-set_other, length-range_with_len, length-map-range_with_len, get_or-map-range_with_len, fill_by_all, take-map-range_with_len, Flags, fresh_flags, flags_at, is_visible, is_expanded, with_visible, with_expanded, filter_range_agree, Partitions, ArePartitions, IsLastAtMost, holds, lines_outside, ViewLines, view_lines, flags_kept, room_in_all, contracted_lines}
 use Rattle.std.proofs.lemmas.List.Filters.{length-filter_both}
-use Rattle.std.proofs.lemmas.List.Sums.{list_all-from_AllPass, sum_by-cons}
 use Rattle.contraction.proofs.LineSets.{same_tests, index_of, rising_to, there}
 use Rattle.contraction.proofs.Outside.{outside_before, last_of_all}
-use Rattle.std.proofs.lemmas.List.{get_or_default, ext_get_or, length-replicate, get_or-replicate, length-set, get_or-set_same, get_or-set_other}
-use Rattle.std.proofs.lemmas.List.FromFn.{length-range_with_len, length-map-range_with_len, get_or-map-range_with_len, fill_by_all, take-map-range_with_len}
-use Rattle.ed_model.specs.Rows.{Flags, fresh_flags}
-use Rattle.ed_model.specs.Folding.{flags_at, is_visible, is_expanded, with_visible, with_expanded}
 use Rattle.ed_model.specs.DisplayLines.{display_line, line_shown, all_visible}
-use Rattle.ed_model.specs.proved.Rising.{filter_range_agree}
-use Rattle.partitioning.specs.Partitions.{Partitions, ArePartitions, IsLastAtMost}
-use Rattle.contraction.specs.LineSets.{holds, lines_outside}
-use Rattle.contraction.specs.ViewLines.{ViewLines, view_lines, flags_kept, room_in_all, contracted_lines}
 use Rattle.split_vector.specs.Split.{most_room}
 
 pub length-kept : (h c : List ℕ) (n : ℕ) → length (flags_kept h c n) ≡ n

@@ -1,8 +1,5 @@
 -- Numbers that are at most the number of each header.
-use Rattle.std.proofs.Common.{◌≡◌, ℕ, ◌≤◌, ◌&&◌, Bool, true, false, nat_lt, refl, arith}
-use Rattle.std.proofs.lemmas.Bool.{ltb-false, le-ltb}
-use Rattle.ed_model.specs.Folding.{level_number, is_header_level}
-use Rattle.contraction.specs.Headings.{heads}
+use Rattle.contraction.proofs.Names.{◌≡◌, ℕ, ◌≤◌, ◌&&◌, Bool, true, false, nat_lt, refl, arith, ltb-false, le-ltb, level_number, is_header_level, heads}
 
 -- A level that is not that of a header with a smaller number than one is not that of a header with a smaller number than a lesser one.
 pub less_heads : (less number level : ℕ) → less ≤ number → heads number level ≡ false → heads less level ≡ false

@@ -1,3 +1,4 @@
+pub mod Names
 pub mod Carried
 pub mod Changed
 pub mod Expanding

@@ -1,13 +1,7 @@
 -- A set of lines, as starts: what it holds, when a start is added or removed and when some move.
-use Rattle.std.proofs.Common.{◌≡◌, ℕ, zero, suc, ◌+◌, ◌-◌, ◌<◌, ◌≤◌, Bool, true, false, ◌&&◌, ◌||◌, ltb, leb, eqb, List, [], ◌∷◌, ◌++◌, length, get_or, take, drop, map, insert, refl, sym, ap, ◌∙◌, inl, inr, arith, add-zero, le_refl}
+use Rattle.contraction.proofs.Names.{◌≡◌, ℕ, zero, suc, ◌+◌, ◌-◌, ◌<◌, ◌≤◌, Bool, true, false, ◌&&◌, ◌||◌, ltb, leb, eqb, List, [], ◌∷◌, ◌++◌, length, get_or, take, drop, map, insert, refl, sym, ap, ◌∙◌, inl, inr, arith, add-zero, le_refl, and-false, cases_lt, cases_eq, false≢true, or_cases, or_left, or_right, and_parts, and_from, eqb-true, eq-eqb, ne_eqb, leb-true, le-leb, lt-leb, ltb-true, lt-ltb, le-ltb, get_or-take, get_or-drop, length-take, length-drop, take-append-drop, ArePartitions, IsLastAtMost, raised_behind, lowered_behind, is_between, starts_at, holds_with_fresh, holds_without, holds_outside}
 use Rattle.std.specs.List.Sorted.{IsStrictlyIncreasing}
-use Rattle.std.proofs.Math.Bool.{and-false}
-use Rattle.std.proofs.lemmas.Bool.{cases_lt, cases_eq, false≢true, or_cases, or_left, or_right, and_parts, and_from, eqb-true, eq-eqb, ne_eqb, leb-true, le-leb, lt-leb, ltb-true, lt-ltb, le-ltb}
 use Rattle.std.proofs.lemmas.Bool.Decides.{nat_tests}
-use Rattle.std.proofs.lemmas.List.{get_or-take, get_or-drop, length-take, length-drop, take-append-drop}
-use Rattle.partitioning.specs.Partitions.{ArePartitions, IsLastAtMost, raised_behind, lowered_behind}
-use Rattle.ed_model.specs.Folding.{is_between}
-use Rattle.contraction.specs.LineSets.{starts_at, holds_with_fresh, holds_without, holds_outside}
 
 pub same_tests : (a b : Bool) → (a ≡ true → b ≡ true) → (b ≡ true → a ≡ true) → a ≡ b
 same_tests true b f g = sym (f refl)

@@ -1,9 +1,5 @@
 -- The last child of a line, and the nesting of folds.
-use Rattle.std.proofs.Common.{◌≡◌, ℕ, zero, suc, ◌+◌, ◌-◌, ◌<◌, ◌≤◌, Bool, true, false, cond, leb, List, length, Option, Some, None, refl, inl, inr, arith, le_refl}
-use Rattle.std.specs.Prelude.{find}
-use Rattle.std.specs.List.{range_with_len}
-use Rattle.std.proofs.lemmas.Bool.{cases_lt, cases_eq, leb-true, leb-false}
-use Rattle.ed_model.specs.Folding.{number_at, line_before, last_child}
+use Rattle.contraction.proofs.Names.{◌≡◌, ℕ, zero, suc, ◌+◌, ◌-◌, ◌<◌, ◌≤◌, Bool, true, false, cond, leb, List, length, Option, Some, None, refl, inl, inr, arith, le_refl, find, range_with_len, cases_lt, cases_eq, leb-true, leb-false, number_at, line_before, last_child}
 
 -- the first of a range that passes, or none does
 abbrev pub Found : (ℕ → Bool) → ℕ → ℕ → Option ℕ → Type 0

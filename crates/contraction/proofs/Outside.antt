@@ -1,14 +1,7 @@
 -- The lines outside a set: how many there are before a line, and which is the nth.
-use Rattle.std.proofs.Common.{◌≡◌, ℕ, zero, suc, ◌+◌, ◌-◌, ◌<◌, ◌≤◌, Bool, true, false, not, cond, min, List, [], ◌∷◌, ◌++◌, length, get_or, filter, refl, ap, ◌∙◌, inl, inr, arith, zero-add}
-use Rattle.std.specs.Prelude.{slice_get, unwrap_or}
-use Rattle.std.specs.List.{range_with_len}
-use Rattle.std.proofs.lemmas.Bool.{cases_lt, cases_eq}
-use Rattle.std.proofs.lemmas.List.{length-append, get_or_at, get_or_past}
+use Rattle.contraction.proofs.Names.{◌≡◌, ℕ, zero, suc, ◌+◌, ◌-◌, ◌<◌, ◌≤◌, Bool, true, false, not, cond, min, List, [], ◌∷◌, ◌++◌, length, get_or, filter, refl, ap, ◌∙◌, inl, inr, arith, zero-add, slice_get, unwrap_or, range_with_len, cases_lt, cases_eq, length-append, get_or_at, get_or_past, range-append, ArePartitions, IsLastAtMost, starts_at, holds, lines_outside}
 use Rattle.std.proofs.lemmas.List.Elements.{filter-append}
 use Rattle.std.proofs.lemmas.Option.{unwrap_or-slice_get}
-use Rattle.ed_model.specs.proved.Rising.{range-append}
-use Rattle.partitioning.specs.Partitions.{ArePartitions, IsLastAtMost}
-use Rattle.contraction.specs.LineSets.{starts_at, holds, lines_outside}
 use Rattle.contraction.proofs.LineSets.{rising_to, there, not_there}
 
 -- the place behind is no start

@@ -1,10 +1,5 @@
 -- The chain of fold parents, one parent at a time.
-use Rattle.std.proofs.Common.{◌≡◌, ℕ, List, [], ◌∷◌, reverse, Option, Some, None, sym, ap, ◌∙◌}
-use Rattle.std.specs.Prelude.{fold}
-use Rattle.std.proofs.lemmas.List.{reverse-append}
-use Rattle.std.proofs.lemmas.List.Sums.{fold-append}
-use Rattle.ed_model.specs.Rows.{Flags}
-use Rattle.ed_model.specs.Folding.{fold_parents, fold_parent, parents_from, header_opened}
+use Rattle.contraction.proofs.Names.{◌≡◌, ℕ, List, [], ◌∷◌, reverse, Option, Some, None, sym, ap, ◌∙◌, fold, reverse-append, fold-append, Flags, fold_parents, fold_parent, parents_from, header_opened}
 use Rattle.ed_model.specs.proved.Folding.{parents_are}
 
 -- the chain from the fold parent that was found

@@ -1,5 +1,5 @@
 -- A set of lines, as the starts of partitions: 0, and then one more than each line of the set, in rising order.
-use Rattle.std.specs.Prelude.{ℕ, ◌+◌, ◌-◌, ◌<◌, ◌==◌, ◌||◌, not, nat_lt, if◌then◌else◌, Bool, false, List, [], ◌∷◌, length, filter, slice_index}
+use Rattle.std.specs.Prelude.{ℕ, ◌+◌, ◌-◌, ◌==◌, ◌||◌, not, nat_lt, if◌then◌else◌, Bool, false, List, [], ◌∷◌, filter}
 use Rattle.std.specs.List.{range_with_len}
 use Rattle.ed_model.specs.Folding.{is_between}
 
@@ -28,7 +28,3 @@ holds_outside starts first past k = if is_between first past k then false else h
 -- of so many lines, those that are not in the set
 abbrev pub lines_outside : List ℕ → ℕ → List ℕ
 lines_outside starts lines = filter (λ line. not (holds starts line)) (range_with_len 0 lines)
-
--- more than `n` lines that are not in the set lie before the start at the index, if there is one
-abbrev pub HasMoreBefore : List ℕ → (n index : ℕ) → Type 0
-HasMoreBefore starts n index = index < length starts → n + index < slice_index starts index

@@ -1,5 +1,5 @@
 -- What a contract sees of a `Contraction`.
-use Rattle.std.specs.Prelude.{◌≡◌, ℕ, ◌+◌, ◌-◌, ◌≤◌, not, List, length, map, count_by}
+use Rattle.std.specs.Prelude.{◌≡◌, ℕ, ◌+◌, ◌-◌, not, List, length, map, count_by}
 use Rattle.std.specs.List.{range_with_len}
 use Rattle.ed_model.specs.Rows.{Flags}
 use Rattle.split_vector.specs.Split.{most_room}
@@ -43,16 +43,6 @@ contracted_lines flags = count_by (λ (f : Flags). not f.expanded) flags
 -- how many lines in all may be contracted without an allocation: those that are, and more
 abbrev pub contracted_in_all : ViewLines → ℕ
 contracted_in_all view = contracted_lines view.flags + view.room.contracted
-
--- `lines` lines in all may be hidden without an allocation, and nothing but that room has changed
-abbrev pub GainsHiddenRoom : ViewLines → ViewLines → ℕ → Type 0
-GainsHiddenRoom old new lines =
-    (lines ≤ new.room.hidden) × (new ≡ record old { room = record old.room { hidden = new.room.hidden } })
-
--- `count` more lines may be contracted without an allocation, and nothing but that room has changed
-abbrev pub GainsContractedRoom : ViewLines → ViewLines → ℕ → Type 0
-GainsContractedRoom old new count =
-    (count ≤ new.room.contracted) × (new ≡ record old { room = record old.room { contracted = new.room.contracted } })
 
 -- how many more lines may at most be contracted without an allocation, after room for `count` more was requested
 abbrev pub most_contracted_room : ViewLines → ℕ → ℕ

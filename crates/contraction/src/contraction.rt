@@ -4,7 +4,7 @@ ghost use Rattle.std.specs.Prelude.{◌≡◌, ◌+◌, ◌-◌, ◌*◌, ◌≤
 ghost use Rattle.ed_model.specs.Rows.{fresh_flags};
 ghost use Rattle.ed_model.specs.Folding.{is_visible, is_expanded};
 ghost use Rattle.ed_model.specs.DisplayLines.{display_line, line_shown, all_visible};
-ghost use Rattle.contraction.specs.ViewLines.{GainsHiddenRoom, GainsContractedRoom, most_contracted_room};
+ghost use Rattle.contraction.specs.ViewLines.{most_contracted_room};
 
 use crate::line_set::{contains, lines_before, nth_line_outside, set_is_sound};
 use partitioning::{Partitioning, Place};
@@ -111,7 +111,7 @@ impl<P: Place> Contraction<P> {
     ///
     /// `AllocError` if the allocation fails. Nothing has changed then.
     pub fn reserve_hidden(&mut self, lines: usize) -> Result<(), AllocError>
-        ensures ok { OnOk result (GainsHiddenRoom self.old self.new lines) }
+        ensures ok { OnOk result ((lines ≤ self.new.room.hidden) × (self.new ≡ record self.old { room = record self.old.room { hidden = self.new.room.hidden } })) }
         ensures room_is_there { lines ≤ self.old.room.hidden → IsOk result × (self.new ≡ self.old) }
         ensures room_stays { self.old.room.hidden ≤ self.new.room.hidden }
         ensures at_most { OnOk result (self.new.room.hidden ≤ max lines (2 * self.old.room.hidden + 1)) }
@@ -127,7 +127,7 @@ impl<P: Place> Contraction<P> {
     ///
     /// `AllocError` if the allocation fails. Nothing has changed then.
     pub fn reserve_contracted(&mut self, count: usize) -> Result<(), AllocError>
-        ensures ok { OnOk result (GainsContractedRoom self.old self.new count) }
+        ensures ok { OnOk result ((count ≤ self.new.room.contracted) × (self.new ≡ record self.old { room = record self.old.room { contracted = self.new.room.contracted } })) }
         ensures room_is_there { count ≤ self.old.room.contracted → IsOk result × (self.new ≡ self.old) }
         ensures room_stays { self.old.room.contracted ≤ self.new.room.contracted }
         ensures at_most { OnOk result (self.new.room.contracted ≤ most_contracted_room self.old count) }

@@ -19,7 +19,7 @@ pub fn number_at(levels: &Levels, line: usize) -> u32
 }
 
 /// Returns whether a line is a fold header.
-pub fn is_header(levels: &Levels, line: usize) -> bool
+pub(crate) fn is_header(levels: &Levels, line: usize) -> bool
     requires { line < length levels.now }
     ensures { result ≡ is_header_at levels.now line }
 {

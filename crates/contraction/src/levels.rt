@@ -1,8 +1,9 @@
 //! The fold levels of all lines, as they are lent.
 
+ghost use Rattle.ed_model.specs.Rows.{base_level};
 ghost use Rattle.std.specs.Prelude.{◌≡◌, ◌+◌, ◌^◌, ◌≤◌, ◌<◌, ℕ, length, slice_index};
 ghost use Rattle.contraction.specs.Headings.{HeadFrom};
-ghost use Rattle.contraction.specs.Levels.{all_levels, HavePartAt, AreBaseLevels};
+ghost use Rattle.contraction.specs.Levels.{all_levels};
 
 use ed_types::fold_level;
 use std::marker::Model;
@@ -104,8 +105,8 @@ impl<'a> Levels<'a> {
         requires { line < length self.now }
         ensures within { length result.0.now + length result.1.now ≤ line }
         ensures first { (k : ℕ) → k < length result.0.now → slice_index self.now k ≡ slice_index result.0.now k }
-        ensures others { HavePartAt self.now (length result.0.now) result.1.now }
-        ensures base { AreBaseLevels self.now (length result.0.now + length result.1.now) line }
+        ensures others { (k : ℕ) → k < length result.1.now → slice_index self.now (length result.0.now + k) ≡ slice_index result.1.now k }
+        ensures base { (k : ℕ) → length result.0.now + length result.1.now ≤ k → k < line → slice_index self.now k ≡ base_level }
     {
         let first = line.min(self.before.len());
         let others = (line - first).min(self.after.len());

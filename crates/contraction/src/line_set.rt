@@ -2,7 +2,7 @@
 
 ghost use Rattle.std.specs.Prelude.{ℕ, ◌≡◌, ◌+◌, ◌-◌, ◌^◌, ◌≤◌, ◌<◌, ◌==◌, ◌||◌, false, length, slice_index, slice_get, unwrap_or};
 ghost use Rattle.ed_model.specs.Folding.{is_between};
-ghost use Rattle.contraction.specs.LineSets.{holds, holds_with_fresh, holds_without, holds_outside, lines_outside, HasMoreBefore};
+ghost use Rattle.contraction.specs.LineSets.{holds, holds_with_fresh, holds_without, holds_outside, lines_outside};
 ghost use Rattle.partitioning.specs.Partitions.{ArePartitions, IsLastAtMost};
 
 use partitioning::{Partitioning, Place, Probes};
@@ -128,7 +128,7 @@ pub(crate) fn take_lines_out<P: Place>(starts: &mut Partitioning<P>, line: usize
 fn starts_before_nth<P: Place>(starts: &Partitioning<P>, n: usize) -> usize
     ensures within { result < length starts.now.starts }
     ensures at_most { slice_index starts.now.starts result ≤ n + result }
-    ensures next { HasMoreBefore starts.now.starts n (result + 1) }
+    ensures next { result + 1 < length starts.now.starts → n + (result + 1) < slice_index starts.now.starts (result + 1) }
     ensures sound { ArePartitions starts.now.starts starts.now.length }
 {
     let mut low = 0;

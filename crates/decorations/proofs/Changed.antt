@@ -1,14 +1,5 @@
 -- The smallest range that holds all changes is that of the model.
-use Rattle.std.proofs.Common.{◌≡◌, ◌≢◌, ℕ, zero, suc, ◌+◌, ◌-◌, ◌<◌, ◌≤◌, ◌==◌, not, Bool, true, false, List, ◌∷◌, length, get_or, filter, Option, Some, None, IfNone, IfSome, sym, ap, ◌∙◌, arith, eq-eqb, add-zero, zero-add, append-nil}
-use Rattle.std.specs.List.{range_with_len, last_or, slice_get}
-use Rattle.std.proofs.lemmas.Option.{slice_get-get_or}
-use Rattle.std.proofs.lemmas.List.{get_or-take, get_or-drop}
-use Rattle.std.proofs.lemmas.List.Elements.{filter-append}
-use Rattle.std.proofs.lemmas.Bool.{ne_eqb, cond_both}
-use Rattle.ed_model.specs.Indicators.{changed_range, extent}
-use Rattle.ed_model.specs.proved.Rising.{range-append, filter_range_none}
-use Rattle.ed_model.specs.proved.Indicators.{nothing_changed}
-use Rattle.run_styles.specs.Runs.{IsChangedRange}
+use Rattle.decorations.proofs.Names.{◌≡◌, ◌≢◌, ℕ, zero, suc, ◌+◌, ◌-◌, ◌<◌, ◌≤◌, ◌==◌, not, Bool, true, false, List, ◌∷◌, length, get_or, filter, Option, Some, None, IfNone, IfSome, sym, ap, ◌∙◌, arith, eq-eqb, add-zero, zero-add, append-nil, range_with_len, last_or, slice_get, slice_get-get_or, get_or-take, get_or-drop, filter-append, ne_eqb, cond_both, changed_range, extent, range-append, filter_range_none, nothing_changed, IsChangedRange}
 
 -- the last number of a range passes, so it is the last that does
 last_passes : (p : ℕ → Bool) (a n x : ℕ) → p (a + n) ≡ true → last_or (Some x) (filter p (range_with_len a (suc n))) ≡ Some (a + n)

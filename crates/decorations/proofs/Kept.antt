@@ -1,12 +1,5 @@
 -- The slots stay sound through the steps.
-use Rattle.std.proofs.Common.{◌≡◌, ℕ, ◌+◌, ◌-◌, ◌<◌, ◌≤◌, List, length, set, replicate, Option, Some, None, IfSome, IfNone, MatchOption, refl, sym, ap, ◌∙◌, subst, arith, inl, inr}
-use Rattle.std.proofs.lemmas.List.{get_or-set_same, get_or-set_other, length-set}
-use Rattle.std.proofs.lemmas.Bool.{cases_eq}
-use Rattle.ed_model.specs.Indicators.{indicator_after, indicators_after}
-use Rattle.ed_model.specs.Steps.{Insert, Delete}
-use Rattle.run_styles.specs.Runs.{Runs}
-use Rattle.decorations.specs.Decorated.{IsClear}
-use Rattle.decorations.specs.Slots.{slot_at, shown, all_shown, AreKept, IsKept, AreSpare, HasSpare, CanFill, AreSlots, for_fill, InBoth, InEach, HaveRoomOf, TookIn, GaveAway, WasFilled}
+use Rattle.decorations.proofs.Names.{◌≡◌, ℕ, ◌+◌, ◌-◌, ◌<◌, ◌≤◌, List, length, set, replicate, Option, Some, None, IfSome, IfNone, MatchOption, refl, sym, ap, ◌∙◌, subst, arith, inl, inr, get_or-set_same, get_or-set_other, length-set, cases_eq, indicator_after, indicators_after, Insert, Delete, Runs, IsClear, slot_at, shown, all_shown, AreKept, IsKept, AreSpare, HasSpare, CanFill, AreSlots, for_fill, InBoth, InEach, HaveRoomOf, TookIn, GaveAway, WasFilled}
 use Rattle.decorations.proofs.Numbered.{numbered_both, numbered_same, numbered_set}
 use Rattle.decorations.proofs.Values.{took_kept, took_shown, gave_shown, clear_zeros}
 

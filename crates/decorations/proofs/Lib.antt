@@ -1,3 +1,4 @@
+pub mod Names
 pub mod Changed
 pub mod Kept
 pub mod Masks

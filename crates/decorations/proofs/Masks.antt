@@ -1,16 +1,8 @@
 -- The mask of the indicators at a place, bit by bit.
-use Rattle.std.proofs.Common.{◌≡◌, ℕ, zero, suc, ◌+◌, ◌*◌, ◌^◌, ◌<◌, ◌≤◌, ◌==◌, not, Bool, true, false, cond, List, [], ◌∷◌, ◌++◌, map, filter, sum, refl, ap, sym, ◌∙◌, ◌%◌, arith, zero-add, eq-eqb}
-use Rattle.std.specs.Prelude.{pos}
-use Rattle.std.specs.List.{range_with_len}
-use Rattle.std.proofs.lemmas.List.{map-append}
-use Rattle.std.proofs.lemmas.List.Elements.{filter-append}
+use Rattle.decorations.proofs.Names.{◌≡◌, ℕ, zero, suc, ◌+◌, ◌*◌, ◌^◌, ◌<◌, ◌≤◌, ◌==◌, not, Bool, true, false, cond, List, [], ◌∷◌, ◌++◌, map, filter, sum, refl, ap, sym, ◌∙◌, ◌%◌, arith, zero-add, eq-eqb, pos, range_with_len, map-append, filter-append, cond_both, ne_eqb, at_place, indicators, values_of, mask_of, range-append}
 use Rattle.std.proofs.lemmas.List.Sums.{sum_by-append}
-use Rattle.std.proofs.lemmas.Bool.{cond_both, ne_eqb}
 use Rattle.std.proofs.lemmas.Nat.{pow-add, one_shl}
 use Rattle.std.proofs.Math.Pow.{pow_mono}
-use Rattle.ed_model.specs.TextPlans.{at_place}
-use Rattle.decorations.specs.Decorated.{indicators, values_of, mask_of}
-use Rattle.ed_model.specs.proved.Rising.{range-append}
 
 -- whether an indicator is not 0 at the place
 abbrev pub is_on : List (List ℕ) → ℕ → ℕ → Bool

@@ -1,10 +1,5 @@
 -- The memory for runs.
-use Rattle.std.proofs.Common.{◌≡◌, ◌≢◌, ℕ, zero, suc, ◌<◌, ◌≤◌, List, [], ◌∷◌, length, replicate, set, Option, Some, None, IfSome, MatchOption, refl, sym, ap, ◌∙◌, subst, arith, nat_eq, inl, inr}
-use Rattle.std.proofs.lemmas.Bool.{cases_lt, cases_eq}
-use Rattle.std.proofs.lemmas.List.{get_or-set_same, get_or-set_other, get_or_past}
-use Rattle.run_styles.specs.Runs.{Runs, Spare, spare, IsSpareFor, IsSameMemory, run_count}
-use Rattle.decorations.specs.Decorated.{Decorated, decorated, Held, values_of, spare_of, AreRunsFor, AreEnough, IsEnough, IsEnoughFor, IsClear, HasRunsOf, HaveRunsOf, WereFilledFrom}
-use Rattle.decorations.specs.Slots.{slot_at, slot_spare, source_spare, held_by, shown, all_shown, IsKept, InBoth, InEach, HaveRoomOf, TookIn, GaveAway, WasFilled}
+use Rattle.decorations.proofs.Names.{◌≡◌, ◌≢◌, ℕ, zero, suc, ◌<◌, ◌≤◌, List, [], ◌∷◌, length, replicate, set, Option, Some, None, IfSome, MatchOption, refl, sym, ap, ◌∙◌, subst, arith, nat_eq, inl, inr, cases_lt, cases_eq, get_or-set_same, get_or-set_other, get_or_past, Runs, Spare, spare, IsSpareFor, IsSameMemory, run_count, Decorated, decorated, Held, values_of, spare_of, AreRunsFor, AreEnough, IsEnough, IsEnoughFor, IsClear, HasRunsOf, HaveRunsOf, WereFilledFrom, slot_at, slot_spare, source_spare, held_by, shown, all_shown, IsKept, InBoth, InEach, HaveRoomOf, TookIn, GaveAway, WasFilled}
 use Rattle.decorations.proofs.Numbered.{numbered_at, numbered_same}
 use Rattle.decorations.proofs.Values.{zeros_clear}
 

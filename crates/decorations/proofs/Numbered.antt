@@ -1,10 +1,6 @@
 -- Lists with an item for each indicator.
-use Rattle.std.proofs.Common.{◌≡◌, ◌≢◌, ℕ, zero, suc, ◌+◌, ◌<◌, List, [], ◌∷◌, length, map, get_or, set, replicate, refl, ap, ◌∙◌, sym, arith, inl, inr, zero-add}
-use Rattle.std.specs.List.{range_with_len, AllByRecursion}
-use Rattle.std.proofs.lemmas.List.{get_or-set_same, get_or-set_other, length-set, ext_get_or}
+use Rattle.decorations.proofs.Names.{◌≡◌, ◌≢◌, ℕ, zero, suc, ◌+◌, ◌<◌, List, [], ◌∷◌, length, map, get_or, set, replicate, refl, ap, ◌∙◌, sym, arith, inl, inr, zero-add, range_with_len, AllByRecursion, get_or-set_same, get_or-set_other, length-set, ext_get_or, cases_eq, indicators}
 use Rattle.std.proofs.lemmas.List.FromFn.{length-map-range_with_len, get_or-map-range_with_len}
-use Rattle.std.proofs.lemmas.Bool.{cases_eq}
-use Rattle.decorations.specs.Decorated.{indicators}
 
 module _ {X : Type 0} where
   map_both : {Y : Type 0} (h : X → Y) (f : ℕ → X) (g : ℕ → Y) → ((k : ℕ) → g k ≡ h (f k)) → (ks : List ℕ) → map g ks ≡ map h (map f ks)

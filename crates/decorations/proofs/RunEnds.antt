@@ -1,12 +1,6 @@
 -- The ends of a run of equal values are those of the model.
-use Rattle.std.proofs.Common.{◌≡◌, ◌≢◌, ℕ, zero, suc, ◌+◌, ◌-◌, ◌<◌, ◌≤◌, List, [], ◌∷◌, length, take, drop, replicate, reverse, get_or, Some, unwrap_or, sym, ap, ◌∙◌, arith, eq-eqb}
-use Rattle.std.specs.List.{slice_get}
-use Rattle.std.proofs.lemmas.Option.{slice_get-get_or, slice_get_past, unwrap_or-slice_get}
-use Rattle.std.proofs.lemmas.List.{length-drop, length-reverse, length-take-le, length-replicate, get_or-reverse, get_or-take, get_or-drop}
-use Rattle.std.proofs.lemmas.Bool.{ne_eqb}
+use Rattle.decorations.proofs.Names.{◌≡◌, ◌≢◌, ℕ, zero, suc, ◌+◌, ◌-◌, ◌<◌, ◌≤◌, List, [], ◌∷◌, length, take, drop, replicate, reverse, get_or, Some, unwrap_or, sym, ap, ◌∙◌, arith, eq-eqb, slice_get, slice_get-get_or, slice_get_past, unwrap_or-slice_get, length-drop, length-reverse, length-take-le, length-replicate, get_or-reverse, get_or-take, get_or-drop, ne_eqb, IsRunStart, IsRunEnd, run_about}
 use Rattle.ed_model.specs.StylePlans.{run_length, run_start, run_past}
-use Rattle.run_styles.specs.Runs.{IsRunStart, IsRunEnd}
-use Rattle.decorations.specs.Decorated.{run_about}
 use Rattle.decorations.proofs.Values.{zeros_at}
 
 -- a front of equal values, behind which another value comes or none

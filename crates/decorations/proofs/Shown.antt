@@ -1,11 +1,5 @@
 -- Reads of one indicator.
-use Rattle.std.proofs.Common.{◌≡◌, ℕ, ◌<◌, ◌≤◌, List, length, replicate, Option, unwrap_or, sym, ap, ◌∙◌}
-use Rattle.std.specs.Prelude.{pos}
-use Rattle.std.proofs.lemmas.Option.{slice_get_past, unwrap_or-slice_get}
-use Rattle.ed_model.specs.TextPlans.{at_place}
-use Rattle.run_styles.specs.Runs.{Runs}
-use Rattle.decorations.specs.Decorated.{decorated, Decorated, Held, values_of}
-use Rattle.decorations.specs.Slots.{slot_at, shown, all_shown}
+use Rattle.decorations.proofs.Names.{◌≡◌, ℕ, ◌<◌, ◌≤◌, List, length, replicate, Option, unwrap_or, sym, ap, ◌∙◌, pos, slice_get_past, unwrap_or-slice_get, at_place, Runs, decorated, Decorated, Held, values_of, slot_at, shown, all_shown}
 use Rattle.decorations.proofs.Numbered.{numbered_at}
 use Rattle.decorations.proofs.Values.{zeros_at}
 

@@ -1,9 +1,5 @@
 -- Lists of slots, read slot by slot.
-use Rattle.std.proofs.Common.{◌≡◌, ◌≢◌, ℕ, ◌+◌, ◌<◌, ◌≤◌, set, List, length, take, drop, ◌++◌, get_or, sym, ◌∙◌, subst, arith, Option, None, inl, inr}
-use Rattle.std.proofs.lemmas.List.{get_or_read, get_or_past, get_or-set_same, get_or-set_other, take_at}
-use Rattle.std.proofs.lemmas.Bool.{cases_lt}
-use Rattle.run_styles.specs.Runs.{Runs}
-use Rattle.decorations.specs.Slots.{slot_at, InEach}
+use Rattle.decorations.proofs.Names.{◌≡◌, ◌≢◌, ℕ, ◌+◌, ◌<◌, ◌≤◌, set, List, length, take, drop, ◌++◌, get_or, sym, ◌∙◌, subst, arith, Option, None, inl, inr, get_or_read, get_or_past, get_or-set_same, get_or-set_other, take_at, cases_lt, Runs, slot_at, InEach}
 
 -- the slot that a loop has reached
 pub slot_read : (slots : List (Option (Runs ℕ))) (i : ℕ) (slot : Option (Runs ℕ)) → i < length slots → slot ≡ get_or slots i slot → slot_at slots i ≡ slot

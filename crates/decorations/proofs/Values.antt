@@ -1,14 +1,7 @@
 -- The effect of a step on the values of one indicator, whether it has runs or is 0 everywhere.
-use Rattle.std.proofs.Common.{◌≡◌, ℕ, ◌+◌, ◌-◌, ◌≤◌, ◌==◌, nat_eq, ◌||◌, Bool, true, false, if◌then◌else◌, List, ◌++◌, length, take, drop, replicate, get_or, Option, Some, None, is_some, IfSome, IfNone, MatchOption, true≢false, refl, sym, ap, ◌∙◌, subst, arith, inl, inr, take-append-drop, append_assoc}
-use Rattle.std.proofs.lemmas.Bool.{cond_both, cases_lt}
-use Rattle.std.proofs.lemmas.List.{length-append, length-take, length-drop, length-replicate, take-replicate, drop-replicate, replicate-append-replicate, get_or-replicate, get_or_past, get_or_append_left, get_or-append-add, ext_get_or}
-use Rattle.std.proofs.lemmas.List.Elements.{All-append, All-replicate}
+use Rattle.decorations.proofs.Names.{◌≡◌, ℕ, ◌+◌, ◌-◌, ◌≤◌, ◌==◌, nat_eq, ◌||◌, Bool, true, false, if◌then◌else◌, List, ◌++◌, length, take, drop, replicate, get_or, Option, Some, None, is_some, IfSome, IfNone, MatchOption, true≢false, refl, sym, ap, ◌∙◌, subst, arith, inl, inr, take-append-drop, append_assoc, cond_both, cases_lt, length-append, length-take, length-drop, length-replicate, take-replicate, drop-replicate, replicate-append-replicate, get_or-replicate, get_or_past, get_or_append_left, get_or-append-add, ext_get_or, All-append, All-replicate, inserted_value, indicator_after, filled, Insert, Delete, Runs, inserted, deleted, IsClear, shown, AreKept, IsKept, HasSpare, TookIn, InBoth, GaveAway}
 use Rattle.std.specs.Bool.{IsTrue}
-use Rattle.ed_model.specs.Indicators.{inserted_value, indicator_after, filled}
-use Rattle.ed_model.specs.Steps.{Insert, Delete}
-use Rattle.run_styles.specs.Runs.{Runs, inserted, deleted, filled as runs_filled, inserted_value as runs_value}
-use Rattle.decorations.specs.Decorated.{IsClear}
-use Rattle.decorations.specs.Slots.{shown, AreKept, IsKept, HasSpare, TookIn, InBoth, GaveAway}
+use Rattle.run_styles.specs.Runs.{filled as runs_filled, inserted_value as runs_value}
 
 -- Zeros.
 

@@ -1,8 +1,7 @@
 -- What a contract sees of `Decorations`.
 use Rattle.std.specs.Prelude.{ℕ, ◌≡◌, ◌≢◌, ◌+◌, ◌*◌, ◌<◌, ◌≤◌, ◌^◌, ◌==◌, max, nat_eq, not, List, [], length, map, filter, replicate, sum, pos, slice_index_or, slice_set, All, Option, Some, None}
 use Rattle.std.specs.List.{range_with_len}
-use Rattle.ed_model.specs.Indicators.{indicators_after, filled, changed_range}
-use Rattle.ed_model.specs.Steps.{Insert, Delete}
+use Rattle.ed_model.specs.Indicators.{filled, changed_range}
 use Rattle.ed_model.specs.TextPlans.{at_place}
 use Rattle.ed_model.specs.StylePlans.{run_start, run_past}
 use Rattle.run_styles.specs.Runs.{Spare, spare, IsSpareFor, IsSameMemory, run_count}
@@ -118,16 +117,6 @@ IsFilled indicator start count value old new =
 abbrev pub filled_range : Decorated → (indicator start count value : ℕ) → Option (ℕ × ℕ)
 filled_range d indicator start count value =
     changed_range (values_of d.values indicator) (filled start count value (values_of d.values indicator))
-
--- the values after an insertion of so many bytes, whichever they are
-abbrev pub FollowInsertion : (place count : ℕ) → List (List ℕ) → List (List ℕ) → Type 0
-FollowInsertion place count old new =
-    (bytes : List ℕ) → length bytes ≡ count → new ≡ indicators_after (Insert place bytes) old
-
--- the values after a deletion of so many bytes, whichever they are
-abbrev pub FollowDeletion : (place count : ℕ) → List (List ℕ) → List (List ℕ) → Type 0
-FollowDeletion place count old new =
-    (bytes : List ℕ) → length bytes ≡ count → new ≡ indicators_after (Delete place bytes) old
 
 -- how many runs of equal values an indicator has
 abbrev pub runs_of : Decorated → ℕ → ℕ

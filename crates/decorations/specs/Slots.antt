@@ -65,11 +65,6 @@ EachSlot P slots = (k : ℕ) → IfSome (slot_at slots.items k) P
 abbrev pub HasRoomFor : ℕ → Option (Runs ℕ) → Option (Runs ℕ) → Type 0
 HasRoomFor room slot spare = MatchOption slot (HasSpare room spare) (HasRoom room)
 
--- the indicator has a slot, and there is room for so many more runs in it, or in the spare runs if it has none
-abbrev pub HasSlotRoom : {A : Type 0} → (room indicator : ℕ) → Vec (Option (Runs ℕ)) A → Option (Runs ℕ) → Type 0
-HasSlotRoom room indicator slots spare =
-    (indicator < length slots.items) × HasRoomFor room (slot_at slots.items indicator) spare
-
 -- there is memory for so many more runs in the slot, or in the spare runs if it has none
 abbrev pub HasMemoryFor : ℕ → Option (Runs ℕ) → Option (Runs ℕ) → Type 0
 HasMemoryFor room slot spare = MatchOption slot (MatchOption spare ⊥ (HasMemory room)) (HasMemory room)
@@ -77,11 +72,6 @@ HasMemoryFor room slot spare = MatchOption slot (MatchOption spare ⊥ (HasMemor
 -- there is room for a fill and so many more runs in the slot, or in the spare runs if it has none
 abbrev pub HasFillRoom : ℕ → Option (Runs ℕ) → Option (Runs ℕ) → Type 0
 HasFillRoom room slot spare = MatchOption slot (HasSpare (room + 3) spare) (HasRoom (room + 2))
-
--- the statement holds if there is memory for the indicator's slot, and for so many more runs in it
-abbrev pub IfSlotMemory : {A : Type 0} → (room indicator : ℕ) → Vec (Option (Runs ℕ)) A → Option (Runs ℕ) → Type 0 → Type 0
-IfSlotMemory room indicator slots spare P =
-    indicator + 1 ≤ vec_capacity slots → HasMemoryFor room (slot_at slots.items indicator) spare → P
 
 -- there are at most `count` slots, or as many as before if these are more, and memory for at most that many, or for
 -- twice as many as before

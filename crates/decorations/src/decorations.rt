@@ -1,8 +1,10 @@
 //! `Decorations` and its calls.
-ghost use Rattle.std.specs.Prelude.{◌≡◌, ◌≤◌, ◌<◌, ◌+◌, ◌≢◌, ◌↔◌, ℕ, [], length, replicate, pos, Option, Some, None, IsTrue, OnOk, OnErr, IsOk};
+ghost use Rattle.ed_model.specs.Steps.{Delete, Insert};
+ghost use Rattle.ed_model.specs.Indicators.{indicators_after};
+ghost use Rattle.std.specs.Prelude.{List, ◌≡◌, ◌≤◌, ◌<◌, ◌+◌, ◌≢◌, ◌↔◌, ℕ, [], length, replicate, pos, Option, Some, None, IsTrue, OnOk, OnErr, IsOk};
 ghost use Rattle.std.specs.List.{AllByRecursion};
 ghost use Rattle.ed_model.specs.TextPlans.{at_place};
-ghost use Rattle.decorations.specs.Decorated.{decorated, filled_range, mask_of, nothing_held, run_about, spare_of, values_of, AreRunsFor, AreSlotsFor, FollowDeletion, FollowInsertion, GainsFill, GainsRoom, GainsRoomAndMemory, HaveRunsOf, HaveSlotsOf, IfMemory, IfMemoryFor, IsFilled, IsUsed, WereFilledFrom};
+ghost use Rattle.decorations.specs.Decorated.{decorated, filled_range, mask_of, nothing_held, run_about, spare_of, values_of, AreRunsFor, AreSlotsFor, GainsFill, GainsRoom, GainsRoomAndMemory, HaveRunsOf, HaveSlotsOf, IfMemory, IfMemoryFor, IsFilled, IsUsed, WereFilledFrom};
 
 use crate::slots::{
     Slot, delete_from_all, fill_slot, insert_into_all, reserve_all, reserve_one, runs_in,
@@ -233,7 +235,7 @@ impl<P: Place> Decorations<P> {
         requires fits { self.old.length + count ≤ P.GREATEST }
         requires room { 0 < self.old.room }
         ensures length { self.new.length ≡ self.old.length + count }
-        ensures values { FollowInsertion place count self.old.values self.new.values }
+        ensures values { (bytes : List ℕ) → length bytes ≡ count → self.new.values ≡ indicators_after (Insert place bytes) self.old.values }
         ensures room { self.new.room + 1 ≡ self.old.room }
         ensures ready { self.new.ready ≡ None }
         ensures slots { HaveSlotsOf self.old.held self.new.held }
@@ -250,7 +252,7 @@ impl<P: Place> Decorations<P> {
     pub fn delete(&mut self, place: usize, count: usize)
         requires { place + count ≤ self.old.length }
         ensures length { self.new.length + count ≡ self.old.length }
-        ensures values { FollowDeletion place count self.old.values self.new.values }
+        ensures values { (bytes : List ℕ) → length bytes ≡ count → self.new.values ≡ indicators_after (Delete place bytes) self.old.values }
         ensures room { self.new.room ≡ self.old.room }
         ensures ready { self.new.ready ≡ None }
         ensures slots { HaveSlotsOf self.old.held self.new.held }

@@ -4,7 +4,7 @@ ghost use Rattle.std.specs.Prelude.{◌≡◌, ◌≤◌, ◌<◌, ◌+◌, ◌�
 ghost use Rattle.ed_model.specs.Indicators.{filled, changed_range};
 ghost use Rattle.std.specs.Option.{is_some, option_copied};
 ghost use Rattle.run_styles.specs.Runs.{IsSpareFor};
-ghost use Rattle.decorations.specs.Slots.{slot_at, slot_spare, shown, AreKept, AreSpare, CanTakeIn, EachSlot, GaveAway, GrowForSlots, HasFillRoom, HasMemory, HasMemoryFor, HasRoom, HasRoomFor, HasSlotRoom, HasSpare, HaveRoomOf, IfSlotMemory, InBoth, InEach, TookIn, TookMemory, WasFilled};
+ghost use Rattle.decorations.specs.Slots.{slot_at, slot_spare, shown, AreKept, AreSpare, CanTakeIn, EachSlot, GaveAway, GrowForSlots, HasFillRoom, HasMemory, HasMemoryFor, HasRoom, HasRoomFor, HasSpare, HaveRoomOf, InBoth, InEach, TookIn, TookMemory, WasFilled};
 
 use partitioning::Place;
 use run_styles::RunStyles;
@@ -246,13 +246,13 @@ pub(crate) fn reserve_one<P: Place>(
     ensures length { (length slots.old.items ≤ length slots.new.items) × (length slots.new.items ≤ 32) }
     ensures slots { GrowForSlots (indicator + 1) slots.old slots.new }
     ensures others { (k : ℕ) → k ≢ indicator → slot_at slots.new.items k ≡ slot_at slots.old.items k }
-    ensures ok { OnOk result (HasSlotRoom room indicator slots.new spare.new) }
+    ensures ok { OnOk result ((indicator < length slots.new.items) × HasRoomFor room (slot_at slots.new.items indicator) spare.new) }
     ensures unused { IfSome spare.new (AreSpare 0) }
     ensures stays { (less : ℕ) → HasSpare less spare.old → HasSpare less spare.new }
     ensures spare_at_most { IsSpareFor 1 room (slot_spare spare.old) (slot_spare spare.new) }
     ensures spare_stays { IfSome (slot_at slots.old.items indicator) (λ _. spare.new ≡ spare.old) }
     ensures capacity_stays { indicator + 1 ≤ vec_capacity slots.old → vec_capacity slots.new ≡ vec_capacity slots.old }
-    ensures memory_is_there { IfSlotMemory room indicator slots.old spare.old (IsOk result) }
+    ensures memory_is_there { indicator + 1 ≤ vec_capacity slots.old → HasMemoryFor room (slot_at slots.old.items indicator) spare.old → IsOk result }
 {
     reserve_slots(slots, indicator + 1)?;
     reserve_slot(&mut slots[indicator], spare, alloc, room)

@@ -2,7 +2,7 @@
 use Rattle.std.specs.Prelude.{◌≡◌, ◌≤◌, ℕ, ◌+◌, ◌-◌, ◌++◌, ◌==◌, if◌then◌else◌, not, max, Bool, true, false, List, [], ◌∷◌, length, Option, Some, None}
 use Rattle.ed_model.specs.declared.plan.DocumentChange.{DocumentChange}
 use Rattle.ed_model.specs.declared.plan.LineEndTypes.{LineEndTypes}
-use Rattle.ed_model.specs.History.{History}
+use Rattle.ed_model.specs.History.{History, emptied, collecting_set}
 use Rattle.ed_model.specs.Indicators.{changed_range}
 use Rattle.ed_model.specs.LinePlans.{numbers_in}
 use Rattle.ed_model.specs.Rows.{Row}
@@ -15,11 +15,31 @@ use Rattle.line_index.specs.Edits.{fresh_lines}
 use Rattle.line_index.specs.Settings.{edits_of_setting}
 use Rattle.line_rows.specs.Kept.{KeptRows, kept_rows, row_at}
 use Rattle.document.specs.declared.room.DocumentRoom.{DocumentRoom}
-use Rattle.document.specs.Kept.{Kept, ChangeRoom, document_room}
+use Rattle.document.specs.Kept.{Kept, ChangeRoom, document_room, text_part}
 
 -- the document with this history
 abbrev pub with_history : History → Kept → Kept
 with_history history k = record k { document = record k.document { history = history } }
+
+-- the document once its history is forgotten: the history holds no memory, and so there is no room for a step of it
+abbrev pub with_forgotten_history : Kept → Kept
+with_forgotten_history k = record k {
+  document = record k.document { history = emptied k.document.history };
+  room = text_part k.room;
+  memory = record k.memory { history = (0, 0) };
+}
+
+-- the room that stays once the collection of steps is turned on or off: if it is off, there is none for the history
+abbrev pub collecting_room : Bool → DocumentRoom → DocumentRoom
+collecting_room on room = record room { steps = if on then room.steps else 0; bytes = if on then room.bytes else 0 }
+
+-- the document once the collection of steps is turned on or off: if it is off, the history holds no memory
+abbrev pub with_collecting : Bool → Kept → Kept
+with_collecting on k = record k {
+  document = record k.document { history = collecting_set on k.document.history };
+  room = collecting_room on k.room;
+  memory = record k.memory { history = if on then k.memory.history else (0, 0) };
+}
 
 -- the document with so many references that callers hold
 abbrev pub with_held_by_callers : ℕ → Kept → Kept

@@ -17,11 +17,12 @@ pub record ChangeRoom : Type 0 where
   pub fill : Option ℕ
   pub styles : Bool
 
--- The memory that the room does not tell: how many line starts fit into it in all, with those of the document's lines, and that of the
--- indicators.
+-- The memory that the room does not tell: how many line starts fit into it in all, with those of the document's lines; that of the
+-- indicators; and how many steps, with how many bytes, fit into the history in all.
 pub record DocumentMemory : Type 0 where
   pub starts : ℕ
   pub indicators : Held
+  pub history : ℕ × ℕ
 
 -- the document, what fits into it without an allocation, and the memory that this does not tell
 pub record Kept : Type 0 where

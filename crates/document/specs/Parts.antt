@@ -53,7 +53,7 @@ spare_in d = record {
 }
 
 abbrev pub memory_in : Inside → DocumentMemory
-memory_in d = record { starts = line_room_in_all d.lines.index; indicators = d.indicators.decorated.held }
+memory_in d = record { starts = line_room_in_all d.lines.index; indicators = d.indicators.decorated.held; history = d.history.taken }
 
 abbrev pub kept_in : Inside → Kept
 kept_in d = record {

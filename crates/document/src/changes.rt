@@ -2,10 +2,11 @@
 
 ghost use Rattle.std.specs.Prelude.{◌≡◌, ◌≤◌, ◌<◌, ◌+◌, ◌-◌, ◌^◌, length, max, OnOk, OnErr, IsOk};
 ghost use Rattle.std.specs.Prelude.{vec_len, vec_capacity};
-ghost use Rattle.ed_model.specs.History.{sealed_outside_groups, saved, group_begun, group_ended, emptied, collecting_set};
+ghost use Rattle.ed_model.specs.History.{sealed_outside_groups, saved, group_begun, group_ended};
 ghost use Rattle.ed_model.specs.Session.{without, left_by};
 ghost use Rattle.document.specs.Kept.{view_room_in_all};
 ghost use Rattle.document.specs.Changes.{with_attached_view, with_held_by_callers, with_history};
+ghost use Rattle.document.specs.Changes.{with_collecting, with_forgotten_history};
 
 use crate::kept::Document;
 use ed_model::LineEnd;
@@ -62,17 +63,18 @@ impl Document {
         self.history.end_group();
     }
 
-    /// Forgets all steps (`SCI_EMPTYUNDOBUFFER`). This state becomes the save point, and no group is open.
+    /// Forgets all steps, and frees their memory (`SCI_EMPTYUNDOBUFFER`). This state becomes the save point, and no
+    /// group is open. There is no room for a step of the history any more.
     pub fn forget_history(&mut self)
-        ensures { self.new ≡ with_history (emptied self.old.document.history) self.old }
+        ensures { self.new ≡ with_forgotten_history self.old }
     {
         self.history.empty();
     }
 
     /// Turns the collection of steps on or off (`SCI_SETUNDOCOLLECTION`). When it is off, the document forgets all
-    /// steps, but not whether it counts as modified.
+    /// steps and frees their memory, but not whether it counts as modified.
     pub fn set_collecting(&mut self, on: bool)
-        ensures { self.new ≡ with_history (collecting_set on self.old.document.history) self.old }
+        ensures { self.new ≡ with_collecting on self.old }
     {
         self.history.set_collecting(on);
     }

@@ -5,7 +5,7 @@ ghost use Rattle.ed_model.specs.Text.{bytes_of, styles_of};
 ghost use Rattle.ed_model.specs.Lines.{line_starts, line_count, line_of, start_of_line, start_after_line, end_of_line};
 ghost use Rattle.ed_model.specs.Session.{new_document, text_of, lines_in, references, is_large};
 ghost use Rattle.line_index.specs.Index.{IsIndexOf};
-ghost use Rattle.document.specs.Kept.{FitsWidth, bound_of, no_room, text_from};
+ghost use Rattle.document.specs.Kept.{FitsWidth, no_room, text_from};
 ghost use Rattle.document.specs.Memory.{memory_of_one_line};
 
 use crate::places::{Indicators, Lines};
@@ -100,13 +100,6 @@ impl Document {
         ensures { result ≡ is_large self.now.document }
     {
         self.options & document_option::TEXT_LARGE != 0
-    }
-
-    /// Returns a bound: each text of the document is shorter, in bytes. It depends on the width of places.
-    pub fn bound(&self) -> usize
-        ensures { result ≡ bound_of (is_large self.now.document) }
-    {
-        if self.is_large() { 1 << 61 } else { 1 << 31 }
     }
 
     /// Returns the length of the text in bytes.

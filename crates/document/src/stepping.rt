@@ -6,7 +6,7 @@ ghost use Rattle.ed_model.specs.Performing.{document_after};
 ghost use Rattle.line_index.specs.StepEdits.{SmallLines};
 ghost use Rattle.document.specs.Kept.{HasRoom, HasTextRoom, HasHistoryRoom, TakesRoom, IsAtMost, FitsWidth};
 ghost use Rattle.document.specs.Kept.{AddsNoRoomBut, marker_room_in_all, no_room, text_part, history_part};
-ghost use Rattle.document.specs.Memory.{AreIndicatorsFor, AreStartsFor, KeepsMemory};
+ghost use Rattle.document.specs.Memory.{AreIndicatorsFor, AreStartsFor, IsHistoryFor, KeepsMemory, KeepsTextMemory};
 ghost use Rattle.document.specs.TextSteps.{FreesDeletedBytes, IsStepOn, bytes_out, change_on, line_change_of};
 ghost use Rattle.document.specs.TextSteps.{need_on, step_on, with_appended};
 
@@ -42,7 +42,8 @@ impl Document {
     }
 
     /// Makes room for `need`. Frees nothing. The memory for line starts grows to that or to twice its size, and not at
-    /// all if the lines fit in; that of the indicators grows as theirs does.
+    /// all if the lines fit in; that of the indicators grows as theirs does, and that of the history if there is too
+    /// little room, to what is needed or to twice its size.
     ///
     /// # Errors
     ///
@@ -58,7 +59,8 @@ impl Document {
         ensures at_most { IsAtMost self.new.room self.old.room need }
         ensures starts { AreStartsFor need.lines self.old self.new }
         ensures indicators { AreIndicatorsFor need.insertions self.old self.new }
-        ensures memory_is_there { HasTextRoom self.old need → self.new.memory ≡ self.old.memory }
+        ensures history { IsHistoryFor need self.old self.new }
+        ensures memory_is_there { HasTextRoom self.old need → KeepsTextMemory self.old self.new }
     {
         let Ok(()) = self.cells.reserve(need.text) else {
             return Err(AllocError);

@@ -50,6 +50,7 @@ impl Document {
         ensures at_most { IsAtMost self.new.room self.old.room (document_room 0 lines 0 0 0) }
         ensures starts { AreStartsFor lines self.old self.new }
         ensures indicators { self.new.memory.indicators ≡ self.old.memory.indicators }
+        ensures history { self.new.memory.history ≡ self.old.memory.history }
         ensures memory_is_there { lines ≤ self.old.room.lines → self.new.memory ≡ self.old.memory }
     {
         let Ok(()) = self.lines.reserve(lines) else {

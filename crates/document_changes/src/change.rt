@@ -90,8 +90,8 @@ fn perform(
 /// the view whose id is `sender`.
 ///
 /// If other line ends count, the flags of the views follow the lines. There must be room for the change and for its
-/// notes. The change uses that room, and adds none but that of deleted markers. The total room of each view for hidden
-/// and contracted lines does not change.
+/// notes. The change uses that room, and adds none but that of deleted markers. If it forgets the history, it leaves the
+/// history no memory and no room. The total room of each view for hidden and contracted lines does not change.
 pub fn change_document(
     document: &mut Document,
     views: &mut IdTable<View>,

@@ -9,7 +9,7 @@ ghost use Rattle.scene.specs.Scenes.{watchers, IsWatched};
 ghost use Rattle.document_changes.specs.Changed.{IsMade, IsMadeForAnyViews};
 ghost use Rattle.document_changes.specs.Fit.{IsFitChange};
 ghost use Rattle.document_changes.specs.Needs.{change_note_need, is_quiet};
-ghost use Rattle.document_changes.specs.RoomLeft.{LeavesRoom};
+ghost use Rattle.document_changes.specs.RoomLeft.{LeavesHistory, LeavesRoom, room_kept};
 
 use crate::telling::tell_all;
 use document::Document;
@@ -25,7 +25,9 @@ fn set(document: &mut Document, change: DocumentChange)
     requires fits { IsFitChange document.old.document change }
     requires quiet { is_quiet change ≡ true }
     ensures document { (text : List ℕ) → document.new.document ≡ changed_document text change document.old.document }
-    ensures rest { document.new ≡ record document.old { document = document.new.document } }
+    ensures room { document.new.room ≡ room_kept change document.old.room }
+    ensures spare { document.new.spare ≡ document.old.spare }
+    ensures history { LeavesHistory change document.new }
 {
     match change {
         DocumentChange::SetReadOnly { on } => document.set_read_only(on),

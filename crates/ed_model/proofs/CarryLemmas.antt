@@ -1,10 +1,5 @@
 -- Carry: a row for each line.
-use Rattle.std.proofs.Common.{ℕ, ◌≡◌, List, [], ◌∷◌, length, refl}
-use Rattle.std.proofs.lemmas.List.FromFn.{length-map-range_with_len}
-use Rattle.ed_model.specs.declared.plan.LineEndTypes.{LineEndTypes}
-use Rattle.ed_model.specs.Lines.{line_starts, line_count}
-use Rattle.ed_model.specs.Steps.{Step, edited, moved_start}
-use Rattle.ed_model.specs.Carry.{rows_on, carried, carried_unless_empty, carried_by, regrouped}
+use Rattle.ed_model.proofs.Names.{ℕ, ◌≡◌, List, [], ◌∷◌, length, refl, length-map-range_with_len, LineEndTypes, line_starts, line_count, Step, edited, moved_start, rows_on, carried, carried_unless_empty, carried_by, regrouped}
 
 -- a carry leaves a row for each new line
 pub length-carried : {R : Type 0} (together : List R → R) (moved : ℕ → ℕ) (old new : List ℕ) (rows : List R) → length (carried together moved old new rows) ≡ length new

@@ -1,24 +1,9 @@
 -- The texts to which undo goes back, over the changes of a document.
-use Rattle.std.proofs.Common.{◌≡◌, ℕ, zero, suc, ◌+◌, ◌-◌, ◌<◌, ◌≤◌, ◌==◌, nat_lt, not, ◌&&◌, ◌||◌, Bool, true, false, ℤ, List, [], ◌∷◌, length, take, map, replicate, refl, ap, ◌∙◌, sym, subst, arith, Some}
+use Rattle.ed_model.proofs.Names.{◌≡◌, ℕ, zero, suc, ◌+◌, ◌-◌, ◌<◌, ◌≤◌, ◌==◌, nat_lt, not, ◌&&◌, ◌||◌, Bool, true, false, ℤ, List, [], ◌∷◌, length, take, map, replicate, refl, ap, ◌∙◌, sym, subst, arith, Some, Step, edited, after_steps, History, Transaction, Change, TextStep, ContainerStep, at_save_point, joins, joins_last, belongs, with_change, appended, begins_transaction, sealed_outside_groups, group_begun, group_ended, with_container_step, redo_changes, undone, undone_to, redone, redone_from, emptied, collecting_set, saved, text_steps, Document, text_of, Scene, step_made, steps_made, sealed_scene, styled, Fits, FitInTurn, text_of_scene, history_of, after_undo, after_redo, SameButForSeals, undone_text, KeepsEarlierTexts, EditsKeepEarlierTexts, UndoKeepsTheTextsBefore, RedoKeepsTheTextsBefore, DocumentChangesKeepEarlierTexts, latest_with, GoesBackAtFirst, GoesBackAfterwards, bytes_of_edited_cells, text_of_styled, same_length, cond-true, cond-false, ne_eqb, cond_both}
 use Rattle.ed_model.specs.declared.plan.DocumentChange.TheVariants as change
-use Rattle.ed_model.specs.Steps.{Step, edited}
-use Rattle.ed_model.specs.LineEnds.{after_steps}
-use Rattle.ed_model.specs.History.{History, Transaction, Change, TextStep, ContainerStep, at_save_point, joins, joins_last, belongs, with_change, appended, begins_transaction, sealed_outside_groups, group_begun, group_ended, with_container_step, redo_changes, undone, undone_to, redone, redone_from, emptied, collecting_set, saved}
-use Rattle.ed_model.specs.UndoPlans.{text_steps}
-use Rattle.ed_model.specs.Session.{Document, text_of}
-use Rattle.ed_model.specs.Performing.{Scene, step_made, steps_made, sealed_scene}
-use Rattle.ed_model.specs.Changes.{styled}
-use Rattle.ed_model.specs.InverseLaws.{Fits, FitInTurn, text_of_scene, history_of, after_undo, after_redo}
-use Rattle.ed_model.specs.HistoryLaws.{SameButForSeals}
-use Rattle.ed_model.specs.UndoLaws.{undone_text}
-use Rattle.ed_model.specs.EarlierTextLaws.{KeepsEarlierTexts, EditsKeepEarlierTexts, UndoKeepsTheTextsBefore, RedoKeepsTheTextsBefore, DocumentChangesKeepEarlierTexts, latest_with, GoesBackAtFirst, GoesBackAfterwards}
-use Rattle.ed_model.specs.proved.Steps.{bytes_of_edited_cells}
-use Rattle.ed_model.specs.proved.Changes.{text_of_styled}
-use Rattle.ed_model.specs.proved.Histories.{same_length}
 use Rattle.ed_model.proofs.HistoryLemmas.{where_collecting, itself, joined_last, joined_open, append_begins, append_leaves_the_save_point, not_collecting_appends_nothing, seals_change_no_change, group_begun_changes_no_change, group_ended_changes_no_change, undo_moves_to_the_future, redo_moves_to_the_past}
 use Rattle.ed_model.proofs.TransactionLemmas.{undo_makes_its_steps, redo_makes_its_steps}
 use Rattle.ed_model.proofs.UndoLemmas.{undo_keeps_earlier_texts, redo_is_one_transaction_more, seals_keep_earlier_texts, begun_step_is_one_transaction_more, joined_step_keeps_earlier_texts, begun_container_step_is_one_transaction_more, joined_container_step_keeps_earlier_texts}
-use Rattle.std.proofs.lemmas.Bool.{cond-true, cond-false, ne_eqb, cond_both}
 
 -- `KeepsEarlierTexts` for a history and its text, in place of a document.
 abbrev pub Keeps : History → List ℕ → History → List ℕ → Type 0

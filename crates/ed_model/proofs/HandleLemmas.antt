@@ -1,16 +1,7 @@
 -- Each handle is given once: how often it is in a document's rows after a change.
-use Rattle.std.proofs.Common.{ℕ, ◌<◌, ◌≤◌, List, [], ◌∷◌, ◌++◌, map, ap, ◌∙◌, arith}
-use Rattle.std.specs.Prelude.{slice_index_or}
-use Rattle.std.proofs.lemmas.List.{map-append}
+use Rattle.ed_model.proofs.Names.{ℕ, ◌<◌, ◌≤◌, List, [], ◌∷◌, ◌++◌, map, ap, ◌∙◌, arith, slice_index_or, map-append, line_starts, Marker, fresh_row, Document, text_of, new_markers, with_new_markers, without_marker, is_of_number, numbers_in, occurrences, handles_in, occurrences_append}
 use Rattle.ed_model.specs.declared.plan.DocumentChange.TheVariants as change
-use Rattle.ed_model.specs.Lines.{line_starts}
-use Rattle.ed_model.specs.Rows.{Marker, fresh_row}
-use Rattle.ed_model.specs.Session.{Document, text_of}
-use Rattle.ed_model.specs.Changes.{new_markers, with_new_markers, without_marker, is_of_number}
-use Rattle.ed_model.specs.LinePlans.{numbers_in}
-use Rattle.ed_model.specs.SoundLaws.{occurrences, handles_in}
 use Rattle.ed_model.specs.HandleLaws.{StepsGiveNoHandle, ChangesGiveNoOldHandle, NextHandlesNeverFall}
-use Rattle.ed_model.specs.proved.Finding.{occurrences_append}
 use Rattle.ed_model.proofs.SoundCarry.{handles_carried, handles_carried_by}
 use Rattle.ed_model.proofs.SoundMarkers.{set_occurrences, with_markers_occurrences, new_below, without_marker_occurrences, without_markers_occurrences}
 

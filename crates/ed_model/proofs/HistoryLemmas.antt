@@ -1,11 +1,5 @@
 -- The undo history. First facts on lists of transactions and on save points, then facts on histories by cases of their tests.
-use Rattle.std.proofs.Common.{◌≡◌, ℕ, suc, ◌+◌, ◌-◌, ◌<◌, ◌==◌, not, ◌&&◌, ◌||◌, cond, if◌then◌else◌, Bool, true, false, ℤ, List, [], ◌∷◌, length, map, refl, ap, ◌∙◌, sym, subst, arith, Option, Some, None}
-use Rattle.std.proofs.lemmas.Bool.{eqb-true, eq-eqb, cond-true, cond-false, cond_both}
-use Rattle.std.proofs.lemmas.List.{length-map}
-use Rattle.ed_model.specs.Numbers.{is_number}
-use Rattle.ed_model.specs.History.{History, Transaction, Change, at_save_point, joins, joins_last, appended, reachable, with_change, first_changes, seal_first, sealed_outside_groups, with_last_sealed, group_ended, with_container_step, ContainerStep, undone, undone_to, redone, redone_from}
-use Rattle.ed_model.specs.HistoryLaws.{NotCollectingAppendsNothing, KeepsAllButThePast, AppendKeepsAllButThePast, AppendJoins, NothingJoinsNone, AppendBegins, AppendCounts, AppendLeavesTheSavePoint, SavedIsAtTheSavePoint, EmptiedIsAtTheSavePoint, CollectingKeepsModified, SealsKeepModified, GroupBegunKeepsModified, GroupEndedKeepsModified, SealsOnce, NothingJoinsASealedOne, SameButForSeals, SealsChangeNoChange, GroupBegunChangesNoChange, GroupEndedChangesNoChange, GroupBegunIsDeeper, GroupEndedIsLessDeep, OthersKeepTheDepth, MovesToTheFuture, UndoMovesToTheFuture, MovesToThePast, RedoMovesToThePast, UndoThenRedoGivesBackTheHistory, UndoThenRedoKeepsModified}
-use Rattle.ed_model.specs.proved.Histories.{sealed_length, lower_save_point, other_save_point}
+use Rattle.ed_model.proofs.Names.{◌||◌, ◌≡◌, ℕ, suc, ◌+◌, ◌-◌, ◌<◌, ◌==◌, not, ◌&&◌, cond, if◌then◌else◌, Bool, true, false, ℤ, List, [], ◌∷◌, length, map, refl, ap, ◌∙◌, sym, subst, arith, eqb-true, eq-eqb, cond-true, cond-false, cond_both, is_number, History, Transaction, Change, at_save_point, joins, joins_last, appended, reachable, with_change, first_changes, seal_first, sealed_outside_groups, with_last_sealed, group_ended, with_container_step, ContainerStep, undone_to, redone, redone_from, NotCollectingAppendsNothing, KeepsAllButThePast, AppendKeepsAllButThePast, AppendJoins, NothingJoinsNone, AppendBegins, AppendCounts, AppendLeavesTheSavePoint, SealsOnce, NothingJoinsASealedOne, SameButForSeals, SealsChangeNoChange, GroupBegunChangesNoChange, GroupEndedChangesNoChange, GroupBegunIsDeeper, GroupEndedIsLessDeep, OthersKeepTheDepth, MovesToTheFuture, UndoMovesToTheFuture, MovesToThePast, RedoMovesToThePast, UndoThenRedoGivesBackTheHistory, sealed_length, lower_save_point, other_save_point}
 
 -- Tests.
 
@@ -25,12 +19,6 @@ sealed_twice (t ∷ ts) = refl
 -- outside groups the last transaction is sealed, and in a group the history does not change
 pub outside_groups : (P : History → Type 0) (h : History) → (h.depth ≡ 0 → P (with_last_sealed h)) → P h → P (sealed_outside_groups h)
 outside_groups P h outside inside = cond_both (h.depth == 0) (with_last_sealed h) h P (λ e. outside (eqb-true h.depth 0 e)) (λ e. inside)
-
-sealed_keeps_modified : (h : History) → at_save_point (with_last_sealed h) ≡ at_save_point h
-sealed_keeps_modified h = ap (λ n. is_number n h.save_point) (sealed_length h.past)
-
-pub seals_keep_modified : SealsKeepModified
-seals_keep_modified h = outside_groups (λ g. at_save_point g ≡ at_save_point h) h (λ e. sealed_keeps_modified h) refl
 
 pub sealing_keeps_depth : (h : History) → (sealed_outside_groups h).depth ≡ h.depth
 sealing_keeps_depth h = outside_groups (λ g. g.depth ≡ h.depth) h (λ e. refl) refl
@@ -61,9 +49,6 @@ nothing_joins_a_sealed_one later c h e =
 
 -- Groups.
 
-pub group_begun_keeps_modified : GroupBegunKeepsModified
-group_begun_keeps_modified h = seals_keep_modified h
-
 pub group_begun_changes_no_change : GroupBegunChangesNoChange
 group_begun_changes_no_change h =
     let s = seals_change_no_change h in
@@ -75,10 +60,6 @@ group_begun_is_deeper h = refl
 -- ending a group: nothing changes without a group; otherwise there is one group fewer, and the end of the outermost seals
 pub group_end : (P : History → Type 0) (h : History) → P h → P (sealed_outside_groups (record h { depth = h.depth - 1 })) → P (group_ended h)
 group_end P h none some = cond_both (h.depth == 0) h (sealed_outside_groups (record h { depth = h.depth - 1 })) P (λ e. none) (λ e. some)
-
-pub group_ended_keeps_modified : GroupEndedKeepsModified
-group_ended_keeps_modified h =
-    group_end (λ g. at_save_point g ≡ at_save_point h) h refl (seals_keep_modified (record h { depth = h.depth - 1 }))
 
 pub group_ended_changes_no_change : GroupEndedChangesNoChange
 group_ended_changes_no_change h =
@@ -189,22 +170,6 @@ pub append_leaves_the_save_point : AppendLeavesTheSavePoint
 append_leaves_the_save_point later c h e =
     subst (λ g. at_save_point g ≡ false) (sym (where_collecting later c h e)) (modified_by later c h (joins later c h) refl)
 
--- The save point.
-
-pub saved_is_at_the_save_point : SavedIsAtTheSavePoint
-saved_is_at_the_save_point h = itself (length h.past)
-
-pub emptied_is_at_the_save_point : EmptiedIsAtTheSavePoint
-emptied_is_at_the_save_point h = refl
-
-kept_modified : (b : Bool) → is_number 0 (cond b (Some 0) None) ≡ b
-kept_modified true = refl
-kept_modified false = refl
-
-pub collecting_keeps_modified : CollectingKeepsModified
-collecting_keeps_modified true h = refl
-collecting_keeps_modified false h = kept_modified (at_save_point h)
-
 -- Depth.
 
 append_keeps_depth : (later : Bool) (c : Change) (h : History) → (appended later c h).depth ≡ h.depth
@@ -284,12 +249,3 @@ back_again h (t ∷ ts) e some = record {
 
 pub undo_then_redo_gives_back_the_history : UndoThenRedoGivesBackTheHistory
 undo_then_redo_gives_back_the_history h some = back_again h h.past refl some
-
--- histories that differ only in seals count as modified alike
-pub same_modified : (h g : History) → SameButForSeals h g → at_save_point g ≡ at_save_point h
-same_modified h g s =
-    ap (λ (p : Option ℕ). is_number (length g.past) p) s.save_point
-    ∙ ap (λ n. is_number n h.save_point) (sym (length-map g.past (λ (t : Transaction). t.changes)) ∙ ap length s.past ∙ length-map h.past (λ (t : Transaction). t.changes))
-
-pub undo_then_redo_keeps_modified : UndoThenRedoKeepsModified
-undo_then_redo_keeps_modified h some = same_modified h (redone (undone h)) (undo_then_redo_gives_back_the_history h some)

@@ -1,19 +1,7 @@
 -- Steps followed by their inverses.
-use Rattle.std.proofs.Common.{◌≡◌, ℕ, suc, ◌+◌, ◌-◌, ◌≤◌, List, [], ◌∷◌, ◌++◌, length, take, drop, map, refl, ap, ◌∙◌, sym, subst, arith, append_assoc, length-append, length-drop}
+use Rattle.ed_model.proofs.Names.{◌≡◌, ℕ, ◌+◌, ◌-◌, ◌≤◌, List, [], ◌∷◌, ◌++◌, length, take, drop, map, refl, ap, ◌∙◌, sym, subst, arith, append_assoc, length-append, length-drop, length-take-le, take-append-drop, reverse-append, drop_split, Step, Insert, Delete, edited, inverse_of, after_steps, inverses, InverseGivesBackTheText, InverseFits, InversesGiveBackTheText, front_kept, behind_kept}
 use Rattle.std.specs.List.{slice_range}
-use Rattle.std.proofs.lemmas.List.{length-take-le, take-append-drop, reverse-append}
-use Rattle.std.proofs.lemmas.List.Folds.{drop_split}
 use Rattle.std.proofs.Math.Seq.{take-append_seam, drop-append_seam, drop-append-add}
-use Rattle.ed_model.specs.Text.{bytes_of, plain_cells}
-use Rattle.ed_model.specs.Steps.{Step, Insert, Delete, edited, edited_cells, inverse_of}
-use Rattle.ed_model.specs.LineEnds.{after_steps}
-use Rattle.ed_model.specs.InverseLaws.{FitInTurn, inverses, InverseOfInverse, InverseGivesBackTheText, InverseFits, InverseGivesBackTheBytesOfCells, InsertionTakenBackGivesBackTheCells, InversesGiveBackTheText, InversesFitInTurn}
-use Rattle.ed_model.specs.proved.Steps.{bytes_of_edited_cells}
-use Rattle.ed_model.specs.proved.Lists.{front_kept, behind_kept}
-
-pub inverse_of_inverse : InverseOfInverse
-inverse_of_inverse (Insert p bytes) = refl
-inverse_of_inverse (Delete p bytes) = refl
 
 -- after the inserted bytes come the bytes that were there before
 pub behind_put_in : {A : Type 0} (p : ℕ) (text put rest : List A) → p ≤ length text → drop (p + length put) (take p text ++ (put ++ rest)) ≡ rest
@@ -62,32 +50,11 @@ pub inverse_fits : InverseFits
 inverse_fits (Insert p bytes) text h = (put_in_is_behind p bytes text h, put_in_stands p bytes text h)
 inverse_fits (Delete p bytes) text h = taken_out_is_before p (length bytes) text h.0
 
--- Cells.
-
-pub length_of_plain_cells : (bytes : List ℕ) → length (plain_cells bytes) ≡ length bytes
-length_of_plain_cells [] = refl
-length_of_plain_cells (b ∷ bs) = ap suc (length_of_plain_cells bs)
-
-pub inverse_gives_back_the_bytes_of_cells : InverseGivesBackTheBytesOfCells
-inverse_gives_back_the_bytes_of_cells step cells h =
-    bytes_of_edited_cells (inverse_of step) (edited_cells step cells)
-    ∙ ap (edited (inverse_of step)) (bytes_of_edited_cells step cells)
-    ∙ inverse_gives_back_the_text step (bytes_of cells) h
-
-pub insertion_taken_back_gives_back_the_cells : InsertionTakenBackGivesBackTheCells
-insertion_taken_back_gives_back_the_cells p bytes cells h =
-    subst (λ (n : ℕ). take p (take p cells ++ plain_cells bytes ++ drop p cells) ++ drop (p + n) (take p cells ++ plain_cells bytes ++ drop p cells) ≡ cells)
-    (length_of_plain_cells bytes) (put_in_taken_out p (plain_cells bytes) cells h)
-
 -- Several steps.
 
 pub steps_after_steps : (first second : List Step) (text : List ℕ) → after_steps (first ++ second) text ≡ after_steps second (after_steps first text)
 steps_after_steps [] second text = refl
 steps_after_steps (step ∷ first) second text = steps_after_steps first second (edited step text)
-
-pub fit_after_steps : (first second : List Step) (text : List ℕ) → FitInTurn first text → FitInTurn second (after_steps first text) → FitInTurn (first ++ second) text
-fit_after_steps [] second text h k = k
-fit_after_steps (step ∷ first) second text h k = (h.0, fit_after_steps first second (edited step text) h.1 k)
 
 -- the first step is undone last
 pub first_taken_back_last : (step : Step) (steps : List Step) → inverses (step ∷ steps) ≡ inverses steps ++ (inverse_of step ∷ [])
@@ -101,11 +68,3 @@ inverses_give_back_the_text (step ∷ steps) text h =
     ∙ steps_after_steps (inverses steps) (inverse_of step ∷ []) left
     ∙ ap (edited (inverse_of step)) (inverses_give_back_the_text steps (edited step text) h.1)
     ∙ inverse_gives_back_the_text step text h.0
-
-pub inverses_fit_in_turn : InversesFitInTurn
-inverses_fit_in_turn [] text h = tt
-inverses_fit_in_turn (step ∷ steps) text h =
-    let left = after_steps steps (edited step text) in
-    subst (λ (back : List Step). FitInTurn back left) (sym (first_taken_back_last step steps))
-    (fit_after_steps (inverses steps) (inverse_of step ∷ []) left (inverses_fit_in_turn steps (edited step text) h.1)
-    (subst (λ (t : List ℕ). FitInTurn (inverse_of step ∷ []) t) (sym (inverses_give_back_the_text steps (edited step text) h.1)) (inverse_fits step text h.0, tt)))

@@ -1,14 +1,8 @@
 -- The walk over old lines and new ones can be split into parts: rows of lines that stay do not change, a new line gets a fresh
 -- row, and a line that is joined to another joins their rows.
-use Rattle.std.proofs.Common.{ℕ, zero, suc, ◌≡◌, ◌+◌, ◌-◌, ◌<◌, ◌≤◌, Bool, true, false, cond, List, [], ◌∷◌, ◌++◌, map, length, take, drop, filter, zip, count_by, get_or, slice_range, eqb, leb, ltb, sym, refl, ap, ap₂, ◌∙◌, inl, inr, arith, ◌≢◌, one-add, le_refl}
-use Rattle.std.specs.List.{prefix_len, AllByRecursion}
-use Rattle.std.specs.List.Sorted.{IsNonDecreasing}
-use Rattle.std.proofs.lemmas.Bool.{cases_order, eq-eqb, ne_eqb, lt-ltb, le-ltb, le-leb, lt-leb}
-use Rattle.std.proofs.lemmas.List.{length-drop, take_at, drop_at, take-append-le, drop-append-le}
+use Rattle.ed_model.proofs.Names.{ℕ, zero, suc, ◌≡◌, ◌+◌, ◌-◌, ◌<◌, ◌≤◌, Bool, true, false, cond, List, [], ◌∷◌, ◌++◌, map, length, take, drop, get_or, ltb, sym, refl, ap, ap₂, ◌∙◌, arith, one-add, le_refl, prefix_len, AllByRecursion, IsNonDecreasing, lt-ltb, le-ltb, take_at, drop_at, take-append-le, drop-append-le, lines_before, merged, Rises, Climbs, Climbs_weaker, Rises_weaker, all_weaker}
+use Rattle.std.proofs.lemmas.List.{length-drop}
 use Rattle.std.proofs.lemmas.List.Sums.{prefix_len-le-length}
-use Rattle.ed_model.specs.MergeLaws.{lines_before, merged}
-use Rattle.ed_model.specs.proved.Rising.{Rises, Climbs, Climbs_weaker, Rises_weaker, count-cons}
-use Rattle.ed_model.specs.proved.Elements.{all_weaker}
 
 -- facts on each element
 
@@ -105,57 +99,3 @@ climbs_from_non_decreasing low (x ∷ y ∷ xs) h r = (
   h (omega arith),
   climbs_from_non_decreasing x (y ∷ xs) (λ _. r 0 1 0 (omega arith) (omega arith)) (λ i j d m l. r (suc i) (suc j) d (omega arith) (omega arith)),
 )
-
--- a monotone function of a list that climbs climbs
-pub climbs_of_keys : (key : ℕ → ℕ) → ((x y : ℕ) → x ≤ y → key x ≤ key y) → (low : ℕ) (xs : List ℕ) → Climbs low xs → Climbs (key low) (map key xs)
-climbs_of_keys key m low [] c = tt
-climbs_of_keys key m low (x ∷ xs) c = (m low x c.0, climbs_of_keys key m x xs c.1)
-
--- blocks of rows
-
-none_under : (key : ℕ → ℕ) (low line : ℕ) (old : List ℕ) → Climbs low (map key old) → line ≤ low → count_by (λ o. ltb (key o) line) old ≡ 0
-none_under key low line [] c h = refl
-none_under key low line (o ∷ old) c h = rw (count-cons (λ x. ltb (key x) line) o old, le-ltb (key o) line (omega (arith, c.0)), none_under key (key o) line old c.1 (omega (arith, c.0))) refl
-
-none_upto : (key : ℕ → ℕ) (low line : ℕ) (old : List ℕ) → Climbs low (map key old) → line < low → count_by (λ o. leb (key o) line) old ≡ 0
-none_upto key low line [] c h = refl
-none_upto key low line (o ∷ old) c h = rw (count-cons (λ x. leb (key x) line) o old, lt-leb (key o) line (omega (arith, c.0)), none_upto key (key o) line old c.1 (omega (arith, c.0))) refl
-
--- no row goes to a line that contains no old start
-pub none_on : {R : Type 0} (key : ℕ → ℕ) (line : ℕ) (old : List ℕ) (rows : List R) → AllByRecursion (λ o. key o ≢ line) old → filter (λ (e : ℕ × R). eqb (key e.0) line) (zip old rows) ≡ []
-none_on key line [] rows h = refl
-none_on key line (o ∷ old) [] h = refl
-none_on key line (o ∷ old) (r ∷ rows) h = rw (ne_eqb (key o) line h.0) (none_on key line old rows h.1)
-
--- the rows on one line are consecutive, if the lines do not fall
-pub block_of_rows : {R : Type 0} (key : ℕ → ℕ) (low line : ℕ) (old : List ℕ) (rows : List R) → Climbs low (map key old) → length old ≡ length rows → map (λ (e : ℕ × R). e.1) (filter (λ (e : ℕ × R). eqb (key e.0) line) (zip old rows)) ≡ slice_range rows (count_by (λ o. ltb (key o) line) old) (count_by (λ o. leb (key o) line) old)
-block_of_rows key low line [] [] c h = refl
-block_of_rows key low line [] (r ∷ rows) c h = absurd (omega arith)
-block_of_rows key low line (o ∷ old) [] c h = absurd (omega arith)
-block_of_rows {R} key low line (o ∷ old) (r ∷ rows) c h =
-    let under : ℕ = count_by (λ x. ltb (key x) line) old in
-    let upto : ℕ = count_by (λ x. leb (key x) line) old in
-    let rest : map (λ (e : ℕ × R). e.1) (filter (λ (e : ℕ × R). eqb (key e.0) line) (zip old rows)) ≡ take (upto - under) (drop under rows) = block_of_rows key (key o) line old rows c.1 (omega arith) in
-    elim (cases_order (key o) line) [
-      | inl same ↦
-          let none : under ≡ 0 = none_under key (key o) line old c.1 (omega arith) in
-          let cut : (1 + upto) - 0 ≡ suc upto = omega arith in
-          let whole : upto - 0 ≡ upto = omega arith in
-          rw (count-cons (λ x. ltb (key x) line) o old, count-cons (λ x. leb (key x) line) o old, eq-eqb (key o) line same, le-ltb (key o) line (omega arith), le-leb (key o) line (omega arith), none, cut)
-          (ap (λ l. r ∷ l) (rw (none, whole) at rest))
-      | inr (inl before) ↦
-          let cut : (1 + upto) - (1 + under) ≡ upto - under = omega arith in
-          rw (count-cons (λ x. ltb (key x) line) o old, count-cons (λ x. leb (key x) line) o old, ne_eqb (key o) line (λ e. omega arith), lt-ltb (key o) line before, le-leb (key o) line (omega arith), cut, one-add under)
-          rest
-      | inr (inr behind) ↦
-          rw (
-            count-cons (λ x. ltb (key x) line) o old,
-            count-cons (λ x. leb (key x) line) o old,
-            ne_eqb (key o) line (λ e. omega arith),
-            le-ltb (key o) line (omega arith),
-            lt-leb (key o) line behind,
-            none_under key (key o) line old c.1 (omega arith),
-            none_upto key (key o) line old c.1 behind,
-          )
-          (ap (map (λ (e : ℕ × R). e.1)) (none_on key line old rows (all_weaker (λ x. key o ≤ key x) (λ x. key x ≢ line) (λ x m. λ e. omega arith) old (climbs_each (key o) key old c.1))))
-    ]

@@ -1,13 +1,6 @@
 -- Carry is the walk over the old lines and the new ones: the rows that go to a line are consecutive old rows.
-use Rattle.std.proofs.Common.{ℕ, zero, suc, ◌≡◌, ◌+◌, ◌<◌, ◌≤◌, Bool, true, cond, ◌&&◌, List, [], ◌∷◌, map, length, take, drop, filter, zip, count_by, eqb, leb, ltb, sym, refl, ap, ap₂, ◌∙◌, inl, inr, arith, one-add, le_refl}
-use Rattle.std.specs.List.{range_with_len}
-use Rattle.std.proofs.lemmas.Bool.{cond_both, cases_lt, cases_eq, eq-eqb, ne_eqb, lt-ltb, le-ltb, le-leb, lt-leb}
-use Rattle.std.proofs.lemmas.List.{length-drop, drop-map}
-use Rattle.std.proofs.lemmas.List.Elements.{filter_agree}
-use Rattle.ed_model.specs.Lines.{line_of}
-use Rattle.ed_model.specs.Carry.{rows_on, carried}
-use Rattle.ed_model.specs.MergeLaws.{lines_before, merged}
-use Rattle.ed_model.specs.proved.Rising.{Rises, Climbs, Climbs_weaker, Climbs_from_rises, count-cons, count_none}
+use Rattle.ed_model.proofs.Names.{ℕ, zero, suc, ◌≡◌, ◌+◌, ◌<◌, ◌≤◌, Bool, true, cond, ◌&&◌, List, [], ◌∷◌, map, length, take, drop, filter, zip, count_by, eqb, leb, ltb, sym, refl, ap, ap₂, ◌∙◌, inl, inr, arith, one-add, le_refl, range_with_len, cond_both, cases_lt, cases_eq, eq-eqb, ne_eqb, lt-ltb, le-ltb, le-leb, lt-leb, drop-map, filter_agree, line_of, rows_on, carried, lines_before, merged, Rises, Climbs, Climbs_weaker, Climbs_from_rises, count-cons, count_none}
+use Rattle.std.proofs.lemmas.List.{length-drop}
 
 -- lists
 

@@ -1,24 +1,10 @@
 -- Plans of queries and of messages marked N, and what performing them leaves
 -- unchanged. Facts on plans are shown for each kind of message.
-use Rattle.std.proofs.Common.{◌≡◌, ℕ, nat_lt, Bool, true, false, cond, List, [], refl, Option, Some, None, Ok, Err}
-use Rattle.ed_types.specs.declared.kind.Kind.{Kind}
+use Rattle.ed_model.proofs.Names.{◌≡◌, ℕ, nat_lt, Bool, true, false, cond, refl, Option, Some, None, Ok, Err, Kind, Refusal, TooMany, NoSuchDocument, marks_of, Plan, Document, references, Request, Planned, size, with_argument, with_line, change_session, found_target, with_reference, release_of, document_named, plan_of, performed}
 use Rattle.ed_types.specs.declared.kind.Kind.TheVariants as kinds
-use Rattle.ed_types.specs.declared.refusal.Refusal.{Refusal}
-use Rattle.ed_types.specs.declared.refusal.Refusal.TheVariants.{TooMany, NoSuchDocument}
-use Rattle.ed_types.specs.Messages.{marks_of}
-use Rattle.ed_model.specs.declared.plan.DocumentChange.{DocumentChange}
-use Rattle.ed_model.specs.declared.plan.DocumentChange.TheVariants as document_change
 use Rattle.ed_model.specs.declared.plan.SessionChange.TheVariants as session_change
-use Rattle.ed_model.specs.declared.plan.Plan.{Plan}
 use Rattle.ed_model.specs.declared.plan.Plan.TheVariants as plan
-use Rattle.ed_model.specs.Session.{Document, View, watching, references}
-use Rattle.ed_model.specs.Requests.{Request, Planned, size, with_argument, with_line}
-use Rattle.ed_model.specs.Requests.{change_session}
-use Rattle.ed_model.specs.TargetPlans.{found_target}
-use Rattle.ed_model.specs.SessionPlans.{with_reference, release_of, document_named}
-use Rattle.ed_model.specs.Changes.{change_told, changed_document}
-use Rattle.ed_model.specs.Table.{plan_of, performed}
-use Rattle.ed_model.specs.FreePlans.{IsFreeDocumentChange, IsFreePlan, IsFreePlanned, MarkedPlansAreFree}
+use Rattle.ed_model.specs.FreePlans.{IsFreePlanned, MarkedPlansAreFree}
 
 -- Queries.
 
@@ -85,55 +71,6 @@ query_is_quiet kinds.AddText r h = cc
 query_is_quiet _ r h = first_of (cc, search quiet_arguments)
 
 -- Messages marked N.
-
-pub silent_change_tells_nothing : (sender : View) (views : List View) (old new : Document) (c : DocumentChange) → IsFreeDocumentChange c → change_told sender views old new c ≡ []
-silent_change_tells_nothing sender views old new (document_change.SetReadOnly on) h = refl
-silent_change_tells_nothing sender views old new (document_change.SetLineEnd to) h = refl
-silent_change_tells_nothing sender views old new (document_change.SetLineEndTypes to) h = absurd h
-silent_change_tells_nothing sender views old new document_change.SetSavePoint h = absurd h
-silent_change_tells_nothing sender views old new document_change.BeginGroup h = refl
-silent_change_tells_nothing sender views old new document_change.EndGroup h = refl
-silent_change_tells_nothing sender views old new document_change.ForgetHistory h = refl
-silent_change_tells_nothing sender views old new (document_change.CollectUndo on) h = refl
-silent_change_tells_nothing sender views old new (document_change.SetEndStyled place) h = refl
-silent_change_tells_nothing sender views old new (document_change.AppendContainer token coalesce) h = absurd h
-silent_change_tells_nothing sender views old new (document_change.AddMarker line number) h = absurd h
-silent_change_tells_nothing sender views old new (document_change.AddMarkers line mask) h = absurd h
-silent_change_tells_nothing sender views old new (document_change.DeleteMarker line number) h = absurd h
-silent_change_tells_nothing sender views old new (document_change.DeleteMarkers number) h = absurd h
-silent_change_tells_nothing sender views old new (document_change.DeleteHandle handle) h = absurd h
-silent_change_tells_nothing sender views old new (document_change.SetLevel line level) h = absurd h
-silent_change_tells_nothing sender views old new (document_change.SetState line state) h = absurd h
-silent_change_tells_nothing sender views old new (document_change.StyleRun count style) h = absurd h
-silent_change_tells_nothing sender views old new (document_change.StyleBytes count) h = absurd h
-silent_change_tells_nothing sender views old new (document_change.NeedStyle start past) h = absurd h
-silent_change_tells_nothing sender views old new (document_change.FillIndicator indicator start count value) h = absurd h
-
--- a free plan hands out no text
-pub free_plan_has_no_text : (r : Request) (p : Plan) → IsFreePlan p → (performed r p).1.text ≡ []
-free_plan_has_no_text r (plan.Answer value) h = refl
-free_plan_has_no_text r (plan.HandOut value start count) h = absurd h
-free_plan_has_no_text r (plan.HandOutStyled start count) h = absurd h
-free_plan_has_no_text r (plan.Edit edit value follow) h = absurd h
-free_plan_has_no_text r plan.Attempt h = absurd h
-free_plan_has_no_text r plan.Undo h = absurd h
-free_plan_has_no_text r plan.Redo h = absurd h
-free_plan_has_no_text r (plan.ChangeDocument change value) h = refl
-free_plan_has_no_text r (plan.ChangeView change value) h = refl
-free_plan_has_no_text r (plan.ChangeSession change value) h = refl
-
--- a free plan has no notes
-pub free_plan_has_no_note : (r : Request) (p : Plan) → IsFreePlan p → (performed r p).1.notes ≡ []
-free_plan_has_no_note r (plan.Answer value) h = refl
-free_plan_has_no_note r (plan.HandOut value start count) h = absurd h
-free_plan_has_no_note r (plan.HandOutStyled start count) h = absurd h
-free_plan_has_no_note r (plan.Edit edit value follow) h = absurd h
-free_plan_has_no_note r plan.Attempt h = absurd h
-free_plan_has_no_note r plan.Undo h = absurd h
-free_plan_has_no_note r plan.Redo h = absurd h
-free_plan_has_no_note r (plan.ChangeDocument change value) h = silent_change_tells_nothing r.view (watching r.session.views r.document) r.document (changed_document r.message.text change r.document) change h
-free_plan_has_no_note r (plan.ChangeView change value) h = refl
-free_plan_has_no_note r (plan.ChangeSession change value) h = refl
 
 refusal_is_free : (e : Refusal) → IsFreePlanned (Err e)
 refusal_is_free e = tt

@@ -1,18 +1,5 @@
 -- Repeated UNDO and REDO messages.
-use Rattle.std.proofs.Common.{◌≡◌, ℕ, zero, suc, ◌+◌, ◌<◌, ◌≤◌, true, false, nat_lt, ◌&&◌, List, [], ◌∷◌, length, refl, ap, ◌∙◌, sym, arith, Some}
-use Rattle.std.specs.Prelude.{◌==◌}
-use Rattle.std.proofs.lemmas.Bool.{lt-ltb}
-use Rattle.ed_types.specs.declared.kind.Kind.TheVariants.{Undo, Redo}
-use Rattle.ed_types.specs.declared.message.Message.{Message}
-use Rattle.ed_model.specs.History.{History, Transaction, undone, undone_to, redone, redone_from, can_undo, can_redo}
-use Rattle.ed_model.specs.Session.{Session, Document, document_at, text_of}
-use Rattle.ed_model.specs.Performing.{Scene}
-use Rattle.ed_model.specs.InverseLaws.{after_undo, after_redo}
-use Rattle.ed_model.specs.UndoLaws.{undone_text, redone_text, undos, redos}
-use Rattle.ed_model.specs.UndoMessageLaws.{IsUndone, IsRedone}
-use Rattle.ed_model.specs.RepeatedUndoLaws.{LeavesAlone, AreAnswered, UndosGoBackThenRedosGoOn, UndoMessagesGoBack}
-use Rattle.ed_model.specs.proved.Finding.{document_sound, same_document}
-use Rattle.ed_model.specs.proved.Histories.{sealed_length}
+use Rattle.ed_model.proofs.Names.{◌≡◌, ℕ, zero, suc, ◌+◌, ◌<◌, ◌≤◌, true, false, nat_lt, ◌&&◌, List, [], ◌∷◌, length, refl, ap, ◌∙◌, sym, arith, Some, ◌==◌, lt-ltb, Undo, Redo, Message, History, Transaction, undone, undone_to, redone, redone_from, can_undo, can_redo, Session, Document, document_at, text_of, Scene, after_undo, after_redo, undone_text, redone_text, undos, redos, IsUndone, IsRedone, LeavesAlone, AreAnswered, UndosGoBackThenRedosGoOn, UndoMessagesGoBack, document_sound, same_document, sealed_length}
 use Rattle.ed_model.proofs.UndoLemmas.{undos_go_back}
 use Rattle.ed_model.proofs.UndoMessageLemmas.{undone_document, redone_document, undo_undoes, redo_redoes}
 use Rattle.ed_model.proofs.SoundHistory.{undone_then_redone_is_the_same}

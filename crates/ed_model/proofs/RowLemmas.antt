@@ -1,19 +1,8 @@
 -- Rows of lines that stay, of new lines, and of lines that are joined, as the laws state them.
-use Rattle.std.proofs.Common.{ℕ, ◌≡◌, ◌≢◌, ◌↔◌, ◌+◌, ◌<◌, ◌≤◌, List, [], ◌∷◌, ◌++◌, map, length, count_by, fold, get_or, slice_range, All, Contains, leb, ltb, refl, ap, ap₂, ◌∙◌, inl, inr, arith, le_refl, append-nil, append_assoc}
-use Rattle.std.specs.List.{AllByRecursion}
-use Rattle.std.specs.List.Sorted.{IsNonDecreasing, IsStrictlyIncreasing}
-use Rattle.std.proofs.lemmas.Bool.{cases_lt}
-use Rattle.std.proofs.lemmas.List.{map-append, length-append, get_or_default}
-use Rattle.std.proofs.lemmas.List.Elements.{recursion_from_All, Contains-get_or}
-use Rattle.ed_model.specs.declared.plan.LineEndTypes.{LineEndTypes}
-use Rattle.ed_model.specs.Lines.{line_starts, line_of}
-use Rattle.ed_model.specs.Rows.{rows_together, flags_together}
-use Rattle.ed_model.specs.Carry.{rows_on, carried}
-use Rattle.ed_model.specs.MergeLaws.{merged, JoinsRows}
-use Rattle.ed_model.specs.proved.Rising.{Rises, Climbs, Climbs_weaker, Climbs_from_rises, Rises_weaker, rises_from_increasing}
-use Rattle.ed_model.specs.proved.Lines.{line_starts_rise, first_line_start, some_line, line_of_monotone, line_of_lt, start_from_line, line_from_start}
+use Rattle.ed_model.proofs.Names.{ℕ, ◌≡◌, ◌+◌, ◌<◌, List, [], ◌∷◌, ◌++◌, map, length, fold, All, refl, ap, ap₂, ◌∙◌, arith, le_refl, append-nil, append_assoc, AllByRecursion, IsNonDecreasing, IsStrictlyIncreasing, map-append, recursion_from_All, rows_together, flags_together, carried, merged, JoinsRows, Rises, Climbs, Climbs_weaker, Climbs_from_rises, Rises_weaker, rises_from_increasing}
+use Rattle.std.proofs.lemmas.List.{length-append}
 use Rattle.ed_model.proofs.MergeLemmas.{carried_is_merged}
-use Rattle.ed_model.proofs.JoinLemmas.{rises_front, rises_before, rises_rest, climbs_each, merged-append, merged_same, merged_fresh, merged_joined, climbs_from_non_decreasing, climbs_of_keys, none_on, block_of_rows}
+use Rattle.ed_model.proofs.JoinLemmas.{rises_front, rises_before, rises_rest, climbs_each, merged-append, merged_same, merged_fresh, merged_joined, climbs_from_non_decreasing}
 
 -- rows that meet
 
@@ -32,63 +21,6 @@ flags_join = record { alone = λ flags. refl; one_by_one = λ first second rows.
 pub joined_pairwise : {R : Type 0} (together : List R → R) → JoinsRows together → (row : R) (rows : List R) → together (row ∷ rows) ≡ fold (λ first second. together (first ∷ second ∷ [])) row rows
 joined_pairwise together j row [] = j.alone row
 joined_pairwise together j row (second ∷ rows) = j.one_by_one row second rows ∙ joined_pairwise together j (together (row ∷ second ∷ [])) rows
-
--- positions on one line
-
-apart : (types : LineEndTypes) (text : List ℕ) (p q k start : ℕ) → k < length (line_starts types text) → get_or (line_starts types text) k start ≡ start → p < start → start ≤ q → line_of (line_starts types text) p ≡ line_of (line_starts types text) q → ⊥
-apart types text p q k start h e low high same =
-    let climbs : Climbs 0 (line_starts types text) = Climbs_from_rises 0 (line_starts types text) (line_starts_rise types text) in
-    let at : get_or (line_starts types text) k 0 ≡ start = get_or_default (line_starts types text) k 0 start h ∙ e in
-    let below : k ≤ line_of (line_starts types text) q = line_from_start 0 (line_starts types text) q k climbs h (omega arith) in
-    let before : get_or (line_starts types text) k 0 ≤ p = start_from_line 0 (line_starts types text) p k climbs (omega (arith, first_line_start types text)) h (omega arith) in
-    omega arith
-
-together_where_none : (types : LineEndTypes) (text : List ℕ) (p q : ℕ) → p ≤ q → ((start : ℕ) → Contains (line_starts types text) start → p < start → start ≤ q → ⊥) → line_of (line_starts types text) p ≡ line_of (line_starts types text) q
-together_where_none types text p q h none =
-    let starts : List ℕ = line_starts types text in
-    let climbs : Climbs 0 starts = Climbs_from_rises 0 starts (line_starts_rise types text) in
-    let k : ℕ = line_of starts q in
-    let there : k < length starts = line_of_lt starts q (some_line types text) in
-    let at_q : get_or starts k 0 ≤ q = start_from_line 0 starts q k climbs (omega (arith, first_line_start types text)) there (le_refl k) in
-    let order : line_of starts p ≤ k = line_of_monotone starts p q h in
-    elim (cases_lt (line_of starts p) k) [
-      | inl less ↦ elim (cases_lt p (get_or starts k 0)) [
-        | inl behind ↦ absurd (none (get_or starts k 0) (Contains-get_or starts k 0 there) behind at_q)
-        | inr upto ↦ absurd (omega (arith, line_from_start 0 starts p k climbs there upto))
-      ]
-      | inr same ↦ omega arith
-    ]
-
--- two positions are on one line if and only if no line starts between them
-pub places_on_one_line : (types : LineEndTypes) (text : List ℕ) (p q : ℕ) → p ≤ q → (line_of (line_starts types text) p ≡ line_of (line_starts types text) q) ↔ ((start : ℕ) → Contains (line_starts types text) start → p < start → start ≤ q → ⊥)
-places_on_one_line types text p q h = (
-  λ same start c low high. apart types text p q c.0 start c.1 c.2 low high same,
-  together_where_none types text p q h,
-)
-
--- blocks
-
-map_twice : (f g : ℕ → ℕ) (xs : List ℕ) → map g (map f xs) ≡ map (λ x. g (f x)) xs
-map_twice f g [] = refl
-map_twice f g (x ∷ xs) = ap (λ l. g (f x) ∷ l) (map_twice f g xs)
-
--- the rows that go to a line are consecutive old rows
-pub rows_come_in_blocks : {R : Type 0} (moved : ℕ → ℕ) (old new : List ℕ) (rows : List R) (line : ℕ) → IsNonDecreasing (map moved old) → length old ≡ length rows → rows_on moved old new rows line ≡ slice_range rows (count_by (λ start. ltb (line_of new (moved start)) line) old) (count_by (λ start. leb (line_of new (moved start)) line) old)
-rows_come_in_blocks moved old new rows line c h =
-    let climbs : Climbs 0 (map moved old) = climbs_from_non_decreasing 0 (map moved old) (λ _. omega arith) c in
-    block_of_rows (λ start. line_of new (moved start)) (line_of new 0) line old rows
-    (rw (map_twice moved (line_of new) old) at (climbs_of_keys (line_of new) (line_of_monotone new) 0 (map moved old) climbs))
-    h
-
--- no row goes to a line that contains no old start
-pub lines_without_old_row : {R : Type 0} (moved : ℕ → ℕ) (old new : List ℕ) (rows : List R) (line : ℕ) → All (λ start. line_of new (moved start) ≢ line) old → rows_on moved old new rows line ≡ []
-lines_without_old_row {R} moved old new rows line h =
-    ap (map (λ (e : ℕ × R). e.1)) (none_on (λ start. line_of new (moved start)) line old rows (recursion_from_All (λ start. line_of new (moved start) ≢ line) old h))
-
--- carry is the walk, for lists as std states it
-pub carries_by_walking : {R : Type 0} (together : List R → R) (moved : ℕ → ℕ) (old new : List ℕ) (rows : List R) → IsNonDecreasing (map moved old) → IsStrictlyIncreasing new → length old ≡ length rows → carried together moved old new rows ≡ merged together moved old new rows
-carries_by_walking together moved old new rows c r h =
-    carried_is_merged together moved 0 old new rows (climbs_from_non_decreasing 0 (map moved old) (λ _. omega arith) c) (rises_from_increasing 0 new (λ _. omega arith) r) h
 
 -- single rows
 

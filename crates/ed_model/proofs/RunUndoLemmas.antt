@@ -1,48 +1,12 @@
 -- Documents keep their earlier texts, message by message, so undo goes back to earlier states of every run.
-use Rattle.std.proofs.Common.{◌≡◌, ℕ, ◌+◌, ◌-◌, ◌==◌, nat_lt, cond, Bool, true, false, List, [], ◌∷◌, ◌++◌, length, map, refl, ap, ◌∙◌, sym, subst, Option, Some, None, Result, Ok, Err}
-use Rattle.std.specs.Prelude.{option_map, ◌||◌, nat_le}
+use Rattle.ed_model.proofs.Names.{◌≡◌, ℕ, ◌+◌, ◌-◌, ◌==◌, nat_lt, cond, Bool, true, false, List, [], ◌∷◌, ◌++◌, length, map, refl, ap, ◌∙◌, sym, subst, Option, Some, None, Result, Ok, Err, option_map, ◌||◌, nat_le, cons_option, eqb-true, eq-eqb, cond_both, find-append, Kind, Limits, Message, Refusal, TooMany, Command, OpenView, CloseView, LoadFile, SendMessage, Expect, Response, kind_of, Follow, SessionChange, Plan, Cell, bytes_of, History, undo_changes, redo_changes, Session, Document, View, document_at, view_at, with_document, living, left_by, new_session, new_document, new_view, text_of, Request, Planned, text, steps_of, text_steps, scene_of, session_of, edit_made, followed, changed_document, session_changed, with_attached, attached_last, with_new_document, held_more, held_less, table, table_from_view, table_from_kind, table_from_document, answered, plan_of, performed, request, opened, closed_view, Running, after_command, after_opening, after_closing, after_message, loaded, file_at, run_to, starting, set_text_message, after_undo, after_redo, KeepsEarlierTexts, GoesBackAmong, IsLeftAlone, LeavesOthersAlone, MessagesLeaveOtherDocumentsAlone, OpeningLeavesDocumentsAlone, ClosingLeavesDocumentsAlone, IsSound, Rise, IsSoundRequest, IsFitPlan, IsFitPlanned, document_id, view_id, replaced_found, replaced_other, same_document, living_from, mapped_found, mapped_ids, documents_added, changed_id, edit_made_id, own_document, request_document, fit_in_turn}
 use Rattle.std.specs.Option.{option_or}
-use Rattle.std.specs.List.{cons_option}
-use Rattle.std.proofs.lemmas.Bool.{eqb-true, eq-eqb, cond_both}
-use Rattle.std.proofs.lemmas.List.Folds.{find-append}
-use Rattle.ed_types.specs.declared.kind.Kind.{Kind}
-use Rattle.ed_types.specs.declared.limits.Limits.{Limits}
-use Rattle.ed_types.specs.declared.message.Message.{Message}
-use Rattle.ed_types.specs.declared.refusal.Refusal.{Refusal}
-use Rattle.ed_types.specs.declared.refusal.Refusal.TheVariants.{TooMany}
-use Rattle.ed_types.specs.declared.script.Command.{Command}
-use Rattle.ed_types.specs.declared.script.Command.TheVariants.{OpenView, CloseView, LoadFile, SendMessage, Expect}
-use Rattle.ed_types.specs.Notices.{Response}
-use Rattle.ed_types.specs.Messages.{kind_of}
-use Rattle.ed_model.specs.declared.plan.Follow.{Follow}
 use Rattle.ed_model.specs.declared.plan.Follow.TheVariants as follow
-use Rattle.ed_model.specs.declared.plan.SessionChange.{SessionChange}
 use Rattle.ed_model.specs.declared.plan.SessionChange.TheVariants as session_change
-use Rattle.ed_model.specs.declared.plan.Plan.{Plan}
 use Rattle.ed_model.specs.declared.plan.Plan.TheVariants as plan
-use Rattle.ed_model.specs.Text.{Cell, bytes_of}
-use Rattle.ed_model.specs.History.{History, undo_changes, redo_changes}
-use Rattle.ed_model.specs.Session.{Session, Document, View, document_at, view_at, with_document, living, left_by, new_session, new_document, new_view, text_of}
 use Rattle.ed_model.specs.Notes as notes
-use Rattle.ed_model.specs.Requests.{Request, Planned, text}
-use Rattle.ed_model.specs.Edits.{steps_of}
-use Rattle.ed_model.specs.UndoPlans.{text_steps}
-use Rattle.ed_model.specs.Performing.{scene_of, session_of, edit_made, followed}
-use Rattle.ed_model.specs.Changes.{changed_document, session_changed, with_attached, attached_last, with_new_document, held_more, held_less}
-use Rattle.ed_model.specs.Table.{table, table_from_view, table_from_kind, table_from_document, answered, plan_of, performed, request, opened, closed_view}
-use Rattle.ed_model.specs.Run.{Running, after_command, after_opening, after_closing, after_message, loaded, file_at, run_to, starting, set_text_message}
-use Rattle.ed_model.specs.InverseLaws.{after_undo, after_redo}
-use Rattle.ed_model.specs.EarlierTextLaws.{KeepsEarlierTexts, GoesBackAmong}
-use Rattle.ed_model.specs.RepeatedUndoLaws.{IsLeftAlone, LeavesOthersAlone, MessagesLeaveOtherDocumentsAlone, OpeningLeavesDocumentsAlone, ClosingLeavesDocumentsAlone}
 use Rattle.ed_model.specs.RunUndoLaws.{GoesOn, DocumentsGoOn, MessagesLetDocumentsGoOn, CommandsLetDocumentsGoOn, sessions_of, states_of, UndoGoesBackInEveryRun}
-use Rattle.ed_model.specs.SoundLaws.{IsSound, Rise}
-use Rattle.ed_model.specs.PlansFit.{IsSoundRequest, IsFitPlan, IsFitPlanned}
-use Rattle.ed_model.specs.proved.Finding.{document_id, view_id, replaced_found, replaced_other, same_document, living_from, mapped_found, mapped_ids, documents_added}
-use Rattle.ed_model.specs.proved.Changes.{changed_id}
-use Rattle.ed_model.specs.proved.Scenes.{edit_made_id}
-use Rattle.ed_model.specs.proved.Requests.{own_document, request_document}
 use Rattle.ed_model.proofs.EarlierTextLemmas.{keeps_same, edits_keep_earlier_texts, undo_keeps_the_texts_before, redo_keeps_the_texts_before, document_changes_keep_earlier_texts, goes_back_at_first, goes_back_afterwards}
-use Rattle.ed_model.specs.proved.Steps.{fit_in_turn}
 use Rattle.ed_model.proofs.SoundScenes.{changes_keep}
 use Rattle.ed_model.proofs.SoundPlans.{plan_fits}
 use Rattle.ed_model.proofs.SoundRuns.{edit_steps_fit, redo_steps_fit, command_sound, new_session_sound}

@@ -1,18 +1,5 @@
 -- The arguments of messages: the numbers that they give are in range for the request.
-use Rattle.std.proofs.Common.{◌≡◌, ℕ, zero, suc, ◌+◌, ◌-◌, ◌<◌, ◌≤◌, min, Bool, true, false, cond, List, [], ◌∷◌, length, get_or, reverse, refl, arith}
-use Rattle.std.specs.Prelude.{ℤ, pos, negsuc, ◌&&◌, nat_lt, nat_le, Option, Some, None, if◌then◌else◌, find, slice_get, unwrap_or}
-use Rattle.std.specs.List.{range_with_len, AllByRecursion}
-use Rattle.std.proofs.lemmas.Bool.{cond_both, leb-true, ltb-true, and_parts}
-use Rattle.ed_model.specs.Numbers.{within, clamped, line_among}
-use Rattle.ed_model.specs.Lines.{line_starts, start_of_line, start_after_line}
-use Rattle.ed_model.specs.Characters.{cuts, cuts_from, cut_before, cut_after, character_length}
-use Rattle.ed_model.specs.Matches.{match_in, is_match, starts_within}
-use Rattle.ed_model.specs.declared.plan.LineEndTypes.{LineEndTypes}
-use Rattle.ed_model.specs.Requests.{Request, Planned, text, size, line_total, with_argument, argument, text_length, text_range, counted_range, with_line, line_argument, end_or_size}
-use Rattle.ed_model.specs.SoundLaws.{Rise}
-use Rattle.ed_model.specs.PlansFit.{IsFitPlanned}
-use Rattle.ed_types.specs.proved.Found.{found_test}
-use Rattle.ed_model.specs.proved.Elements.{found_all, all_reverse}
+use Rattle.ed_model.proofs.Names.{◌≡◌, ℕ, zero, suc, ◌+◌, ◌-◌, ◌<◌, ◌≤◌, min, Bool, true, false, cond, List, [], ◌∷◌, length, get_or, reverse, refl, arith, ℤ, pos, negsuc, ◌&&◌, nat_lt, nat_le, Option, Some, None, if◌then◌else◌, find, slice_get, unwrap_or, range_with_len, AllByRecursion, cond_both, leb-true, ltb-true, and_parts, within, clamped, line_among, line_starts, start_of_line, start_after_line, cuts, cuts_from, cut_before, cut_after, character_length, match_in, is_match, starts_within, LineEndTypes, Request, Planned, text, size, line_total, with_argument, argument, text_length, text_range, counted_range, with_line, line_argument, end_or_size, Rise, IsFitPlanned, found_test, found_all, all_reverse}
 use Rattle.ed_model.proofs.SoundLists.{starts_rise}
 
 -- Numbers.

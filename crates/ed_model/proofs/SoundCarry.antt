@@ -1,18 +1,5 @@
 -- Carry keeps line 0 visible, and repeats no handle.
-use Rattle.std.proofs.Common.{◌≡◌, ℕ, ◌+◌, ◌<◌, ◌≤◌, Bool, true, false, cond, List, [], ◌∷◌, ◌++◌, length, map, refl, ap, ◌∙◌, arith}
-use Rattle.std.specs.Prelude.{◌==◌, filter, flat_map, zip}
-use Rattle.std.specs.List.{range_with_len}
-use Rattle.std.proofs.lemmas.List.{map-append}
-use Rattle.std.proofs.lemmas.Bool.{eqb-true, eqb-false, ne_eqb}
-use Rattle.ed_model.specs.declared.plan.LineEndTypes.{LineEndTypes}
-use Rattle.ed_model.specs.Lines.{line_starts, line_of}
-use Rattle.ed_model.specs.Steps.{Step, edited, moved_start}
-use Rattle.ed_model.specs.Carry.{rows_on, carried, carried_by, carried_unless_empty, regrouped}
-use Rattle.ed_model.specs.Rows.{Row, Marker, Flags, flags_together, rows_together}
-use Rattle.ed_model.specs.Folding.{is_visible}
-use Rattle.ed_model.specs.SoundLaws.{Rise, occurrences, handles_in}
-use Rattle.ed_model.specs.proved.Lines.{line_of_monotone}
-use Rattle.ed_model.specs.proved.Finding.{occurrences_append}
+use Rattle.ed_model.proofs.Names.{◌≡◌, ℕ, ◌+◌, ◌<◌, ◌≤◌, Bool, true, false, cond, List, [], ◌∷◌, ◌++◌, length, map, refl, ap, ◌∙◌, arith, ◌==◌, filter, flat_map, zip, range_with_len, map-append, eqb-true, eqb-false, ne_eqb, LineEndTypes, line_starts, line_of, Step, edited, moved_start, rows_on, carried, carried_by, carried_unless_empty, regrouped, Row, Marker, Flags, flags_together, rows_together, is_visible, Rise, occurrences, handles_in, line_of_monotone, occurrences_append}
 use Rattle.ed_model.proofs.StepLemmas.{start_keeps_order}
 use Rattle.ed_model.proofs.SoundLists.{rise_range, starts_rise}
 

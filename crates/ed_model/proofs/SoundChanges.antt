@@ -1,26 +1,7 @@
 -- Changes of a document that are no edit keep it sound, and its views fit it.
-use Rattle.std.proofs.Common.{◌≡◌, ℕ, zero, suc, ◌+◌, ◌<◌, ◌≤◌, min, true, false, List, [], ◌∷◌, ◌++◌, length, map, get_or, set, take, replicate, refl, ap, sym, ◌∙◌, subst, inl, inr, ◌⊎◌, arith}
-use Rattle.std.specs.Prelude.{◌==◌, not, filter, slice_set, slice_index_or}
-use Rattle.std.specs.List.{AllByRecursion}
-use Rattle.std.proofs.lemmas.List.{map-append, length-set, length-map, length-take, length-replicate}
-use Rattle.std.proofs.lemmas.Bool.{cases_lt, eq-eqb, ne_eqb}
-use Rattle.ed_types.specs.declared.limits.Limits.{Limits}
-use Rattle.ed_model.specs.declared.plan.LineEndTypes.{LineEndTypes}
-use Rattle.ed_model.specs.declared.plan.DocumentChange.{DocumentChange}
+use Rattle.ed_model.proofs.Names.{◌≡◌, ℕ, zero, suc, ◌+◌, ◌<◌, ◌≤◌, min, true, false, List, [], ◌∷◌, ◌++◌, length, map, get_or, set, take, replicate, refl, ap, sym, ◌∙◌, subst, inl, inr, ◌⊎◌, arith, ◌==◌, not, filter, slice_set, slice_index_or, AllByRecursion, map-append, length-set, length-map, length-replicate, cases_lt, eq-eqb, ne_eqb, Limits, LineEndTypes, DocumentChange, Cell, bytes_of, line_count, line_starts, regrouped, Row, Marker, rows_together, flags_together, fresh_row, filled, meets, History, saved, group_begun, group_ended, emptied, collecting_set, with_container_step, Document, View, text_of, lines_in, limit_of, numbers_in, changed_document, changed_lines, with_markers, with_new_markers, new_markers, without_marker, without_markers, is_of_number, styled, FitsText, IsSoundDocument, StandsOn, occurrences, handles_in, text_of_styled, occurrences_append}
+use Rattle.std.proofs.lemmas.List.{length-take}
 use Rattle.ed_model.specs.declared.plan.DocumentChange.TheVariants as change
-use Rattle.ed_model.specs.Text.{Cell, bytes_of}
-use Rattle.ed_model.specs.Lines.{line_count, line_starts}
-use Rattle.ed_model.specs.Carry.{regrouped}
-use Rattle.ed_model.specs.Rows.{Row, Marker, rows_together, flags_together, fresh_row}
-use Rattle.ed_model.specs.Indicators.{filled}
-use Rattle.ed_model.specs.Numbers.{meets}
-use Rattle.ed_model.specs.History.{History, saved, group_begun, group_ended, emptied, collecting_set, with_container_step}
-use Rattle.ed_model.specs.Session.{Document, View, text_of, lines_in, limit_of}
-use Rattle.ed_model.specs.LinePlans.{numbers_in}
-use Rattle.ed_model.specs.Changes.{changed_document, changed_lines, with_markers, with_new_markers, new_markers, without_marker, without_markers, is_of_number, styled}
-use Rattle.ed_model.specs.SoundLaws.{FitsText, IsSoundDocument, StandsOn, occurrences, handles_in}
-use Rattle.ed_model.specs.proved.Changes.{text_of_styled}
-use Rattle.ed_model.specs.proved.Finding.{occurrences_append}
 use Rattle.ed_model.specs.proved.Indicators.{length_filled}
 use Rattle.ed_model.proofs.CarryLemmas.{length-carried}
 use Rattle.ed_model.proofs.SoundLists.{are_line_starts}

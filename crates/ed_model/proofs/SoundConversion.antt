@@ -1,12 +1,6 @@
 -- The steps of a conversion of line ends can be performed one after another.
-use Rattle.std.proofs.Common.{◌≡◌, ℕ, ◌+◌, ◌-◌, ◌≤◌, ◌<◌, Bool, true, false, List, [], ◌∷◌, ◌++◌, length, take, drop, refl, ap, sym, ◌∙◌, subst, arith, append_assoc, length-append}
-use Rattle.std.specs.Prelude.{slice_range, ◌==◌}
-use Rattle.std.proofs.lemmas.List.{drop_at}
+use Rattle.ed_model.proofs.Names.{◌≡◌, ℕ, ◌+◌, ◌-◌, ◌≤◌, ◌<◌, Bool, true, false, List, [], ◌∷◌, ◌++◌, length, take, drop, refl, ap, sym, ◌∙◌, subst, arith, append_assoc, length-append, slice_range, ◌==◌, drop_at, line_feed, carriage_return, after_steps, conversion_steps, lacks_return, lacks_feed, missing_at, missing_from, is_unwanted, unwanted_at, place_after, unwanted_from, IsStepOf, AreStepsOf, inserted_between, deleted_between}
 use Rattle.ed_model.specs.declared.plan.LineEnd.{LineEnd}
-use Rattle.ed_model.specs.Text.{line_feed, carriage_return}
-use Rattle.ed_model.specs.LineEnds.{after_steps, conversion_steps, lacks_return, lacks_feed, missing_at, missing_from, is_unwanted, unwanted_at, place_after, unwanted_from}
-use Rattle.ed_model.specs.SoundLaws.{IsStepOf, AreStepsOf}
-use Rattle.ed_model.specs.proved.Lists.{inserted_between, deleted_between}
 use Rattle.ed_model.proofs.SoundSteps.{fit_append}
 
 missing_fits : (to : LineEnd) (rest : List ℕ) (after : Bool) (p : ℕ) (front : List ℕ) → length front ≡ p → AreStepsOf (front ++ rest) (missing_from p after to rest)

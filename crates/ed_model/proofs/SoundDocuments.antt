@@ -1,20 +1,5 @@
 -- After a step of the text a sound document is sound, and its views fit it.
-use Rattle.std.proofs.Common.{◌≡◌, ℕ, ◌≤◌, List, [], ◌∷◌, length, replicate, ap, sym, ◌∙◌, subst, arith}
-use Rattle.std.specs.List.{AllByRecursion}
-use Rattle.std.proofs.lemmas.List.{length-map, length-replicate}
-use Rattle.ed_types.specs.declared.limits.Limits.{Limits}
-use Rattle.ed_model.specs.Text.{Cell, plain_cells, plain_cell}
-use Rattle.ed_model.specs.Lines.{line_count}
-use Rattle.ed_model.specs.Steps.{Step, Insert, Delete, edited, edited_cells, place_of, moved_position}
-use Rattle.ed_model.specs.Rows.{rows_together, flags_together}
-use Rattle.ed_model.specs.Indicators.{indicator_after, indicators_after, inserted_value}
-use Rattle.ed_model.specs.History.{History}
-use Rattle.ed_model.specs.Edits.{size_after}
-use Rattle.ed_model.specs.Session.{Document, View, text_of, limit_of}
-use Rattle.ed_model.specs.Performing.{document_after, moved_view}
-use Rattle.ed_model.specs.SoundLaws.{IsStepOf, FitsText, IsSoundDocument, StandsOn}
-use Rattle.ed_model.specs.proved.Steps.{bytes_of_edited_cells}
-use Rattle.ed_model.specs.proved.Changes.{length_text}
+use Rattle.ed_model.proofs.Names.{◌≡◌, ℕ, ◌≤◌, List, [], ◌∷◌, length, replicate, ap, sym, ◌∙◌, subst, arith, AllByRecursion, length-map, length-replicate, Limits, Cell, plain_cells, plain_cell, line_count, Step, Insert, Delete, edited, edited_cells, place_of, moved_position, rows_together, flags_together, indicator_after, indicators_after, inserted_value, History, size_after, Document, View, text_of, limit_of, document_after, moved_view, IsStepOf, FitsText, IsSoundDocument, StandsOn, bytes_of_edited_cells, length_text}
 use Rattle.ed_model.proofs.StepLemmas.{position_stays_in_range}
 use Rattle.ed_model.proofs.CarryLemmas.{length-carried_by}
 use Rattle.ed_model.proofs.SoundLists.{are_line_starts}

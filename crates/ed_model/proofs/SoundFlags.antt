@@ -1,16 +1,6 @@
 -- Changes of a view keep it fit for its document: the number of its flags stays, and line 0 stays visible.
-use Rattle.std.proofs.Common.{◌≡◌, ℕ, zero, suc, ◌+◌, ◌<◌, ◌≤◌, Bool, true, false, cond, List, [], ◌∷◌, length, reverse, refl, ◌∙◌, arith}
-use Rattle.std.specs.Prelude.{nat_lt, nat_le, ◌&&◌, if◌then◌else◌, fold}
-use Rattle.std.proofs.lemmas.List.{length-set}
-use Rattle.std.proofs.lemmas.List.FromFn.{length-map-range_with_len}
-use Rattle.std.proofs.lemmas.Bool.{cond_both, le-ltb, and_left}
-use Rattle.ed_model.specs.declared.plan.ViewChange.{ViewChange}
+use Rattle.ed_model.proofs.Names.{◌≡◌, ℕ, zero, suc, ◌+◌, ◌<◌, ◌≤◌, Bool, true, false, cond, List, [], ◌∷◌, length, reverse, refl, ◌∙◌, arith, nat_lt, nat_le, ◌&&◌, if◌then◌else◌, fold, length-set, length-map-range_with_len, cond_both, le-ltb, and_left, ViewChange, Flags, flags_at, is_visible, is_expanded, with_visible, with_expanded, is_between, lines_shown, lines_hidden, contracted, expanded, header_opened, revealed, is_child, is_open_between, last_child, fold_parents, Document, View, lines_in, changed_view, StandsOn}
 use Rattle.ed_model.specs.declared.plan.ViewChange.TheVariants as view_change
-use Rattle.ed_model.specs.Rows.{Flags}
-use Rattle.ed_model.specs.Folding.{flags_at, is_visible, is_expanded, with_visible, with_expanded, is_between, lines_shown, lines_hidden, contracted, expanded, header_opened, revealed, is_child, is_open_between, last_child, fold_parents}
-use Rattle.ed_model.specs.Session.{Document, View, lines_in}
-use Rattle.ed_model.specs.Changes.{changed_view}
-use Rattle.ed_model.specs.SoundLaws.{StandsOn}
 
 -- the lines and positions of a change are in range for the document
 abbrev pub IsFitHere : Document → ViewChange → Type 0

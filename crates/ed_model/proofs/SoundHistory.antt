@@ -1,19 +1,6 @@
 -- The history fits the text: after steps, after undo and redo, and after changes of the history alone.
-use Rattle.std.proofs.Common.{suc, zero, ◌≡◌, ℕ, ◌+◌, ◌-◌, ◌≤◌, Bool, true, false, cond, List, [], ◌∷◌, ◌++◌, length, map, reverse, refl, ap, sym, ◌∙◌, subst, arith, append_assoc}
-use Rattle.std.specs.Prelude.{ℤ, flat_map, Option, Some, None, ◌==◌, ◌||◌, not}
-use Rattle.std.specs.List.{last_or}
-use Rattle.std.proofs.lemmas.List.{map-append, reverse-append, reverse-reverse}
-use Rattle.std.proofs.lemmas.Bool.{cond_both}
-use Rattle.ed_model.specs.Steps.{Step, Insert, Delete, edited, inverse_of}
+use Rattle.ed_model.proofs.Names.{suc, zero, ◌≡◌, ℕ, ◌+◌, ◌-◌, ◌≤◌, Bool, true, false, cond, List, [], ◌∷◌, ◌++◌, length, map, reverse, refl, ap, sym, ◌∙◌, subst, arith, append_assoc, ℤ, flat_map, Option, Some, None, ◌==◌, ◌||◌, not, last_or, map-append, reverse-append, reverse-reverse, cond_both, Step, Insert, Delete, edited, inverse_of, Change, TextStep, ContainerStep, Transaction, History, appended, with_change, joins, seal_first, with_last_sealed, sealed_outside_groups, group_begun, group_ended, with_container_step, inverse_change, first_changes, undo_changes, redo_changes, undone_to, undone, redone_from, redone, emptied, not_collecting, collecting_set, saved, fresh_history, latest_text_step, after_steps, text_steps, place_behind, text_of, limit_of, CanBeUndone, IsStepOf, IsStepWithin, AreStepsOf, AreStepsWithin, undo_path, redo_path, FitsText, ThePastCanBeUndone, UndoneThenRedoneIsTheSame, fit_in_turn}
 use Rattle.ed_model.specs.History
-use Rattle.ed_model.specs.History.{Change, TextStep, ContainerStep, Transaction, History, appended, with_change, joins, seal_first, with_last_sealed, sealed_outside_groups, group_begun, group_ended, with_container_step, inverse_change, first_changes, undo_changes, redo_changes, undone_to, undone, redone_from, redone, emptied, not_collecting, collecting_set, saved, fresh_history, latest_text_step}
-use Rattle.ed_model.specs.LineEnds.{after_steps}
-use Rattle.ed_model.specs.UndoPlans.{text_steps}
-use Rattle.ed_model.specs.Performing.{place_behind}
-use Rattle.ed_model.specs.Session.{text_of, limit_of}
-use Rattle.ed_model.specs.UndoLaws.{CanBeUndone}
-use Rattle.ed_model.specs.SoundLaws.{IsStepOf, IsStepWithin, AreStepsOf, AreStepsWithin, undo_path, redo_path, FitsText, ThePastCanBeUndone, UndoneThenRedoneIsTheSame}
-use Rattle.ed_model.specs.proved.Steps.{fit_in_turn}
 use Rattle.ed_model.proofs.TransactionLemmas.{steps_of_more_changes, steps_of_inverse_changes, steps_of_reversed_changes, inverses_of_inverses, inverses_of_reversed}
 use Rattle.ed_model.proofs.UndoLemmas.{undos_then_redos_give_back_the_text, undos_then_redos_give_back_the_history}
 use Rattle.ed_model.proofs.SoundSteps.{inverse_within, inverse_returns, fit_append, fit_front, fit_back, within_fits, reversed, reversed_is, reversed_within, reversed_returns, fits_range, length_after}

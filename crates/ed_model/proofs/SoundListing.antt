@@ -1,13 +1,5 @@
 -- Documents list only views that are attached to them; this is kept when views change, are added and are removed.
-use Rattle.std.proofs.Common.{◌≡◌, ℕ, ◌+◌, ◌-◌, ◌<◌, Bool, true, false, cond, List, [], ◌∷◌, ◌++◌, map, refl, ap, sym, ◌∙◌, subst, arith}
-use Rattle.std.specs.Prelude.{Some, ◌==◌, filter, not, nat_lt}
-use Rattle.std.specs.List.{AllByRecursion}
-use Rattle.std.proofs.lemmas.Bool.{eqb-true, eqb-false, eq-eqb, ne_eqb}
-use Rattle.ed_model.specs.Session.{Document, View, view_at, with_view, in_place_of_view, without, left_by, attached_to, living, references}
-use Rattle.ed_model.specs.Changes.{attached_last, held_more, held_less}
-use Rattle.ed_model.specs.SoundLaws.{Rise, IsViewOn, ListsItsViews}
-use Rattle.ed_model.specs.proved.Elements.{all_map, all_weaker, all_append, all_filter}
-use Rattle.ed_model.specs.proved.Finding.{view_id, in_place_id}
+use Rattle.ed_model.proofs.Names.{◌≡◌, ℕ, ◌+◌, ◌-◌, ◌<◌, Bool, true, false, cond, List, [], ◌∷◌, ◌++◌, map, refl, ap, sym, ◌∙◌, subst, arith, Some, ◌==◌, filter, not, nat_lt, AllByRecursion, eqb-true, eqb-false, eq-eqb, ne_eqb, Document, View, view_at, with_view, in_place_of_view, without, left_by, attached_to, living, references, attached_last, held_more, held_less, Rise, IsViewOn, ListsItsViews, all_map, all_weaker, all_append, all_filter, view_id, in_place_id}
 
 -- Views that change.
 

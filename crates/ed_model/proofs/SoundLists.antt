@@ -1,11 +1,5 @@
 -- Lemmas on rising numbers, on counting, and on line starts.
-use Rattle.std.proofs.Common.{◌≡◌, ℕ, zero, suc, ◌+◌, ◌<◌, ◌≤◌, Bool, true, false, cond, List, [], ◌∷◌, length, subst, arith}
-use Rattle.std.specs.Prelude.{filter}
-use Rattle.std.specs.List.{range_with_len}
-use Rattle.ed_model.specs.declared.plan.LineEndTypes.{LineEndTypes}
-use Rattle.ed_model.specs.Lines.{line_starts, is_line_start}
-use Rattle.ed_model.specs.SoundLaws.{Rise, AreLineStarts}
-use Rattle.ed_model.specs.proved.Lines.{first_line_start, line_starts_increase, line_starts_in_range}
+use Rattle.ed_model.proofs.Names.{◌≡◌, ℕ, zero, suc, ◌+◌, ◌<◌, ◌≤◌, Bool, true, false, cond, List, [], ◌∷◌, length, subst, arith, filter, range_with_len, LineEndTypes, line_starts, is_line_start, Rise, AreLineStarts, first_line_start, line_starts_increase, line_starts_in_range}
 
 pub rise_from : (low low' high : ℕ) (xs : List ℕ) → low' ≤ low → Rise low high xs → Rise low' high xs
 rise_from low low' high [] le r = tt

@@ -1,12 +1,5 @@
 -- How often handles are in the rows after a change.
-use Rattle.std.proofs.Common.{◌≡◌, ℕ, zero, suc, ◌+◌, ◌<◌, ◌≤◌, Bool, true, false, cond, List, [], ◌∷◌, length, map, get_or, set, refl, arith}
-use Rattle.std.specs.Prelude.{◌==◌, filter, Option, Some, None, not, slice_index_or}
-use Rattle.std.proofs.lemmas.List.{length-set}
-use Rattle.std.proofs.lemmas.Bool.{eqb-true, ne_eqb}
-use Rattle.ed_model.specs.Rows.{Row, Marker, fresh_row}
-use Rattle.ed_model.specs.Changes.{with_markers, new_markers, without_first, without_marker, without_markers}
-use Rattle.ed_model.specs.SoundLaws.{occurrences, handles_in}
-use Rattle.ed_model.specs.proved.Finding.{occurrences_append}
+use Rattle.ed_model.proofs.Names.{◌≡◌, ℕ, zero, suc, ◌+◌, ◌<◌, ◌≤◌, Bool, true, false, cond, List, [], ◌∷◌, length, map, get_or, set, refl, arith, ◌==◌, filter, Option, Some, None, not, slice_index_or, length-set, eqb-true, ne_eqb, Row, Marker, fresh_row, with_markers, new_markers, without_first, without_marker, without_markers, occurrences, handles_in, occurrences_append}
 use Rattle.ed_model.proofs.SoundCarry.{handles_of}
 
 abbrev pub one_if : Bool → ℕ

@@ -1,32 +1,13 @@
 -- In a sound session the plan of each message is fit.
-use Rattle.std.proofs.Common.{◌≡◌, ℕ, ◌+◌, ◌-◌, ◌^◌, ◌<◌, ◌≤◌, min, max, Bool, true, false, cond, List, [], ◌∷◌, length, map, zero, suc, reverse, refl, ap, sym, ◌∙◌, subst, arith}
-use Rattle.std.specs.Prelude.{ℤ, pos, negsuc, int_le, filter, slice_index_or, ◌==◌, ◌&&◌, ◌||◌, not, nat_lt, nat_le, Option, Some, None, Ok, Err, if◌then◌else◌, take, is_some}
-use Rattle.std.specs.List.{range_with_len, list_any}
+use Rattle.ed_model.proofs.Names.{◌≡◌, ℕ, ◌+◌, ◌-◌, ◌^◌, ◌<◌, ◌≤◌, min, max, Bool, true, false, cond, List, [], ◌∷◌, length, map, zero, suc, reverse, refl, ap, sym, ◌∙◌, subst, arith, ℤ, pos, negsuc, int_le, filter, slice_index_or, ◌==◌, ◌&&◌, ◌||◌, not, nat_lt, nat_le, Option, Some, None, Ok, Err, if◌then◌else◌, take, is_some, range_with_len, list_any, leb-true, ltb-true, ltb-false, and_parts, not-false, TooLong, Edit, Follow, SessionChange, Plan, at_least_zero, is_on, is_minus_one, within, clamped, some_or_all, is_negative, Marker, Row, fresh_row, base_level, after_steps, replacement, Change, can_undo, can_redo, undo_changes, redo_changes, match_in, cut_after, fold_header, fold_parent, is_header, is_parent_of, is_expanded, Document, document_at, references, limit_of, Request, answer, answer_number, text, size, line_total, selection_start, selection_end, target_least, target_greatest, edit_plan, steps_of, source_bytes, replace_plan, replace_and_go, stays_within, has_steps, act_on_history, text_steps, has_handles, numbers_in, int_within, found_target, replacement_length, search_flags, past_line, fold_by, fold_at, levels, document_named, has_document_ids, with_reference, release_of, is_zero, document_options, occurrences, handles_in, IsSoundRequest, IsMarkerNumber, IsLineState, IsFitSource, IsFitEdit, IsFitFollow, IsFitPlan, IsFitPlanned, IsRoomFor, IsFitSessionChange, PlansFit, found_test, found_all, all_reverse, document_id, occurrences_append, length_text, request_document, request_stands, end_in_range}
 use Rattle.std.proofs.lemmas.List.{length-take}
-use Rattle.std.proofs.lemmas.Bool.{leb-true, ltb-true, ltb-false, and_parts, not-false}
 use Rattle.ed_types.specs.declared.kind.Kind.TheVariants as kinds
-use Rattle.ed_types.specs.declared.refusal.Refusal.TheVariants.{TooLong}
 use Rattle.ed_model.specs.declared.plan.Source.{Source}
 use Rattle.ed_model.specs.declared.plan.Source.TheVariants as source
-use Rattle.ed_model.specs.declared.plan.Edit.{Edit}
 use Rattle.ed_model.specs.declared.plan.Edit.TheVariants as edit
-use Rattle.ed_model.specs.declared.plan.Follow.{Follow}
 use Rattle.ed_model.specs.declared.plan.Follow.TheVariants as follow
-use Rattle.ed_model.specs.declared.plan.SessionChange.{SessionChange}
 use Rattle.ed_model.specs.declared.plan.SessionChange.TheVariants as session_change
-use Rattle.ed_model.specs.declared.plan.Plan.{Plan}
 use Rattle.ed_model.specs.declared.plan.Plan.TheVariants as plan
-use Rattle.ed_model.specs.Numbers.{at_least_zero, is_on, is_minus_one, within, clamped, some_or_all, is_negative}
-use Rattle.ed_model.specs.Rows.{Marker, Row, fresh_row, base_level}
-use Rattle.ed_model.specs.LineEnds.{after_steps}
-use Rattle.ed_model.specs.Steps.{replacement}
-use Rattle.ed_model.specs.History.{Change, can_undo, can_redo, undo_changes, redo_changes}
-use Rattle.ed_model.specs.Matches.{match_in}
-use Rattle.ed_model.specs.Characters.{cut_after}
-use Rattle.ed_model.specs.Folding.{fold_header, fold_parent, is_header, is_parent_of, is_expanded}
-use Rattle.ed_model.specs.Session.{Document, document_at, references, limit_of}
-use Rattle.ed_model.specs.Requests.{Request, answer, answer_number, text, size, line_total, selection_start, selection_end, target_least, target_greatest}
-use Rattle.ed_model.specs.Edits.{edit_plan, steps_of, source_bytes, replace_plan, replace_and_go, stays_within, has_steps}
 use Rattle.ed_model.specs.KeyPlans
 use Rattle.ed_model.specs.LinePlans
 use Rattle.ed_model.specs.SelectionPlans
@@ -35,20 +16,7 @@ use Rattle.ed_model.specs.TargetPlans
 use Rattle.ed_model.specs.TextPlans.{insertion_place, line_start, line_past, line_end, caret_line, hand_out}
 use Rattle.ed_model.specs.SelectionPlans.{selected, select}
 use Rattle.ed_model.specs.KeyPlans.{place_left, place_right, place_home, place_line_end}
-use Rattle.ed_model.specs.UndoPlans.{act_on_history, text_steps}
-use Rattle.ed_model.specs.LinePlans.{has_handles, numbers_in, int_within}
 use Rattle.ed_model.specs.StylePlans.{unstyled}
-use Rattle.ed_model.specs.TargetPlans.{found_target, replacement_length, search_flags}
-use Rattle.ed_model.specs.FoldingPlans.{past_line, fold_by, fold_at, levels}
-use Rattle.ed_model.specs.SessionPlans.{document_named, has_document_ids, with_reference, release_of, is_zero, document_options}
-use Rattle.ed_model.specs.SoundLaws.{occurrences, handles_in}
-use Rattle.ed_model.specs.PlansFit.{IsSoundRequest, IsMarkerNumber, IsLineState, IsFitSource, IsFitEdit, IsFitFollow, IsFitPlan, IsFitPlanned, IsRoomFor, IsFitSessionChange, PlansFit}
-use Rattle.ed_types.specs.proved.Found.{found_test}
-use Rattle.ed_model.specs.proved.Elements.{found_all, all_reverse}
-use Rattle.ed_model.specs.proved.Finding.{document_id, occurrences_append}
-use Rattle.ed_model.specs.proved.Changes.{length_text}
-use Rattle.ed_model.specs.proved.Requests.{request_document, request_stands}
-use Rattle.ed_model.specs.proved.Lines.{end_in_range}
 use Rattle.ed_model.proofs.SoundSteps.{length_replacement}
 use Rattle.ed_model.proofs.SoundArguments.{with_argument_fits, argument_fits, text_length_fits, text_range_fits, counted_range_fits, line_fits, if_fits, within_bounds, clamped_bound, start_bound, past_bound, cut_after_bound, cut_before_bound, match_bound, all_range}
 

@@ -1,19 +1,6 @@
 -- A session stays sound when documents are attached, created, held and released, and when views are opened and closed.
-use Rattle.std.proofs.Common.{◌≡◌, ℕ, zero, suc, ◌+◌, ◌-◌, ◌<◌, ◌≤◌, Bool, true, false, cond, List, [], ◌∷◌, ◌++◌, length, map, replicate, refl, ap, sym, ◌∙◌, subst, arith}
-use Rattle.std.specs.Prelude.{Option, Some, None, ◌==◌, ◌||◌, nat_lt, nat_le, not, filter, IfOk}
-use Rattle.std.specs.List.{AllByRecursion}
-use Rattle.std.proofs.lemmas.List.{length-replicate}
-use Rattle.std.proofs.lemmas.Bool.{cond_both, eqb-true, eqb-false, eq-eqb, ne_eqb, lt-ltb, ltb-true}
-use Rattle.ed_types.specs.declared.limits.Limits.{Limits}
+use Rattle.ed_model.proofs.Names.{◌≡◌, ℕ, zero, suc, ◌+◌, ◌-◌, ◌<◌, ◌≤◌, Bool, true, false, cond, List, [], ◌∷◌, ◌++◌, length, map, replicate, refl, ap, sym, ◌∙◌, subst, arith, Option, Some, None, ◌==◌, ◌||◌, nat_lt, nat_le, not, filter, IfOk, AllByRecursion, length-replicate, cond_both, eqb-true, eqb-false, eq-eqb, ne_eqb, lt-ltb, ltb-true, Limits, fresh_flags, is_visible, Session, Document, View, document_at, view_at, in_place_of_view, references, living, without, left_by, new_document, new_view, attached_to, lines_in, is_large, attached_last, with_attached, attached, with_new_document, held_more, held_less, opened, closed, closed_view, Rise, occurrences, IsSound, IsSoundDocument, IsSoundView, StandsOn, ListsItsViews, all_map, all_weaker, all_append, document_id, with_view_ids, documents_added, views_added, occurrences_append}
 use Rattle.ed_model.specs.declared.plan.LineEndTypes.TheVariants.{Default}
-use Rattle.ed_model.specs.Rows.{fresh_flags}
-use Rattle.ed_model.specs.Folding.{is_visible}
-use Rattle.ed_model.specs.Session.{Session, Document, View, document_at, view_at, in_place_of_view, references, living, without, left_by, new_document, new_view, attached_to, lines_in, is_large}
-use Rattle.ed_model.specs.Changes.{attached_last, with_attached, attached, with_new_document, held_more, held_less}
-use Rattle.ed_model.specs.Table.{opened, closed, closed_view}
-use Rattle.ed_model.specs.SoundLaws.{Rise, occurrences, IsSound, IsSoundDocument, IsSoundView, StandsOn, ListsItsViews}
-use Rattle.ed_model.specs.proved.Elements.{all_map, all_weaker, all_append}
-use Rattle.ed_model.specs.proved.Finding.{document_id, with_view_ids, documents_added, views_added, occurrences_append}
 use Rattle.ed_model.proofs.SoundLists.{rise_from, are_line_starts}
 use Rattle.ed_model.proofs.SoundHistory.{fresh_fits}
 use Rattle.ed_model.proofs.SoundMarkers.{one_if, occurrences_cons}

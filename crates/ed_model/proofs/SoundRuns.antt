@@ -1,45 +1,12 @@
 -- Plans, messages, commands and runs keep a session sound.
-use Rattle.std.proofs.Common.{◌≡◌, ℕ, ◌+◌, ◌≤◌, false, List, [], ◌∷◌, length, reverse, refl, ap, sym, ◌∙◌, subst}
-use Rattle.std.specs.Prelude.{ℤ, Option, Some, None, Result, Ok, Err, IfOk, nat_lt}
-use Rattle.std.specs.List.{last_or}
-use Rattle.std.proofs.lemmas.List.{map-id}
-use Rattle.ed_types.specs.declared.kind.Kind.{Kind}
-use Rattle.ed_types.specs.declared.message.Message.{Message}
-use Rattle.ed_types.specs.declared.refusal.Refusal.{Refusal}
-use Rattle.ed_types.specs.declared.script.Command.TheVariants.{OpenView, CloseView, LoadFile, SendMessage, Expect}
-use Rattle.ed_types.specs.Notices.{Response}
-use Rattle.ed_types.specs.Messages.{kind_of}
-use Rattle.ed_model.specs.declared.plan.Edit.{Edit}
+use Rattle.ed_model.proofs.Names.{◌≡◌, ℕ, ◌+◌, ◌≤◌, false, List, [], ◌∷◌, length, reverse, refl, ap, sym, ◌∙◌, subst, ℤ, Option, Some, None, Result, Ok, Err, IfOk, nat_lt, last_or, map-id, Kind, Message, Refusal, OpenView, CloseView, LoadFile, SendMessage, Expect, Response, kind_of, Edit, Follow, DocumentChange, ViewChange, SessionChange, Step, after_steps, History, Change, fresh_history, undo_changes, redo_changes, undone, redone, latest_text_step, Session, Document, View, document_at, view_at, with_document, text_of, limit_of, new_session, Request, Planned, text, steps_of, source_bytes, text_steps, levels, Scene, scene_of, session_of, edit_made, edit_performed, followed, with_caret, with_target, transaction_performed, changes_performed, with_history, history_performed, caret_behind, place_behind, changed_document, changed_lines, document_change_performed, changed_view, view_change_performed, session_changed, plan_of, answered, request, table_from_document, table_from_kind, table_from_view, starting, after_opening, after_closing, after_message, loaded, file_at, set_text_message, after_command, AreStepsOf, FitsText, IsSound, StandsOn, NewSessionIsSound, MessageKeepsSound, OpeningKeepsSound, ClosingKeepsSound, CommandKeepsSound, IsSoundInEveryStateFrom, IsSoundInEveryState, IsSoundRequest, IsFitFollow, IsFitDocumentChange, IsFitViewChange, IsFitPlan, IsFitPlanned, IsRoomFor, EditStepsFit, UndoStepsFit, RedoStepsFit, PlansKeepSound, all_weaker, document_id, view_id, replaced_found, found_once, changed_id, changed_views, changed_lines_id, changed_lines_document, changed_view_id, changed_view_document, length_text, own_document, request_document, request_stands, edit_made_text}
 use Rattle.ed_model.specs.declared.plan.Edit.TheVariants as edit
-use Rattle.ed_model.specs.declared.plan.Follow.{Follow}
 use Rattle.ed_model.specs.declared.plan.Follow.TheVariants as follow
-use Rattle.ed_model.specs.declared.plan.DocumentChange.{DocumentChange}
 use Rattle.ed_model.specs.declared.plan.DocumentChange.TheVariants as document_change
-use Rattle.ed_model.specs.declared.plan.ViewChange.{ViewChange}
 use Rattle.ed_model.specs.declared.plan.ViewChange.TheVariants as view_change
-use Rattle.ed_model.specs.declared.plan.SessionChange.{SessionChange}
 use Rattle.ed_model.specs.declared.plan.SessionChange.TheVariants as session_change
 use Rattle.ed_model.specs.declared.plan.Plan.TheVariants as plan
-use Rattle.ed_model.specs.Steps.{Step}
-use Rattle.ed_model.specs.LineEnds.{after_steps}
-use Rattle.ed_model.specs.History.{History, Change, fresh_history, undo_changes, redo_changes, undone, redone, latest_text_step}
-use Rattle.ed_model.specs.Session.{Session, Document, View, document_at, view_at, with_document, text_of, limit_of, new_session}
 use Rattle.ed_model.specs.Notes as notes
-use Rattle.ed_model.specs.Requests.{Request, Planned, text}
-use Rattle.ed_model.specs.Edits.{steps_of, source_bytes}
-use Rattle.ed_model.specs.UndoPlans.{text_steps}
-use Rattle.ed_model.specs.FoldingPlans.{levels}
-use Rattle.ed_model.specs.Performing.{Scene, scene_of, session_of, edit_made, edit_performed, followed, with_caret, with_target, transaction_performed, changes_performed, with_history, history_performed, caret_behind, place_behind}
-use Rattle.ed_model.specs.Changes.{changed_document, changed_lines, document_change_performed, changed_view, view_change_performed, session_changed}
-use Rattle.ed_model.specs.Table.{plan_of, answered, request, table_from_document, table_from_kind, table_from_view}
-use Rattle.ed_model.specs.Run.{starting, after_opening, after_closing, after_message, loaded, file_at, set_text_message, after_command}
-use Rattle.ed_model.specs.SoundLaws.{AreStepsOf, FitsText, IsSound, StandsOn, NewSessionIsSound, MessageKeepsSound, OpeningKeepsSound, ClosingKeepsSound, CommandKeepsSound, IsSoundInEveryStateFrom, IsSoundInEveryState}
-use Rattle.ed_model.specs.PlansFit.{IsSoundRequest, IsFitFollow, IsFitDocumentChange, IsFitViewChange, IsFitPlan, IsFitPlanned, IsRoomFor, EditStepsFit, UndoStepsFit, RedoStepsFit, PlansKeepSound}
-use Rattle.ed_model.specs.proved.Elements.{all_weaker}
-use Rattle.ed_model.specs.proved.Finding.{document_id, view_id, replaced_found, found_once}
-use Rattle.ed_model.specs.proved.Changes.{changed_id, changed_views, changed_lines_id, changed_lines_document, changed_view_id, changed_view_document, length_text}
-use Rattle.ed_model.specs.proved.Requests.{own_document, request_document, request_stands}
-use Rattle.ed_model.specs.proved.Scenes.{edit_made_text}
 use Rattle.ed_model.proofs.TransactionLemmas.{text_after_changes}
 use Rattle.ed_model.proofs.SoundSteps.{replacement_fits, within_fits}
 use Rattle.ed_model.proofs.SoundConversion.{conversion_fits}

@@ -1,22 +1,5 @@
 -- Scenes stay sound over the steps of an edit, of undo and of redo.
-use Rattle.std.proofs.Common.{◌≡◌, ℕ, ◌≤◌, Bool, true, false, List, [], ◌∷◌, length, map, refl, ap, sym, ◌∙◌, subst}
-use Rattle.std.specs.Prelude.{Some, ◌==◌, nat_lt, nat_le, if◌then◌else◌}
-use Rattle.std.proofs.lemmas.List.{map-id}
-use Rattle.std.proofs.lemmas.Bool.{cond_both, eq-eqb, ne_eqb, and_parts, leb-true}
-use Rattle.ed_types.specs.declared.limits.Limits.{Limits}
-use Rattle.ed_types.specs.Notices.{Notice}
-use Rattle.ed_model.specs.Numbers.{meets}
-use Rattle.ed_model.specs.Text.{bytes_of}
-use Rattle.ed_model.specs.Steps.{Step, edited}
-use Rattle.ed_model.specs.History.{History, Change, TextStep, ContainerStep, appended, sealed_outside_groups, fresh_history}
-use Rattle.ed_model.specs.Edits.{size_after, stays_within}
-use Rattle.ed_model.specs.UndoPlans.{text_steps}
-use Rattle.ed_model.specs.Session.{Session, Document, View, document_at, with_document, text_of, limit_of}
-use Rattle.ed_model.specs.Performing.{Scene, document_after, view_after, with_history, step_made, steps_made, sealed_scene, edit_made, change_performed, changes_performed, session_of, changes_lines, is_last}
-use Rattle.ed_model.specs.SoundLaws.{IsStepOf, AreStepsOf, FitsText, IsSound, IsSoundDocument, StandsOn}
-use Rattle.ed_model.specs.proved.Elements.{all_map}
-use Rattle.ed_model.specs.proved.Finding.{document_sound, replaced_found, replaced_twice, IsOwner}
-use Rattle.ed_model.specs.proved.Changes.{length_text, view_after_id, view_after_document}
+use Rattle.ed_model.proofs.Names.{◌≡◌, ℕ, ◌≤◌, Bool, true, false, List, [], ◌∷◌, length, map, refl, ap, sym, ◌∙◌, subst, Some, ◌==◌, nat_lt, nat_le, if◌then◌else◌, map-id, cond_both, eq-eqb, ne_eqb, and_parts, leb-true, Limits, Notice, meets, bytes_of, Step, edited, History, Change, TextStep, ContainerStep, appended, sealed_outside_groups, fresh_history, size_after, stays_within, text_steps, Session, Document, View, document_at, with_document, text_of, limit_of, Scene, document_after, view_after, with_history, step_made, steps_made, sealed_scene, edit_made, change_performed, changes_performed, session_of, changes_lines, is_last, IsStepOf, AreStepsOf, FitsText, IsSound, IsSoundDocument, StandsOn, all_map, document_sound, replaced_found, replaced_twice, IsOwner, length_text, view_after_id, view_after_document}
 use Rattle.ed_model.proofs.SoundHistory.{appended_fits, sealed_fits, fresh_fits}
 use Rattle.ed_model.proofs.SoundDocuments.{document_made, view_made, text_after, length_cells_after, cells_range}
 use Rattle.ed_model.proofs.SoundSessions.{document_replaced}

@@ -1,12 +1,5 @@
 -- A session stays sound when one document and its views change.
-use Rattle.std.proofs.Common.{◌≡◌, ℕ, Bool, true, false, cond, map, refl, ap, sym, ◌∙◌, subst, inl, inr, ◌⊎◌}
-use Rattle.std.specs.Prelude.{Some, ◌==◌, if◌then◌else◌}
-use Rattle.std.specs.List.{AllByRecursion}
-use Rattle.std.proofs.lemmas.Bool.{cond_both, eqb-true, cases_eq}
-use Rattle.ed_model.specs.Session.{Session, Document, View, document_at, view_at, with_document, with_view, in_place_of_view}
-use Rattle.ed_model.specs.SoundLaws.{Rise, IsSound, IsSoundDocument, IsSoundView, StandsOn, ListsItsViews}
-use Rattle.ed_model.specs.proved.Elements.{all_map, all_both, found_all}
-use Rattle.ed_model.specs.proved.Finding.{replaced_found, replaced_other, replaced_all, replaced_ids, same_ids, in_place_id, with_view_ids, IsOwner}
+use Rattle.ed_model.proofs.Names.{◌≡◌, ℕ, Bool, true, false, cond, map, refl, ap, sym, ◌∙◌, subst, inl, inr, ◌⊎◌, Some, ◌==◌, if◌then◌else◌, AllByRecursion, cond_both, eqb-true, cases_eq, Session, Document, View, document_at, view_at, with_document, with_view, in_place_of_view, Rise, IsSound, IsSoundDocument, IsSoundView, StandsOn, ListsItsViews, all_map, all_both, found_all, replaced_found, replaced_other, replaced_all, replaced_ids, same_ids, in_place_id, with_view_ids, IsOwner}
 use Rattle.ed_model.proofs.SoundListing.{lists_mapped, lists_alike}
 
 -- replacing a document, and changing the views on it with it

@@ -1,12 +1,5 @@
 -- Steps that can be performed on a text: lengths, inverses, and the steps of a replacement and of a conversion.
-use Rattle.std.proofs.Common.{◌≡◌, ℕ, suc, ◌+◌, ◌-◌, ◌<◌, ◌≤◌, List, [], ◌∷◌, ◌++◌, length, map, take, drop, reverse, refl, ap, sym, ◌∙◌, subst, arith, length-append, length-take, length-drop}
-use Rattle.std.specs.Prelude.{slice_range}
-use Rattle.std.proofs.lemmas.List.{reverse-append}
-use Rattle.ed_model.specs.Steps.{Step, Insert, Delete, edited, inverse_of, replacement, deletion, insertion}
-use Rattle.ed_model.specs.LineEnds.{after_steps}
-use Rattle.ed_model.specs.Edits.{size_after}
-use Rattle.ed_model.specs.SoundLaws.{IsStepOf, IsStepWithin, InTurn, AreStepsOf, AreStepsWithin}
-use Rattle.ed_model.specs.proved.Lists.{length_slice}
+use Rattle.ed_model.proofs.Names.{◌≡◌, ℕ, suc, ◌+◌, ◌-◌, ◌<◌, ◌≤◌, List, [], ◌∷◌, ◌++◌, length, map, take, drop, reverse, refl, ap, sym, ◌∙◌, subst, arith, length-append, length-take, length-drop, slice_range, reverse-append, Step, Insert, Delete, edited, inverse_of, replacement, deletion, insertion, after_steps, size_after, IsStepOf, IsStepWithin, InTurn, AreStepsOf, AreStepsWithin, length_slice}
 use Rattle.ed_model.proofs.InverseLemmas.{inverse_fits, inverse_gives_back_the_text, steps_after_steps}
 
 -- a step whose place, and the range that it deletes, is within n bytes

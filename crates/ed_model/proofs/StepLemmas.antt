@@ -1,8 +1,5 @@
 -- Steps: the length of the new text; positions stay in the text, and keep their order.
-use Rattle.std.proofs.Common.{ℕ, ◌+◌, ◌-◌, ◌≤◌, min, Bool, true, false, cond, List, length, leb, ltb, arith}
-use Rattle.std.proofs.lemmas.Bool.Decides.{nat_tests}
-use Rattle.ed_model.specs.Steps.{Step, Insert, Delete, edited, moved_back, moved_start, moved_position}
-use Rattle.ed_model.specs.proved.Steps.{length-inserted, length-deleted}
+use Rattle.ed_model.proofs.Names.{ℕ, ◌+◌, ◌-◌, ◌≤◌, min, Bool, true, false, cond, List, length, leb, ltb, arith, nat_tests, Step, Insert, Delete, edited, moved_back, moved_start, moved_position, length-inserted, length-deleted}
 
 moved_back_in_range : (p n l q : ℕ) → q ≤ l → moved_back p n q ≤ min p l + (l - (p + n))
 moved_back_in_range p n l q h = grind (arith, nat_tests)

@@ -1,20 +1,6 @@
 -- From facts on plans to facts on the table, and from the table to runs.
-use Rattle.std.proofs.Common.{◌≡◌, ℕ, Bool, true, false, ◌&&◌, cond, List, [], ◌∷◌, refl, ap, ◌∙◌, sym, Option, Some, None, Result, Ok, Err}
-use Rattle.ed_types.specs.declared.kind.Kind.{Kind}
-use Rattle.ed_types.specs.declared.message.Message.{Message}
-use Rattle.ed_types.specs.declared.refusal.Refusal.{Refusal}
-use Rattle.ed_types.specs.declared.refusal.Refusal.TheVariants.{TooLong}
-use Rattle.ed_types.specs.declared.script.Command.{Command}
-use Rattle.ed_types.specs.declared.script.Command.TheVariants.{OpenView, CloseView, LoadFile, SendMessage, Expect}
-use Rattle.ed_types.specs.Notices.{Notice, Response}
-use Rattle.ed_types.specs.Messages.{kind_of, marks_of}
-use Rattle.ed_model.specs.Session.{Session, View, Document, view_at, document_at}
-use Rattle.ed_model.specs.Requests.{Request, Planned}
-use Rattle.ed_model.specs.Table.{table, table_from_view, table_from_kind, table_from_document, answered, record_note, performed, plan_of, request, opened, closed}
-use Rattle.ed_model.specs.Run.{Running, after_command, after_opening, after_closing, after_message, run_to, loaded, file_at}
-use Rattle.ed_model.specs.TableLaws.{Answered, LeavesSession, HasNoText, HasNotes, recording, QueriesLeaveTheSession, FreeMessagesHandOutNoText, FreeMessagesHaveNoNote, RecordedFreeMessagesHaveOneNote, RefusedCommandsLeaveTheSession, is_refused, kept_unless, unrefused, RefusedCommandsCanBeLeftOut}
-use Rattle.ed_model.specs.FreePlans.{IsFreePlanned}
-use Rattle.ed_model.proofs.QuietLemmas.{IsQuiet, query_is_quiet, quiet_plan_leaves, message_without_memory_is_free, free_plan_has_no_text, free_plan_has_no_note}
+use Rattle.ed_model.proofs.Names.{◌≡◌, ℕ, Bool, true, false, List, [], ◌∷◌, refl, ap, ◌∙◌, sym, Option, Some, None, Result, Ok, Err, Kind, Message, Refusal, TooLong, Command, OpenView, CloseView, LoadFile, SendMessage, Expect, kind_of, Session, View, Document, view_at, document_at, Request, Planned, table, table_from_view, table_from_kind, table_from_document, answered, plan_of, request, opened, closed, Running, after_command, after_opening, after_closing, after_message, run_to, loaded, file_at, Answered, LeavesSession, QueriesLeaveTheSession, RefusedCommandsLeaveTheSession, is_refused, kept_unless, unrefused, RefusedCommandsCanBeLeftOut}
+use Rattle.ed_model.proofs.QuietLemmas.{IsQuiet, query_is_quiet, quiet_plan_leaves}
 
 same_view : (v w : View) (found : Option View) → found ≡ Some v → found ≡ Some w → w ≡ v
 same_view v w found e f = cc
@@ -59,50 +45,6 @@ pub queries_leave_the_session : QueriesLeaveTheSession
 queries_leave_the_session s view m kind e q =
     of_table (LeavesSession s) (λ refusal other. tt) s m kind view e
     (λ v d seen found. quiet_answer kind (request s v d m) _ (query_is_quiet kind (request s v d m) q))
-
--- a recording adds no text to the reply
-text_if_recorded : (b : Bool) (note : Notice) (reply : Response) → (cond b (record reply { notes = note ∷ reply.notes }) reply).text ≡ reply.text
-text_if_recorded true note reply = refl
-text_if_recorded false note reply = refl
-
-free_answer_has_no_text : (kind : Kind) (r : Request) (p : Planned) → IsFreePlanned p → HasNoText (answered kind r p)
-free_answer_has_no_text kind r (Err e) h = tt
-free_answer_has_no_text kind r (Ok p) h =
-    text_if_recorded (r.view.records && (marks_of kind).r) (record_note r) (performed r p).1 ∙ free_plan_has_no_text r p h
-
-pub free_messages_hand_out_no_text : FreeMessagesHandOutNoText
-free_messages_hand_out_no_text s view m kind e n =
-    of_table HasNoText (λ refusal other. tt) s m kind view e
-    (λ v d seen found. free_answer_has_no_text kind (request s v d m) _ (message_without_memory_is_free kind (request s v d m) n))
-
-notes_if_unrecorded : (b : Bool) (note : Notice) (reply : Response) → b ≡ false → (cond b (record reply { notes = note ∷ reply.notes }) reply).notes ≡ reply.notes
-notes_if_unrecorded true note reply e = cc
-notes_if_unrecorded false note reply e = refl
-
-notes_if_recorded : (b : Bool) (note : Notice) (reply : Response) → b ≡ true → (cond b (record reply { notes = note ∷ reply.notes }) reply).notes ≡ note ∷ reply.notes
-notes_if_recorded true note reply e = refl
-notes_if_recorded false note reply e = cc
-
-free_answer_has_no_note : (kind : Kind) (r : Request) (p : Planned) → IsFreePlanned p → (r.view.records && (marks_of kind).r) ≡ false → HasNotes [] (answered kind r p)
-free_answer_has_no_note kind r (Err e) h b = tt
-free_answer_has_no_note kind r (Ok p) h b =
-    notes_if_unrecorded (r.view.records && (marks_of kind).r) (record_note r) (performed r p).1 b ∙ free_plan_has_no_note r p h
-
-pub free_messages_have_no_note : FreeMessagesHaveNoNote
-free_messages_have_no_note s view m kind v e n sees b =
-    of_table (HasNotes []) (λ refusal other. tt) s m kind view e
-    (λ w d seen found. free_answer_has_no_note kind (request s w d m) _ (message_without_memory_is_free kind (request s w d m) n)
-    (rw (same_view v w _ sees seen) b))
-
-free_answer_has_one_note : (kind : Kind) (r : Request) (p : Planned) → IsFreePlanned p → (r.view.records && (marks_of kind).r) ≡ true → HasNotes (record_note r ∷ []) (answered kind r p)
-free_answer_has_one_note kind r (Err e) h b = tt
-free_answer_has_one_note kind r (Ok p) h b =
-    notes_if_recorded (r.view.records && (marks_of kind).r) (record_note r) (performed r p).1 b ∙ ap (λ notes. record_note r ∷ notes) (free_plan_has_no_note r p h)
-
-pub recorded_free_messages_have_one_note : RecordedFreeMessagesHaveOneNote
-recorded_free_messages_have_one_note s view m kind v e n sees b =
-    of_table (HasNotes (recording v m ∷ [])) (λ refusal other. tt) s m kind view e
-    (λ w d seen found. rw (same_view v w _ sees seen) (free_answer_has_one_note kind (request s v d m) _ (message_without_memory_is_free kind (request s v d m) n) b))
 
 -- Runs.
 

@@ -1,15 +1,7 @@
 -- Transactions undone and redone.
-use Rattle.std.proofs.Common.{◌≡◌, ℕ, ◌<◌, nat_lt, if◌then◌else◌, Bool, true, false, List, [], ◌∷◌, ◌++◌, length, map, reverse, refl, ap, ◌∙◌, sym, arith}
-use Rattle.std.proofs.lemmas.List.{append-nil, map-append, reverse-append, reverse-reverse}
-use Rattle.ed_model.specs.Steps.{Step, Insert, Delete, inverse_of}
-use Rattle.ed_model.specs.LineEnds.{after_steps}
-use Rattle.ed_model.specs.History.{History, Transaction, Change, TextStep, ContainerStep, inverse_change, first_changes, undo_changes, redo_changes, undone, undone_to, redone, redone_from}
-use Rattle.ed_model.specs.UndoPlans.{text_steps}
-use Rattle.ed_model.specs.Session.{text_of}
+use Rattle.ed_model.proofs.Names.{◌≡◌, ℕ, ◌<◌, nat_lt, if◌then◌else◌, Bool, true, false, List, [], ◌∷◌, ◌++◌, length, map, reverse, refl, ap, ◌∙◌, sym, arith, map-append, reverse-append, reverse-reverse, Step, Insert, Delete, inverse_of, after_steps, History, Transaction, Change, TextStep, ContainerStep, inverse_change, first_changes, undo_changes, redo_changes, undone, undone_to, redone, redone_from, text_steps, text_of, Scene, changes_performed, change_performed, changes_lines, is_last, inverses, text_of_scene, after_undo, after_redo, UndoMakesItsSteps, RedoMakesItsSteps, UndoThenRedoGivesBackTheText, RedoThenUndoGivesBackTheText, bytes_of_edited_cells}
+use Rattle.std.proofs.lemmas.List.{append-nil}
 use Rattle.ed_model.specs.Notes.{performed_undo, performed_redo, multi_step, bit_if}
-use Rattle.ed_model.specs.Performing.{Scene, changes_performed, change_performed, changes_lines, is_last}
-use Rattle.ed_model.specs.InverseLaws.{inverses, text_of_scene, after_undo, after_redo, UndoMakesItsSteps, RedoMakesItsSteps, UndoThenRedoGivesBackTheText, RedoThenUndoGivesBackTheText}
-use Rattle.ed_model.specs.proved.Steps.{bytes_of_edited_cells}
 use Rattle.ed_model.proofs.InverseLemmas.{inverses_give_back_the_text}
 
 -- The steps among changes.

@@ -1,13 +1,5 @@
 -- Several transactions undone and redone.
-use Rattle.std.proofs.Common.{◌≡◌, ℕ, zero, suc, ◌<◌, Bool, true, ℤ, List, [], ◌∷◌, length, map, reverse, refl, ap, ◌∙◌, sym, subst, arith}
-use Rattle.ed_model.specs.Steps.{Step, edited}
-use Rattle.ed_model.specs.LineEnds.{after_steps}
-use Rattle.ed_model.specs.History.{History, Transaction, Change, TextStep, ContainerStep, inverse_change, first_changes, seal_first, joins, joins_last, with_change, appended, undo_changes, redo_changes, undone, undone_to, redone, redone_from}
-use Rattle.ed_model.specs.UndoPlans.{text_steps}
-use Rattle.ed_model.specs.Performing.{Scene}
-use Rattle.ed_model.specs.InverseLaws.{Fits, FitInTurn, text_of_scene, history_of, after_undo, after_redo}
-use Rattle.ed_model.specs.HistoryLaws.{SameButForSeals}
-use Rattle.ed_model.specs.UndoLaws.{undo_steps, redo_steps, undone_text, redone_text, CanBeUndone, undos, redos, UndosGoBack, RedosGoOn, UndosThenRedosGiveBackTheText, UndosThenRedosGiveBackTheHistory, BegunStepIsOneTransactionMore, JoinedStepKeepsEarlierTexts, BegunContainerStepIsOneTransactionMore, JoinedContainerStepKeepsEarlierTexts, UndoKeepsEarlierTexts, RedoIsOneTransactionMore, SealsKeepEarlierTexts}
+use Rattle.ed_model.proofs.Names.{◌≡◌, ℕ, zero, suc, ◌<◌, Bool, true, ℤ, List, [], ◌∷◌, length, map, reverse, refl, ap, ◌∙◌, sym, subst, arith, Step, edited, after_steps, History, Transaction, Change, TextStep, ContainerStep, inverse_change, first_changes, seal_first, joins, joins_last, with_change, appended, undo_changes, redo_changes, undone, undone_to, redone, redone_from, text_steps, Scene, Fits, FitInTurn, text_of_scene, history_of, after_undo, after_redo, SameButForSeals, undo_steps, redo_steps, undone_text, redone_text, CanBeUndone, undos, redos, UndosGoBack, UndosThenRedosGiveBackTheText, UndosThenRedosGiveBackTheHistory, BegunStepIsOneTransactionMore, JoinedStepKeepsEarlierTexts, BegunContainerStepIsOneTransactionMore, JoinedContainerStepKeepsEarlierTexts, UndoKeepsEarlierTexts, RedoIsOneTransactionMore, SealsKeepEarlierTexts}
 use Rattle.ed_model.proofs.InverseLemmas.{inverse_gives_back_the_text, inverses_give_back_the_text}
 use Rattle.ed_model.proofs.HistoryLemmas.{append_begins, where_collecting, same_as_itself, undo_then_redo_gives_back_the_history}
 use Rattle.ed_model.proofs.TransactionLemmas.{undo_makes_its_steps, redo_makes_its_steps, undo_then_redo_gives_back_the_text, undo_steps_after_redo}
@@ -70,13 +62,6 @@ pub one_redone : (k : ℕ) (h : History) (future : List Transaction) (text : Lis
     redone_text k (redone_from h future).future (after_steps (text_steps (reverse (first_changes future))) text) ≡ redone_text (suc k) future text
 one_redone k h [] text e = ap (λ (future : List Transaction). redone_text k future text) e ∙ nothing_to_redo k text
 one_redone k h (t ∷ ts) text e = refl
-
-pub redos_go_on : RedosGoOn
-redos_go_on zero scene = refl
-redos_go_on (suc k) scene =
-    redos_go_on k (after_redo scene)
-    ∙ ap (redone_text k (redone (history_of scene)).future) (redo_makes_its_steps scene)
-    ∙ one_redone k (history_of scene) (history_of scene).future (text_of_scene scene) refl
 
 -- after a redo the inverse steps of its transaction restore the text from before it
 one_more_redone : (k : ℕ) (h : History) (future : List Transaction) (text : List ℕ) → 0 < length future →

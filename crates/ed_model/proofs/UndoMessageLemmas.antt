@@ -1,22 +1,7 @@
 -- The messages UNDO and REDO.
-use Rattle.std.proofs.Common.{◌≡◌, ℕ, Bool, true, false, cond, nat_lt, List, length, refl, ap, ◌∙◌, sym, subst, Some, Ok, Err}
-use Rattle.ed_types.specs.declared.kind.Kind.TheVariants.{Undo, Redo}
-use Rattle.ed_types.specs.declared.refusal.Refusal.TheVariants.{TooLong}
-use Rattle.ed_model.specs.declared.plan.Plan.{Plan}
+use Rattle.ed_model.proofs.Names.{◌≡◌, ℕ, Bool, true, false, cond, nat_lt, List, length, refl, ap, ◌∙◌, sym, subst, Some, Ok, Err, Undo, Redo, TooLong, Plan, Change, undone, redone, undo_changes, redo_changes, can_undo, can_redo, Session, Document, document_at, with_document, text_of, limit_of, Request, Planned, size, stays_within, text_steps, act_on_history, Scene, scene_of, answered, request, after_undo, after_redo, Answered, undone_text, redone_text, IsUndone, IsRedone, UndoUndoes, RedoRedoes, document_id, replaced_found}
 use Rattle.ed_model.specs.declared.plan.Plan.TheVariants as plan
-use Rattle.ed_model.specs.History.{Change, undone, redone, undo_changes, redo_changes, can_undo, can_redo}
-use Rattle.ed_model.specs.Session.{Session, Document, document_at, with_document, text_of, limit_of}
 use Rattle.ed_model.specs.Notes as notes
-use Rattle.ed_model.specs.Requests.{Request, Planned, size}
-use Rattle.ed_model.specs.Edits.{stays_within}
-use Rattle.ed_model.specs.UndoPlans.{text_steps, act_on_history}
-use Rattle.ed_model.specs.Performing.{Scene, scene_of}
-use Rattle.ed_model.specs.Table.{answered, request}
-use Rattle.ed_model.specs.InverseLaws.{after_undo, after_redo}
-use Rattle.ed_model.specs.TableLaws.{Answered}
-use Rattle.ed_model.specs.UndoLaws.{undone_text, redone_text}
-use Rattle.ed_model.specs.UndoMessageLaws.{IsUndone, IsRedone, UndoUndoes, RedoRedoes}
-use Rattle.ed_model.specs.proved.Finding.{document_id, replaced_found}
 use Rattle.ed_model.proofs.TableLemmas.{at_table}
 use Rattle.ed_model.proofs.TransactionLemmas.{undo_makes_its_steps, redo_makes_its_steps}
 use Rattle.ed_model.proofs.UndoLemmas.{undo_keeps_earlier_texts, one_redone}

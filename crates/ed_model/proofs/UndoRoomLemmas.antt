@@ -1,27 +1,6 @@
 -- Undo and redo keep the text within its limit, since each text on their way was there before.
-use Rattle.std.proofs.Common.{◌≡◌, ℕ, ◌≤◌, Bool, true, false, cond, not, nat_le, List, [], ◌∷◌, length, refl, ap, ◌∙◌, subst, Err, Some, Ok}
-use Rattle.std.specs.Prelude.{pos}
-use Rattle.std.proofs.lemmas.Bool.{le-leb}
-use Rattle.ed_types.specs.declared.kind.Kind.{Kind}
-use Rattle.ed_types.specs.declared.kind.Kind.TheVariants.{Undo, Redo}
-use Rattle.ed_types.specs.declared.message.Message.{Message}
-use Rattle.ed_types.specs.declared.refusal.Refusal.TheVariants.{TooLong}
-use Rattle.ed_model.specs.declared.plan.Plan.{Plan}
+use Rattle.ed_model.proofs.Names.{◌≡◌, ℕ, ◌≤◌, Bool, true, false, cond, not, nat_le, List, [], ◌∷◌, length, refl, ap, ◌∙◌, subst, Err, Some, Ok, pos, le-leb, Kind, Undo, Redo, Message, TooLong, Plan, Step, edited, can_undo, can_redo, undo_changes, redo_changes, Session, View, Document, view_at, document_at, limit_of, Request, size, text, answer, size_after, stays_within, text_steps, answered, request, Answered, IsSound, AreStepsWithin, IsSoundRequest, IsRoomFor, UndoIsNeverTooLong, RedoIsNeverTooLong, view_id, length_text, request_document}
 use Rattle.ed_model.specs.declared.plan.Plan.TheVariants as plan
-use Rattle.ed_model.specs.Steps.{Step, edited}
-use Rattle.ed_model.specs.History.{can_undo, can_redo, undo_changes, redo_changes}
-use Rattle.ed_model.specs.Session.{Session, View, Document, view_at, document_at, limit_of}
-use Rattle.ed_model.specs.Requests.{Request, size, text, answer}
-use Rattle.ed_model.specs.Edits.{size_after, stays_within}
-use Rattle.ed_model.specs.UndoPlans.{text_steps}
-use Rattle.ed_model.specs.Table.{answered, request}
-use Rattle.ed_model.specs.TableLaws.{Answered}
-use Rattle.ed_model.specs.SoundLaws.{IsSound, AreStepsWithin}
-use Rattle.ed_model.specs.PlansFit.{IsSoundRequest, IsRoomFor}
-use Rattle.ed_model.specs.UndoMessageLaws.{UndoIsNeverTooLong, RedoIsNeverTooLong}
-use Rattle.ed_model.specs.proved.Finding.{view_id}
-use Rattle.ed_model.specs.proved.Changes.{length_text}
-use Rattle.ed_model.specs.proved.Requests.{request_document}
 use Rattle.ed_model.proofs.SoundSteps.{fits_range, length_after}
 use Rattle.ed_model.proofs.SoundHistory.{undo_fits, redo_fits}
 use Rattle.ed_model.proofs.TableLemmas.{of_table}

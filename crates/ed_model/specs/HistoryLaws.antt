@@ -1,6 +1,6 @@
 -- Laws of the undo history: what each of its operations changes and keeps.
 use Rattle.std.specs.Prelude.{◌≡◌, ◌+◌, ◌-◌, ◌<◌, if◌then◌else◌, Bool, true, false, ℤ, List, [], ◌∷◌, length, map}
-use Rattle.ed_model.specs.History.{History, Transaction, Change, at_save_point, joins, appended, begins_transaction, reachable, first_changes, sealed_outside_groups, group_begun, group_ended, with_container_step, undone, redone, emptied, collecting_set, saved}
+use Rattle.ed_model.specs.History.{History, Transaction, Change, at_save_point, joins, appended, begins_transaction, reachable, first_changes, sealed_outside_groups, group_begun, group_ended, with_container_step, undone, redone, saved}
 
 -- Append, while undo is collected and while it is not.
 
@@ -51,27 +51,6 @@ AppendCounts =
 -- after a change that is collected, the document counts as modified
 abbrev pub AppendLeavesTheSavePoint : Type 0
 AppendLeavesTheSavePoint = (later : Bool) (c : Change) (h : History) → h.collecting ≡ true → at_save_point (appended later c h) ≡ false
-
--- the document counts as unmodified after SETSAVEPOINT and after EMPTYUNDOBUFFER
-abbrev pub SavedIsAtTheSavePoint : Type 0
-SavedIsAtTheSavePoint = (h : History) → at_save_point (saved h) ≡ true
-
-abbrev pub EmptiedIsAtTheSavePoint : Type 0
-EmptiedIsAtTheSavePoint = (h : History) → at_save_point (emptied h) ≡ true
-
--- SETUNDOCOLLECTION keeps whether the document counts as modified
-abbrev pub CollectingKeepsModified : Type 0
-CollectingKeepsModified = (on : Bool) (h : History) → at_save_point (collecting_set on h) ≡ at_save_point h
-
--- groups and seals keep whether the document counts as modified
-abbrev pub SealsKeepModified : Type 0
-SealsKeepModified = (h : History) → at_save_point (sealed_outside_groups h) ≡ at_save_point h
-
-abbrev pub GroupBegunKeepsModified : Type 0
-GroupBegunKeepsModified = (h : History) → at_save_point (group_begun h) ≡ at_save_point h
-
-abbrev pub GroupEndedKeepsModified : Type 0
-GroupEndedKeepsModified = (h : History) → at_save_point (group_ended h) ≡ at_save_point h
 
 -- Seals and groups.
 
@@ -143,7 +122,3 @@ RedoMovesToThePast = (h : History) → 0 < length h.future → MovesToThePast h 
 -- undo and then redo restore the history, except for seals
 abbrev pub UndoThenRedoGivesBackTheHistory : Type 0
 UndoThenRedoGivesBackTheHistory = (h : History) → 0 < length h.past → SameButForSeals h (redone (undone h))
-
--- undo and then redo keep whether the document counts as modified
-abbrev pub UndoThenRedoKeepsModified : Type 0
-UndoThenRedoKeepsModified = (h : History) → 0 < length h.past → at_save_point (redone (undone h)) ≡ at_save_point h

@@ -1,7 +1,6 @@
 -- Laws of inverses: of one step, of several steps, and of a transaction that is undone and redone.
 use Rattle.std.specs.Prelude.{◌≡◌, ℕ, ◌+◌, ◌<◌, ◌≤◌, List, [], ◌∷◌, length, map, reverse, slice_range}
-use Rattle.ed_model.specs.Text.{Cell, bytes_of}
-use Rattle.ed_model.specs.Steps.{Step, Insert, Delete, edited, edited_cells, inverse_of}
+use Rattle.ed_model.specs.Steps.{Step, Insert, Delete, edited, inverse_of}
 use Rattle.ed_model.specs.LineEnds.{after_steps}
 use Rattle.ed_model.specs.History.{History, undo_changes, redo_changes, undone, redone}
 use Rattle.ed_model.specs.UndoPlans.{text_steps}
@@ -25,10 +24,6 @@ inverses steps = reverse (map inverse_of steps)
 
 -- One step.
 
--- the inverse of a step's inverse is the step
-abbrev pub InverseOfInverse : Type 0
-InverseOfInverse = (step : Step) → inverse_of (inverse_of step) ≡ step
-
 -- a step followed by its inverse restores the bytes
 abbrev pub InverseGivesBackTheText : Type 0
 InverseGivesBackTheText = (step : Step) (text : List ℕ) → Fits step text → edited (inverse_of step) (edited step text) ≡ text
@@ -37,28 +32,12 @@ InverseGivesBackTheText = (step : Step) (text : List ℕ) → Fits step text →
 abbrev pub InverseFits : Type 0
 InverseFits = (step : Step) (text : List ℕ) → Fits step text → Fits (inverse_of step) (edited step text)
 
--- a step followed by its inverse restores the bytes of cells
-abbrev pub InverseGivesBackTheBytesOfCells : Type 0
-InverseGivesBackTheBytesOfCells =
-    (step : Step) (cells : List Cell) → Fits step (bytes_of cells) →
-    bytes_of (edited_cells (inverse_of step) (edited_cells step cells)) ≡ bytes_of cells
-
--- an insertion followed by its inverse restores the cells, with their styles
-abbrev pub InsertionTakenBackGivesBackTheCells : Type 0
-InsertionTakenBackGivesBackTheCells =
-    (p : ℕ) (bytes : List ℕ) (cells : List Cell) → p ≤ length cells →
-    edited_cells (Delete p bytes) (edited_cells (Insert p bytes) cells) ≡ cells
-
 -- Several steps.
 
 -- steps followed by their inverses, from the last to the first, restore the bytes
 abbrev pub InversesGiveBackTheText : Type 0
 InversesGiveBackTheText =
     (steps : List Step) (text : List ℕ) → FitInTurn steps text → after_steps (inverses steps) (after_steps steps text) ≡ text
-
--- after the steps their inverses can be performed, one after another
-abbrev pub InversesFitInTurn : Type 0
-InversesFitInTurn = (steps : List Step) (text : List ℕ) → FitInTurn steps text → FitInTurn (inverses steps) (after_steps steps text)
 
 -- Transactions.
 

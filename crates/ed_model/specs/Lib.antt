@@ -47,7 +47,6 @@ pub mod RecordingExamples
 pub mod WorkedCharacters
 pub mod WorkedLines
 pub mod WorkedLimits
-pub mod LineLaws
 pub mod StepLaws
 pub mod CarryLaws
 pub mod TableLaws

@@ -1,15 +1,14 @@
 -- Laws of the message table: what queries, messages marked N, and refusals leave unchanged.
-use Rattle.std.specs.Prelude.{◌≡◌, ℕ, Bool, true, false, ◌&&◌, List, [], ◌∷◌, Result, Ok, Err, Some}
+use Rattle.std.specs.Prelude.{◌≡◌, ℕ, Bool, true, false, List, [], ◌∷◌, Result, Ok, Err, Some}
 use Rattle.ed_types.specs.declared.kind.Kind.{Kind}
 use Rattle.ed_types.specs.declared.message.Message.{Message}
 use Rattle.ed_types.specs.declared.refusal.Refusal.{Refusal}
 use Rattle.ed_types.specs.declared.script.Command.{Command}
 use Rattle.ed_types.specs.declared.script.Outcome.{Outcome}
 use Rattle.ed_types.specs.declared.script.Outcome.TheVariants.{Opened, Closed, Replied, Refused, Expected}
-use Rattle.ed_types.specs.Notices.{Notice, Response}
+use Rattle.ed_types.specs.Notices.{Response}
 use Rattle.ed_types.specs.Messages.{kind_of, marks_of}
-use Rattle.ed_model.specs.Session.{Session, View, view_at}
-use Rattle.ed_model.specs.Notes as notes
+use Rattle.ed_model.specs.Session.{Session}
 use Rattle.ed_model.specs.Table.{table}
 use Rattle.ed_model.specs.Run.{Running, after_command, run_to}
 
@@ -23,21 +22,6 @@ abbrev pub LeavesSession : Session → Answered → Type 0
 LeavesSession s (Err refusal) = Unit {0}
 LeavesSession s (Ok done) = done.0 ≡ s
 
--- a reply without text
-abbrev pub HasNoText : Answered → Type 0
-HasNoText (Err refusal) = Unit {0}
-HasNoText (Ok done) = done.1.text ≡ []
-
--- a reply with exactly these notes
-abbrev pub HasNotes : List Notice → Answered → Type 0
-HasNotes notes (Err refusal) = Unit {0}
-HasNotes notes (Ok done) = done.1.notes ≡ notes
-
--- the note by which a view that records is notified of a message (SCN_MACRORECORD)
-abbrev pub recording : View → Message → Notice
-recording v m =
-    let n = notes.blank notes.macro_record in record n { view = v.id; message = m.number; w = m.w; l = m.l; text = m.text }
-
 -- The laws, for every message, session and view.
 
 -- a message marked Q leaves the session unchanged
@@ -45,26 +29,6 @@ abbrev pub QueriesLeaveTheSession : Type 0
 QueriesLeaveTheSession =
     (s : Session) (view : ℕ) (m : Message) (kind : Kind) →
     kind_of m.number ≡ Some kind → (marks_of kind).q ≡ true → LeavesSession s (table s view m)
-
--- the reply to a message marked N has no text
-abbrev pub FreeMessagesHandOutNoText : Type 0
-FreeMessagesHandOutNoText =
-    (s : Session) (view : ℕ) (m : Message) (kind : Kind) →
-    kind_of m.number ≡ Some kind → (marks_of kind).n ≡ true → HasNoText (table s view m)
-
--- the reply to a message marked N has no notes, unless the message is recorded
-abbrev pub FreeMessagesHaveNoNote : Type 0
-FreeMessagesHaveNoNote =
-    (s : Session) (view : ℕ) (m : Message) (kind : Kind) (v : View) →
-    kind_of m.number ≡ Some kind → (marks_of kind).n ≡ true → view_at s.views view ≡ Some v →
-    (v.records && (marks_of kind).r) ≡ false → HasNotes [] (table s view m)
-
--- if the message is recorded, the note of the recording is the only one
-abbrev pub RecordedFreeMessagesHaveOneNote : Type 0
-RecordedFreeMessagesHaveOneNote =
-    (s : Session) (view : ℕ) (m : Message) (kind : Kind) (v : View) →
-    kind_of m.number ≡ Some kind → (marks_of kind).n ≡ true → view_at s.views view ≡ Some v →
-    (v.records && (marks_of kind).r) ≡ true → HasNotes (recording v m ∷ []) (table s view m)
 
 -- Runs.
 

@@ -47,9 +47,6 @@ redos (suc k) scene = redos k (after_redo scene)
 abbrev pub UndosGoBack : Type 0
 UndosGoBack = (k : ℕ) (scene : Scene) → text_of_scene (undos k scene) ≡ undone_text k (history_of scene).past (text_of_scene scene)
 
-abbrev pub RedosGoOn : Type 0
-RedosGoOn = (k : ℕ) (scene : Scene) → text_of_scene (redos k scene) ≡ redone_text k (history_of scene).future (text_of_scene scene)
-
 -- k undos followed by k redos restore the text
 abbrev pub UndosThenRedosGiveBackTheText : Type 0
 UndosThenRedosGiveBackTheText =

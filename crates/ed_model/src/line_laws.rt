@@ -2,29 +2,8 @@
 //! with an empty body, and holds for all texts, steps and rows.
 
 ghost use Rattle.ed_model.specs.Rows.{Flags, Row};
-ghost use Rattle.ed_model.specs.LineLaws.{FirstLineStartsAtZero, LineStartsAreExact, LineStartsAreInRange, LineStartsAreLocal, LineStartsAreOnTheirLines, LineStartsMove, LineStartsRise, LinesAreInRange, LinesAreTheLastToStart, LinesFollowPositions, SomeLine};
 ghost use Rattle.ed_model.specs.StepLaws.{CellsFollowBytes, DeletionsShorten, InsertionsLengthen, PositionsKeepTheirOrder, PositionsStayInRange, StartsKeepTheirOrder, StartsStayInRange};
 ghost use Rattle.ed_model.specs.CarryLaws.{CarriesToEachLine, RegroupingLeavesARowForEachLine, StepsLeaveARowForEachLine};
-
-/// Line 0 starts at 0, each other line starts after the one before it, and no line starts past the end of the text. Whether a
-/// line starts at a place depends only on the three bytes before it and the one after it.
-pub fn starts_of_lines()
-    ensures some_line { SomeLine }
-    ensures first { FirstLineStartsAtZero }
-    ensures rise { LineStartsRise }
-    ensures in_range { LineStartsAreInRange }
-    ensures exact { LineStartsAreExact }
-    ensures local { LineStartsAreLocal }
-    ensures moved { LineStartsMove }
-{}
-
-/// Each position is on one line, the last that starts at or before it; a later position is never on an earlier line.
-pub fn lines_of_positions()
-    ensures in_range { LinesAreInRange }
-    ensures monotone { LinesFollowPositions }
-    ensures own_start { LineStartsAreOnTheirLines }
-    ensures last_to_start { LinesAreTheLastToStart }
-{}
 
 /// A step moves positions and line starts to places in the new text, and keeps their order. It changes the length by its bytes.
 pub fn positions_after_a_step()

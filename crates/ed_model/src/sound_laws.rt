@@ -1,6 +1,6 @@
 //! Laws of sound sessions and of fit plans. Each is the contract of a function with an empty body.
 
-ghost use Rattle.ed_model.specs.SoundLaws.{NewSessionIsSound, MessageKeepsSound, OpeningKeepsSound, ClosingKeepsSound, CommandKeepsSound, IsSoundInEveryStateFrom, IsSoundInEveryState, ThePastCanBeUndone, UndoneThenRedoneIsTheSame};
+ghost use Rattle.ed_model.specs.SoundLaws.{NewSessionIsSound, MessageKeepsSound, OpeningKeepsSound, ClosingKeepsSound, CommandKeepsSound, IsSoundInEveryStateFrom, IsSoundInEveryState};
 ghost use Rattle.ed_model.specs.StandingLaws.{StepsKeepViewsStanding};
 ghost use Rattle.ed_model.specs.PlansFit.{PlansFit, EditStepsFit, UndoStepsFit, RedoStepsFit, PlansKeepSound};
 
@@ -27,12 +27,6 @@ pub fn plans_are_fit()
     ensures undo_steps { UndoStepsFit }
     ensures redo_steps { RedoStepsFit }
     ensures keep_sound { PlansKeepSound }
-{}
-
-/// In a sound document all transactions of the past can be undone, and as many redos restore the text, and the history except for seals.
-pub fn sound_histories_can_be_undone()
-    ensures all_the_past { ThePastCanBeUndone }
-    ensures and_redone { UndoneThenRedoneIsTheSame }
 {}
 
 /// A view that fits its document still fits it after a step of the document.

@@ -7,14 +7,7 @@ ghost use Rattle.ed_model.specs.RepeatedUndoLaws.{
   UndoMessagesGoBack,
   UndosGoBackThenRedosGoOn,
 };
-ghost use Rattle.ed_model.specs.UndoMessageLaws.{RedoIsNeverTooLong, RedoRedoes, UndoIsNeverTooLong, UndoUndoes};
-
-/// UNDO, if it is answered and there is a transaction to undo, leaves the document with its last transaction undone; REDO leaves
-/// it with its next one redone.
-pub fn undo_and_redo_act()
-    ensures undo { UndoUndoes }
-    ensures redo { RedoRedoes }
-{}
+ghost use Rattle.ed_model.specs.UndoMessageLaws.{RedoIsNeverTooLong, UndoIsNeverTooLong};
 
 /// In a sound session UNDO and REDO are never refused with TooLong, since each text on their way was there before.
 pub fn undo_and_redo_are_never_too_long()

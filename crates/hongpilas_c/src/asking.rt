@@ -1,6 +1,7 @@
 //! Questions beside the replies: messages that change nothing, asked without replacing the last reply.
 
 ghost use Rattle.std.specs.Prelude.{◌≡◌, ◌≢◌, [], true, length, is_some, Ok, IfOk, IfErr};
+ghost use Rattle.ed_model.specs.Printed.{refusal_number};
 ghost use Rattle.ed_model.specs.Table.{table};
 ghost use Rattle.editor_session.specs.Answers.{message_with};
 ghost use Rattle.hongpilas_c.specs.Asked.{is_query, refused_asking, value_answered, text_answered, IsAsked, IsAskRefused, IsRead, asked_text, without_asked};
@@ -23,23 +24,19 @@ fn is_query(number: u32) -> bool
 }
 
 impl Held {
-    /// Answers any question by its plan. Returns the number of the refusal otherwise.
+    /// Answers any question by its plan. A message that is no question is unknown.
     #[inline(never)]
-    fn planned(&mut self, view: u32, number: u32, w: i64, l: i64) -> Result<Reply, u32>
+    fn planned(&mut self, view: u32, number: u32, w: i64, l: i64) -> Result<Reply, Refusal>
         ensures done { IfOk result (λ reply. table self.old.session view (message_with number w l []) ≡ Ok (self.old.session, reply)) }
-        ensures refused { IfErr result (λ refusal. refusal ≡ refused_asking number (table self.old.session view (message_with number w l []))) }
-        ensures number { IfErr result (λ refusal. refusal ≢ 0) }
+        ensures refused { IfErr result (λ refusal. refusal_number refusal ≡ refused_asking number (table self.old.session view (message_with number w l []))) }
         ensures same { self.new ≡ self.old }
     {
         // States that a question leaves the session unchanged.
         queries_leave_the_session();
         if !is_query(number) {
-            return Err(number_of(Refusal::UnknownMessage));
+            return Err(Refusal::UnknownMessage);
         }
-        match self.session.send_lent(view, number, w, l, &[]) {
-            Ok(reply) => Ok(reply),
-            Err(refusal) => Err(number_of(refusal)),
-        }
+        self.session.send_lent(view, number, w, l, &[])
     }
 
     /// Asks a view a question, and writes its value to `value`. Returns 0 or the number of the refusal.
@@ -58,7 +55,7 @@ impl Held {
                 *value = reply.value();
                 DONE
             }
-            Err(refusal) => refusal,
+            Err(refusal) => number_of(refusal),
         }
     }
 
@@ -87,7 +84,7 @@ impl Held {
                 }
                 Err(_) => number_of(Refusal::OutOfMemory),
             },
-            Err(refusal) => refusal,
+            Err(refusal) => number_of(refusal),
         }
     }
 }

@@ -1,17 +1,9 @@
 -- The entries that places and a slab make, and how a change of one value changes them.
-use Rattle.std.proofs.Common.{◌≡◌, ◌≢◌, ℕ, zero, suc, ◌+◌, ◌*◌, ◌<◌, ◌≤◌, true, cond, List, [], ◌∷◌, ◌++◌, length, map, get_or, Option, Some, None, is_some, count_by, refl, sym, ap, subst, ◌∙◌, arith}
-use Rattle.std.specs.Prelude.{IsSome, IfSome, IfNone}
+use Rattle.id_table.proofs.Names.{◌≡◌, ◌≢◌, ℕ, zero, suc, ◌+◌, ◌*◌, ◌<◌, ◌≤◌, true, cond, List, [], ◌∷◌, ◌++◌, length, map, get_or, Option, Some, None, is_some, count_by, refl, sym, ap, subst, ◌∙◌, arith, IsSome, IfSome, IfNone, ne_eqb, length-append, eq-eqb, Slab, get, Updates, with_value, ContainsKey, HasRoomFor, slab_len, Place, entry, id_of, value_at, with_value_at, without_id, Rise, entries_by, InOrder, IsTable, IsOrdered, IsAt, IsNowhere}
 use Rattle.std.specs.List.{AllByRecursion, remove}
-use Rattle.std.proofs.lemmas.Bool.{ne_eqb}
 use Rattle.std.proofs.lemmas.List.Sums.{sum_by-set}
 use Rattle.std.proofs.lemmas.List.Edits.{length-remove}
-use Rattle.std.proofs.Common.{length-append}
-use Rattle.std.proofs.Common.{eq-eqb}
-use Rattle.slab.specs.Slab.{Slab, get, Updates, with_value, ContainsKey, HasRoomFor, slab_len}
 use Rattle.slab.proofs.SlabLemmas.{Updates-with_value, ContainsKey-within}
-use Rattle.id_table.specs.declared.table.Place.{Place}
-use Rattle.id_table.specs.Entries.{entry, id_of, value_at, with_value_at, without_id, Rise}
-use Rattle.id_table.specs.Order.{entry_by, entries_by, InOrder, IsTable, IsOrdered, IsAt, IsNowhere}
 
 -- an answer that is there
 some_of : {T : Type 0} (o : Option T) → IsSome o → (x : T) × (o ≡ Some x)
@@ -65,9 +57,6 @@ module _ {V : Type 0} where
   lower slab low floor next (p ∷ ps) le h = (omega (arith, le, h.0), h.1, h.2, h.3)
 
   -- A look-up among the entries.
-
-  entry_at : (slab : Slab V) (p : Place) (v : V) → get slab p.key ≡ Some v → entry_by slab p ≡ Some (entry p.id v)
-  entry_at slab p v e = rw e refl
 
   pub entries_cons : (slab : Slab V) (p : Place) (ps : List Place) (v : V) → get slab p.key ≡ Some v → entries_by slab (p ∷ ps) ≡ entry p.id v ∷ entries_by slab ps
   entries_cons slab p ps v e = rw e refl

@@ -1,13 +1,10 @@
 -- What a binary search finds among places.
-use Rattle.std.proofs.Common.{ℕ, ◌<◌, ◌≤◌, List, length, get_or, Result, Ok, Err, IfSome, IfNone, sym, arith, ⊎_elim}
+use Rattle.id_table.proofs.Names.{ℕ, ◌<◌, ◌≤◌, List, length, get_or, Result, Ok, Err, IfSome, IfNone, sym, arith, ⊎_elim, cases_lt, Place, IsOrdered, IsAt, IsNowhere}
 use Rattle.std.specs.Result.{result_ok}
 use Rattle.std.specs.List.Sorted.{IsSearchInRange, IsBinarySearchResult, IsNonDecreasingBy}
 use Rattle.std.specs.Ordering.{nat_cmp, ordering_index}
 use Rattle.std.proofs.lemmas.Cmp.{ranked}
 use Rattle.std.proofs.lemmas.Bool.Decides.{nat_tests}
-use Rattle.std.proofs.lemmas.Bool.{cases_lt}
-use Rattle.id_table.specs.declared.table.Place.{Place}
-use Rattle.id_table.specs.Order.{IsOrdered, IsAt, IsNowhere}
 
 module _ (ps : List Place) (ordered : IsOrdered ps) (id : ℕ) where
   -- the comparisons with an id rise along the order, as a binary search asks

@@ -3,219 +3,111 @@
 ghost use Rattle.std.specs.Prelude.{◌≡◌, false};
 
 use crate::memory::{MemorySink, MemorySource};
-use ed_types::{Cause, ScriptFault};
 use job_words::{Job, Task, WordFault, Words, read_task, read_words};
-use script_ends::{RunFault, check_script, list_script, read_file, status_of};
+use script_ends::{RunFault, read_file, status_of};
 use script_jobs::{run_job, run_script};
 use std::alloc::Global;
 use std::process::Abort;
 use std::test::Fail;
 
-/// The script `examples/hello.sci`, and the text that it prints. `tools/run_examples.py` runs all examples.
-const HELLO: &[u8] =
-    b"sci 1\nopen\nsend 1 2003 0 0 \"hello\"\nsend 1 2006 0 0 \"\"\nsend 1 2182 0 0 \"\"\n";
+/// The script `examples/all_notes_of_an_insertion.sci`, the text that it prints, its listing, and the text of its check.
+/// `tools/run_examples.py` runs all examples.
+const SCRIPT: &[u8] =
+    b"sci 1\nopen\nsend 1 2003 0 0 \"ab\\x0a\"\nsend 1 2182 0 0 \"\"\nsend 1 2003 9 0 \"z\"\nsend 1 2007 -1 0 \"\"\n";
 
-const HELLO_PRINTED: &[u8] = b"= 1 \"\"\n= 0 \"\"\n@ 1 2008 1040 0 5 0 0 0 0 0 0 0 0 \"hello\"\n\
-    @ 1 2003 0 0 0 0 0 0 0 0 0 0 0 \"\"\n@ 1 2008 8209 0 5 0 0 0 0 0 0 0 0 \"hello\"\n\
-    = 5 \"\"\n= 5 \"hello\"\n";
+const PRINTED: &[u8] = b"= 1 \"\"\n= 0 \"\"\n@ 1 2008 1040 0 3 0 0 0 0 0 0 0 0 \"ab\\x0a\"\n\
+    @ 1 2003 0 0 0 0 0 0 0 0 0 0 0 \"\"\n@ 1 2008 8209 0 3 1 0 0 0 0 0 0 0 \"ab\\x0a\"\n\
+    = 3 \"ab\\x0a\"\n! 6\n= 0 \"\"\n";
 
-/// Its listing.
-const HELLO_LISTING: &[u8] =
-    b"sci 2\nopen\nsend 1 2003 0 0 \"hello\"\nsend 1 2006 0 0 \"\"\nsend 1 2182 0 0 \"\"\n";
+const LISTED: &[u8] =
+    b"sci 2\nopen\nsend 1 2003 0 0 \"ab\\x0a\"\nsend 1 2182 0 0 \"\"\nsend 1 2003 9 0 \"z\"\nsend 1 2007 -1 0 \"\"\n";
 
-/// Returns the result of a run from memory to memory, a few bytes at a time.
-fn run(
-    alloc: Global,
-    script: &[u8],
-    good_reads: usize,
-    sink: &mut MemorySink,
-) -> Result<u64, RunFault>
+const CHECKED: &[u8] = b"ok 5\n";
+
+/// How many reads of 7 bytes it takes to read SCRIPT and to see its end.
+const READS: usize = 15;
+
+/// Returns the result of a run of SCRIPT from memory to memory, a few bytes at a time.
+fn run(alloc: Global, good_reads: usize, sink: &mut MemorySink) -> Result<u64, RunFault>
     requires { sink.old.failed ≡ false }
 {
-    let mut source = MemorySource::new(script, 7, good_reads);
+    let mut source = MemorySource::new(SCRIPT, 7, good_reads);
     run_script(alloc, &mut source, Vec::new(alloc), sink)
 }
 
-#[test]
-fn runs_a_script(rt: HostRuntime) {
-    let mut sink = MemorySink::new(rt.alloc(), 5, 1000, false);
-    let answer = run(rt.alloc(), HELLO, 1000, &mut sink);
-    assert!(rt; answer == Ok(0));
-    assert!(rt; sink.bytes() == HELLO_PRINTED);
-    assert_eq!(rt; status_of(&answer), 0);
-}
-
-#[test]
-fn counts_expects_that_are_not_met(rt: HostRuntime) {
-    let script = b"sci 2\nopen\nexpect 1\nexpect 1\nexpect 2\n".as_slice();
-    let mut sink = MemorySink::new(rt.alloc(), 5, 1000, false);
-    let answer = run(rt.alloc(), script, 1000, &mut sink);
-    assert!(rt; answer == Ok(1));
-    assert!(rt; sink.bytes() == b"= 1 \"\"\n+ 1\n+ 1\n- 2\n".as_slice());
-    assert_eq!(rt; status_of(&answer), 4);
-}
-
-#[test]
-fn refuses_what_is_no_script(rt: HostRuntime) {
-    let bad_version = ScriptFault::BadLine {
-        line: 1,
-        cause: Cause::BadVersion,
-    };
-    let unknown = ScriptFault::BadLine {
-        line: 2,
-        cause: Cause::UnknownCommand,
-    };
-    for (script, fault) in [
-        (b"sci 3\n".as_slice(), bad_version),
-        (b"sci 1\nexpect 0\n".as_slice(), unknown),
-    ] {
-        let mut sink = MemorySink::new(rt.alloc(), 5, 1000, false);
-        let answer = run(rt.alloc(), script, 1000, &mut sink);
-        assert!(rt; answer == Err(RunFault::Script(fault)));
-        assert!(rt; sink.bytes().is_empty());
-        assert_eq!(rt; status_of(&answer), 1);
-    }
-}
-
-/// How many reads of 7 bytes it takes to read HELLO and to see its end.
-const HELLO_READS: usize = 12;
-
-/// Returns a job on HELLO.
-fn job_of_hello(alloc: Global, verb: &str) -> Result<Job, WordFault> {
-    job(alloc, &[verb, "hello.sci"])
-}
-
-/// Returns the result of a job on HELLO, from memory to memory.
-fn run_hello(
-    alloc: Global,
-    verb: &str,
-    good_reads: usize,
-    sink: &mut MemorySink,
-) -> Result<Result<u64, RunFault>, WordFault>
-    requires { sink.old.failed ≡ false }
-{
-    let job = job_of_hello(alloc, verb)?;
-    let mut source = MemorySource::new(HELLO, 7, good_reads);
-    Ok(run_job(alloc, &job, Vec::new(alloc), &mut source, sink))
-}
-
-/// The text that a check of it writes.
-const HELLO_CHECKED: &[u8] = b"ok 4\n";
-
-/// Each job, with the text that it writes for HELLO.
-const JOBS: [(&str, &[u8]); 3] = [
-    ("run", HELLO_PRINTED),
-    ("list", HELLO_LISTING),
-    ("check", HELLO_CHECKED),
-];
-
-/// Runs a job on HELLO whose reads fail after `good` of them.
-fn stops_at_read(rt: &impl Abort, alloc: Global, verb: &str, good: usize) -> Result<(), Fail> {
+/// Runs SCRIPT with reads that fail after `good` of them.
+fn stops_at_read(rt: &impl Abort, alloc: Global, good: usize) {
     let mut sink = MemorySink::new(alloc, 5, 1000, false);
-    let answer = run_hello(alloc, verb, good, &mut sink)?;
-    if good < HELLO_READS {
+    let answer = run(alloc, good, &mut sink);
+    if good < READS {
         assert!(rt; answer == Err(RunFault::Read));
         assert!(rt; sink.bytes().is_empty());
         assert_eq!(rt; status_of(&answer), 3);
     } else {
         assert!(rt; answer == Ok(0));
+        assert!(rt; sink.bytes() == PRINTED);
+        assert_eq!(rt; status_of(&answer), 0);
     }
-    Ok(())
 }
 
 #[test]
-fn stops_at_each_failed_read(rt: HostRuntime) -> Result<(), Fail> {
-    for (verb, _) in &JOBS {
-        for good in 0..=HELLO_READS {
-            stops_at_read(&rt, rt.alloc(), verb, good)?;
-        }
+fn stops_at_each_failed_read(rt: HostRuntime) {
+    for good in 0..=READS {
+        stops_at_read(&rt, rt.alloc(), good);
     }
-    Ok(())
 }
 
-/// Asserts that after `good` writes of 10 bytes the result is that fault, and that a prefix of the text was written.
-fn assert_stopped(
-    rt: &impl Abort,
-    answer: &Result<u64, RunFault>,
-    sink: &MemorySink,
-    text: &[u8],
-    good: usize,
-) {
-    if good < text.len().div_ceil(10) {
-        assert!(rt; *answer == Err(RunFault::Write));
+/// Runs SCRIPT with writes of 10 bytes that fail after `good` of them, or take no byte if the sink stalls. A prefix of
+/// the text is written.
+fn stops_at_write(rt: &impl Abort, alloc: Global, good: usize, stalls: bool) {
+    let mut sink = MemorySink::new(alloc, 10, good, stalls);
+    let answer = run(alloc, 1000, &mut sink);
+    if good < PRINTED.len().div_ceil(10) {
+        assert!(rt; answer == Err(RunFault::Write));
         assert_eq!(rt; sink.bytes().len(), good.saturating_mul(10));
-        assert!(rt; text.starts_with(sink.bytes()));
-        assert_eq!(rt; status_of(answer), 3);
+        assert!(rt; PRINTED.starts_with(sink.bytes()));
+        assert_eq!(rt; status_of(&answer), 3);
     } else {
-        assert!(rt; *answer == Ok(0));
-        assert!(rt; sink.bytes() == text);
+        assert!(rt; answer == Ok(0));
+        assert!(rt; sink.bytes() == PRINTED);
     }
 }
 
-/// Runs a job on HELLO whose writes of 10 bytes fail after `good` of them, or take no byte if the sink stalls.
-fn stops_at_write(
-    rt: &impl Abort,
-    alloc: Global,
-    verb: &str,
-    text: &[u8],
-    good: usize,
-    stalls: bool,
-) -> Result<(), Fail> {
-    let mut sink = MemorySink::new(alloc, 10, good, stalls);
-    let answer = run_hello(alloc, verb, 1000, &mut sink)?;
-    assert_stopped(rt, &answer, &sink, text, good);
+#[test]
+fn stops_at_each_failed_write(rt: HostRuntime) {
+    for good in 0..=PRINTED.len().div_ceil(10) {
+        stops_at_write(&rt, rt.alloc(), good, false);
+        stops_at_write(&rt, rt.alloc(), good, true);
+    }
+}
+
+/// Each job, with the text that it writes for SCRIPT.
+const JOBS: [(&str, &[u8]); 3] = [("run", PRINTED), ("list", LISTED), ("check", CHECKED)];
+
+/// Performs a job on SCRIPT, and asserts the text that it writes.
+fn writes(rt: &impl Abort, alloc: Global, verb: &str, text: &[u8]) -> Result<(), Fail> {
+    let job = job(alloc, &[verb, "script"])?;
+    let mut source = MemorySource::new(SCRIPT, 7, 1000);
+    let mut sink = MemorySink::new(alloc, 5, 1000, false);
+    let answer = run_job(alloc, &job, Vec::new(alloc), &mut source, &mut sink);
+    assert!(rt; answer == Ok(0));
+    assert!(rt; sink.bytes() == text);
     Ok(())
 }
 
 #[test]
-fn stops_at_each_failed_write(rt: HostRuntime) -> Result<(), Fail> {
+fn jobs_write_their_texts(rt: HostRuntime) -> Result<(), Fail> {
     for (verb, text) in &JOBS {
-        for good in 0..=text.len().div_ceil(10) {
-            stops_at_write(&rt, rt.alloc(), verb, text, good, false)?;
-            stops_at_write(&rt, rt.alloc(), verb, text, good, true)?;
-        }
+        writes(&rt, rt.alloc(), verb, text)?;
     }
     Ok(())
 }
 
-/// The script `examples/all_notes_of_an_insertion.sci`, and the text that it prints.
-const NOTES: &[u8] =
-    b"sci 1\nopen\nsend 1 2003 0 0 \"ab\\x0a\"\nsend 1 2182 0 0 \"\"\nsend 1 2003 9 0 \"z\"\nsend 1 2007 -1 0 \"\"\n";
-
-const NOTES_PRINTED: &[u8] = b"= 1 \"\"\n= 0 \"\"\n@ 1 2008 1040 0 3 0 0 0 0 0 0 0 0 \"ab\\x0a\"\n\
-    @ 1 2003 0 0 0 0 0 0 0 0 0 0 0 \"\"\n@ 1 2008 8209 0 3 1 0 0 0 0 0 0 0 \"ab\\x0a\"\n\
-    = 3 \"ab\\x0a\"\n! 6\n= 0 \"\"\n";
-
-/// Runs NOTES with writes of 10 bytes that fail after `good` of them, or take no byte if the sink stalls.
-fn stops_amid_notes(rt: &impl Abort, alloc: Global, good: usize, stalls: bool) {
-    let mut sink = MemorySink::new(alloc, 10, good, stalls);
-    let answer = run(alloc, NOTES, 1000, &mut sink);
-    assert_stopped(rt, &answer, &sink, NOTES_PRINTED, good);
-}
-
 #[test]
-fn stops_at_each_failed_write_of_notes(rt: HostRuntime) {
-    for good in 0..=NOTES_PRINTED.len().div_ceil(10) {
-        stops_amid_notes(&rt, rt.alloc(), good, false);
-        stops_amid_notes(&rt, rt.alloc(), good, true);
-    }
-}
-
-#[test]
-fn lists_and_checks(rt: HostRuntime) -> Result<(), Fail> {
-    let mut sink = MemorySink::new(rt.alloc(), 5, 1000, false);
-    let mut source = MemorySource::new(HELLO, 7, 1000);
-    let answer = list_script(rt.alloc(), &mut source, &mut sink);
-    assert!(rt; answer == Ok(0));
-    assert!(rt; sink.bytes() == HELLO_LISTING);
-    let mut sink = MemorySink::new(rt.alloc(), 5, 1000, false);
-    let mut source = MemorySource::new(HELLO, 7, 1000);
-    let answer = check_script(rt.alloc(), &mut source, &mut sink);
-    assert!(rt; answer == Ok(0));
-    assert!(rt; sink.bytes() == b"ok 4\n".as_slice());
-    let mut source = MemorySource::new(HELLO, 7, 1000);
+fn a_file_is_read(rt: HostRuntime) -> Result<(), Fail> {
+    let mut source = MemorySource::new(SCRIPT, 7, 1000);
     let file = read_file(rt.alloc(), &mut source)?;
-    assert!(rt; file.as_slice() == HELLO);
+    assert!(rt; file.as_slice() == SCRIPT);
     Ok(())
 }
 
@@ -306,11 +198,6 @@ fn is_showing_check(alloc: Global, words: &[&str], wanted: &str) -> bool {
     matches!(&task(alloc, words), Ok(Task::CheckAndShow { script }) if script.as_str() == wanted)
 }
 
-/// Returns whether words ask, as a task, for a check of this script.
-fn is_check_task(alloc: Global, words: &[&str], wanted: &str) -> bool {
-    matches!(&task(alloc, words), Ok(Task::Whole(Job::Check { script })) if script.as_str() == wanted)
-}
-
 /// Returns whether words ask, as a task, for a run of this script.
 fn is_run_task(alloc: Global, words: &[&str], wanted: &str) -> bool {
     matches!(&task(alloc, words), Ok(Task::Whole(Job::Run { script, .. })) if script.as_str() == wanted)
@@ -325,8 +212,6 @@ fn is_no_task(alloc: Global, words: &[&str]) -> bool {
 fn reads_tasks(rt: HostRuntime) {
     assert!(rt; is_step(rt.alloc(), &["step", "s", "f"], "s", &["f"]));
     assert!(rt; is_quiet_run(rt.alloc(), &["run", "--quiet", "s", "f"], "s", &["f"]));
-    assert!(rt; is_check_task(rt.alloc(), &["check", "s"], "s"));
-    assert!(rt; is_check_task(rt.alloc(), &["check", "-"], "-"));
     assert!(rt; is_showing_check(rt.alloc(), &["check", "--show", "s"], "s"));
     assert!(rt; is_showing_check(rt.alloc(), &["check", "-", "--show"], "-"));
     assert!(rt; is_run_task(rt.alloc(), &["run", "-"], "-"));

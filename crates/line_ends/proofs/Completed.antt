@@ -1,14 +1,7 @@
 -- The unwanted bytes of a text in which nothing is missing.
-use Rattle.std.proofs.Common.{◌≡◌, ℕ, ◌+◌, Bool, true, false, cond, ◌==◌, ◌||◌, ◌&&◌, List, [], ◌∷◌, ◌++◌, length, refl, ap, ◌∙◌, sym, arith}
-use Rattle.std.specs.Prelude.{count_by, not}
-use Rattle.std.proofs.lemmas.Bool.{or_from, and_right}
+use Rattle.line_ends.proofs.Names.{◌≡◌, ℕ, ◌+◌, Bool, true, false, cond, ◌==◌, ◌||◌, ◌&&◌, List, [], ◌∷◌, ◌++◌, length, refl, ap, ◌∙◌, sym, arith, count_by, not, or_from, and_right, LineEnd, CrLf, Cr, Lf, begins_with_line_feed, lacks_return, lacks_feed, is_unwanted, unwanted_at, place_after, unwanted_from, put, filled, fills, still_feed, completed}
 use Rattle.std.proofs.lemmas.List.Recursion.{is_count_by}
 use Rattle.std.proofs.lemmas.List.Sums.{sum_by-append}
-use Rattle.ed_model.specs.declared.plan.LineEnd.{LineEnd}
-use Rattle.ed_model.specs.declared.plan.LineEnd.TheVariants.{CrLf, Cr, Lf}
-use Rattle.ed_model.specs.LineEnds.{begins_with_line_feed, lacks_return, lacks_feed, is_unwanted, unwanted_at, place_after, unwanted_from}
-use Rattle.ed_model.specs.proved.Conversions.{put, filled, fills, still_feed}
-use Rattle.line_ends.specs.Conversion.{completed}
 
 completed_is : (to : LineEnd) (text : List ℕ) → completed to text ≡ filled false to text
 completed_is to text = fills to text false 0 [] refl

@@ -1,9 +1,6 @@
 -- Parts of a text in two halves that have no line end.
-use Rattle.std.proofs.Common.{◌≡◌, ℕ, ◌+◌, ◌-◌, ◌<◌, ◌≤◌, false, List, ◌++◌, length, get_or, slice_range, inl, inr, arith}
-use Rattle.std.proofs.lemmas.Bool.{cases_lt}
-use Rattle.std.proofs.lemmas.List.{get_or-append-add, get_or_append_left}
+use Rattle.line_ends.proofs.Names.{◌≡◌, ℕ, ◌+◌, ◌-◌, ◌<◌, ◌≤◌, false, List, ◌++◌, length, get_or, slice_range, inl, inr, arith, cases_lt, get_or-append-add, get_or_append_left, is_end}
 use Rattle.ed_model.specs.proved.Lists.{within_part, read_part}
-use Rattle.line_ends.specs.Conversion.{is_end}
 
 -- no CR or LF stands from one place up to another
 abbrev pub Quiet : List ℕ → ℕ → ℕ → Type 0

@@ -1,3 +1,4 @@
+pub mod Names
 pub mod Halves
 pub mod Walk
 pub mod Missing

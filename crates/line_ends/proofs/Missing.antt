@@ -1,14 +1,5 @@
 -- The insertions of a conversion, one by one.
-use Rattle.std.proofs.Common.{◌≡◌, ℕ, suc, ◌+◌, ◌<◌, ◌≤◌, Bool, true, false, ◌==◌, ◌||◌, ◌&&◌, inl, inr, List, [], ◌∷◌, ◌++◌, length, get_or, take, drop, refl, ap, ◌∙◌, sym, arith, append_assoc, length-append}
-use Rattle.std.specs.Prelude.{not}
-use Rattle.std.proofs.lemmas.Bool.{true≢false, or_parts, or_cases, and_parts, eqb-true, not-true}
-use Rattle.std.proofs.lemmas.List.{drop_more, drop_all, drop_at, length-take-le, get_or_at}
-use Rattle.ed_model.specs.declared.plan.LineEnd.{LineEnd}
-use Rattle.ed_model.specs.Text.{stands}
-use Rattle.ed_model.specs.Steps.{Step, Insert, edited}
-use Rattle.ed_model.specs.LineEnds.{begins_with_line_feed, is_feed_foreign, is_return_foreign, lacks_return, lacks_feed, missing_at, missing_from}
-use Rattle.ed_model.specs.proved.Bytes.{stands_at}
-use Rattle.line_ends.specs.Conversion.{follows_return, lone_feed, lone_return, missing_in, IsNextLone, IsNextMissing}
+use Rattle.line_ends.proofs.Names.{◌≡◌, ℕ, suc, ◌+◌, ◌<◌, ◌≤◌, Bool, true, false, ◌==◌, ◌||◌, ◌&&◌, inl, inr, List, [], ◌∷◌, ◌++◌, length, get_or, take, drop, refl, ap, ◌∙◌, sym, arith, append_assoc, length-append, not, true≢false, or_parts, or_cases, and_parts, eqb-true, not-true, drop_more, drop_all, drop_at, length-take-le, get_or_at, LineEnd, stands, Step, Insert, edited, begins_with_line_feed, is_feed_foreign, is_return_foreign, lacks_return, lacks_feed, missing_at, missing_from, stands_at, follows_return, lone_feed, lone_return, missing_in, IsNextLone, IsNextMissing}
 use Rattle.line_ends.proofs.Halves.{Quiet}
 use Rattle.line_ends.proofs.Walk.{follows_next, begins_is, along_quiet, quiet_lone}
 

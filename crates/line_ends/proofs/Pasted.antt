@@ -1,12 +1,5 @@
 -- A text converted piece by piece.
-use Rattle.std.proofs.Common.{◌≡◌, ℕ, zero, suc, ◌+◌, ◌-◌, ◌<◌, ◌≤◌, Bool, true, false, cond, ◌==◌, ◌||◌, ◌&&◌, List, [], ◌∷◌, ◌++◌, length, get_or, take, drop, slice_range, ◌*◌, refl, ap, subst, ◌∙◌, sym, arith, append_assoc, append-nil, length-append}
-use Rattle.std.proofs.lemmas.Bool.{true≢false, or_parts, and_right}
-use Rattle.std.proofs.lemmas.List.{drop_all, drop_more, drop-drop, take_rest, length-take-le, length-drop}
-use Rattle.ed_model.specs.declared.plan.LineEnd.{LineEnd}
-use Rattle.ed_model.specs.declared.plan.LineEnd.TheVariants.{CrLf, Cr, Lf}
-use Rattle.ed_model.specs.LineEnds.{line_end_bytes, begins_with_line_feed, converted, converted_after}
-use Rattle.ed_model.specs.proved.Conversions.{behind_return}
-use Rattle.line_ends.specs.Conversion.{is_end, end_bytes}
+use Rattle.line_ends.proofs.Names.{◌||◌, ◌≡◌, ℕ, zero, suc, ◌+◌, ◌-◌, ◌<◌, ◌≤◌, Bool, true, false, cond, ◌==◌, ◌&&◌, List, [], ◌∷◌, ◌++◌, length, get_or, take, drop, slice_range, refl, ap, subst, ◌∙◌, sym, arith, append_assoc, append-nil, length-append, true≢false, or_parts, and_right, drop_all, drop_more, drop-drop, take_rest, length-take-le, length-drop, LineEnd, line_end_bytes, begins_with_line_feed, converted, converted_after, behind_return, is_end, end_bytes}
 
 -- the bytes before a line end
 quiet_front : (to : LineEnd) (bs : List ℕ) (n : ℕ) → n ≤ length bs → ((k : ℕ) → k < n → is_end (get_or bs k 0) ≡ false)
@@ -81,12 +74,6 @@ pub no_end : (count : ℕ) (to : LineEnd) → count ≤ 0 → end_bytes count to
 no_end zero to h = refl
 no_end (suc count) to h = absurd (omega arith)
 
-pub short_end : (count : ℕ) (to : LineEnd) → length (end_bytes count to) ≤ 2 * count
-short_end zero to = omega arith
-short_end (suc count) CrLf = omega arith
-short_end (suc count) Cr = omega arith
-short_end (suc count) Lf = omega arith
-
 -- The loops: what remains behind a piece.
 
 abbrev pub Pieces : List ℕ → ℕ → ℕ → Type 0
@@ -132,23 +119,6 @@ items_on to bytes place quiet count l pieces all old between new a b c =
     let new' : new ≡ old ++ front ++ end_bytes count to = c ∙ ap (λ t. t ++ end_bytes count to) (b ∙ ap (λ t. old ++ t) (front_on bytes place quiet)) in
     a ∙ ap (λ t. old ++ t) (piece_on to bytes place quiet count l pieces)
     ∙ sym (ap (λ t. t ++ rest) (new' ∙ append_assoc old front (end_bytes count to)) ∙ append_assoc old (front ++ end_bytes count to) rest)
-
-pub first_room : (to : LineEnd) (bytes : List ℕ) (place quiet count : ℕ) → place ≤ length bytes → quiet + count ≤ length (slice_range bytes place (length bytes))
-    → Pieces (slice_range bytes place (length bytes)) quiet count
-    → (old room : ℕ) → old + length (converted to (drop place bytes)) ≤ room → old + length (slice_range bytes place (place + quiet)) ≤ room
-first_room to bytes place quiet count l w pieces old room h =
-    let size = front_length bytes place quiet count l w in
-    let all = length_on to bytes place quiet count l w pieces in
-    omega arith
-
-pub second_room : (to : LineEnd) (bytes : List ℕ) (place quiet count : ℕ) → place ≤ length bytes → quiet + count ≤ length (slice_range bytes place (length bytes))
-    → Pieces (slice_range bytes place (length bytes)) quiet count
-    → (old between room room' : ℕ) → old + length (converted to (drop place bytes)) ≤ room → between ≡ old + length (slice_range bytes place (place + quiet)) → room ≤ room'
-    → between + length (end_bytes count to) ≤ room'
-second_room to bytes place quiet count l w pieces old between room room' h e m =
-    let size = front_length bytes place quiet count l w in
-    let all = length_on to bytes place quiet count l w pieces in
-    omega arith
 
 pub room_on : (to : LineEnd) (bytes : List ℕ) (place quiet count : ℕ) → place ≤ length bytes → quiet + count ≤ length (slice_range bytes place (length bytes))
     → Pieces (slice_range bytes place (length bytes)) quiet count

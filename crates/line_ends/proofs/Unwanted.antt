@@ -1,14 +1,5 @@
 -- The deletions of a conversion, one by one.
-use Rattle.std.proofs.Common.{◌≡◌, ℕ, zero, suc, ◌+◌, ◌-◌, ◌<◌, ◌≤◌, Bool, true, false, ◌==◌, ◌||◌, ◌&&◌, inl, inr, List, [], ◌∷◌, ◌++◌, length, get_or, take, drop, slice_range, refl, ap, ◌∙◌, sym, arith}
-use Rattle.std.proofs.lemmas.Bool.{true≢false, or_cases, or_from, and_parts, and_right, eqb-true, le-ltb}
-use Rattle.std.proofs.lemmas.List.{drop_more, drop_all, drop_at, length-take-le}
-use Rattle.ed_model.specs.declared.plan.LineEnd.{LineEnd}
-use Rattle.ed_model.specs.declared.plan.LineEnd.TheVariants.{CrLf, Cr, Lf}
-use Rattle.ed_model.specs.Text.{stands}
-use Rattle.ed_model.specs.Steps.{Step, Delete, edited}
-use Rattle.ed_model.specs.LineEnds.{begins_with_line_feed, is_feed_unwanted, is_return_unwanted, is_unwanted, unwanted_at, place_after, unwanted_from}
-use Rattle.ed_model.specs.proved.Bytes.{stands_at}
-use Rattle.line_ends.specs.Conversion.{follows_return, spare_feed, spare_return, unwanted_in, unwanted_since, IsNextUnwanted}
+use Rattle.line_ends.proofs.Names.{◌≡◌, ℕ, zero, suc, ◌+◌, ◌-◌, ◌<◌, ◌≤◌, Bool, true, false, ◌==◌, ◌||◌, ◌&&◌, inl, inr, List, [], ◌∷◌, ◌++◌, length, get_or, take, drop, slice_range, refl, ap, ◌∙◌, sym, arith, true≢false, or_cases, or_from, and_parts, and_right, eqb-true, le-ltb, drop_more, drop_all, drop_at, length-take-le, LineEnd, CrLf, Cr, Lf, stands, Step, Delete, edited, begins_with_line_feed, is_feed_unwanted, is_return_unwanted, is_unwanted, unwanted_at, place_after, unwanted_from, stands_at, follows_return, spare_feed, spare_return, unwanted_in, unwanted_since, IsNextUnwanted}
 use Rattle.line_ends.proofs.Halves.{Quiet}
 use Rattle.line_ends.proofs.Walk.{follows_next, begins_is, quiet_spare}
 

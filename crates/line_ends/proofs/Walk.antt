@@ -1,12 +1,5 @@
 -- The walk along a text from a stretch without line ends to the next one.
-use Rattle.std.proofs.Common.{◌≡◌, ℕ, zero, suc, ◌+◌, ◌-◌, ◌<◌, ◌≤◌, false, ◌==◌, ◌||◌, List, [], ◌∷◌, length, get_or, drop, refl, ap, ◌∙◌, arith}
-use Rattle.std.proofs.lemmas.Bool.{lt-ltb, or_parts}
-use Rattle.ed_model.specs.declared.plan.LineEnd.{LineEnd}
-use Rattle.ed_model.specs.Text.{stands}
-use Rattle.ed_model.specs.Steps.{Step}
-use Rattle.ed_model.specs.LineEnds.{begins_with_line_feed}
-use Rattle.ed_model.specs.proved.Bytes.{stands_at}
-use Rattle.line_ends.specs.Conversion.{is_end, follows_return, lone_feed, lone_return, spare_feed, spare_return}
+use Rattle.line_ends.proofs.Names.{◌≡◌, ℕ, zero, suc, ◌+◌, ◌-◌, ◌<◌, ◌≤◌, false, ◌==◌, ◌||◌, List, [], ◌∷◌, length, get_or, drop, refl, ap, ◌∙◌, arith, lt-ltb, or_parts, LineEnd, stands, Step, begins_with_line_feed, stands_at, is_end, follows_return, lone_feed, lone_return, spare_feed, spare_return}
 use Rattle.line_ends.proofs.Halves.{Quiet}
 
 pub follows_next : (start : ℕ) (text : List ℕ) (p : ℕ) → start ≤ p → p < length text → follows_return start text (p + 1) ≡ (get_or text p 0 == 13)

@@ -1,14 +1,8 @@
 -- The length of a text during the steps of a conversion.
-use Rattle.std.proofs.Common.{◌≡◌, ℕ, zero, suc, ◌+◌, ◌-◌, ◌<◌, ◌≤◌, Bool, true, false, ◌==◌, ◌||◌, ◌&&◌, List, [], ◌∷◌, ◌++◌, length, min, refl, ap, ◌∙◌, sym, arith, length-append}
-use Rattle.std.specs.Prelude.{nat_le, nat_lt}
+use Rattle.line_ends.proofs.Names.{◌≡◌, ℕ, zero, suc, ◌+◌, ◌-◌, ◌<◌, ◌≤◌, Bool, true, false, ◌==◌, ◌||◌, ◌&&◌, List, [], ◌∷◌, ◌++◌, length, min, refl, ap, ◌∙◌, sym, arith, length-append, nat_le, nat_lt, leb-true, leb-false, le-leb, lt-leb, lt-ltb, ne_eqb, eq-eqb, or_left, LineEnd, Step, Insert, Delete, lacks_return, lacks_feed, missing_at, missing_from, is_unwanted, unwanted_at, place_after, unwanted_from, conversion_steps, completed}
 use Rattle.std.proofs.Math.Bool.{and-false}
 use Rattle.std.proofs.Math.Nat.{min-le_left}
-use Rattle.std.proofs.lemmas.Bool.{leb-true, leb-false, le-leb, lt-leb, lt-ltb, ne_eqb, eq-eqb, or_left}
-use Rattle.ed_model.specs.declared.plan.LineEnd.{LineEnd}
-use Rattle.ed_model.specs.Steps.{Step, Insert, Delete}
-use Rattle.ed_model.specs.LineEnds.{lacks_return, lacks_feed, missing_at, missing_from, is_unwanted, unwanted_at, place_after, unwanted_from, conversion_steps}
 use Rattle.ed_model.specs.Edits.{stays_within, has_steps}
-use Rattle.line_ends.specs.Conversion.{completed}
 
 -- steps that each insert, or each delete, a byte
 abbrev Puts : List Step → Type 0

@@ -1,5 +1,5 @@
 -- The conversion of line ends to one kind, from a place of the text on.
-use Rattle.std.specs.Prelude.{◌≡◌, ℕ, zero, suc, ◌+◌, ◌-◌, ◌<◌, ◌≤◌, ◌==◌, nat_lt, not, ◌&&◌, ◌||◌, Bool, true, false, List, [], ◌∷◌, ◌++◌, length, take, drop, slice_range, Option, MatchOption}
+use Rattle.std.specs.Prelude.{◌≡◌, ℕ, zero, suc, ◌+◌, ◌-◌, ◌<◌, ◌≤◌, ◌==◌, nat_lt, not, ◌&&◌, ◌||◌, Bool, true, false, List, [], ◌∷◌, ◌++◌, length, take, drop, slice_range}
 use Rattle.ed_model.specs.declared.plan.LineEnd.{LineEnd}
 use Rattle.ed_model.specs.Text.{line_feed, carriage_return, stands}
 use Rattle.ed_model.specs.Steps.{Step, Insert, Delete, edited}
@@ -76,21 +76,6 @@ pub record IsNextUnwanted (to : LineEnd) (text : List ℕ) (start place : ℕ) :
       unwanted_in to text start
       ≡ Delete place (slice_range text place (place + 1))
       ∷ unwanted_in to (edited (Delete place (slice_range text place (place + 1))) text) place
-
--- the first lone byte from `start` on, if there is one
-abbrev pub FindsLone : LineEnd → List ℕ → (start : ℕ) → Option ℕ → Type 0
-FindsLone to text start found =
-    MatchOption found (missing_in to text start ≡ []) (λ place. IsNextLone to text start place)
-
--- the place and the value of the next byte to insert from `start` on, if there is one
-abbrev pub FindsMissing : LineEnd → List ℕ → (start : ℕ) → Option (ℕ × ℕ) → Type 0
-FindsMissing to text start found =
-    MatchOption found (missing_in to text start ≡ []) (λ next. IsNextMissing to text start next.0 next.1)
-
--- the place of the next byte to delete from `start` on, if there is one
-abbrev pub FindsUnwanted : LineEnd → List ℕ → (start : ℕ) → Option ℕ → Type 0
-FindsUnwanted to text start found =
-    MatchOption found (unwanted_in to text start ≡ []) (λ place. IsNextUnwanted to text start place)
 
 -- whether the text has at most `limit` bytes after each step of its conversion
 abbrev pub conversion_stays_within : (limit : ℕ) → LineEnd → List ℕ → Bool

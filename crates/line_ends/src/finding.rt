@@ -1,8 +1,8 @@
 //! The search for the next step of a conversion.
 
-ghost use Rattle.std.specs.Prelude.{◌≡◌, ◌+◌, ◌<◌, ◌≤◌, ◌++◌, length};
+ghost use Rattle.std.specs.Prelude.{MatchOption, [], ◌≡◌, ◌+◌, ◌<◌, ◌≤◌, ◌++◌, length};
 ghost use Rattle.ed_model.specs.LineEnds.{is_feed_foreign as feed_foreign, is_feed_unwanted as feed_unwanted, is_return_foreign as return_foreign, is_return_unwanted as return_unwanted};
-ghost use Rattle.line_ends.specs.Conversion.{FindsLone, FindsMissing, FindsUnwanted, follows_return, lone_byte, lone_feed, lone_return, spare_byte, spare_feed, spare_return};
+ghost use Rattle.line_ends.specs.Conversion.{IsNextUnwanted, unwanted_in, IsNextMissing, missing_in, IsNextLone, follows_return, lone_byte, lone_feed, lone_return, spare_byte, spare_feed, spare_return};
 
 use crate::reading::{is_at, next_end};
 use ed_model::LineEnd;
@@ -110,7 +110,7 @@ fn is_spare(first: &[u8], second: &[u8], start: usize, place: usize, to: LineEnd
 /// Returns the first place from `from` on of an LF or CR that lacks its other byte.
 pub(crate) fn next_lone(first: &[u8], second: &[u8], from: usize, to: LineEnd) -> Option<usize>
     requires { from ≤ length first.now + length second.now }
-    ensures { FindsLone to (first.now ++ second.now) from result }
+    ensures { MatchOption result (missing_in to (first.now ++ second.now) from ≡ []) (λ place. IsNextLone to (first.now ++ second.now) from place) }
 {
     let mut place = next_end(first, second, from);
     'looking: while place < first.len() + second.len() {
@@ -127,7 +127,7 @@ pub(crate) fn next_lone(first: &[u8], second: &[u8], from: usize, to: LineEnd) -
 /// byte.
 pub fn next_missing(first: &[u8], second: &[u8], from: usize, to: LineEnd) -> Option<(usize, u8)>
     requires { from ≤ length first.now + length second.now }
-    ensures { FindsMissing to (first.now ++ second.now) from result }
+    ensures { MatchOption result (missing_in to (first.now ++ second.now) from ≡ []) (λ next. IsNextMissing to (first.now ++ second.now) from next.0 next.1) }
 {
     let place = next_lone(first, second, from, to)?;
     if is_at(b'\n', first, second, place) {
@@ -142,7 +142,7 @@ pub fn next_missing(first: &[u8], second: &[u8], from: usize, to: LineEnd) -> Op
 /// place.
 pub fn next_unwanted(first: &[u8], second: &[u8], from: usize, to: LineEnd) -> Option<usize>
     requires { from ≤ length first.now + length second.now }
-    ensures { FindsUnwanted to (first.now ++ second.now) from result }
+    ensures { MatchOption result (unwanted_in to (first.now ++ second.now) from ≡ []) (λ place. IsNextUnwanted to (first.now ++ second.now) from place) }
 {
     // If CRLF is wanted, neither of its bytes is unwanted.
     if let LineEnd::CrLf = to {

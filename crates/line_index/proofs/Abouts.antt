@@ -1,17 +1,6 @@
 -- The lines around a step, as numbers: the effect of its edits on a list with an item for each line, and how many lines
 -- they insert.
-use Rattle.std.proofs.Common.{◌≡◌, ℕ, zero, suc, ◌+◌, ◌-◌, ◌<◌, ◌≤◌, cond, List, [], ◌∷◌, ◌++◌, length, map, take, drop, get_or, replicate, fold, eqb, leb, ltb, refl, sym, ap, ap₂, ◌∙◌, inl, inr, arith, subst, append_assoc, length-append, zero-add, length-take, length-drop}
-use Rattle.std.specs.List.{range_with_len}
-use Rattle.std.proofs.lemmas.Bool.{cases_lt, cases_eq, eq-eqb, ne_eqb, lt-ltb, le-ltb, le-leb, lt-leb}
-use Rattle.std.proofs.lemmas.List.{map-append, take_all, take_more, length-take-le, take-append-drop, length-replicate}
-use Rattle.std.proofs.lemmas.List.Sums.{fold-append}
-use Rattle.ed_model.specs.MergeLaws.{JoinsRows}
-use Rattle.ed_model.specs.proved.Rising.{range-append}
-use Rattle.line_index.specs.declared.change.LineChange.{LineChange}
-use Rattle.line_index.specs.declared.edit.LineEdit.{LineEdit}
-use Rattle.line_index.specs.Change.{line_after}
-use Rattle.line_index.specs.Edits.{after_edits, FitLines, lines_after_edit, fresh_lines}
-use Rattle.line_index.specs.StepEdits.{joined, came, settled, settling, last_at, last_one_behind}
+use Rattle.line_index.proofs.Names.{◌≡◌, ℕ, zero, suc, ◌+◌, ◌-◌, ◌<◌, ◌≤◌, cond, List, [], ◌∷◌, ◌++◌, length, map, take, drop, get_or, replicate, fold, eqb, leb, ltb, refl, sym, ap, ap₂, ◌∙◌, inl, inr, arith, subst, append_assoc, length-append, zero-add, length-take, length-drop, range_with_len, cases_lt, cases_eq, eq-eqb, ne_eqb, lt-ltb, le-ltb, le-leb, lt-leb, map-append, take_all, take_more, length-take-le, take-append-drop, length-replicate, fold-append, JoinsRows, range-append, LineChange, LineEdit, line_after, after_edits, FitLines, lines_after_edit, fresh_lines, joined, came, settled, settling, last_at, last_one_behind}
 use Rattle.line_index.proofs.Settling.{edits_in_turn, settled_is, joined_to_last, none_joined}
 use Rattle.line_index.proofs.Keyed.{Carries, by_keys, carries_both, carries_none, carries_on, carries_same, carries_behind, map_range_same, map_range_moved}
 

@@ -1,14 +1,5 @@
 -- Line starts inserted part by part.
-use Rattle.std.proofs.Common.{◌≡◌, ℕ, ◌+◌, ◌-◌, ◌<◌, ◌≤◌, Bool, true, false, List, [], ◌∷◌, ◌++◌, length, get_or, take, drop, insert, refl, sym, ap, ◌∙◌, inl, inr, arith, append_assoc, append-nil, length-append, length-drop}
-use Rattle.std.specs.Int.{bit_at}
-use Rattle.std.proofs.lemmas.Bool.{cases_lt, cases_order}
-use Rattle.std.proofs.lemmas.Nat.Bits.{bit_at-zero}
-use Rattle.std.proofs.lemmas.List.{take_at, drop_at, length-take-le, get_or-take, get_or-drop, get_or-append-add, take-append-drop}
-use Rattle.std.proofs.Math.ListN.{get_or-append}
-use Rattle.ed_model.specs.declared.plan.LineEndTypes.{LineEndTypes}
-use Rattle.ed_model.specs.Lines.{is_line_start}
-use Rattle.partitioning.specs.Partitions.{Partitions}
-use Rattle.line_index.specs.Index.{IsFree, CanAdd, WereAdded, MarkStarts, starts_near}
+use Rattle.line_index.proofs.Names.{◌≡◌, ℕ, ◌+◌, ◌-◌, ◌<◌, ◌≤◌, Bool, true, false, List, [], ◌∷◌, ◌++◌, length, get_or, take, drop, insert, refl, sym, ap, ◌∙◌, inl, inr, arith, append_assoc, append-nil, length-append, length-drop, bit_at, cases_lt, cases_order, bit_at-zero, take_at, drop_at, length-take-le, get_or-take, get_or-drop, get_or-append-add, take-append-drop, get_or-append, LineEndTypes, is_line_start, Partitions, IsFree, CanAdd, WereAdded, MarkStarts, starts_near}
 use Rattle.line_index.proofs.StartLists.{near_lie, near_apart, no_near, one_near}
 
 -- more starts can be inserted behind those that were inserted

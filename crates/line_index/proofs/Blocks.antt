@@ -1,11 +1,5 @@
 -- Lines of many bytes, counted byte after byte.
-use Rattle.std.proofs.Common.{◌≡◌, ℕ, ◌+◌, ◌-◌, ◌*◌, ◌<◌, ◌≤◌, Bool, true, false, cond, ◌==◌, ◌||◌, ◌&&◌, not, List, length, get_or, refl, ap, arith, length-append}
-use Rattle.std.proofs.lemmas.Bool.{ne_eqb}
-use Rattle.ed_model.specs.declared.plan.LineEndTypes.{LineEndTypes}
-use Rattle.ed_model.specs.declared.plan.LineEndTypes.TheVariants.{Default, Unicode}
-use Rattle.ed_model.specs.Lines.{is_line_start}
-use Rattle.ed_model.specs.proved.Bytes.{stands_at}
-use Rattle.line_index.specs.Index.{starts_within}
+use Rattle.line_index.proofs.Names.{◌≡◌, ℕ, ◌+◌, ◌-◌, ◌*◌, ◌<◌, ◌≤◌, Bool, true, false, cond, ◌==◌, ◌||◌, ◌&&◌, not, List, length, get_or, refl, ap, arith, length-append, ne_eqb, LineEndTypes, Default, Unicode, is_line_start, stands_at, starts_within}
 use Rattle.line_index.proofs.StartLists.{starts_apart, one_start, no_starts}
 
 -- one more place, at which a line starts or does not

@@ -1,9 +1,5 @@
 -- The effect of a deletion on line starts, call by call.
-use Rattle.std.proofs.Common.{◌≡◌, ℕ, ◌+◌, ◌-◌, ◌<◌, ◌≤◌, min, max, List, ◌++◌, length, take, drop, map, refl, ◌∙◌, arith}
-use Rattle.ed_model.specs.declared.plan.LineEndTypes.{LineEndTypes}
-use Rattle.ed_model.specs.Lines.{line_starts, line_of, line_count}
-use Rattle.partitioning.specs.Partitions.{CanLose, lowered_behind}
-use Rattle.line_index.specs.Index.{IsFree, index, last_touched, starts_within}
+use Rattle.line_index.proofs.Names.{◌≡◌, ℕ, ◌+◌, ◌-◌, ◌<◌, ◌≤◌, min, max, List, ◌++◌, length, take, drop, map, refl, ◌∙◌, arith, LineEndTypes, line_starts, line_of, line_count, CanLose, lowered_behind, IsFree, index, last_touched, starts_within}
 use Rattle.line_index.proofs.StepLists.{Deletion, range_about, free_about, loses_about, moved_behind, put_between, fits_about, left_about, shorter}
 use Rattle.line_index.proofs.TouchedStarts.{touched_near, touched_moves, touched_out}
 

@@ -1,16 +1,6 @@
 -- The last start at a place or before it is that of the place's line.
-use Rattle.std.proofs.Common.{◌≡◌, ℕ, ◌+◌, ◌-◌, ◌^◌, ◌<◌, ◌≤◌, min, List, length, count_by, leb, ltb, refl, sym, ◌∙◌, inl, inr, arith}
-use Rattle.std.proofs.lemmas.Bool.{cases_lt, lt-ltb, le-ltb, le-leb, lt-leb}
+use Rattle.line_index.proofs.Names.{◌≡◌, ℕ, ◌+◌, ◌-◌, ◌^◌, ◌<◌, ◌≤◌, min, List, length, count_by, leb, ltb, refl, sym, ◌∙◌, inl, inr, arith, cases_lt, lt-ltb, le-ltb, le-leb, lt-leb, IsStrictlyIncreasing, slice_index, line_of, count_before, Climbs, Climbs_from_rises, count_is, count_back, rises_from_increasing, count_agree, NearLines, near_lines, ArePartitions, IsLastAtMost}
 use Rattle.std.proofs.lemmas.List.Kept.{AllPairs-from_increasing}
-use Rattle.std.specs.List.Sorted.{IsStrictlyIncreasing}
-use Rattle.std.specs.Prelude.{slice_index}
-use Rattle.ed_model.specs.Lines.{line_of}
-use Rattle.ed_model.specs.NeighbourLaws.{count_before}
-use Rattle.ed_model.specs.proved.Rising.{Climbs, Climbs_from_rises, count_is, count_back, rises_from_increasing}
-use Rattle.ed_model.specs.proved.Neighbours.{count_agree}
-use Rattle.line_index.specs.declared.change.NearLines.{NearLines}
-use Rattle.line_index.specs.Change.{near_lines}
-use Rattle.partitioning.specs.Partitions.{ArePartitions, IsLastAtMost}
 use Rattle.line_index.proofs.StepLists.{none_below_zero}
 
 -- of rising starts, an earlier one is not above a later one, nor above itself

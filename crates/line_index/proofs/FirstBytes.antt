@@ -1,16 +1,7 @@
 -- The first bytes of a text have no more lines than all of it.
-use Rattle.std.proofs.Common.{◌≡◌, ℕ, zero, suc, ◌+◌, ◌-◌, ◌<◌, ◌≤◌, ◌==◌, Bool, true, false, List, length, take, refl, ap, sym, ◌∙◌, inl, inr, arith, length-append}
-use Rattle.std.proofs.lemmas.Bool.{ne_eqb, true≢false, cases_lt}
-use Rattle.std.proofs.lemmas.List.{length-take-le}
+use Rattle.line_index.proofs.Names.{◌≡◌, ℕ, zero, suc, ◌+◌, ◌-◌, ◌<◌, ◌≤◌, ◌==◌, Bool, true, false, List, length, take, refl, ap, sym, ◌∙◌, inl, inr, arith, length-append, ne_eqb, true≢false, cases_lt, length-take-le, LineEndTypes, stands, is_line_start, line_count, slice_get_take, filter_range_agree, starts_within, FirstBytesHaveFewLines}
 use Rattle.std.proofs.lemmas.Option.{slice_get_past}
-use Rattle.ed_model.specs.declared.plan.LineEndTypes.{LineEndTypes}
 use Rattle.ed_model.specs.Numbers.{is_number}
-use Rattle.ed_model.specs.Text.{stands}
-use Rattle.ed_model.specs.Lines.{is_line_start, line_count}
-use Rattle.ed_model.specs.proved.Lists.{slice_get_take}
-use Rattle.ed_model.specs.proved.Rising.{filter_range_agree}
-use Rattle.line_index.specs.Index.{starts_within}
-use Rattle.line_index.specs.RoomLaws.{FirstBytesHaveFewLines}
 use Rattle.line_index.proofs.StartLists.{starts_apart, one_start, no_starts}
 
 -- what stands in the first bytes

@@ -1,13 +1,5 @@
 -- The effect of an insertion on line starts, call by call.
-use Rattle.std.proofs.Common.{◌≡◌, ℕ, ◌+◌, ◌-◌, ◌<◌, ◌≤◌, min, max, List, ◌++◌, length, take, drop, map, refl, ap, ◌∙◌, arith}
-use Rattle.ed_model.specs.declared.plan.LineEndTypes.{LineEndTypes}
-use Rattle.ed_model.specs.Lines.{line_starts, line_of, line_count}
-use Rattle.ed_model.specs.NeighbourLaws.{count_before}
-use Rattle.partitioning.specs.Partitions.{raised_behind}
-use Rattle.line_index.specs.declared.change.NearLines.{NearLines}
-use Rattle.line_index.specs.declared.change.LineChange.{LineChange}
-use Rattle.line_index.specs.Change.{near_lines, change_about}
-use Rattle.line_index.specs.Index.{IsFree, index, last_touched, starts_within}
+use Rattle.line_index.proofs.Names.{◌≡◌, ℕ, ◌+◌, ◌-◌, ◌<◌, ◌≤◌, min, max, List, ◌++◌, length, take, drop, map, refl, ap, ◌∙◌, arith, LineEndTypes, line_starts, line_of, line_count, count_before, raised_behind, NearLines, LineChange, near_lines, change_about, IsFree, index, last_touched, starts_within}
 use Rattle.line_index.proofs.StepLists.{Insertion, range_about, free_about, moved_behind, put_between, fits_about, left_about, longer}
 use Rattle.line_index.proofs.TouchedStarts.{touched_near, touched_moves, touched_in}
 

@@ -1,12 +1,5 @@
 -- A step that removes no line start and inserts none leaves the lines near its end as they were.
-use Rattle.std.proofs.Common.{◌≡◌, ℕ, ◌+◌, ◌-◌, ◌<◌, ◌≤◌, min, max, List, [], ◌++◌, length, take, drop, map, refl, sym, ap, ◌∙◌, arith, append-nil}
-use Rattle.std.proofs.lemmas.Bool.Decides.{nat_tests}
-use Rattle.std.proofs.lemmas.List.{nil_from_length}
-use Rattle.ed_model.specs.declared.plan.LineEndTypes.{LineEndTypes}
-use Rattle.ed_model.specs.Lines.{line_starts, line_of}
-use Rattle.line_index.specs.declared.change.NearLines.{NearLines}
-use Rattle.line_index.specs.Change.{near_lines}
-use Rattle.line_index.specs.Index.{index, last_touched, starts_within}
+use Rattle.line_index.proofs.Names.{◌≡◌, ℕ, ◌+◌, ◌-◌, ◌<◌, ◌≤◌, min, max, List, [], ◌++◌, length, take, drop, map, refl, sym, ap, ◌∙◌, arith, append-nil, nat_tests, nil_from_length, LineEndTypes, line_starts, line_of, NearLines, near_lines, index, last_touched, starts_within}
 use Rattle.line_index.proofs.StepLists.{Insertion, Deletion, range_about, counted_about, stays_about}
 use Rattle.line_index.proofs.TouchedStarts.{touched_near, touched_in, touched_out}
 

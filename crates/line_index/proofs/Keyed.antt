@@ -1,12 +1,5 @@
 -- Rows that move to the lines that their keys name, part by part.
-use Rattle.std.proofs.Common.{◌≡◌, ◌≢◌, ℕ, zero, suc, ◌+◌, ◌-◌, ◌<◌, ◌≤◌, List, [], ◌∷◌, ◌++◌, length, map, filter, zip, replicate, eqb, refl, sym, ap, ap₂, ◌∙◌, inl, inr, arith, one-add, append-nil, length-append}
-use Rattle.std.specs.List.{range_with_len, AllByRecursion}
-use Rattle.std.proofs.lemmas.Bool.{cases_eq, eq-eqb, ne_eqb}
-use Rattle.std.proofs.lemmas.List.{map-append, length-replicate}
-use Rattle.ed_model.specs.Lines.{line_of}
-use Rattle.ed_model.specs.Carry.{carried}
-use Rattle.ed_model.specs.MergeLaws.{JoinsRows}
-use Rattle.ed_model.specs.proved.Rising.{range-append, map_range_agree}
+use Rattle.line_index.proofs.Names.{◌≡◌, ◌≢◌, ℕ, zero, suc, ◌+◌, ◌-◌, ◌<◌, ◌≤◌, List, [], ◌∷◌, ◌++◌, length, map, filter, zip, replicate, eqb, refl, sym, ap, ap₂, ◌∙◌, inl, inr, arith, one-add, append-nil, length-append, range_with_len, AllByRecursion, cases_eq, eq-eqb, ne_eqb, map-append, length-replicate, line_of, carried, JoinsRows, range-append, map_range_agree}
 use Rattle.ed_model.specs.proved.Elements.{all_append, all_weaker}
 
 -- functions of the numbers of a range

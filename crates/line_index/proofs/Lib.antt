@@ -1,3 +1,4 @@
+pub mod Names
 pub mod Abouts
 pub mod Added
 pub mod Blocks

@@ -1,13 +1,7 @@
 -- Marks of 64 bytes, bit by bit.
-use Rattle.std.proofs.Common.{◌≡◌, ℕ, ◌+◌, ◌%◌, ◌^◌, ◌<◌, Bool, true, false, cond, eqb, ◌==◌, ◌||◌, ◌&&◌, List, length, get_or, map, replicate, refl, sym, ap, ◌∙◌, arith, w8, bit_or}
-use Rattle.std.specs.Int.{bit_at}
+use Rattle.line_index.proofs.Names.{◌≡◌, ℕ, ◌+◌, ◌%◌, ◌^◌, ◌<◌, Bool, true, false, cond, eqb, ◌==◌, ◌||◌, ◌&&◌, List, length, get_or, map, replicate, refl, sym, ap, ◌∙◌, arith, w8, bit_or, bit_at, length-zip2, get_or-zip2, get_or-replicate, bit_mask_l, tops_compared, mask_l-mod, bit_at_or, LineEndTypes, Default, knows_unicode, may_end}
 use Rattle.std.specs.Simd.Lanes.{zip2, mask_l, top}
-use Rattle.std.proofs.lemmas.Simd.{length-zip2, get_or-zip2, length-replicate, get_or-replicate, bit_mask_l, tops_compared, mask_l-mod}
-use Rattle.std.proofs.lemmas.Nat.Bits.{bit_at_or}
-use Rattle.ed_model.specs.declared.plan.LineEndTypes.{LineEndTypes}
-use Rattle.ed_model.specs.declared.plan.LineEndTypes.TheVariants.{Default}
-use Rattle.ed_model.specs.Lines.{knows_unicode}
-use Rattle.line_index.specs.Ends.{may_end}
+use Rattle.std.proofs.lemmas.Simd.{length-replicate}
 
 -- a bit of the mask of the lanes that hold a byte
 pub marked_lane :

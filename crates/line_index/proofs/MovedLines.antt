@@ -1,19 +1,5 @@
 -- Each old line moves to the new line of its start, moved by the step.
-use Rattle.std.proofs.Common.{◌≡◌, ℕ, ◌+◌, ◌-◌, ◌<◌, ◌≤◌, min, max, List, ◌++◌, length, get_or, take, drop, map, refl, sym, ap, ◌∙◌, inl, inr, arith, length-append, length-drop}
-use Rattle.std.proofs.lemmas.Bool.{cases_lt, lt-ltb, le-ltb}
-use Rattle.std.proofs.lemmas.List.{length-take-le, length-map, get_or-take, get_or-drop, get_or-map, get_or-append-add}
-use Rattle.std.proofs.Math.ListN.{get_or-append}
-use Rattle.ed_model.specs.declared.plan.LineEndTypes.{LineEndTypes}
-use Rattle.ed_model.specs.Lines.{line_starts, line_of}
-use Rattle.ed_model.specs.Steps.{Insert, Delete, moved_back}
-use Rattle.ed_model.specs.NeighbourLaws.{count_before}
-use Rattle.ed_model.specs.proved.Rising.{Climbs_from_rises, count_is, increasing_at}
-use Rattle.ed_model.specs.proved.Lines.{line_starts_rise, line_of_start, line_of_monotone, line_of_lt, line_from_start, some_line}
-use Rattle.line_index.specs.Index.{index, starts_within}
-use Rattle.line_index.specs.declared.change.LineChange.{LineChange}
-use Rattle.line_index.specs.Change.{MovesLines, change_about, moved_on, near_lines}
-use Rattle.line_index.specs.Edits.{fresh_lines}
-use Rattle.line_index.specs.StepEdits.{settling}
+use Rattle.line_index.proofs.Names.{◌≡◌, ℕ, ◌+◌, ◌-◌, ◌<◌, ◌≤◌, min, max, List, ◌++◌, length, get_or, take, drop, map, refl, sym, ap, ◌∙◌, inl, inr, arith, length-append, length-drop, cases_lt, lt-ltb, le-ltb, length-take-le, length-map, get_or-take, get_or-drop, get_or-map, get_or-append-add, get_or-append, LineEndTypes, line_starts, line_of, Insert, Delete, moved_back, count_before, Climbs_from_rises, count_is, increasing_at, line_starts_rise, line_of_start, line_of_monotone, line_of_lt, line_from_start, some_line, index, starts_within, LineChange, MovesLines, change_about, moved_on, near_lines, fresh_lines, settling}
 use Rattle.line_index.proofs.Abouts.{AreAbout, chosen, settling_few, settling_fewer}
 use Rattle.line_index.proofs.StartLists.{starts_lie}
 use Rattle.line_index.proofs.StepLists.{Insertion, Deletion, at_most, behind, lines_before_some, none_below_zero, first_line_is, found_in, found_out, longer, shorter, range}

@@ -1,13 +1,6 @@
 -- The bytes near a step determine where lines start around it.
-use Rattle.std.proofs.Common.{◌≡◌, ℕ, ◌+◌, ◌-◌, ◌<◌, ◌≤◌, min, max, List, length, take, drop, slice_get, slice_range, refl, sym, ap, ◌∙◌, inl, inr, arith, ◌++◌, append-nil, length-append, length-take, length-drop}
-use Rattle.std.proofs.lemmas.Bool.{cases_lt, ne_eqb}
-use Rattle.std.proofs.lemmas.List.{take_all, take_min, take-append-le, drop-append-le}
+use Rattle.line_index.proofs.Names.{◌≡◌, ℕ, ◌+◌, ◌-◌, ◌<◌, ◌≤◌, min, max, List, length, take, drop, slice_get, slice_range, refl, sym, ap, ◌∙◌, inl, inr, arith, ◌++◌, append-nil, length-append, length-take, length-drop, cases_lt, ne_eqb, take_all, take_min, take-append-le, drop-append-le, LineEndTypes, is_line_start, slice_get_take, slice_get_drop, same_start, bytes_near, starts_near, starts_within}
 use Rattle.std.proofs.Math.Seq.{take-append-add, drop-append-add}
-use Rattle.ed_model.specs.declared.plan.LineEndTypes.{LineEndTypes}
-use Rattle.ed_model.specs.Lines.{is_line_start}
-use Rattle.ed_model.specs.proved.Lists.{slice_get_take, slice_get_drop}
-use Rattle.ed_model.specs.proved.Lines.{same_start}
-use Rattle.line_index.specs.Index.{bytes_near, starts_near, starts_within}
 use Rattle.line_index.proofs.StartLists.{near_is_within}
 
 module _ (types : LineEndTypes) (place count : ℕ) (near text : List ℕ) (same : near ≡ bytes_near place count text) where

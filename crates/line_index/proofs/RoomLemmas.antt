@@ -1,17 +1,5 @@
 -- How many lines a step adds at most.
-use Rattle.std.proofs.Common.{◌≡◌, ℕ, zero, suc, ◌+◌, ◌-◌, ◌<◌, ◌≤◌, min, max, Bool, true, false, cond, List, [], ◌∷◌, ◌++◌, length, take, drop, filter, slice_get, refl, sym, ap, ◌∙◌, inl, inr, arith, append_assoc, append-nil, length-append}
-use Rattle.std.specs.List.{range_with_len}
-use Rattle.std.proofs.lemmas.Bool.{cases_lt}
-use Rattle.std.proofs.lemmas.List.{length-take-le, length-map}
-use Rattle.ed_model.specs.declared.plan.LineEndTypes.{LineEndTypes}
-use Rattle.ed_model.specs.Lines.{is_line_start, line_starts, line_count, line_of}
-use Rattle.ed_model.specs.Steps.{Insert, edited}
-use Rattle.ed_model.specs.proved.Lists.{slice_get_append_left, slice_get_append_right}
-use Rattle.ed_model.specs.proved.Rising.{filter_range_moved}
-use Rattle.ed_model.specs.proved.Lines.{moved_start_test, some_line}
-use Rattle.ed_model.specs.proved.Steps.{length-inserted}
-use Rattle.line_index.specs.Index.{Index, index, bytes_near, starts_within}
-use Rattle.line_index.specs.RoomLaws.{lines_for_insertion, lines_for_deletion, InsertionAddsFewLines, DeletionAddsFewLines}
+use Rattle.line_index.proofs.Names.{◌≡◌, ℕ, zero, suc, ◌+◌, ◌-◌, ◌<◌, ◌≤◌, min, max, Bool, true, false, cond, List, [], ◌∷◌, ◌++◌, length, take, drop, filter, slice_get, refl, sym, ap, ◌∙◌, inl, inr, arith, append_assoc, append-nil, length-append, range_with_len, cases_lt, length-take-le, length-map, LineEndTypes, is_line_start, line_starts, line_count, line_of, Insert, edited, slice_get_append_left, slice_get_append_right, filter_range_moved, moved_start_test, some_line, length-inserted, Index, index, bytes_near, starts_within, lines_for_insertion, lines_for_deletion, InsertionAddsFewLines, DeletionAddsFewLines}
 use Rattle.line_index.proofs.StartLists.{starts_apart, one_start, no_starts}
 use Rattle.line_index.proofs.StepLists.{Insertion, Deletion, deletion_is, range_about, counted_about, found_in, found_out}
 

@@ -1,17 +1,6 @@
 -- The edits of another setting of line ends carry rows as the model regroups them.
-use Rattle.std.proofs.Common.{◌≡◌, ℕ, suc, ◌+◌, ◌-◌, ◌<◌, ◌≤◌, true, false, List, [], ◌∷◌, ◌++◌, length, map, take, drop, replicate, refl, sym, ap, ◌∙◌, arith, append_assoc, length-append}
-use Rattle.std.specs.List.Sorted.{IsStrictlyIncreasing}
-use Rattle.std.proofs.lemmas.List.{map-append, map-id, length-take, length-drop, take-append-drop, length-replicate}
-use Rattle.ed_model.specs.declared.plan.LineEndTypes.{LineEndTypes}
-use Rattle.ed_model.specs.declared.plan.LineEndTypes.TheVariants.{Default, Unicode}
-use Rattle.ed_model.specs.Lines.{is_line_start, line_starts, line_of, line_count}
-use Rattle.ed_model.specs.Carry.{carried, regrouped}
-use Rattle.ed_model.specs.MergeLaws.{JoinsRows, RowsOfLinesThatStay}
-use Rattle.ed_model.specs.proved.Lines.{line_starts_increase, few_lines}
-use Rattle.line_index.specs.Edits.{after_edits, FitLines, fresh_lines}
-use Rattle.line_index.specs.Index.{starts_within}
-use Rattle.line_index.specs.StepEdits.{joined, came}
-use Rattle.line_index.specs.Settings.{next_of, lines_inside, all_inside_edits, edits_of_setting, SettingsFitLines, SettingsBringAll, SettingsBringFewLines}
+use Rattle.line_index.proofs.Names.{◌≡◌, ℕ, suc, ◌+◌, ◌-◌, ◌<◌, ◌≤◌, true, false, List, [], ◌∷◌, ◌++◌, length, map, take, drop, replicate, refl, sym, ap, ◌∙◌, arith, append_assoc, length-append, IsStrictlyIncreasing, map-append, map-id, take-append-drop, length-replicate, LineEndTypes, Default, Unicode, is_line_start, line_starts, line_of, line_count, carried, regrouped, JoinsRows, RowsOfLinesThatStay, line_starts_increase, few_lines, after_edits, FitLines, fresh_lines, starts_within, joined, came, next_of, lines_inside, all_inside_edits, edits_of_setting, SettingsFitLines, SettingsBringAll, SettingsBringFewLines}
+use Rattle.std.proofs.lemmas.List.{length-take, length-drop}
 use Rattle.line_index.proofs.Abouts.{Fits, fits_both, joined_fits, came_fits}
 use Rattle.line_index.proofs.Keyed.{Carries, by_keys, carried_by_keys, carries_both, carries_none, carries_fresh, carries_on}
 use Rattle.line_index.proofs.Settling.{edits_in_turn, joined_is, came_is}

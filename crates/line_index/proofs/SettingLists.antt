@@ -1,20 +1,6 @@
 -- The line starts of a text under both settings of line ends: each start of the smaller setting is one of the larger,
 -- and others may lie between.
-use Rattle.std.proofs.Common.{◌≡◌, ℕ, zero, suc, ◌+◌, ◌-◌, ◌<◌, ◌≤◌, Bool, true, false, cond, ◌==◌, ◌||◌, ◌&&◌, not, List, [], ◌∷◌, ◌++◌, length, get_or, map, filter, replicate, count_by, leb, refl, sym, ap, ap₂, ◌∙◌, inl, inr, arith, take, drop, append-nil, length-append}
-use Rattle.std.specs.List.{range_with_len}
-use Rattle.std.proofs.lemmas.Bool.{true≢false, cases_lt, cases_order}
-use Rattle.std.proofs.lemmas.List.{length-take-le}
-use Rattle.std.proofs.Math.ListN.{get_or-append}
-use Rattle.ed_model.specs.declared.plan.LineEndTypes.{LineEndTypes}
-use Rattle.ed_model.specs.declared.plan.LineEndTypes.TheVariants.{Default, Unicode}
-use Rattle.ed_model.specs.Text.{stands}
-use Rattle.ed_model.specs.Lines.{is_line_start, line_starts, line_of, line_count, unicode_end_before}
-use Rattle.ed_model.specs.proved.Rising.{Climbs_from_rises, count_is}
-use Rattle.ed_model.specs.proved.Lines.{line_starts_rise, first_line_start, some_line}
-use Rattle.partitioning.specs.Partitions.{Partitions}
-use Rattle.line_index.specs.Index.{CanAdd, IsFree, starts_within, starts_near}
-use Rattle.line_index.specs.declared.edit.LineEdit.{LineEdit}
-use Rattle.line_index.specs.Settings.{all_inside_edits, inside_edits, line_past, lines_inside, next_of}
+use Rattle.line_index.proofs.Names.{◌≡◌, ℕ, zero, suc, ◌+◌, ◌-◌, ◌<◌, ◌≤◌, Bool, true, false, cond, ◌==◌, ◌||◌, ◌&&◌, not, List, [], ◌∷◌, ◌++◌, length, get_or, map, filter, replicate, count_by, leb, refl, sym, ap, ap₂, ◌∙◌, inl, inr, arith, take, drop, append-nil, length-append, range_with_len, true≢false, cases_lt, cases_order, length-take-le, get_or-append, LineEndTypes, Default, Unicode, stands, is_line_start, line_starts, line_of, line_count, unicode_end_before, Climbs_from_rises, count_is, line_starts_rise, first_line_start, some_line, Partitions, CanAdd, IsFree, starts_within, starts_near, LineEdit, all_inside_edits, inside_edits, line_past, lines_inside, next_of}
 use Rattle.line_index.proofs.StartLists.{near_is_within, starts_lie, starts_apart, no_starts, one_start}
 
 more_ends : (z a b u : Bool) → (z || (a || b || (false && u))) ≡ true → (z || (a || b || (true && u))) ≡ true

@@ -1,12 +1,5 @@
 -- The effect of the edits that move old lines to a new one, on a list with an item for each line.
-use Rattle.std.proofs.Common.{◌≡◌, ℕ, zero, suc, ◌+◌, ◌-◌, ◌<◌, ◌≤◌, List, [], ◌∷◌, ◌++◌, length, drop, replicate, refl, sym, ap, ◌∙◌, arith, append_assoc, length-append}
-use Rattle.std.proofs.lemmas.Bool.{ne_eqb, le-ltb, lt-ltb}
-use Rattle.std.proofs.lemmas.List.{take_at, drop_at, replicate_more}
-use Rattle.std.proofs.lemmas.List.Sums.{fold-append}
-use Rattle.ed_model.specs.MergeLaws.{JoinsRows}
-use Rattle.line_index.specs.declared.edit.LineEdit.{LineEdit}
-use Rattle.line_index.specs.Edits.{with_joined, after_edit, after_edits}
-use Rattle.line_index.specs.StepEdits.{joined, came, settled}
+use Rattle.line_index.proofs.Names.{◌≡◌, ℕ, zero, suc, ◌+◌, ◌-◌, ◌<◌, ◌≤◌, List, [], ◌∷◌, ◌++◌, length, drop, replicate, refl, sym, ap, ◌∙◌, arith, append_assoc, length-append, ne_eqb, le-ltb, lt-ltb, take_at, drop_at, replicate_more, fold-append, JoinsRows, LineEdit, with_joined, after_edit, after_edits, joined, came, settled}
 
 pub edits_in_turn : {R : Type 0} (t : List R → R) (first second : List LineEdit) (rows : List R) → after_edits t (first ++ second) rows ≡ after_edits t second (after_edits t first rows)
 edits_in_turn t first second rows = fold-append (after_edit t) rows first second

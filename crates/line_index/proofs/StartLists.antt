@@ -1,11 +1,6 @@
 -- Lists of line starts: removing one, and splitting those between places.
-use Rattle.std.proofs.Common.{◌≡◌, ℕ, zero, suc, ◌+◌, ◌-◌, ◌<◌, ◌≤◌, Bool, true, false, cond, List, [], ◌∷◌, ◌++◌, length, get_or, filter, refl, sym, ap, ◌∙◌, arith}
-use Rattle.std.specs.List.{range_with_len}
+use Rattle.line_index.proofs.Names.{◌≡◌, ℕ, zero, suc, ◌+◌, ◌-◌, ◌<◌, ◌≤◌, Bool, true, false, cond, List, [], ◌∷◌, ◌++◌, length, get_or, filter, refl, sym, ap, ◌∙◌, arith, range_with_len, LineEndTypes, is_line_start, range-append, filter_range_none, filter_range_agree, starts_within, starts_near}
 use Rattle.std.proofs.lemmas.List.Elements.{filter-append}
-use Rattle.ed_model.specs.declared.plan.LineEndTypes.{LineEndTypes}
-use Rattle.ed_model.specs.Lines.{is_line_start}
-use Rattle.ed_model.specs.proved.Rising.{range-append, filter_range_none, filter_range_agree}
-use Rattle.line_index.specs.Index.{starts_within, starts_near}
 
 lie_more :
     (b : Bool) (a n k : ℕ) (rest : List ℕ) → ((j : ℕ) → j < length rest → (a + 1 ≤ get_or rest j 0) × (get_or rest j 0 < a + 1 + n))

@@ -1,20 +1,6 @@
 -- The edits of a step carry rows as the step does.
-use Rattle.std.proofs.Common.{◌≡◌, ℕ, suc, ◌+◌, ◌<◌, ◌≤◌, ◌==◌, Bool, true, false, cond, List, [], ◌∷◌, length, map, get_or, refl, ap, ◌∙◌, arith}
-use Rattle.std.proofs.lemmas.Bool.{ne_eqb}
-use Rattle.std.specs.List.{range_with_len}
-use Rattle.ed_model.specs.declared.plan.LineEndTypes.{LineEndTypes}
-use Rattle.ed_model.specs.Lines.{line_starts, line_of, line_count}
-use Rattle.ed_model.specs.Steps.{Step, Insert, Delete, edited, moved_start}
-use Rattle.ed_model.specs.Carry.{carried, carried_unless_empty, carried_by}
-use Rattle.ed_model.specs.MergeLaws.{JoinsRows, end_of}
-use Rattle.line_index.specs.declared.change.LineChange.{LineChange}
-use Rattle.line_index.specs.Change.{MovesLines, line_after}
-use Rattle.line_index.specs.Edits.{after_edits, FitLines, fresh_lines}
-use Rattle.line_index.specs.declared.edit.LineEdit.{LineEdit}
+use Rattle.line_index.proofs.Names.{◌≡◌, ℕ, suc, ◌+◌, ◌<◌, ◌≤◌, ◌==◌, Bool, true, false, cond, List, [], ◌∷◌, length, map, get_or, refl, ap, ◌∙◌, arith, ne_eqb, range_with_len, LineEndTypes, line_starts, line_of, line_count, Step, Insert, Delete, edited, moved_start, carried, carried_unless_empty, carried_by, JoinsRows, end_of, LineChange, MovesLines, line_after, after_edits, FitLines, fresh_lines, LineEdit, lines_for_step, index, settling, edits_of, change_of, EditsFitLines, EditsBringFewLines}
 use Rattle.line_index.specs.declared.edit.LineEdit.TheVariants.{Restart}
-use Rattle.line_index.specs.RoomLaws.{lines_for_step}
-use Rattle.line_index.specs.Index.{index}
-use Rattle.line_index.specs.StepEdits.{settling, edits_of, change_of, EditsFitLines, EditsBringFewLines}
 use Rattle.line_index.proofs.Abouts.{AreAbout, settling_carries, settling_fits}
 use Rattle.line_index.proofs.Keyed.{by_keys, carried_by_keys}
 use Rattle.line_index.proofs.MovedLines.{moves_in_old, moves_out_old, about_in, about_out, fresh_in, fresh_out}

@@ -1,22 +1,7 @@
 -- Line starts around a step: which of them stay, which are removed, and why the ones found in the new text are exactly
 -- the missing ones.
-use Rattle.std.proofs.Common.{◌≡◌, ℕ, suc, ◌+◌, ◌-◌, ◌<◌, ◌≤◌, min, max, List, [], ◌∷◌, ◌++◌, length, get_or, take, drop, slice_range, map, filter, count_by, leb, ltb, Bool, refl, sym, ap, subst, ◌∙◌, inl, inr, arith, append_assoc, length-append, length-drop, append-nil}
-use Rattle.std.specs.List.{range_with_len}
-use Rattle.std.proofs.lemmas.Bool.{cases_lt, cases_eq, le-leb, le-ltb}
-use Rattle.std.proofs.lemmas.List.{length-take, length-take-le, length-map, get_or-take, get_or-drop, get_or-map, get_or-append-add}
-use Rattle.std.proofs.Math.ListN.{get_or-append}
-use Rattle.ed_model.specs.declared.plan.LineEndTypes.{LineEndTypes}
-use Rattle.ed_model.specs.Lines.{is_line_start, line_starts, line_of, line_count}
-use Rattle.ed_model.specs.Steps.{Step, Insert, Delete, place_of, edited}
-use Rattle.ed_model.specs.NeighbourLaws.{starts_before, starts_from, starts_about, count_before}
-use Rattle.ed_model.specs.MergeLaws.{end_of}
-use Rattle.ed_model.specs.proved.Rising.{count-cons}
-use Rattle.ed_model.specs.proved.Lines.{no_start_past, first_line_start, some_line, line_of_monotone, line_of_lt, line_of_last_start}
-use Rattle.ed_model.specs.proved.Steps.{length-inserted, length-deleted_within}
-use Rattle.ed_model.specs.proved.Neighbours.{some_before, starts_after_insertion, starts_after_deletion, starts_about_insertion, starts_about_deletion, starts_before_first, starts_from_others, first_line_about_is, first_line_behind_is}
-use Rattle.ed_model.specs.proved.Lists.{front_kept, behind_kept}
-use Rattle.partitioning.specs.Partitions.{CanLose, map_from}
-use Rattle.line_index.specs.Index.{Index, IsFree, IsIndexOf, IsInsertion, IsDeletion, index, starts_within}
+use Rattle.line_index.proofs.Names.{◌≡◌, ℕ, suc, ◌+◌, ◌-◌, ◌<◌, ◌≤◌, min, max, List, [], ◌∷◌, ◌++◌, length, get_or, take, drop, slice_range, map, filter, count_by, leb, ltb, Bool, refl, sym, ap, subst, ◌∙◌, inl, inr, arith, append_assoc, length-append, length-drop, append-nil, range_with_len, cases_lt, cases_eq, le-leb, le-ltb, length-take-le, length-map, get_or-take, get_or-drop, get_or-map, get_or-append-add, get_or-append, LineEndTypes, is_line_start, line_starts, line_of, line_count, Step, Insert, Delete, place_of, edited, starts_before, starts_from, starts_about, count_before, end_of, count-cons, no_start_past, first_line_start, some_line, line_of_monotone, line_of_lt, line_of_last_start, length-inserted, length-deleted_within, some_before, starts_after_insertion, starts_after_deletion, starts_about_insertion, starts_about_deletion, starts_before_first, starts_from_others, first_line_about_is, first_line_behind_is, front_kept, behind_kept, CanLose, map_from, Index, IsFree, IsIndexOf, IsInsertion, IsDeletion, index, starts_within}
+use Rattle.std.proofs.lemmas.List.{length-take}
 use Rattle.line_index.proofs.StartLists.{starts_apart, no_starts, one_start}
 
 -- starts up to a place's line lie at the place or before it, and the others behind it

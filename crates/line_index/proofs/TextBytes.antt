@@ -1,16 +1,5 @@
 -- Bytes of a text in two halves.
-use Rattle.std.proofs.Common.{◌≡◌, ℕ, ◌+◌, ◌-◌, ◌<◌, ◌≤◌, Bool, true, false, ◌==◌, ◌||◌, ◌&&◌, not, take, List, ◌++◌, length, get_or, slice_range, inl, inr, refl, ap, arith, length-append}
-use Rattle.std.proofs.lemmas.Bool.{ne_eqb, true≢false, cases_lt, cases_order}
-use Rattle.std.proofs.lemmas.List.{get_or-append-add}
-use Rattle.std.proofs.Math.ListN.{get_or-append}
-use Rattle.ed_model.specs.declared.plan.LineEndTypes.{LineEndTypes}
-use Rattle.ed_model.specs.Text.{stands}
-use Rattle.ed_model.specs.Lines.{is_line_start, knows_unicode}
-use Rattle.ed_model.specs.proved.Lists.{within_part, read_part}
-use Rattle.ed_model.specs.proved.Bytes.{stands_at}
-use Rattle.std.specs.Int.{bit_at}
-use Rattle.line_index.specs.Ends.{may_end}
-use Rattle.line_index.specs.Index.{MarkStarts}
+use Rattle.line_index.proofs.Names.{◌≡◌, ℕ, ◌+◌, ◌-◌, ◌<◌, ◌≤◌, Bool, true, false, ◌==◌, ◌||◌, ◌&&◌, not, take, List, ◌++◌, length, get_or, slice_range, inl, inr, refl, ap, arith, length-append, ne_eqb, true≢false, cases_lt, cases_order, get_or-append-add, get_or-append, LineEndTypes, stands, is_line_start, knows_unicode, within_part, read_part, stands_at, bit_at, may_end, MarkStarts}
 
 -- places without a line end before them
 

@@ -1,19 +1,5 @@
 -- Which line starts depend on a step: if line ends of Unicode do not count, those behind its end only move.
-use Rattle.std.proofs.Common.{◌≡◌, ℕ, ◌+◌, ◌-◌, ◌<◌, ◌≤◌, min, max, List, [], ◌++◌, length, take, drop, slice_get, map, ltb, leb, refl, sym, ap, ◌∙◌, arith, append_assoc, length-append, append-nil}
-use Rattle.std.proofs.lemmas.Bool.{ne_eqb}
-use Rattle.std.proofs.lemmas.Bool.Decides.{nat_tests}
-use Rattle.std.proofs.lemmas.List.{length-take-le, map-append}
-use Rattle.ed_model.specs.declared.plan.LineEndTypes.{LineEndTypes}
-use Rattle.ed_model.specs.declared.plan.LineEndTypes.TheVariants.{Default, Unicode}
-use Rattle.ed_model.specs.Lines.{is_line_start, line_starts, line_of}
-use Rattle.ed_model.specs.NeighbourLaws.{count_before}
-use Rattle.ed_model.specs.proved.Lists.{slice_get_append_right, slice_get_drop}
-use Rattle.ed_model.specs.proved.Rising.{filter_range_moved}
-use Rattle.ed_model.specs.proved.Lines.{no_start_past, first_line_start, some_line}
-use Rattle.ed_model.specs.proved.Neighbours.{count_agree, some_before, starts_from_is, starts_from_others}
-use Rattle.line_index.specs.declared.change.NearLines.{NearLines}
-use Rattle.line_index.specs.Change.{near_lines, last_line}
-use Rattle.line_index.specs.Index.{index, last_touched, starts_within}
+use Rattle.line_index.proofs.Names.{◌≡◌, ℕ, ◌+◌, ◌-◌, ◌<◌, ◌≤◌, min, max, List, [], ◌++◌, length, take, drop, slice_get, map, ltb, leb, refl, sym, ap, ◌∙◌, arith, append_assoc, length-append, append-nil, ne_eqb, nat_tests, length-take-le, map-append, LineEndTypes, Default, Unicode, is_line_start, line_starts, line_of, count_before, slice_get_append_right, slice_get_drop, filter_range_moved, no_start_past, first_line_start, some_line, count_agree, some_before, starts_from_is, starts_from_others, NearLines, near_lines, last_line, index, last_touched, starts_within}
 use Rattle.line_index.proofs.StartLists.{starts_apart, no_starts}
 use Rattle.line_index.proofs.StepLists.{Insertion, Deletion, found_in, found_out, longer, shorter}
 

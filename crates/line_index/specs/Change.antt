@@ -44,10 +44,6 @@ change_by_deletion place count old new = change_about place (place + count) plac
 abbrev pub NamesLines : List ℕ → List ℕ → LineChange → Type 0
 NamesLines old new change = (change.old_lines.two_behind < length old) × (change.new_lines.two_behind < length new)
 
--- if no start went and there are as many lines as before, these are the lines near the place
-abbrev pub StayNear : ℕ → ℕ → ℕ → List ℕ → NearLines → Type 0
-StayNear went lines place starts near = went ≡ 0 → length starts ≡ lines → near ≡ near_lines starts place
-
 -- the new line to which an old one moves
 abbrev pub line_after : LineChange → ℕ → ℕ
 line_after change line =

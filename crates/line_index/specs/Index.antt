@@ -69,13 +69,6 @@ abbrev pub FollowsDeletion : ℕ → ℕ → List ℕ → Index → Index → Ty
 FollowsDeletion place count near was now =
     (old : List ℕ) → IsDeletion place count near old was → IsIndexOf (take place old ++ drop (place + count) old) now
 
--- the same of the partitions
-abbrev pub StartsFollowInsertion : LineEndTypes → ℕ → ℕ → List ℕ → Partitions → Partitions → Type 0
-StartsFollowInsertion types place count near was now = FollowsInsertion place count near (index_by types was) (index_by types now)
-
-abbrev pub StartsFollowDeletion : LineEndTypes → ℕ → ℕ → List ℕ → Partitions → Partitions → Type 0
-StartsFollowDeletion types place count near was now = FollowsDeletion place count near (index_by types was) (index_by types now)
-
 -- the places from one up to another where a line starts
 abbrev pub starts_within : LineEndTypes → List ℕ → ℕ → ℕ → List ℕ
 starts_within types text from to = filter (is_line_start types text) (range_with_len from (to - from))

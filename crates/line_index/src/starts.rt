@@ -6,7 +6,7 @@ ghost use Rattle.ed_model.specs.Lines.{line_of};
 ghost use Rattle.partitioning.specs.Partitions.{ArePartitions, IsFloorLog, IsLastAtMost};
 ghost use Rattle.split_vector.specs.Split.{counted};
 ghost use Rattle.line_index.specs.Index.{CanAdd, StartsUpTo, WereAdded, count_near, with_starts};
-ghost use Rattle.line_index.specs.Change.{StayNear, near_lines};
+ghost use Rattle.line_index.specs.Change.{near_lines};
 ghost use Rattle.line_index.specs.StepEdits.{SmallLines};
 ghost use Rattle.ed_model.specs.NeighbourLaws.{count_before};
 
@@ -314,7 +314,7 @@ pub(crate) fn lines_after_step<P: Place>(
 ) -> NearLines
     requires small { SmallLines about.now.old_lines }
     requires within { about.now.old_lines.two_behind < lines }
-    requires kept { StayNear went lines end starts.now.starts about.now.old_lines }
+    requires kept { went ≡ 0 → length starts.now.starts ≡ lines → about.now.old_lines ≡ near_lines starts.now.starts end }
     ensures lines { result ≡ near_lines starts.now.starts end }
     ensures within { result.two_behind < length starts.now.starts }
     ensures small_lines { SmallLines result }

@@ -3,7 +3,7 @@
 ghost use Rattle.std.specs.Prelude.{◌≡◌, ◌+◌, ◌^◌, ◌≤◌, ◌<◌, ◌++◌, min, length};
 ghost use Rattle.ed_model.specs.Steps.{moved_back};
 ghost use Rattle.line_index.specs.Index.{FollowsDeletion, FollowsInsertion, WasDeleted, WasInserted};
-ghost use Rattle.line_index.specs.Index.{StartsFollowDeletion, StartsFollowInsertion, index_by, last_touched};
+ghost use Rattle.line_index.specs.Index.{index_by, last_touched};
 ghost use Rattle.line_index.specs.Change.{MovesLines, NamesLines, change_by_deletion, change_by_insertion};
 ghost use Rattle.line_index.specs.Change.{last_line, moved_on};
 ghost use Rattle.line_index.specs.StepEdits.{SmallLines};
@@ -55,7 +55,7 @@ fn put_in<P: Place>(
     requires was { WasInserted place count (before.now ++ after.now) (index_by types starts.old) }
     requires fits { starts.old.length + count ≤ P.GREATEST }
     requires short { starts.old.length + count < 2 ^ 63 }
-    ensures index { StartsFollowInsertion types place count (before.now ++ after.now) starts.old starts.new }
+    ensures index { FollowsInsertion place count (before.now ++ after.now) (index_by types starts.old) (index_by types starts.new) }
     ensures room { starts.new.room + length starts.new.starts ≡ starts.old.room + length starts.old.starts }
     ensures change { result ≡ change_by_insertion place count (index_by types starts.old) (index_by types starts.new) }
     ensures moves { MovesLines (moved_on place count) starts.old.starts starts.new.starts result }
@@ -100,7 +100,7 @@ fn take_out<P: Place>(
 ) -> LineChange
     requires was { WasDeleted place count (before.now ++ after.now) (index_by types starts.old) }
     requires short { starts.old.length < 2 ^ 63 }
-    ensures index { StartsFollowDeletion types place count (before.now ++ after.now) starts.old starts.new }
+    ensures index { FollowsDeletion place count (before.now ++ after.now) (index_by types starts.old) (index_by types starts.new) }
     ensures room { starts.new.room + length starts.new.starts ≡ starts.old.room + length starts.old.starts }
     ensures change { result ≡ change_by_deletion place count (index_by types starts.old) (index_by types starts.new) }
     ensures moves { MovesLines (moved_back place count) starts.old.starts starts.new.starts result }

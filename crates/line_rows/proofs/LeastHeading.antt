@@ -1,13 +1,6 @@
 -- Edits of lines add no header.
-use Rattle.std.proofs.Common.{◌≡◌, ℕ, ◌+◌, false, List, [], ◌∷◌, take, drop, replicate, refl}
+use Rattle.line_rows.proofs.Names.{◌≡◌, ℕ, ◌+◌, false, List, [], ◌∷◌, take, drop, replicate, refl, slice_range, base_level, heads, HeadFrom, LineEdit, Come, Join, Restart, after_edit, after_edits, first_or}
 use Rattle.std.proofs.lemmas.List.Elements.{All-nil, All-cons, All-head, All-append, All-replicate, All-take, All-drop}
-use Rattle.std.specs.List.{slice_range}
-use Rattle.ed_model.specs.Rows.{base_level}
-use Rattle.contraction.specs.Headings.{heads, HeadFrom}
-use Rattle.line_index.specs.declared.edit.LineEdit.{LineEdit}
-use Rattle.line_index.specs.declared.edit.LineEdit.TheVariants.{Come, Join, Restart}
-use Rattle.line_index.specs.Edits.{after_edit, after_edits}
-use Rattle.line_rows.specs.Values.{first_or}
 
 module _ (least : ℕ) where
   abbrev Fine : ℕ → Type 0

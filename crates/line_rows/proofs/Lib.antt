@@ -1,3 +1,4 @@
+pub mod Names
 pub mod LeastHeading
 pub mod MarkerTotals
 pub mod Padded

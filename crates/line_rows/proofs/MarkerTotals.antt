@@ -1,11 +1,7 @@
 -- An edit of lines moves their markers, and removes none unless it removes all lines.
-use Rattle.std.proofs.Common.{◌≡◌, ◌+◌, ◌-◌, ℕ, zero, suc, List, [], ◌∷◌, ◌++◌, length, take, drop, replicate, slice_range, refl, ap, ◌∙◌, arith}
-use Rattle.std.proofs.lemmas.List.{drop-drop}
-use Rattle.std.proofs.lemmas.List.Sums.{sum_by-cons, sum_by-append, sum_by-take-drop}
+use Rattle.line_rows.proofs.Names.{◌≡◌, ◌+◌, ◌-◌, ℕ, zero, suc, List, [], ◌∷◌, ◌++◌, length, take, drop, replicate, refl, ap, ◌∙◌, arith, drop-drop, sum_by-cons, sum_by-append, sum_by-take-drop, Marker, marker_total, with_fresh, with_joined, markers_together}
+use Rattle.std.proofs.Common.{slice_range}
 use Rattle.std.proofs.lemmas.List.Concat.{length-flat_map}
-use Rattle.ed_model.specs.Rows.{Marker}
-use Rattle.marker_store.specs.Lines.{marker_total, with_fresh, with_joined}
-use Rattle.line_rows.specs.Rows.{markers_together}
 
 total_none : (count : ℕ) → marker_total (replicate count []) ≡ 0
 total_none zero = refl

@@ -1,12 +1,8 @@
 -- The stored values of the first lines, padded with the default, through edits of lines.
-use Rattle.std.proofs.Common.{◌≡◌, ◌≤◌, ◌<◌, ◌+◌, ◌-◌, ℕ, zero, suc, List, [], ◌∷◌, ◌++◌, length, take, drop, replicate, get_or, set, min, refl, ap, sym, ◌∙◌, arith, append_assoc, inl, inr}
-use Rattle.std.proofs.lemmas.List.{length-append, length-take, length-take-le, length-drop, length-replicate, take-append-le, drop-append-le, take-replicate, drop-replicate, replicate-append-replicate, drop_all, take_all, replicate_more, append-nil, set-append_left, length-set, drop_more, take_more}
+use Rattle.line_rows.proofs.Names.{◌≡◌, ◌≤◌, ◌<◌, ◌+◌, ◌-◌, ℕ, zero, suc, List, [], ◌∷◌, ◌++◌, length, take, drop, replicate, get_or, set, min, refl, ap, sym, ◌∙◌, arith, append_assoc, inl, inr, length-append, length-take, length-take-le, length-drop, length-replicate, take-append-le, drop-append-le, take-replicate, drop-replicate, replicate-append-replicate, drop_all, take_all, replicate_more, append-nil, set-append_left, length-set, drop_more, take_more, slice_range, inserted, deleted, first_or, padded}
 use Rattle.std.proofs.lemmas.Bool.{cases_lt}
 use Rattle.std.proofs.Math.Seq.{take-append-add, drop-append-add}
-use Rattle.std.specs.List.{slice_range}
-use Rattle.split_vector.specs.Split.{inserted, deleted}
 use Rattle.line_index.specs.Edits.{with_fresh, with_joined}
-use Rattle.line_rows.specs.Values.{first_or, padded}
 
 module _ {V : Type 0} where
   set_last : (d : V) (xs : List V) (n : ℕ) (x : V) → length xs ≡ n → set (xs ++ d ∷ []) n x ≡ xs ++ x ∷ []

@@ -1,13 +1,5 @@
 -- Rows of lines, and the lists of their parts.
-use Rattle.std.proofs.Common.{◌≡◌, ◌+◌, ◌-◌, ℕ, zero, suc, ℤ, pos, List, [], ◌∷◌, ◌++◌, length, take, drop, replicate, flat_map, refl, sym, ap, ◌∙◌, arith}
-use Rattle.std.specs.List.{slice_range}
-use Rattle.std.proofs.lemmas.List.{length-append, length-take, length-drop, length-replicate}
-use Rattle.ed_model.specs.Rows.{Marker, Row, base_level, fresh_row, rows_together}
-use Rattle.line_index.specs.declared.edit.LineEdit.{LineEdit}
-use Rattle.line_index.specs.declared.edit.LineEdit.TheVariants.{Come, Join, Restart}
-use Rattle.line_index.specs.Edits.{after_edit, after_edits}
-use Rattle.line_rows.specs.Values.{first_or}
-use Rattle.line_rows.specs.Rows.{rows_of, markers_together, PartsCarryRows}
+use Rattle.line_rows.proofs.Names.{◌≡◌, ◌+◌, ◌-◌, ℕ, zero, suc, ℤ, pos, List, [], ◌∷◌, ◌++◌, length, take, drop, replicate, flat_map, refl, sym, ap, ◌∙◌, arith, slice_range, length-append, length-take, length-drop, length-replicate, Marker, Row, base_level, fresh_row, rows_together, LineEdit, Come, Join, Restart, after_edit, after_edits, first_or, rows_of, markers_together, PartsCarryRows}
 
 rows-take : (n : ℕ) (ms : List (List Marker)) (ls : List ℕ) (ss : List ℤ) → take n (rows_of ms ls ss) ≡ rows_of (take n ms) (take n ls) (take n ss)
 rows-take zero ms ls ss = refl

@@ -1,13 +1,5 @@
 -- Reads and changes of rows, part by part.
-use Rattle.std.proofs.Common.{◌≡◌, ◌≢◌, ◌↔◌, IsTrue, min, max, reverse, ◌<◌, ◌+◌, ◌-◌, ℕ, zero, suc, ℤ, pos, Bool, not, cond, List, [], ◌∷◌, ◌++◌, length, filter, get_or, set, Option, Some, refl, sym, ap, ◌∙◌, arith}
-use Rattle.std.specs.List.{range_with_len, find}
-use Rattle.std.proofs.lemmas.List.{set-get_or, get_or_read}
-use Rattle.std.proofs.lemmas.List.Sums.{sum_by-cons}
-use Rattle.ed_model.specs.Rows.{Marker, Row, base_level}
-use Rattle.ed_model.specs.Changes.{with_markers, without_markers, new_markers, without_marker, marker_count}
-use Rattle.marker_store.specs.Lines.{markers_of, marker_total, without}
-use Rattle.line_rows.specs.Kept.{KeptRows, RowRoom, RowBlocks, kept_rows, row_room, row_at, levels_of}
-use Rattle.line_rows.specs.Rows.{rows_of}
+use Rattle.line_rows.proofs.Names.{◌≡◌, ◌≢◌, ◌↔◌, IsTrue, min, max, reverse, ◌<◌, ◌+◌, ◌-◌, ℕ, zero, suc, ℤ, pos, Bool, not, cond, List, [], ◌∷◌, ◌++◌, length, filter, get_or, set, Option, Some, refl, sym, ap, ◌∙◌, arith, range_with_len, find, set-get_or, get_or_read, sum_by-cons, Marker, Row, base_level, with_markers, without_markers, new_markers, without_marker, marker_count, markers_of, marker_total, without, KeptRows, RowRoom, RowBlocks, kept_rows, row_room, row_at, levels_of, rows_of}
 
 abbrev pub row : List Marker → ℕ → ℤ → Row
 row m l s = record { markers = m; level = l; state = s }

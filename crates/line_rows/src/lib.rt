@@ -5,10 +5,8 @@
 #![tactic(auto)]
 
 mod fold_levels;
-mod laws;
 mod rows;
 mod values;
 
-pub use laws::parts_carry_rows;
 pub use rows::LineRows;
 pub use values::LineValues;

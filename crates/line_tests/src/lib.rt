@@ -13,5 +13,3 @@ mod line_index_tests;
 mod line_rows_tests;
 #[cfg(test)]
 mod marker_store_tests;
-#[cfg(test)]
-mod selection_tests;

@@ -1,12 +1,6 @@
 -- A script with one command more.
-use Rattle.std.proofs.Common.{◌≡◌, ℕ, ◌+◌, ◌-◌, ◌≤◌, Bool, true, false, nat_lt, List, [], ◌∷◌, ◌++◌, length, refl, ap, sym, ◌∙◌, arith, length-append, append-nil}
-use Rattle.std.specs.Prelude.{nat_le, ◌&&◌, flat_map}
-use Rattle.std.specs.List.{list_all}
-use Rattle.std.proofs.lemmas.Bool.{and_parts, ltb-true, ltb-false, lt-ltb, le-ltb, le-leb, lt-leb}
-use Rattle.std.proofs.lemmas.List.Concat.{flat_map-append}
+use Rattle.macro_script.proofs.Names.{◌≡◌, ℕ, ◌+◌, ◌-◌, ◌≤◌, Bool, true, false, nat_lt, List, [], ◌∷◌, ◌++◌, length, refl, ap, sym, ◌∙◌, arith, length-append, append-nil, nat_le, ◌&&◌, flat_map, list_all, and_parts, ltb-true, ltb-false, lt-ltb, le-ltb, le-leb, lt-leb, flat_map-append, Command, listing, listed_command, ended_line, version_line, fits_line, fits_script, keeps_limits}
 use Rattle.std.proofs.lemmas.List.Folds.{list_all-append}
-use Rattle.ed_types.specs.declared.script.Command.{Command}
-use Rattle.ed_model.specs.Listing.{listing, listed_command, ended_line, version_line, fits_line, fits_script, keeps_limits}
 
 -- the length of its listing
 length_with : (commands : List Command) (c : Command) → length (listing 2 (commands ++ c ∷ [])) ≡ length (listing 2 commands) + (length (listed_command c) + 1)

@@ -1,15 +1,5 @@
 -- Numbers read at the front of a line.
-use Rattle.std.proofs.Common.{◌≡◌, ℕ, suc, ◌+◌, ◌-◌, ◌*◌, ◌<◌, ◌≤◌, List, [], ◌∷◌, length, get_or, take, drop, refl, sym, ◌∙◌, ap, arith, length-take, Result, Ok, Option, Some, slice_range}
-use Rattle.std.specs.Prelude.{◌==◌}
-use Rattle.std.specs.Str.Parse.{digits_value, AllDigits}
-use Rattle.std.proofs.lemmas.Bool.{cond-true, eq-eqb}
-use Rattle.std.proofs.lemmas.List.{get_or-take, take_rest}
-use Rattle.std.proofs.lemmas.Str.Parse.{digit_at}
-use Rattle.std.specs.Char.{IsAsciiDigit}
-use Rattle.ed_types.specs.declared.script.Cause.{Cause}
-use Rattle.ed_model.specs.Spelling.{space, spelled}
-use Rattle.ed_model.specs.Reading.{◌>>=◌, word_of, behind_word, not_empty, word_field, number_field}
-use Rattle.ed_model.specs.proved.Reading.{not_empty-some}
+use Rattle.macro_script.proofs.Names.{◌≡◌, ℕ, suc, ◌+◌, ◌-◌, ◌*◌, ◌<◌, ◌≤◌, List, [], ◌∷◌, length, get_or, take, drop, refl, sym, ◌∙◌, ap, arith, length-take, Result, Ok, Option, Some, slice_range, ◌==◌, digits_value, AllDigits, cond-true, eq-eqb, get_or-take, take_rest, digit_at, IsAsciiDigit, Cause, space, spelled, ◌>>=◌, word_of, behind_word, not_empty, word_field, number_field, not_empty-some}
 use Rattle.macro_script.specs.Fields.{IsNumberAtFront}
 use Rattle.macro_script.proofs.SpelledNumbers.{spelled-digits, one_digit_more}
 use Rattle.macro_script.proofs.Words.{NoSpaceBefore, ends_at}

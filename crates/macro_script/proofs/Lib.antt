@@ -1,3 +1,4 @@
+pub mod Names
 mod SpelledNumbers
 mod ShortNumbers
 mod LeadingNumbers

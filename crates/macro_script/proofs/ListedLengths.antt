@@ -1,12 +1,5 @@
 -- Lengths of spelled texts and of listed commands.
-use Rattle.std.proofs.Common.{◌≡◌, ℕ, suc, ◌+◌, ◌<◌, ◌≤◌, List, [], ◌∷◌, ◌++◌, length, get_or, take, drop, sym, ◌∙◌, ap, arith, take-append-drop, length-append, append-nil}
-use Rattle.std.proofs.lemmas.List.Concat.{flat_map-append}
-use Rattle.std.specs.List.{AllByRecursion}
-use Rattle.std.proofs.lemmas.List.{take_more}
-use Rattle.ed_types.specs.declared.message.Message.{Message}
-use Rattle.ed_types.specs.declared.script.Command.TheVariants.{SendMessage}
-use Rattle.ed_model.specs.Listing.{listed_command}
-use Rattle.ed_model.specs.Spelling.{space, quote, spelled, spelled_int, spelled_byte, spelled_bytes, spelled_text}
+use Rattle.macro_script.proofs.Names.{◌≡◌, ℕ, suc, ◌+◌, ◌<◌, ◌≤◌, List, [], ◌∷◌, ◌++◌, length, get_or, take, drop, sym, ◌∙◌, ap, arith, take-append-drop, length-append, append-nil, flat_map-append, AllByRecursion, take_more, Message, SendMessage, listed_command, space, quote, spelled, spelled_int, spelled_byte, spelled_bytes, spelled_text}
 
 -- the length of the spelling of the first bytes, within the limit of a line
 pub record IsLengthSoFar (text : List ℕ) (i len : ℕ) : Type 0 where

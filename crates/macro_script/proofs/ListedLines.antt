@@ -1,18 +1,8 @@
 -- Lines as they are listed.
-use Rattle.std.proofs.Common.{◌≡◌, ℕ, ℤ, pos, List, [], ◌∷◌, ◌++◌, length, take, refl, sym, ◌∙◌, ap, append_assoc, codes, map, Some, Ok, ◌≤◌, take_all}
-use Rattle.std.specs.List.{join_with_byte}
+use Rattle.macro_script.proofs.Names.{◌≡◌, ℕ, ℤ, pos, List, [], ◌∷◌, ◌++◌, length, take, refl, sym, ◌∙◌, ap, append_assoc, codes, map, Some, Ok, ◌≤◌, join_with_byte, with_text, printed_note, Message, Command, SendMessage, space, spelled_int, spelled_text, listed_command, ended_line, listing, ListingsAreRead, IsScript, reading, line_of, number_fields}
+use Rattle.std.proofs.Common.{take_all}
 use Rattle.ed_types.specs.declared.reply.Note.{Note}
-use Rattle.ed_types.specs.Heard.{with_text}
-use Rattle.ed_model.specs.Printed.{printed_note}
-use Rattle.ed_types.specs.declared.message.Message.{Message}
-use Rattle.ed_types.specs.declared.script.Command.{Command}
-use Rattle.ed_types.specs.declared.script.Command.TheVariants.{SendMessage}
-use Rattle.ed_model.specs.Spelling.{space, spelled_int, spelled_text}
-use Rattle.ed_model.specs.Listing.{listed_command, ended_line, listing}
-use Rattle.ed_model.specs.ScriptLaws.{ListingsAreRead, IsScript}
-use Rattle.ed_model.specs.Reading.{reading}
 use Rattle.macro_script.specs.Notes.{numbers_of_note}
-use Rattle.macro_script.specs.Appending.{line_of, number_fields}
 
 -- the listing of the first commands
 abbrev pub listed_so_far : List Command → List ℕ

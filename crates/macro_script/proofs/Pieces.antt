@@ -1,13 +1,7 @@
 -- Texts appended piece by piece.
-use Rattle.std.proofs.Common.{◌≡◌, ℕ, zero, suc, ◌+◌, ◌<◌, ◌≤◌, ℤ, List, [], ◌∷◌, ◌++◌, length, take, drop, refl, sym, ◌∙◌, ap, subst, arith, Result, Ok, Err, append_assoc, append-nil, take-append-drop, get_or, pos, IsErr, take-add, length-drop, ◌-◌, slice_get, Some, flat_map}
-use Rattle.std.proofs.lemmas.List.{take_more, take_all, drop_more, take_rest, length-append, length-take}
-use Rattle.std.proofs.lemmas.List.Concat.{flat_map-append}
-use Rattle.ed_model.specs.Text.{line_feed}
-use Rattle.ed_model.specs.Spelling.{space, quote, spelled_int, spelled_byte, spelled_bytes, spelled_text}
+use Rattle.macro_script.proofs.Names.{◌≡◌, ℕ, zero, suc, ◌+◌, ◌<◌, ◌≤◌, ℤ, List, [], ◌∷◌, ◌++◌, length, take, drop, refl, sym, ◌∙◌, ap, subst, arith, Result, Ok, Err, append_assoc, append-nil, take-append-drop, get_or, pos, IsErr, take-add, length-drop, ◌-◌, slice_get, Some, flat_map, take_more, drop_more, take_rest, flat_map-append, line_feed, space, quote, spelled_int, spelled_byte, spelled_bytes, spelled_text, Appends, AppendsPart, AppendsSome, number_fields}
 use Rattle.macro_script.proofs.Plain.{ArePlainBefore, tail}
 use Rattle.std.specs.declared.alloc.AllocError.{AllocError}
-use Rattle.std.specs.Prelude.{OnErr}
-use Rattle.macro_script.specs.Appending.{Appends, AppendsPart, AppendsSome, number_fields}
 
 -- a first piece, and then another
 pub then_part : (old mid new first second : List ℕ) → mid ≡ old ++ first → AppendsPart mid new second → AppendsPart old new (first ++ second)
@@ -67,35 +61,6 @@ fields_split n numbers = ap number_fields (sym (take-append-drop n numbers)) ∙
 pub stopped : (text old new : List ℕ) (r : Result (Unit {0}) AllocError) → IsErr r → AppendsPart old new text → Appends text old new r
 stopped text old new (Ok done) is some = cc
 stopped text old new (Err refused) is some = some
-
--- a step at which an allocation failed, after which as many bytes were appended as fitted
-pub front_part : (n : ℕ) (text old mid new : List ℕ) → mid ≡ old → new ≡ mid ++ take n text → AppendsPart old new text
-front_part n text old mid new same is = record {
-  part = take n text;
-  left = drop n text;
-  split = sym (take-append-drop n text);
-  appended = is ∙ ap (λ bs. bs ++ take n text) same;
-}
-
--- as many as fit, if the text is longer
-pub fills_room : (n room : ℕ) (text old mid new : List ℕ) → mid ≡ old → new ≡ mid ++ take n text → room ≤ n → room ≤ length text → room ≤ length new - length old
-fills_room n room text old mid new same is most less =
-    omega (arith, ap length is, ap length same, length-append mid (take n text), length-take n text)
-
--- all of them, if they fit
-pub fitted_whole : (n : ℕ) (text old mid new : List ℕ) → mid ≡ old → new ≡ mid ++ take n text → length text ≤ n → new ≡ old ++ text
-fitted_whole n text old mid new same is fits = is ∙ ap (λ bs. bs ++ take n text) same ∙ ap (λ bs. old ++ bs) (take_all n text fits)
-
--- the same for a longer text
-pub front_of_more : (n k : ℕ) (first text old mid new : List ℕ) → take k text ≡ first → mid ≡ old → new ≡ mid ++ take n first → AppendsPart old new text
-front_of_more n k first text old mid new begins same is =
-    let whole : first ++ drop k text ≡ text = ap (λ bs. bs ++ drop k text) (sym begins) ∙ take-append-drop k text in
-    subst (AppendsPart old new) whole (first_part old new first (drop k text) (front_part n first old mid new same is))
-
--- what holds if an allocation failed
-pub on_refusal : (P : Type 0) (r : Result (Unit {0}) AllocError) → P → OnErr r P
-on_refusal P (Ok done) p = tt
-on_refusal P (Err refused) p = p
 
 pub stopped_some : (text old new : List ℕ) (r : Result ℕ AllocError) → IsErr r → AppendsPart old new (spelled_bytes text) → AppendsSome text old new r
 stopped_some text old new (Ok n) is some = cc

@@ -1,14 +1,8 @@
 -- Bytes that are spelled by themselves, and their reading.
-use Rattle.std.proofs.Common.{◌≡◌, ◌≢◌, ℕ, zero, suc, ◌+◌, ◌<◌, ◌≤◌, List, [], ◌∷◌, ◌++◌, length, get_or, take, drop, refl, sym, ◌∙◌, ap, subst, arith, Result, Ok, Err, append_assoc, append-nil, length-drop, drop-drop, get_or-drop, slice_range, ◌-◌}
-use Rattle.std.proofs.lemmas.List.{take_rest}
-use Rattle.std.specs.Prelude.{◌==◌, ◌&&◌, ◌||◌, nat_le}
-use Rattle.std.proofs.lemmas.Bool.{eq-eqb, ne_eqb, le-leb, or_from, and_from, cond-true, cond-false}
-use Rattle.ed_types.specs.declared.script.Cause.{Cause}
+use Rattle.macro_script.proofs.Names.{◌≡◌, ◌≢◌, ℕ, zero, suc, ◌+◌, ◌<◌, ◌≤◌, List, [], ◌∷◌, ◌++◌, length, get_or, take, drop, refl, sym, ◌∙◌, ap, subst, arith, Result, Ok, Err, append_assoc, append-nil, length-drop, drop-drop, get_or-drop, slice_range, ◌-◌, take_rest, ◌==◌, ◌&&◌, ◌||◌, nat_le, eq-eqb, ne_eqb, le-leb, or_from, and_from, cond-true, cond-false, Cause, quote, backslash, spelled_byte, text_past, with_byte}
 use Rattle.ed_types.specs.declared.script.Cause.TheVariants.{BadText}
 use Rattle.macro_script.specs.Fronts.{IsFront}
 use Rattle.macro_script.specs.declared.texts.Front.TheVariants.{Closing, Byte, Wrong}
-use Rattle.ed_model.specs.Spelling.{quote, backslash, spelled_byte}
-use Rattle.ed_model.specs.Reading.{text_past, with_byte}
 use Rattle.ed_model.specs.proved.Texts.{text_past-spelled_byte}
 
 abbrev pub ArePlainBefore : List ℕ → ℕ → Type 0

@@ -1,11 +1,7 @@
 -- The message that is added for a reply is everything that the view recorded in it.
-use Rattle.std.proofs.Common.{◌≡◌, ◌≤◌, ℕ, Bool, true, false, cond, List, [], ◌∷◌, ◌++◌, length, map, drop, zero, suc, ◌+◌, refl, ap, sym, subst, arith}
-use Rattle.std.specs.Prelude.{◌<◌, slice_get, filter, find, Some}
+use Rattle.macro_script.proofs.Names.{◌≡◌, ◌≤◌, ℕ, Bool, true, false, cond, List, [], ◌∷◌, ◌++◌, length, map, drop, zero, suc, ◌+◌, refl, ap, sym, subst, arith, ◌<◌, slice_get, filter, find, Some, Message, told_message, sent_to, is_recording, sends_for, RecordsAll}
 use Rattle.std.proofs.lemmas.List.{append-nil}
 use Rattle.ed_types.specs.Notices.{Notice}
-use Rattle.ed_types.specs.declared.message.Message.{Message}
-use Rattle.ed_model.specs.Recording.{told_message, sent_to}
-use Rattle.macro_script.specs.Recorded.{is_recording, sends_for, RecordsAll}
 
 first_is_all : (view : ℕ) (notes : List Notice) → length (map told_message (filter (is_recording view) notes)) ≤ 1
     → map (sent_to view) (map told_message (filter (is_recording view) notes)) ≡ sends_for view (find (is_recording view) notes)

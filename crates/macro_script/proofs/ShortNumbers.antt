@@ -1,8 +1,5 @@
 -- Numbers of few digits, digit by digit.
-use Rattle.std.proofs.Common.{◌≡◌, ℕ, ◌<◌, ◌≤◌, ◌+◌, ◌/◌, ◌%◌, [], ◌∷◌, ◌++◌, sym, ◌∙◌, ap, arith}
-use Rattle.std.proofs.lemmas.Fmt.{decimal_step, decimal_digit}
-use Rattle.ed_model.specs.Spelling.{spelled}
-use Rattle.ed_model.specs.proved.Spelling.{spelled-decimal}
+use Rattle.macro_script.proofs.Names.{◌≡◌, ℕ, ◌<◌, ◌≤◌, ◌+◌, ◌/◌, ◌%◌, [], ◌∷◌, ◌++◌, sym, ◌∙◌, ap, arith, decimal_step, decimal_digit, spelled, spelled-decimal}
 
 pub one_digit : (n : ℕ) → n < 10 → spelled n ≡ (48 + n % 10) ∷ []
 one_digit n h = spelled-decimal n (omega arith) ∙ decimal_digit n h ∙ ap (λ d. (48 + d) ∷ []) (omega arith)

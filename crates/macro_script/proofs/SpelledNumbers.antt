@@ -1,14 +1,8 @@
 -- The words that spell numbers.
-use Rattle.std.proofs.Common.{◌≡◌, ℕ, zero, suc, ◌+◌, ◌-◌, ◌*◌, ◌^◌, ◌<◌, ◌≤◌, List, ◌∷◌, length, get_or, take, refl, sym, length-take, ◌∙◌, ap, subst, arith, pos, negsuc, Option, Some, None, decimal, SomeIff, IfSome, lt-ltb}
-use Rattle.std.specs.Str.Parse.{digits_value, AllDigits}
-use Rattle.std.proofs.lemmas.Str.Parse.{numerals_by_value, tells_digits, digit_at, digits_value_short}
-use Rattle.std.proofs.lemmas.Fmt.{decimal-digits_value, length-decimal-le, first_decimal}
-use Rattle.std.specs.Char.{IsAsciiDigit, IsNotAsciiDigit, digit_value}
+use Rattle.macro_script.proofs.Names.{◌≡◌, ℕ, zero, suc, ◌+◌, ◌-◌, ◌*◌, ◌^◌, ◌<◌, ◌≤◌, List, ◌∷◌, length, get_or, take, refl, sym, length-take, ◌∙◌, ap, subst, arith, pos, negsuc, Option, Some, None, decimal, SomeIff, IfSome, digits_value, AllDigits, numerals_by_value, tells_digits, digit_at, digits_value_short, decimal-digits_value, length-decimal-le, first_decimal, IsAsciiDigit, IsNotAsciiDigit, digit_value, spelled, natural, integer, spelled-decimal, digits_value-spelled, AllDigits-spelled, length-spelled-pos, natural-spelled, integer-spelled}
+use Rattle.std.proofs.Common.{lt-ltb}
 use Rattle.std.proofs.lemmas.Str.{digit_value_digit}
 use Rattle.std.proofs.lemmas.Int.Digits.{digits_more, digits_value_more}
-use Rattle.ed_model.specs.Spelling.{spelled}
-use Rattle.ed_model.specs.Reading.{natural, integer}
-use Rattle.ed_model.specs.proved.Spelling.{spelled-decimal, digits_value-spelled, AllDigits-spelled, length-spelled-pos, natural-spelled, integer-spelled}
 
 -- A word of digits, the first of them no zero unless it is the only one, is the spelling of its value.
 pub spelled-digits : (word : List ℕ) → AllDigits 10 word → 0 < length word → length word ≤ 19 → (get_or word 0 0 ≡ 48 → length word ≤ 1) → word ≡ spelled (digits_value 10 word)

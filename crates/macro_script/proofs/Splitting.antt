@@ -1,19 +1,8 @@
 -- Texts cut into lines, and the commands of lines.
-use Rattle.std.proofs.Common.{◌≡◌, inl, inr, ℕ, ◌+◌, ◌<◌, ◌≤◌, List, [], ◌∷◌, ◌++◌, length, get_or, take, drop, refl, sym, ◌∙◌, ap, subst, arith, Result, Ok, Err, append_assoc, length-drop}
-use Rattle.std.specs.Prelude.{◌==◌}
-use Rattle.std.specs.List.{slice_split, position_or_len}
-use Rattle.std.proofs.lemmas.Bool.{false_from_ne_true}
-use Rattle.std.proofs.lemmas.List.{get_or_default, take_rest}
-use Rattle.std.proofs.lemmas.List.Sums.{position_or_len_is}
+use Rattle.macro_script.proofs.Names.{◌≡◌, inl, inr, ℕ, ◌+◌, ◌<◌, ◌≤◌, List, [], ◌∷◌, ◌++◌, length, get_or, take, drop, refl, sym, ◌∙◌, ap, subst, arith, Result, Ok, Err, append_assoc, length-drop, ◌==◌, slice_split, position_or_len, false_from_ne_true, get_or_default, take_rest, position_or_len_is, Command, ScriptFault, line_feed, ◌>>=◌, at_line, read_command, read_lines, read_from, read_first, read_lines-first, OrMemory}
 use Rattle.std.proofs.lemmas.List.Splits.{slice_split_none, slice_split_first}
 use Rattle.memchr.specs.Find.{Nowhere, NoneBefore, Passes, is_byte}
-use Rattle.ed_types.specs.declared.script.Command.{Command}
-use Rattle.ed_types.specs.declared.script.ScriptFault.{ScriptFault}
 use Rattle.ed_types.specs.declared.script.ScriptFault.TheVariants.{OutOfMemory}
-use Rattle.ed_model.specs.Text.{line_feed}
-use Rattle.ed_model.specs.Reading.{◌>>=◌, at_line, read_command, read_lines}
-use Rattle.ed_model.specs.proved.Reading.{read_from, read_first, read_lines-first}
-use Rattle.macro_script.specs.Lines.{OrMemory}
 use Rattle.macro_script.proofs.Plain.{tail}
 
 pub no_line : (text : List ℕ) → Nowhere (Passes (is_byte 10) text) 0 (length text) → slice_split (λ b. b == line_feed) text ≡ text ∷ []

@@ -1,15 +1,6 @@
 -- Whole texts, read from their first line on.
-use Rattle.std.proofs.Common.{◌≡◌, ◌⊎◌, inl, inr, ℕ, ◌≤◌, List, ◌∷◌, length, sym, ◌∙◌, ap, Ok, Err, le-leb}
-use Rattle.std.specs.Prelude.{◌==◌}
-use Rattle.std.specs.List.{slice_split}
-use Rattle.ed_types.specs.declared.script.Command.{Command}
-use Rattle.ed_types.specs.declared.script.ScriptFault.{ScriptFault}
-use Rattle.ed_model.specs.Text.{line_feed}
-use Rattle.ed_model.specs.Listing.{listing}
-use Rattle.ed_model.specs.Reading.{◌>>=◌, at_line, read_version, read_script, reading}
-use Rattle.ed_model.specs.proved.Reading.{read_from, read_script-first, reads_within, versions}
-use Rattle.ed_model.specs.ScriptLaws.{OnlyListingsAreRead}
-use Rattle.macro_script.specs.Lines.{OrMemory}
+use Rattle.macro_script.proofs.Names.{◌≡◌, ◌⊎◌, inl, inr, ℕ, ◌≤◌, List, ◌∷◌, length, sym, ◌∙◌, ap, Ok, Err, ◌==◌, slice_split, Command, ScriptFault, line_feed, listing, ◌>>=◌, at_line, read_version, read_script, reading, read_from, read_script-first, reads_within, versions, OnlyListingsAreRead, OrMemory}
+use Rattle.std.proofs.Common.{le-leb}
 use Rattle.macro_script.specs.Scripts.{IsProper}
 
 -- a text of at least one line

@@ -1,10 +1,5 @@
 -- The ends of words.
-use Rattle.std.proofs.Common.{◌≡◌, ℕ, ◌<◌, ◌≤◌, List, length, get_or, take, sym, ◌∙◌, ap, arith, length-take}
-use Rattle.std.specs.Prelude.{◌==◌}
-use Rattle.std.specs.List.{position_or_len}
-use Rattle.std.proofs.lemmas.Bool.{eq-eqb, ne_eqb}
-use Rattle.std.proofs.lemmas.List.Sums.{position_or_len_is}
-use Rattle.ed_model.specs.Reading.{word_of}
+use Rattle.macro_script.proofs.Names.{◌≡◌, ℕ, ◌<◌, ◌≤◌, List, length, get_or, take, sym, ◌∙◌, ap, arith, length-take, ◌==◌, position_or_len, eq-eqb, ne_eqb, position_or_len_is, word_of}
 
 -- no space stands before this place
 abbrev pub NoSpaceBefore : List ℕ → ℕ → Type 0

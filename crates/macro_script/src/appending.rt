@@ -1,6 +1,6 @@
 //! Appending of pieces of text to an output.
 
-ghost use Rattle.std.specs.Prelude.{◌≡◌, ◌+◌, ◌-◌, ◌∷◌, ◌++◌, [], ◌<◌, ◌≤◌, length, take, vec_len, vec_capacity, IsErr, OnErr};
+ghost use Rattle.std.specs.Prelude.{◌≡◌, ◌+◌, ◌∷◌, ◌++◌, [], ◌<◌, length};
 ghost use Rattle.ed_model.specs.Spelling.{spelled, spelled_int, spelled_byte, spelled_bytes, spelled_text};
 ghost use Rattle.macro_script.specs.Appending.{Appends, AppendsSome, number_fields, text_field, behind_word, line_of, lent_text};
 
@@ -13,43 +13,6 @@ fn append_bytes(out: &mut Vec<u8>, bytes: &[u8]) -> Result<(), AllocError>
     ensures { Appends bytes.now out.old.items out.new.items result }
 {
     out.extend_from_slice(bytes)
-}
-
-/// The slow path of `append_each`, after an allocation failed: appends as many of the bytes as fit without one, and
-/// returns the error.
-#[cold]
-fn append_front(out: &mut Vec<u8>, bytes: &[u8]) -> Result<(), AllocError>
-    ensures front { out.new.items ≡ out.old.items ++ take (vec_capacity out.old - vec_len out.old) bytes.now }
-    ensures refused { IsErr result }
-{
-    let fits = bytes.len().min(out.capacity() - out.len());
-    out.extend_from_slice(&bytes[..fits])?;
-    Err(AllocError)
-}
-
-/// Appends bytes at once. If the allocation fails, appends as many as fit, as if they were appended one by one.
-fn append_each(out: &mut Vec<u8>, bytes: &[u8]) -> Result<(), AllocError>
-    ensures appended { Appends bytes.now out.old.items out.new.items result }
-    ensures left { OnErr result (vec_capacity out.old - vec_len out.old ≤ length out.new.items - length out.old.items) }
-{
-    match out.extend_from_slice(bytes) {
-        Ok(()) => Ok(()),
-        Err(AllocError) => append_front(out, bytes),
-    }
-}
-
-/// Appends a space and digits at once. If the allocation fails, appends the space if it fits, as if space and digits
-/// were appended separately. That space is a constant: if the cold call took it from `field`, `field` would have to lie
-/// in memory.
-fn append_spaced(out: &mut Vec<u8>, field: &[u8]) -> Result<(), AllocError>
-    requires { take 1 field.now ≡ 32 ∷ [] }
-    ensures appended { Appends field.now out.old.items out.new.items result }
-    ensures left { OnErr result (vec_len out.old < vec_capacity out.old → out.new.items ≡ out.old.items ++ 32 ∷ []) }
-{
-    match out.extend_from_slice(field) {
-        Ok(()) => Ok(()),
-        Err(AllocError) => append_front(out, b" "),
-    }
 }
 
 /// Appends a number that is not negative, in decimal digits.
@@ -91,18 +54,18 @@ fn append_short_field(out: &mut Vec<u8>, number: u64) -> Result<(), AllocError>
     ensures { Appends (32 ∷ spelled number) out.old.items out.new.items result }
 {
     if number < 10 {
-        return append_spaced(out, &[b' ', digit(number)]);
+        return append_bytes(out, &[b' ', digit(number)]);
     }
     let ones = digit(number % 10);
     let tens = digit(number / 10 % 10);
     if number < 100 {
-        return append_spaced(out, &[b' ', tens, ones]);
+        return append_bytes(out, &[b' ', tens, ones]);
     }
     let hundreds = digit(number / 100 % 10);
     if number < 1000 {
-        return append_spaced(out, &[b' ', hundreds, tens, ones]);
+        return append_bytes(out, &[b' ', hundreds, tens, ones]);
     }
-    append_spaced(out, &[b' ', digit(number / 1000), hundreds, tens, ones])
+    append_bytes(out, &[b' ', digit(number / 1000), hundreds, tens, ones])
 }
 
 /// Appends a space and a number of any length.
@@ -193,11 +156,11 @@ fn append_text_end(out: &mut Vec<u8>, text: &[u8]) -> Result<(), AllocError>
     ensures { Appends ((32 ∷ spelled_text text.now) ++ 10 ∷ []) out.old.items out.new.items result }
 {
     if text.is_empty() {
-        return append_each(out, b" \"\"\n");
+        return append_bytes(out, b" \"\"\n");
     }
-    append_each(out, b" \"")?;
+    append_bytes(out, b" \"")?;
     append_spelled(out, text)?;
-    append_each(out, b"\"\n")
+    append_bytes(out, b"\"\n")
 }
 
 /// Appends the end of a line, with a text if there is one.
@@ -229,7 +192,7 @@ fn append_behind_word(
 ///
 /// `AllocError` if an allocation fails. A front part of the line may be appended then.
 #[inline]
-pub fn append_line(
+pub(crate) fn append_line(
     out: &mut Vec<u8>,
     word: &[u8],
     numbers: &[i64],

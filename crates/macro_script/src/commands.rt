@@ -88,7 +88,7 @@ fn read_send(alloc: Global, fields: &mut Fields) -> Result<Command, Stop>
 /// # Errors
 ///
 /// `Stop::Fault` if the line is no command of the version, and `Stop::OutOfMemory` if an allocation fails.
-pub fn read_command(alloc: Global, version: Version, line: &[u8]) -> Result<Command, Stop>
+pub(crate) fn read_command(alloc: Global, version: Version, line: &[u8]) -> Result<Command, Stop>
     ensures { Answers (read_command_of (number_of version) line.now) result }
 {
     let mut fields = Fields::new(line);

@@ -69,14 +69,14 @@ fn lone_digit(line: &[u8]) -> Option<u8>
 
 impl<'a> Fields<'a> {
     /// Returns all fields of a line.
-    pub fn new(line: &'a [u8]) -> Self
+    pub(crate) fn new(line: &'a [u8]) -> Self
         ensures { result ≡ line.now }
     {
         Fields { rest: line }
     }
 
     /// Takes the word at the front, up to the next space or the end.
-    pub fn word(&mut self) -> &'a [u8]
+    pub(crate) fn word(&mut self) -> &'a [u8]
         ensures word { result.now ≡ word_of self.old }
         ensures rest { self.new ≡ behind_word self.old }
     {
@@ -115,7 +115,7 @@ impl<'a> Fields<'a> {
     /// # Errors
     ///
     /// `BadShape` if no space and word are left, and `BadNumber` if the word is no such number.
-    pub fn natural(&mut self) -> Result<u32, Cause>
+    pub(crate) fn natural(&mut self) -> Result<u32, Cause>
         ensures { and_rest result self.new ≡ number_field natural_of self.old }
     {
         if let Some(digit) = lone_digit(self.rest) {
@@ -131,7 +131,7 @@ impl<'a> Fields<'a> {
     /// # Errors
     ///
     /// `BadShape` if no space and word are left, and `BadNumber` if the word is no such number.
-    pub fn integer(&mut self) -> Result<i64, Cause>
+    pub(crate) fn integer(&mut self) -> Result<i64, Cause>
         ensures { and_rest result self.new ≡ number_field integer_of self.old }
     {
         if let Some(digit) = lone_digit(self.rest) {
@@ -148,7 +148,7 @@ impl<'a> Fields<'a> {
     ///
     /// `Stop::Fault` with `BadShape` if no space and quote come first, or `BadText` if the text is spelled wrongly;
     /// `Stop::OutOfMemory` if an allocation fails.
-    pub fn text(&mut self, alloc: Global) -> Result<Bytes, Stop>
+    pub(crate) fn text(&mut self, alloc: Global) -> Result<Bytes, Stop>
         ensures { AnswersAndLeaves (text_field self.old) result self.new }
     {
         self.pass(b' ')?;
@@ -163,7 +163,7 @@ impl<'a> Fields<'a> {
     /// # Errors
     ///
     /// `BadShape` if something is left.
-    pub fn ended(&self, command: Command) -> Result<Command, Cause>
+    pub(crate) fn ended(&self, command: Command) -> Result<Command, Cause>
         ensures { result ≡ ended_by command self.now }
     {
         if self.rest.is_empty() {

@@ -54,7 +54,7 @@ fn within_limit(len: usize) -> Option<usize>
 }
 
 /// Returns the length in bytes of the listed line that sends a message, or `None` if it exceeds the limit.
-pub fn send_len(view: u32, number: u32, w: i64, l: i64, text: &[u8]) -> Option<usize>
+pub(crate) fn send_len(view: u32, number: u32, w: i64, l: i64, text: &[u8]) -> Option<usize>
     ensures typed { FitsTypes (send_command view number w l text.now) }
     ensures len { IsLengthIfFits (listed_command (send_command view number w l text.now)) result }
 {
@@ -67,7 +67,7 @@ pub fn send_len(view: u32, number: u32, w: i64, l: i64, text: &[u8]) -> Option<u
 }
 
 /// Returns the length in bytes of a command's listed line, or `None` if it exceeds the limit.
-pub fn line_len(command: &Command) -> Option<usize>
+pub(crate) fn line_len(command: &Command) -> Option<usize>
     ensures typed { FitsTypes command.now }
     ensures len { IsLengthIfFits (listed_command command.now) result }
 {

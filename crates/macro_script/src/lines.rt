@@ -19,7 +19,7 @@ use std::alloc::Global;
 pub const LINE_LIMIT: usize = 65_536;
 
 /// Returns the first line without its LF, and what comes behind it, or `None` if no LF ends a line.
-pub fn split_line(text: &[u8]) -> Option<(&[u8], &[u8])>
+pub(crate) fn split_line(text: &[u8]) -> Option<(&[u8], &[u8])>
     ensures { SplitsLine text.now result }
 {
     let Some(end) = memchr(b'\n', text) else {
@@ -29,7 +29,7 @@ pub fn split_line(text: &[u8]) -> Option<(&[u8], &[u8])>
 }
 
 /// Returns the fault of a last line without an LF. Lines are counted from 1.
-pub fn unended(number: u64, line: &[u8]) -> ScriptFault
+pub(crate) fn unended(number: u64, line: &[u8]) -> ScriptFault
     ensures { result ≡ BadLine number (if fits_line line.now then NoLineEnd else LineTooLong) }
 {
     let cause = if line.len() > LINE_LIMIT {
@@ -48,7 +48,7 @@ pub fn unended(number: u64, line: &[u8]) -> ScriptFault
 /// # Errors
 ///
 /// `BadLine` if it names none.
-pub fn read_version(line: &[u8]) -> Result<Version, ScriptFault>
+pub(crate) fn read_version(line: &[u8]) -> Result<Version, ScriptFault>
     ensures { version_numbers result ≡ at_line 1 line.now (read_version_of line.now) }
 {
     if line == b"sci 1".as_slice() {
@@ -95,7 +95,11 @@ fn read_line(
 /// # Errors
 ///
 /// `BadLine` with the first line at fault, counted from 1, and `OutOfMemory` if an allocation fails.
-pub fn read_lines(alloc: Global, version: Version, text: &[u8]) -> Result<Vec<Command>, ScriptFault>
+pub(crate) fn read_lines(
+    alloc: Global,
+    version: Version,
+    text: &[u8],
+) -> Result<Vec<Command>, ScriptFault>
     requires { length text.now ≤ 16777216 }
     ensures lines { ReadsLines (number_of version) text.now result }
     ensures few { IfOk result (λ commands. vec_capacity commands ≤ 2 * vec_len commands) }

@@ -53,7 +53,7 @@ fn magnitude(word: &[u8]) -> Option<u64>
 }
 
 /// Returns the number from 0 to 4,294,967,295 that the word spells, or `None`.
-pub fn natural(word: &[u8]) -> Option<u32>
+pub(crate) fn natural(word: &[u8]) -> Option<u32>
     ensures { result ≡ natural_of word.now }
 {
     let value = magnitude(word)?;
@@ -64,7 +64,7 @@ pub fn natural(word: &[u8]) -> Option<u32>
 }
 
 /// Returns the number of 64 bits that the word spells, or `None`.
-pub fn integer(word: &[u8]) -> Option<i64>
+pub(crate) fn integer(word: &[u8]) -> Option<i64>
     ensures { result ≡ integer_of word.now }
 {
     if word.first() == Some(&b'-') {

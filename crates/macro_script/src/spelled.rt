@@ -16,7 +16,7 @@ fn hex_digit(value: u8) -> u8
 }
 
 /// Returns the spelling of a byte, and its length, from 1 to 4 bytes.
-pub fn spell_byte(byte: u8) -> ([u8; 4], usize)
+pub(crate) fn spell_byte(byte: u8) -> ([u8; 4], usize)
     ensures spelling { take result.1 result.0 ≡ spelled_byte byte }
     ensures len { result.1 ≡ length (spelled_byte byte) }
     ensures some { 0 < result.1 }
@@ -30,14 +30,14 @@ pub fn spell_byte(byte: u8) -> ([u8; 4], usize)
 }
 
 /// Returns whether an escape of these two digits spells the byte.
-pub fn is_escape(byte: u8, high: u8, low: u8) -> bool
+pub(crate) fn is_escape(byte: u8, high: u8, low: u8) -> bool
     ensures { IsTrue result → spelled_byte byte ≡ 92 ∷ 120 ∷ high ∷ low ∷ [] }
 {
     (byte < 0x20 || byte > 0x7E) && hex_digit(byte / 16) == high && hex_digit(byte % 16) == low
 }
 
 /// Returns how many bytes at the front are spelled by themselves.
-pub fn plain_len(text: &[u8]) -> usize
+pub(crate) fn plain_len(text: &[u8]) -> usize
     ensures within { result ≤ length text.now }
     ensures plain { (k : ℕ) → k < result → spelled_byte (slice_index text.now k) ≡ slice_index text.now k ∷ [] }
 {

@@ -142,7 +142,7 @@ fn copied(alloc: Global, bytes: &[u8]) -> Result<Bytes, AllocError>
 ///
 /// `Stop::Fault` with `BadText` if it is spelled wrongly or no quote closes it, and `Stop::OutOfMemory` if an
 /// allocation fails.
-pub fn read_text(alloc: Global, spelling: &[u8]) -> Result<(Bytes, usize), Stop>
+pub(crate) fn read_text(alloc: Global, spelling: &[u8]) -> Result<(Bytes, usize), Stop>
     ensures { ReadsText spelling.now result }
 {
     let run = plain_len(spelling);

@@ -1,12 +1,6 @@
 -- The effect of each call on the lists of lines.
-use Rattle.std.proofs.Common.{◌≡◌, ℕ, ◌+◌, ◌-◌, ◌<◌, ◌≤◌, ◌≢◌, inl, inr, zero, suc, List, [], ◌∷◌, ◌++◌, length, get_or, set, take, drop, replicate, refl, sym, ap, ◌∙◌, arith, append-nil, take_at, drop_at}
-use Rattle.std.proofs.lemmas.Bool.{cases_eq}
-use Rattle.std.proofs.lemmas.List.{take-append-drop}
+use Rattle.marker_store.proofs.Names.{◌≡◌, ℕ, ◌+◌, ◌-◌, ◌<◌, ◌≤◌, ◌≢◌, inl, inr, zero, suc, List, [], ◌∷◌, ◌++◌, length, get_or, set, take, drop, replicate, refl, sym, ap, ◌∙◌, arith, append-nil, take_at, drop_at, cases_eq, take-append-drop, flat_map, slice_range, Marker, markers_of, marker_total, with_fresh, with_joined, Entry, entry, AllBefore, AllFrom, raised, lowered, row, rows_from, IsRaised, IsLowered, IsPut}
 use Rattle.std.proofs.lemmas.List.Sums.{sum_by-cons}
-use Rattle.std.specs.List.{flat_map, slice_range}
-use Rattle.ed_model.specs.Rows.{Marker}
-use Rattle.marker_store.specs.Lines.{markers_of, marker_total, with_fresh, with_joined}
-use Rattle.marker_store.specs.Entries.{Entry, entry, AllBefore, AllFrom, raised, lowered, row, rows_from, IsRaised, IsLowered, IsPut}
 use Rattle.marker_store.proofs.Rows.{before_more, from_less, from-raised, from-lowered, row-here, row-other, row_before, row_behind, row-append, row-lowered, length-rows, rows-append, rows_same, rows_left, rows_right, rows-raised, rows-lowered, rows_between}
 
 -- Parts of the lists.

@@ -1,15 +1,6 @@
 -- Markers are removed: the lists that are left, and their order.
-use Rattle.std.proofs.Common.{◌≡◌, ℕ, ◌+◌, ◌-◌, ◌<◌, ◌≤◌, ◌≢◌, ◌⊎◌, inl, inr, Bool, true, false, zero, suc, List, [], ◌∷◌, ◌++◌, length, get_or, set, take, drop, refl, sym, ap, ◌∙◌, arith, eqb, eq-eqb, drop-cons, length-append}
-use Rattle.std.specs.Prelude.{filter, not, IsTrue}
-use Rattle.std.proofs.lemmas.Bool.{cases_eq, cases_lt, ne_eqb}
-use Rattle.std.proofs.lemmas.List.{take-append-drop, length-map, length-take-le, length-drop}
-use Rattle.ed_model.specs.Rows.{Marker}
+use Rattle.marker_store.proofs.Names.{◌≡◌, ℕ, ◌+◌, ◌-◌, ◌<◌, ◌≤◌, ◌≢◌, ◌⊎◌, inl, inr, Bool, true, false, zero, suc, List, [], ◌∷◌, ◌++◌, length, get_or, set, take, drop, refl, sym, ap, ◌∙◌, arith, eqb, eq-eqb, drop-cons, length-append, filter, not, IsTrue, cases_eq, cases_lt, ne_eqb, take-append-drop, length-map, length-take-le, length-drop, Marker, markers_of, with_joined, without, Drops, Each, is_dropped, kept, Entry, entry, no_entry, AllBefore, IsRaised, IsLowered, IsPut, IsCleared, NoneIs, IsFirstGone, raised, lowered, row, rows_from}
 use Rattle.ed_model.specs.Changes.{without_first}
-use Rattle.marker_store.specs.Lines.{markers_of, with_joined, without}
-use Rattle.marker_store.specs.declared.drops.Drops.{Drops}
-use Rattle.marker_store.specs.declared.drops.Drops.TheVariants.{Each}
-use Rattle.marker_store.specs.Dropping.{is_dropped, kept}
-use Rattle.marker_store.specs.Entries.{Entry, entry, no_entry, AllBefore, IsRaised, IsLowered, IsPut, IsCleared, NoneIs, IsFirstGone, raised, lowered, row, rows_from}
 use Rattle.marker_store.proofs.Rows.{before_more, from_less, before-append, before-take, before-drop, before-raised, before-lowered, row-here, row-other, row_before, row_behind, row-append}
 use Rattle.marker_store.proofs.Calls.{rows_set, rows_lowered, markers_at}
 

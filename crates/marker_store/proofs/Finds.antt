@@ -1,15 +1,6 @@
 -- What a search of lines finds.
-use Rattle.std.proofs.Common.{◌≡◌, ℕ, ◌+◌, ◌-◌, ◌<◌, ◌≤◌, ◌≢◌, inl, inr, Bool, true, false, zero, suc, List, [], ◌∷◌, ◌++◌, length, get_or, take, drop, refl, sym, ap, ◌∙◌, arith, append-nil, eq-eqb}
-use Rattle.std.specs.Prelude.{find, reverse, ◌==◌, ◌||◌, Some, None}
-use Rattle.std.specs.List.{list_any, range_with_len}
-use Rattle.std.proofs.lemmas.Bool.{cases_eq, ne_eqb}
-use Rattle.std.proofs.lemmas.List.{take_more, take-append-drop}
-use Rattle.ed_model.specs.Rows.{Marker}
+use Rattle.marker_store.proofs.Names.{◌≡◌, ℕ, ◌+◌, ◌-◌, ◌<◌, ◌≤◌, ◌≢◌, inl, inr, Bool, true, false, zero, suc, List, [], ◌∷◌, ◌++◌, length, get_or, take, drop, refl, sym, ap, ◌∙◌, arith, append-nil, eq-eqb, find, reverse, ◌==◌, ◌||◌, Some, None, list_any, range_with_len, cases_eq, ne_eqb, take_more, take-append-drop, Marker, has_handle, first_from, Handle, kept, Entry, no_entry, AllFrom, row, rows_from}
 use Rattle.ed_model.specs.proved.Rising.{reverse_next}
-use Rattle.marker_store.specs.Lines.{has_handle, first_from}
-use Rattle.marker_store.specs.declared.drops.Drops.TheVariants.{Handle}
-use Rattle.marker_store.specs.Dropping.{kept}
-use Rattle.marker_store.specs.Entries.{Entry, no_entry, AllFrom, row, rows_from}
 use Rattle.marker_store.proofs.Rows.{from_less, row-append, row-here, row-other, row_behind, length-rows}
 use Rattle.marker_store.proofs.Calls.{markers_at}
 

@@ -1,15 +1,7 @@
 -- Lines that are known to have no marker: the flags after each call, and why no entry is on such a line.
-use Rattle.std.proofs.Common.{◌≡◌, ℕ, ◌+◌, ◌-◌, ◌<◌, ◌≤◌, ◌≢◌, ◌⊎◌, inl, inr, Bool, true, false, zero, suc, List, [], ◌∷◌, ◌++◌, length, get_or, set, take, drop, replicate, refl, sym, ap, ◌∙◌, arith}
-use Rattle.std.specs.Prelude.{not, ◌||◌}
-use Rattle.std.proofs.Math.ListN.{drop_of_length-le}
-use Rattle.std.proofs.lemmas.Bool.{cases_eq}
-use Rattle.std.proofs.lemmas.List.{get_or-set_other, get_or_past, get_or-drop}
+use Rattle.marker_store.proofs.Names.{◌≡◌, ℕ, ◌+◌, ◌-◌, ◌<◌, ◌≤◌, ◌≢◌, ◌⊎◌, inl, inr, Bool, true, false, zero, suc, List, [], ◌∷◌, ◌++◌, length, get_or, set, take, drop, replicate, refl, sym, ap, ◌∙◌, arith, not, ◌||◌, drop_of_length-le, cases_eq, get_or-set_other, get_or_past, get_or-drop, Marker, Drops, is_dropped, kept, Entry, entry, AllBefore, AllFrom, AllMarked, IsRaised, IsLowered, IsPut, IsCleared, IsFirstGone, raised, lowered, row}
 use Rattle.split_vector.specs.Split.{inserted, deleted}
-use Rattle.ed_model.specs.Rows.{Marker}
-use Rattle.marker_store.specs.declared.drops.Drops.{Drops}
-use Rattle.marker_store.specs.Dropping.{is_dropped, kept}
 use Rattle.marker_store.specs.Flags.{may_have, IsWidened, joined_flags}
-use Rattle.marker_store.specs.Entries.{Entry, entry, AllBefore, AllFrom, AllMarked, IsRaised, IsLowered, IsPut, IsCleared, IsFirstGone, raised, lowered, row}
 use Rattle.marker_store.proofs.Rows.{row-other}
 
 -- What a flag says.

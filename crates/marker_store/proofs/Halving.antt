@@ -1,7 +1,5 @@
 -- A search by powers of two for how many entries are before a line.
-use Rattle.std.proofs.Common.{◌≡◌, ℕ, zero, suc, ◌+◌, ◌-◌, ◌*◌, ◌%◌, ◌^◌, ◌<◌, ◌≤◌, Bool, true, false, List, [], ◌∷◌, length, take, drop, IsTrue, IsFalse, refl, arith, pow-suc}
-use mir.Val.{bool_byte}
-use Rattle.marker_store.specs.Entries.{Entry, AllBefore, AllFrom, IsCut}
+use Rattle.marker_store.proofs.Names.{◌≡◌, ℕ, zero, suc, ◌+◌, ◌-◌, ◌*◌, ◌%◌, ◌^◌, ◌<◌, ◌≤◌, Bool, true, false, List, [], ◌∷◌, length, take, drop, IsTrue, IsFalse, refl, arith, pow-suc, bool_byte, Entry, AllBefore, AllFrom, IsCut}
 use Rattle.marker_store.proofs.Indexes.{from_past, from_later}
 
 -- the rest of the search: the entries before the range are before the line, and those behind it are not

@@ -1,7 +1,5 @@
 -- Entries by their index.
-use Rattle.std.proofs.Common.{ℕ, ◌≡◌, ◌+◌, ◌-◌, ◌<◌, ◌≤◌, inl, inr, zero, suc, List, [], ◌∷◌, length, get_or, take, drop, arith}
-use Rattle.std.proofs.lemmas.Bool.{cases_lt}
-use Rattle.marker_store.specs.Entries.{Entry, no_entry, AllBefore, AllFrom, IsCut, Ordered}
+use Rattle.marker_store.proofs.Names.{ℕ, ◌≡◌, ◌+◌, ◌-◌, ◌<◌, ◌≤◌, inl, inr, zero, suc, List, [], ◌∷◌, length, get_or, take, drop, arith, cases_lt, Entry, no_entry, AllBefore, AllFrom, IsCut, Ordered}
 use Rattle.marker_store.proofs.Rows.{before_more, from_less}
 
 pub before_at : (line n i : ℕ) (es : List Entry) → AllBefore line (take n es) → i < n → i < length es → (get_or es i no_entry).line < line
@@ -80,6 +78,3 @@ from_later line zero (suc m) (e ∷ es) a h = from_later line zero m es a.1 (ome
 from_later line (suc n) zero es a h = absurd (omega arith)
 from_later line (suc n) (suc m) [] a h = tt
 from_later line (suc n) (suc m) (e ∷ es) a h = from_later line n m es a (omega arith)
-
-pub from_found : (line found n m : ℕ) (es : List Entry) → line ≤ found → AllFrom found (drop n es) → n ≤ m → AllFrom line (drop m es)
-from_found line found n m es h a b = from_less line found (drop m es) h (from_later found n m es a b)

@@ -1,10 +1,6 @@
 -- Lines that are joined a few at a time are joined.
-use Rattle.std.proofs.Common.{◌≡◌, ℕ, ◌+◌, ◌-◌, ◌<◌, List, [], ◌∷◌, ◌++◌, length, take, drop, sym, ap, ◌∙◌, arith, append_assoc, append-nil, take_at, drop_at, length-append}
-use Rattle.std.specs.List.{flat_map, slice_range}
+use Rattle.marker_store.proofs.Names.{◌≡◌, ℕ, ◌+◌, ◌-◌, ◌<◌, List, [], ◌∷◌, ◌++◌, length, take, drop, sym, ap, ◌∙◌, arith, append_assoc, append-nil, take_at, drop_at, length-append, flat_map, slice_range, take-append-drop, length-take-le, length-drop, Marker, with_joined}
 use Rattle.std.proofs.lemmas.Grind.{flat_map-append}
-use Rattle.std.proofs.lemmas.List.{take-append-drop, length-take-le, length-drop}
-use Rattle.ed_model.specs.Rows.{Marker}
-use Rattle.marker_store.specs.Lines.{with_joined}
 
 abbrev Lists : Type 0
 Lists = List (List Marker)

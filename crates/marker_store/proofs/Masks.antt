@@ -1,16 +1,8 @@
 -- What a search of lines for a mask finds.
-use Rattle.std.proofs.Common.{◌≡◌, ℕ, ◌+◌, ◌-◌, ◌<◌, ◌≤◌, inl, inr, true, false, suc, List, [], ◌∷◌, ◌++◌, length, get_or, take, drop, map, refl, sym, ap, subst, ◌∙◌, arith, eq-eqb, drop-cons}
-use Rattle.std.specs.Prelude.{find, reverse, min, not, fold, bit_and, bit_or, ◌^◌, Some, None}
-use Rattle.std.specs.List.{range_with_len}
+use Rattle.marker_store.proofs.Names.{◌≡◌, ℕ, ◌+◌, ◌-◌, ◌<◌, ◌≤◌, inl, inr, true, false, suc, List, [], ◌∷◌, ◌++◌, length, get_or, take, drop, map, refl, sym, ap, subst, ◌∙◌, arith, eq-eqb, drop-cons, find, reverse, min, not, fold, bit_and, bit_or, ◌^◌, Some, None, range_with_len, cases_eq, ne_eqb, take-append-drop, take_more, Marker, mask_of, is_met, first_from, last_up_to, Entry, no_entry, AllBefore, AllFrom, row, rows_from}
 use Rattle.std.specs.Int.Bits.{and_zero_l}
 use Rattle.std.proofs.lemmas.Nat.{and_assoc, and_comm, and_or_self, and_or_apart, or_comm}
-use Rattle.std.proofs.lemmas.Bool.{cases_eq, ne_eqb}
-use Rattle.std.proofs.lemmas.List.{take-append-drop, take_more}
-use Rattle.ed_model.specs.Rows.{Marker}
 use Rattle.ed_model.specs.Numbers.{meets}
-use Rattle.ed_model.specs.LinePlans.{mask_of}
-use Rattle.marker_store.specs.Lines.{is_met, first_from, last_up_to}
-use Rattle.marker_store.specs.Entries.{Entry, no_entry, AllBefore, AllFrom, row, rows_from}
 use Rattle.marker_store.proofs.Rows.{before_more, from_less, row-append, row-here, row-other, row_before, row_behind, length-rows}
 use Rattle.marker_store.proofs.Calls.{markers_at}
 use Rattle.marker_store.proofs.Finds.{find_none, find_some, last_none, last_some}

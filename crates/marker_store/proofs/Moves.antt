@@ -1,8 +1,6 @@
 -- The stored numbers stay in order when the step moves, when lines are inserted or joined, and when a marker is added
 -- or removed.
-use Rattle.std.proofs.Common.{◌≡◌, ℕ, ◌+◌, ◌-◌, ◌<◌, ◌≤◌, List, ◌∷◌, ◌++◌, length, take, drop, arith}
-use Rattle.ed_model.specs.Rows.{Marker}
-use Rattle.marker_store.specs.Entries.{Entry, entry, entries_of, AllBefore, AllFrom, IsCut, raised, lowered, IsPlaced}
+use Rattle.marker_store.proofs.Names.{◌≡◌, ℕ, ◌+◌, ◌-◌, ◌<◌, ◌≤◌, List, ◌∷◌, ◌++◌, length, take, drop, arith, Marker, Entry, entry, entries_of, AllBefore, AllFrom, IsCut, raised, lowered, IsPlaced}
 use Rattle.marker_store.proofs.Rows.{before_more, from_less, before-append, before-take, before-drop, before-raised, before-lowered}
 use Rattle.marker_store.proofs.StoredEntries.{raised_entries, lowered_entries, small_lowered}
 use Rattle.marker_store.proofs.Orders.{ordered-raised, ordered-lowered, ordered-put, ordered-taken}

@@ -1,7 +1,5 @@
 -- The entries stay in the order of their lines when one is added or removed, and when lines are inserted or joined.
-use Rattle.std.proofs.Common.{◌≡◌, ℕ, ◌+◌, ◌-◌, ◌≤◌, zero, suc, List, [], ◌∷◌, ◌++◌, take, drop, arith}
-use Rattle.ed_model.specs.Rows.{Marker}
-use Rattle.marker_store.specs.Entries.{Entry, entry, AllBefore, AllFrom, Ordered, raised, lowered}
+use Rattle.marker_store.proofs.Names.{◌≡◌, ℕ, ◌+◌, ◌-◌, ◌≤◌, zero, suc, List, [], ◌∷◌, ◌++◌, take, drop, arith, Marker, Entry, entry, AllBefore, AllFrom, Ordered, raised, lowered}
 
 ordered-less : (least l : ℕ) (es : List Entry) → least ≤ l → Ordered l es → Ordered least es
 ordered-less least l [] h o = tt

@@ -1,15 +1,7 @@
 -- What loops over the entries keep.
-use Rattle.std.proofs.Common.{◌≡◌, ℕ, ◌+◌, ◌<◌, ◌≤◌, ◌≢◌, true, suc, List, [], ◌∷◌, ◌++◌, length, get_or, take, drop, map, refl, sym, ap, subst, ◌∙◌, arith, append-nil, length-append, drop-cons}
-use Rattle.std.specs.Prelude.{fold, bit_or, ◌^◌, not}
+use Rattle.marker_store.proofs.Names.{◌≡◌, ℕ, ◌+◌, ◌<◌, ◌≤◌, ◌≢◌, true, suc, List, [], ◌∷◌, ◌++◌, length, get_or, take, drop, map, refl, sym, ap, subst, ◌∙◌, arith, append-nil, length-append, drop-cons, fold, bit_or, ◌^◌, not, take-append-drop, take_more, drop-drop, length-take-le, length-drop, Marker, mask_of, front_kept, Drops, is_dropped, kept, Entry, no_entry, AllBefore, AllFrom, NoneIs, row}
 use Rattle.std.proofs.Math.Seq.{drop-append-add}
-use Rattle.std.proofs.lemmas.List.{take-append-drop, take_more, drop-drop, length-take-le, length-drop}
 use Rattle.std.proofs.lemmas.List.Elements.{filter-append}
-use Rattle.ed_model.specs.Rows.{Marker}
-use Rattle.ed_model.specs.LinePlans.{mask_of}
-use Rattle.ed_model.specs.proved.Lists.{front_kept}
-use Rattle.marker_store.specs.declared.drops.Drops.{Drops}
-use Rattle.marker_store.specs.Dropping.{is_dropped, kept}
-use Rattle.marker_store.specs.Entries.{Entry, no_entry, AllBefore, AllFrom, NoneIs, row}
 use Rattle.marker_store.proofs.Rows.{row-append, row-here, row_behind}
 
 -- The entries without some.

@@ -1,8 +1,6 @@
 -- The lists of lines by the entries, and their change when entries are added, removed or moved.
-use Rattle.std.proofs.Common.{◌≡◌, ℕ, ◌+◌, ◌-◌, ◌<◌, ◌≤◌, ◌≢◌, inl, inr, zero, suc, List, [], ◌∷◌, ◌++◌, length, take, drop, replicate, refl, sym, ap, ◌∙◌, arith, append-nil}
-use Rattle.std.proofs.lemmas.Bool.{cases_eq}
+use Rattle.marker_store.proofs.Names.{◌≡◌, ℕ, ◌+◌, ◌-◌, ◌<◌, ◌≤◌, ◌≢◌, inl, inr, zero, suc, List, [], ◌∷◌, ◌++◌, length, take, drop, replicate, refl, sym, ap, ◌∙◌, arith, append-nil, cases_eq, Entry, entry, AllBefore, AllFrom, raised, lowered, row, rows_from}
 use Rattle.std.proofs.lemmas.Bool.Decides.{eqb_tells}
-use Rattle.marker_store.specs.Entries.{Entry, entry, AllBefore, AllFrom, raised, lowered, row, rows_from}
 
 -- Entries before a line, and from a line on.
 

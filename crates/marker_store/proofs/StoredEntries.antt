@@ -1,7 +1,5 @@
 -- The stored entries, and their change when the stored numbers change.
-use Rattle.std.proofs.Common.{◌≡◌, ℕ, ◌+◌, ◌-◌, ◌<◌, ◌≤◌, zero, suc, List, [], ◌∷◌, ◌++◌, length, get_or, set, take, drop, refl, sym, ap, ◌∙◌, arith, take_at, drop_at, length-append}
-use Rattle.std.proofs.lemmas.List.{length-map, length-take-le, length-drop}
-use Rattle.marker_store.specs.Entries.{Entry, entry, no_entry, turned, entries_of, raised, lowered, AllBefore, AllFrom}
+use Rattle.marker_store.proofs.Names.{◌≡◌, ℕ, ◌+◌, ◌-◌, ◌<◌, ◌≤◌, zero, suc, List, [], ◌∷◌, ◌++◌, length, get_or, set, take, drop, refl, sym, ap, ◌∙◌, arith, take_at, drop_at, length-append, length-map, length-take-le, length-drop, Entry, entry, no_entry, turned, entries_of, raised, lowered, AllBefore, AllFrom}
 use Rattle.marker_store.proofs.Rows.{before-drop}
 
 -- Reads.

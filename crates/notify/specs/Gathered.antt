@@ -1,5 +1,5 @@
 -- What a contract sees of a `NoteList`.
-use Rattle.std.specs.Prelude.{ℕ, ◌+◌, ◌-◌, ◌≤◌, max, List, [], ◌∷◌, ◌++◌, length}
+use Rattle.std.specs.Prelude.{ℕ, ◌+◌, ◌-◌, max, List, [], ◌∷◌, ◌++◌, length}
 use Rattle.ed_types.specs.declared.reply.Note.{Note}
 use Rattle.ed_types.specs.Notices.{Notice}
 use Rattle.ed_types.specs.Heard.{with_text}
@@ -19,10 +19,6 @@ gathered notes shared note_room text_room =
 -- there is room for at least so many notes, and for texts of at least so many bytes
 abbrev pub with_room : (notes bytes : ℕ) → Gathered → Gathered
 with_room notes bytes g = record g { note_room = max g.note_room notes; text_room = max g.text_room bytes }
-
--- the fact holds if there is room for so many notes, and for texts of so many bytes
-abbrev pub IfRoom : Gathered → (notes bytes : ℕ) → Type 0 → Type 0
-IfRoom g notes bytes fact = notes ≤ g.note_room → bytes ≤ g.text_room → fact
 
 -- a text in two halves is shared
 abbrev pub with_shared : (first second : List ℕ) → Gathered → Gathered

@@ -3,7 +3,7 @@
 ghost use Rattle.std.specs.Prelude.{◌≡◌, ◌==◌, List, ℕ, ◌+◌, ◌<◌, ◌≤◌, [], ◌++◌, length, OnOk, OnErr, IsOk, vec_len, vec_capacity};
 ghost use Rattle.ed_model.specs.Notes.{blank};
 ghost use Rattle.ed_types.specs.Heard.{with_text};
-ghost use Rattle.notify.specs.Gathered.{gathered, with_room, IfRoom, with_shared, with_note, with_own_text, with_own_halves};
+ghost use Rattle.notify.specs.Gathered.{gathered, with_room, with_shared, with_note, with_own_text, with_own_halves};
 
 use ed_types::{Bytes, Note, Reply};
 use std::alloc::{AllocError, Global};
@@ -62,7 +62,7 @@ impl NoteList {
     /// `AllocError` if an allocation fails. Nothing has changed then.
     pub fn reserve(&mut self, notes: usize, bytes: usize) -> Result<(), AllocError>
         ensures ok { OnOk result (self.new ≡ with_room notes bytes self.old) }
-        ensures room_is_there { IfRoom self.old notes bytes (IsOk result × (self.new ≡ self.old)) }
+        ensures room_is_there { notes ≤ self.old.note_room → bytes ≤ self.old.text_room → IsOk result × (self.new ≡ self.old) }
         ensures room_stays { (self.old.note_room ≤ self.new.note_room) × (self.old.text_room ≤ self.new.text_room) }
         ensures err { OnErr result (self.new ≡ self.old) }
     {

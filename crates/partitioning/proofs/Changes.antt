@@ -1,11 +1,5 @@
 -- The stored numbers when a start is inserted or removed at the step, and when the end moves.
-use Rattle.std.proofs.Common.{◌≡◌, ℕ, ◌+◌, ◌-◌, ◌<◌, ◌≤◌, min, List, [], ◌∷◌, length, get_or, map, insert, remove, sym, ap, ◌∙◌, ◌⊎◌, inl, inr, arith, add-one, append_assoc}
-use Rattle.std.proofs.lemmas.List.{ext_get_or, get_or_past, map-append, take-map, drop-map}
-use Rattle.std.proofs.lemmas.Bool.{cases_lt, cases_order}
-use Rattle.std.proofs.lemmas.List.Edits.{length-insert, get_or-insert_below, get_or-insert_at, get_or-insert_above, length-remove, get_or-remove_below, get_or-remove_above}
-use Rattle.split_vector.specs.Split.{inserted, deleted}
-use Rattle.partitioning.specs.Partitions.{CanStart, CanLose, raised_behind, lowered_behind}
-use Rattle.partitioning.specs.Stored.{AreWithin, IsSound, starts_of}
+use Rattle.partitioning.proofs.Names.{◌≡◌, ℕ, ◌+◌, ◌-◌, ◌<◌, ◌≤◌, min, List, [], ◌∷◌, length, get_or, map, insert, remove, sym, ap, ◌∙◌, ◌⊎◌, inl, inr, arith, add-one, append_assoc, ext_get_or, get_or_past, map-append, take-map, drop-map, cases_lt, cases_order, length-insert, get_or-insert_below, get_or-insert_at, get_or-insert_above, length-remove, get_or-remove_below, get_or-remove_above, inserted, deleted, CanStart, CanLose, raised_behind, lowered_behind, AreWithin, IsSound, starts_of}
 use Rattle.partitioning.proofs.Lists.{length-map_from, map_from_before, map_from_behind}
 use Rattle.partitioning.proofs.Parts.{sound_raised, sound_lowered, sound_inserted, sound_removed, rising_or_same, past_loss}
 use Rattle.partitioning.proofs.Steps.{starts_of_near, starts_of_far, length-starts_of}

@@ -1,10 +1,6 @@
 -- A look-up by halving: how many starts it may still read, and what it found.
-use Rattle.std.proofs.Common.{◌≡◌, ℕ, ◌+◌, ◌-◌, ◌*◌, ◌/◌, ◌%◌, ◌^◌, ◌<◌, ◌≤◌, zero, suc, min, List, length, get_or, inl, inr, Bool, IsTrue, true, false, refl, arith, pow-suc}
-use mir.Val.{bool_byte}
+use Rattle.partitioning.proofs.Names.{◌≡◌, ℕ, ◌+◌, ◌-◌, ◌*◌, ◌/◌, ◌%◌, ◌^◌, ◌<◌, ◌≤◌, zero, suc, min, List, length, get_or, inl, inr, Bool, IsTrue, true, false, refl, arith, pow-suc, bool_byte, cases_lt, false≢true, ArePartitions, IsLastAtMost, IsFloorLog, counted}
 use Rattle.std.proofs.Math.Pow.{pow_mono}
-use Rattle.std.proofs.lemmas.Bool.{cases_lt, false≢true}
-use Rattle.partitioning.specs.Partitions.{ArePartitions, IsLastAtMost, IsFloorLog}
-use Rattle.split_vector.specs.Split.{counted}
 use Rattle.partitioning.proofs.Parts.{rising_or_same}
 
 -- of count starts, those up to now were read, and a range of this width is left: the halvings that it needs stay within

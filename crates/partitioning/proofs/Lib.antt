@@ -1,3 +1,4 @@
+pub mod Names
 pub mod Changes
 pub mod Halving
 pub mod Lists

@@ -1,10 +1,5 @@
 -- Numbers in lists: a function applied from a place on, and a range turned into distances.
-use Rattle.std.proofs.Common.{◌≡◌, ℕ, ◌+◌, ◌-◌, ◌<◌, ◌≤◌, ◌≢◌, zero, suc, List, [], ◌∷◌, length, get_or, set, map, refl, sym, ap, ◌∙◌, ◌⊎◌, inl, inr, arith}
-use Rattle.std.proofs.lemmas.List.{length-set, length-map, get_or-map, get_or-set_same, get_or-set_other, get_or_past}
-use Rattle.std.proofs.lemmas.Bool.{cases_eq, cases_lt}
-use Rattle.partitioning.specs.Partitions.{map_from}
-use Rattle.partitioning.specs.Stored.{IsTurned}
-use Rattle.split_vector.specs.Split.{IsUpdated}
+use Rattle.partitioning.proofs.Names.{◌≡◌, ℕ, ◌+◌, ◌-◌, ◌<◌, ◌≤◌, ◌≢◌, zero, suc, List, [], ◌∷◌, length, get_or, set, map, refl, sym, ap, ◌∙◌, ◌⊎◌, inl, inr, arith, length-set, length-map, get_or-map, get_or-set_same, get_or-set_other, get_or_past, cases_eq, cases_lt, map_from, IsTurned, IsUpdated}
 
 pub length-map_from : (f : ℕ → ℕ) (n : ℕ) (xs : List ℕ) → length (map_from f n xs) ≡ length xs
 length-map_from f zero xs = length-map xs f

@@ -1,9 +1,6 @@
 -- Starts stay in order when some move, and when one is inserted or removed.
-use Rattle.std.proofs.Common.{◌≡◌, ℕ, ◌+◌, ◌-◌, ◌<◌, ◌≤◌, zero, suc, List, length, get_or, insert, remove, ◌∙◌, ◌⊎◌, inl, inr, arith, add-one}
+use Rattle.partitioning.proofs.Names.{◌≡◌, ℕ, ◌+◌, ◌-◌, ◌<◌, ◌≤◌, zero, suc, List, length, get_or, insert, remove, ◌∙◌, ◌⊎◌, inl, inr, arith, add-one, cases_lt, cases_order, length-insert, get_or-insert_below, get_or-insert_at, get_or-insert_above, length-remove, get_or-remove_below, get_or-remove_above, ArePartitions, CanStart, CanLose, raised_behind, lowered_behind}
 use Rattle.std.specs.List.Sorted.{IsStrictlyIncreasing}
-use Rattle.std.proofs.lemmas.Bool.{cases_lt, cases_order}
-use Rattle.std.proofs.lemmas.List.Edits.{length-insert, get_or-insert_below, get_or-insert_at, get_or-insert_above, length-remove, get_or-remove_below, get_or-remove_above}
-use Rattle.partitioning.specs.Partitions.{ArePartitions, CanStart, CanLose, raised_behind, lowered_behind}
 use Rattle.partitioning.proofs.Lists.{length-map_from, map_from_before, map_from_behind}
 
 -- an earlier number is below a later one

@@ -1,8 +1,5 @@
 -- The stored numbers when the step moves.
-use Rattle.std.proofs.Common.{◌≡◌, ℕ, ◌+◌, ◌-◌, ◌<◌, ◌≤◌, min, max, List, length, get_or, map, sym, ap, ◌∙◌, ◌⊎◌, inl, inr, arith}
-use Rattle.std.proofs.lemmas.List.{ext_get_or, length-map}
-use Rattle.std.proofs.lemmas.Bool.{cases_lt}
-use Rattle.partitioning.specs.Stored.{IsTurned, AreWithin, IsSound, starts_of, near_count}
+use Rattle.partitioning.proofs.Names.{◌≡◌, ℕ, ◌+◌, ◌-◌, ◌<◌, ◌≤◌, min, max, List, length, get_or, map, sym, ap, ◌∙◌, ◌⊎◌, inl, inr, arith, ext_get_or, length-map, cases_lt, IsTurned, AreWithin, IsSound, starts_of, near_count}
 use Rattle.partitioning.proofs.Lists.{length-map_from, map_from_before, map_from_behind, read_number}
 
 -- the starts that are stored as they are

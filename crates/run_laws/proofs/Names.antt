@@ -1,6 +1,6 @@
 -- The names of the crates below, and of the definitions of this crate, that several proofs cite. Declares nothing.
 pub use Rattle.std.proofs.Common.{◌≡◌, ℕ, Bool, true, false, cond, List, [], ◌∷◌, map, refl, ap, sym, ◌∙◌, subst, Option, Some, None, ◌==◌, replicate, take, Ok, Err, ◌&&◌, zero, suc, ◌+◌, ◌-◌, ◌<◌, ◌≤◌, ◌++◌, length, filter, unwrap_or, slice_get, inl, inr, arith, zero-add, append-nil, length-append, nat_lt, Result, ◌||◌, ℤ, pos, ◌⊎◌, get_or, drop, slice_range, append_assoc}
-pub use Rattle.std.specs.Prelude.{filter_map, find, ◌≢◌, option_map, nat_le, not, bit_or, reverse, IfOk, flat_map, negsuc, slice_index_or}
+pub use Rattle.std.specs.Prelude.{filter_map, find, ◌≢◌, option_map, nat_le, not, bit_or, reverse, IfOk, flat_map}
 pub use Rattle.std.specs.List.{AllByRecursion, cons_option, list_all, range_with_len}
 pub use Rattle.std.proofs.lemmas.Bool.{eqb-true, and_parts, eqb-false, ltb-true, cases_order, eq-eqb, ne_eqb, not-true, not-false, or_cases, or_parts, and_right, true≢false, or_left, or_right, lt-ltb, cond-true, cases_eq, or_from, cond_both, cases_lt, leb-true}
 pub use Rattle.ed_model.specs.Session.{View, view_at, Session, Document, document_at, text_of, with_document, living, left_by, new_document, new_view, attached_to, with_view, watching, lines_in, new_session, limit_of, references}
@@ -10,12 +10,12 @@ pub use Rattle.std.specs.Option.{option_or}
 pub use Rattle.ed_types.specs.declared.kind.Kind.{Kind}
 pub use Rattle.ed_types.specs.Messages.{number_of, marks_of, kind_in, kind_among, groups, kind_of}
 pub use Rattle.ed_model.specs.Table.{table, answered, performed, plan_of, request, record_note, opened, closed_view, with_recording, table_from_view, table_from_kind, table_from_document, closed}
-pub use Rattle.run_laws.specs.EditLaws.{something_to_edit, with_ones, tells_attempt, MarkedMessagesTellAttempts, text_if_there, TextsStay, TellsNoAttempt, OnlyEditsChangeTexts, OnlyEditsTellOfAttempts, text_at}
+pub use Rattle.run_laws.specs.EditLaws.{something_to_edit, with_ones, tells_attempt, MarkedMessagesTellAttempts, text_if_there, TellsNoAttempt, OnlyEditsChangeTexts, OnlyEditsTellOfAttempts, text_at}
 pub use Rattle.ed_types.specs.Notices.{Response, Notice}
 pub use Rattle.ed_model.specs.declared.plan.DocumentChange.{DocumentChange}
 pub use Rattle.ed_model.specs.declared.plan.Plan.{Plan}
 pub use Rattle.ed_model.specs.Requests.{Request, Planned, text, size, with_argument, argument, with_line, change_session}
-pub use Rattle.ed_model.specs.Changes.{changed_document, session_changed, with_attached, attached_last, with_new_document, held_more, held_less, changed_lines, changed_view, change_told, line_note, marker_note, range_notes, line_with_handle, document_row, marker_count, is_same, styled}
+pub use Rattle.ed_model.specs.Changes.{changed_document, session_changed, with_attached, attached_last, with_new_document, held_more, held_less, changed_lines, changed_view, change_told, range_notes, styled}
 pub use Rattle.ed_model.specs.TableLaws.{Answered, LeavesSession, QueriesLeaveTheSession}
 pub use Rattle.ed_model.specs.PlansFit.{PlansFit, IsSoundRequest, IsFitPlan, IsFitPlanned, EditStepsFit, UndoStepsFit, RedoStepsFit}
 pub use Rattle.ed_model.specs.proved.Changes.{text_of_styled, changed_id, view_after_id, changed_lines_id, view_after_document, changed_view_id, changed_view_document, changed_lines_document}
@@ -51,11 +51,11 @@ pub use Rattle.ed_model.specs.Carry.{regrouped}
 pub use Rattle.ed_model.specs.declared.plan.LineEnd.{LineEnd}
 pub use Rattle.ed_model.specs.declared.plan.LineEnd.TheVariants.{CrLf, Cr, Lf}
 pub use Rattle.ed_model.specs.declared.plan.LineEndTypes.{LineEndTypes}
-pub use Rattle.ed_model.specs.Lines.{is_line_start, line_count, knows_unicode, line_starts, start_after_line, line_end_length, end_of_line, start_of_line}
+pub use Rattle.ed_model.specs.Lines.{is_line_start, line_count, knows_unicode, line_starts, start_after_line, line_end_length, end_of_line}
 pub use Rattle.ed_model.specs.LineEnds.{line_end_bytes, begins_with_line_feed, converted_after, converted, missing_from, is_unwanted, unwanted_at, place_after, unwanted_from, after_steps, conversion_steps}
 pub use Rattle.ed_model.specs.proved.Lines.{same_start, line_starts_rise, start_from_contains}
 pub use Rattle.run_laws.specs.LineEndLaws.{HasOnly, LineCountStays, ConvertedHaveOnlyThese, ConvertedLinesEndSo, OtherBytesStay, TextsOfTheKindStay, LastKindCounts, bytes_of_end, ends_in_unicode, is_other, StepsConvert, ConvertEolsConverts}
-pub use Rattle.ed_model.specs.Text.{stands, styles_of, Cell, plain_cells}
+pub use Rattle.ed_model.specs.Text.{stands, Cell, plain_cells}
 pub use Rattle.ed_model.specs.proved.Conversions.{behind_return, put, filled, fills, still_feed}
 pub use Rattle.ed_model.specs.declared.plan.ViewChange.{ViewChange}
 pub use Rattle.run_laws.specs.MacroLaws.{not_recording, without_recording, CanStandBetween, RecordingsCanBeReplayed, RecordsOneAtMost, RepliesRecordOneMessage, RunsRecordOneMessageAReply}

@@ -1,12 +1,5 @@
 -- The steps of the code by the index of a run, as their contracts state them.
-use Rattle.std.proofs.Common.{◌≡◌, ℕ, ◌+◌, ◌-◌, ◌<◌, ◌≤◌, zero, suc, List, [], ◌∷◌, ◌++◌, length, get_or, take, drop, map, replicate, refl, sym, ap, ◌∙◌, arith, append_assoc, append-nil, length-append, subst, drop-drop, take-append-drop, ⊎_elim, take_at, drop_at}
-use Rattle.std.proofs.Math.Seq.{drop-append-add}
-use Rattle.std.proofs.lemmas.List.{length-take-le, length-drop, get_or-append_right, get_or_append_left, get_or-replicate, length-replicate, drop_all, get_or-drop, get_or_default, get_or_past, nil_from_length, take_all}
-use Rattle.partitioning.specs.Partitions.{CanStart}
-use Rattle.std.proofs.lemmas.Bool.{cases_lt}
-use Rattle.std.specs.Prelude.{insert, remove}
-use Rattle.run_styles.specs.Expansion.{expansion, Rise, IsTable}
-use Rattle.run_styles.specs.Runs.{inserted, deleted, filled}
+use Rattle.run_styles.proofs.Names.{◌≡◌, ℕ, ◌+◌, ◌-◌, ◌<◌, ◌≤◌, zero, suc, List, [], ◌∷◌, ◌++◌, length, get_or, take, drop, map, replicate, refl, sym, ap, ◌∙◌, arith, append_assoc, append-nil, length-append, subst, drop-drop, take-append-drop, ⊎_elim, take_at, drop_at, drop-append-add, length-take-le, length-drop, get_or-append_right, get_or_append_left, get_or-replicate, length-replicate, drop_all, get_or-drop, get_or_default, get_or_past, nil_from_length, take_all, CanStart, cases_lt, insert, remove, expansion, Rise, IsTable, inserted, deleted, filled}
 use Rattle.run_styles.proofs.Tables.{expansion-append, length-expansion, rise_left, rise_right, rise_lt, rise_within}
 use Rattle.run_styles.proofs.Pieces.{length_front}
 use Rattle.run_styles.proofs.Steps.{At, at, Stands, stands_at, Parts, parts, split_parts, fill_parts, join_parts, grow_parts, shrink_parts, drop_parts, first_parts, last_parts}

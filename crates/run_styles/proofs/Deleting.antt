@@ -1,13 +1,6 @@
 -- A run that is deleted: what the containers require, and what the two steps leave.
-use Rattle.std.proofs.Common.{◌≡◌, ℕ, ◌+◌, ◌-◌, ◌<◌, ◌≤◌, zero, suc, max, List, [], ◌∷◌, ◌++◌, length, get_or, take, drop, map, refl, sym, ap, ◌∙◌, arith, subst, ⊎_elim, take-append-drop, drop-drop, take_at}
-use Rattle.std.proofs.Math.Seq.{drop-append-add}
-use Rattle.std.proofs.lemmas.List.{length-take-le, get_or_default, get_or_past, get_or-append_right, get_or-drop}
+use Rattle.run_styles.proofs.Names.{◌≡◌, ℕ, ◌+◌, ◌-◌, ◌<◌, ◌≤◌, zero, suc, max, List, [], ◌∷◌, ◌++◌, length, get_or, take, drop, map, refl, sym, ap, ◌∙◌, arith, subst, ⊎_elim, take-append-drop, drop-drop, take_at, drop-append-add, length-take-le, get_or_default, get_or_past, get_or-append_right, get_or-drop, cases_lt, remove, CanLose, expansion, Rise, IsTable, deleted}
 use Rattle.std.proofs.lemmas.List.Edits.{length-remove, get_or-remove_below, get_or-remove_above}
-use Rattle.std.proofs.lemmas.Bool.{cases_lt}
-use Rattle.std.specs.Prelude.{remove}
-use Rattle.partitioning.specs.Partitions.{CanLose}
-use Rattle.run_styles.specs.Expansion.{expansion, Rise, IsTable}
-use Rattle.run_styles.specs.Runs.{deleted}
 use Rattle.run_styles.proofs.Tables.{rise_lt, rise_within, head-map_sub}
 use Rattle.run_styles.proofs.Steps.{Stands}
 use Rattle.run_styles.proofs.ByIndex.{empty_stands}

@@ -1,11 +1,5 @@
 -- A range that is set to a value: where it may be widened or trimmed, and the runs that replace it.
-use Rattle.std.proofs.Common.{◌≡◌, ◌≢◌, ◌⊎◌, ℕ, ◌+◌, ◌-◌, ◌<◌, ◌≤◌, zero, suc, List, [], ◌∷◌, ◌++◌, Some, None, length, get_or, set, take, drop, replicate, refl, sym, ap, ◌∙◌, arith, subst, ⊎_elim, append_assoc, length-append, take-append-drop, take_at, drop_at}
-use Rattle.std.proofs.lemmas.List.{length-take-le, length-drop, length-replicate, get_or-append_right, get_or_append_left, get_or-replicate, get_or-take, get_or-drop, get_or_default, get_or_past, same_lists, take_more_set, drop-set-lt}
-use Rattle.std.proofs.lemmas.Option.{slice_get-get_or, get_or_from_slice_get, slice_get_past}
-use Rattle.std.proofs.lemmas.Bool.{cases_lt}
-use Rattle.std.specs.Prelude.{slice_get}
-use Rattle.run_styles.specs.Expansion.{expansion, Rise, IsTable, NeighboursDiffer}
-use Rattle.run_styles.specs.Runs.{filled, IsChangedRange}
+use Rattle.run_styles.proofs.Names.{◌≡◌, ◌≢◌, ◌⊎◌, ℕ, ◌+◌, ◌-◌, ◌<◌, ◌≤◌, zero, suc, List, [], ◌∷◌, ◌++◌, Some, None, length, get_or, set, take, drop, replicate, refl, sym, ap, ◌∙◌, arith, subst, ⊎_elim, append_assoc, length-append, take-append-drop, take_at, drop_at, length-take-le, length-drop, length-replicate, get_or-append_right, get_or_append_left, get_or-replicate, get_or-take, get_or-drop, get_or_default, get_or_past, same_lists, take_more_set, drop-set-lt, slice_get-get_or, get_or_from_slice_get, slice_get_past, cases_lt, slice_get, expansion, Rise, IsTable, NeighboursDiffer, filled, IsChangedRange}
 use Rattle.run_styles.specs.Changes.{IsTrimmed}
 use Rattle.run_styles.proofs.Tables.{rise_lt, rise_within}
 use Rattle.run_styles.proofs.Steps.{Stands, stands_at, At, at}

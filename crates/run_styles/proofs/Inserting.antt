@@ -1,10 +1,6 @@
 -- The rule for inserted values, and the run that absorbs the inserted places.
-use Rattle.std.proofs.Common.{◌≡◌, ◌≢◌, ◌⊎◌, ℕ, ◌+◌, ◌-◌, ◌<◌, ◌≤◌, suc, Bool, true, false, not, cond, List, [], ◌∷◌, ◌++◌, length, get_or, take, drop, map, refl, sym, ap, ◌∙◌, arith, ⊎_elim, ne_eqb, eq-eqb, true≢false, replicate, length-append}
-use Rattle.std.proofs.lemmas.Bool.{cases_lt}
-use Rattle.std.proofs.lemmas.List.{get_or_default, get_or_past, length-take-le, length-replicate, length-drop}
+use Rattle.run_styles.proofs.Names.{◌≡◌, ◌≢◌, ◌⊎◌, ℕ, ◌+◌, ◌-◌, ◌<◌, ◌≤◌, suc, Bool, true, false, not, cond, List, [], ◌∷◌, ◌++◌, length, get_or, take, drop, map, refl, sym, ap, ◌∙◌, arith, ⊎_elim, ne_eqb, eq-eqb, true≢false, replicate, length-append, cases_lt, get_or_default, get_or_past, length-take-le, length-replicate, length-drop, expansion, IsTable, IsExact, inserted, filled, inserted_value}
 use Rattle.run_styles.proofs.Pieces.{fill_middle}
-use Rattle.run_styles.specs.Expansion.{expansion, IsTable, IsExact}
-use Rattle.run_styles.specs.Runs.{inserted, filled, inserted_value}
 use Rattle.run_styles.proofs.Tables.{rise_lt}
 use Rattle.run_styles.proofs.Steps.{Stands}
 use Rattle.run_styles.proofs.ByIndex.{grow_stands, length-table, value_in_run}

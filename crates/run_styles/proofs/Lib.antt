@@ -1,3 +1,4 @@
+pub mod Names
 pub mod ByIndex
 pub mod Deleting
 pub mod Filling

@@ -1,10 +1,5 @@
 -- Lists with no two equal neighbours: their parts, and how they are joined.
-use Rattle.std.proofs.Common.{◌≡◌, ◌≢◌, ℕ, ◌+◌, ◌-◌, ◌<◌, ◌≤◌, zero, suc, List, [], ◌∷◌, ◌++◌, Some, length, get_or, take, drop, refl, sym, ap, ◌∙◌, arith, subst, take-append-drop, take-take, drop-drop, Bool, true, false, true≢false}
-use Rattle.std.specs.Cmp.{IsEquivalence}
-use Rattle.std.proofs.lemmas.Option.{slice_get_read}
-use Rattle.std.proofs.lemmas.List.{length-take-le}
-use Rattle.std.specs.Prelude.{slice_get}
-use Rattle.run_styles.specs.Expansion.{IsExact, NeighboursDiffer}
+use Rattle.run_styles.proofs.Names.{◌≡◌, ◌≢◌, ℕ, ◌+◌, ◌-◌, ◌<◌, ◌≤◌, zero, suc, List, [], ◌∷◌, ◌++◌, Some, length, get_or, take, drop, refl, sym, ap, ◌∙◌, arith, subst, take-append-drop, take-take, drop-drop, Bool, true, false, true≢false, IsEquivalence, slice_get_read, length-take-le, slice_get, IsExact, NeighboursDiffer}
 
 module _ {V : Type 0} where
   pub slice_get-take : (k : ℕ) (xs : List V) (i : ℕ) → i < k → slice_get (take k xs) i ≡ slice_get xs i

@@ -1,10 +1,6 @@
 -- What each step of the code does to the list that the runs stand for. A table is written as the runs before a run,
 -- that run, and those behind it.
-use Rattle.std.proofs.Common.{◌≡◌, ℕ, ◌+◌, ◌-◌, ◌≤◌, suc, List, [], ◌∷◌, ◌++◌, length, get_or, take, drop, map, replicate, refl, sym, ap, ◌∙◌, arith, append_assoc, append-nil}
-use Rattle.std.proofs.lemmas.List.{length-replicate, replicate-append-replicate, take-append-le, drop-append-le, take-replicate, drop-replicate}
-use Rattle.std.proofs.Math.Seq.{take-append-add, drop-append-add}
-use Rattle.run_styles.specs.Expansion.{expansion, Rise}
-use Rattle.run_styles.specs.Runs.{inserted, deleted, filled}
+use Rattle.run_styles.proofs.Names.{◌≡◌, ℕ, ◌+◌, ◌-◌, ◌≤◌, suc, List, [], ◌∷◌, ◌++◌, length, get_or, take, drop, map, replicate, refl, sym, ap, ◌∙◌, arith, append_assoc, append-nil, length-replicate, replicate-append-replicate, take-append-le, drop-append-le, take-replicate, drop-replicate, take-append-add, drop-append-add, expansion, Rise, inserted, deleted, filled}
 use Rattle.run_styles.proofs.Tables.{expansion-append, length-expansion, expansion-map_add, head-map_add, rise_le, rise_above}
 
 module _ {V : Type 0} where

@@ -1,11 +1,5 @@
 -- Reads of the runs: where a run of the list begins and ends, how many there are, and whether all values are equal.
-use Rattle.std.proofs.Common.{◌≡◌, ◌≢◌, ℕ, ◌+◌, ◌-◌, ◌<◌, ◌≤◌, zero, suc, Bool, true, false, List, [], ◌∷◌, ◌++◌, Some, length, get_or, replicate, refl, sym, ap, ◌∙◌, arith}
-use Rattle.std.proofs.lemmas.List.{get_or_default, get_or_past, nil_from_length}
-use Rattle.std.proofs.lemmas.Option.{slice_get-get_or}
-use Rattle.std.specs.Prelude.{slice_get}
-use Rattle.std.specs.Cmp.{IsEquivalence}
-use Rattle.run_styles.specs.Expansion.{expansion, Rise, IsTable, IsExact, NeighboursDiffer}
-use Rattle.run_styles.specs.Runs.{IsRunStart, IsRunEnd, run_count}
+use Rattle.run_styles.proofs.Names.{◌≡◌, ◌≢◌, ℕ, ◌+◌, ◌-◌, ◌<◌, ◌≤◌, zero, suc, Bool, true, false, List, [], ◌∷◌, ◌++◌, Some, length, get_or, replicate, refl, sym, ap, ◌∙◌, arith, get_or_default, get_or_past, nil_from_length, slice_get-get_or, slice_get, IsEquivalence, expansion, Rise, IsTable, IsExact, NeighboursDiffer, IsRunStart, IsRunEnd, run_count}
 use Rattle.run_styles.proofs.Tables.{rise_within}
 use Rattle.run_styles.proofs.Steps.{At, at}
 use Rattle.run_styles.proofs.ByIndex.{length-table, value_in_run, run_bounds}

@@ -1,8 +1,6 @@
 -- Each step of the code, by the index of a run: the table that it leaves, and the list that this table stands for.
-use Rattle.std.proofs.Common.{◌≡◌, ℕ, ◌+◌, ◌-◌, ◌<◌, ◌≤◌, zero, suc, List, [], ◌∷◌, ◌++◌, length, get_or, take, drop, map, refl, sym, ap, ◌∙◌, arith, length-append, subst}
-use Rattle.std.proofs.lemmas.List.{length-take-le, length-map, take_more, drop_more, take-append-drop, get_or-drop, take_all, drop_all}
-use Rattle.run_styles.specs.Expansion.{expansion, Rise, IsTable}
-use Rattle.run_styles.specs.Runs.{inserted, deleted, filled}
+use Rattle.run_styles.proofs.Names.{◌≡◌, ℕ, ◌+◌, ◌-◌, ◌<◌, ◌≤◌, zero, suc, List, [], ◌∷◌, ◌++◌, length, get_or, take, drop, map, refl, sym, ap, ◌∙◌, arith, length-append, subst, length-take-le, length-map, take_more, drop_more, get_or-drop, take_all, drop_all, expansion, Rise, IsTable, inserted, deleted, filled}
+use Rattle.std.proofs.lemmas.List.{take-append-drop}
 use Rattle.run_styles.proofs.Tables.{expansion-append, length-expansion, expansion-map_add, head-append, head-map_add, rise_le, rise_left, rise_right, rise_join, rise-map_add, rise-map_sub, head-map_sub, rise_positive}
 use Rattle.run_styles.proofs.Pieces.{expansion-merge, expansion-fill, expansion-grow, expansion-shrink, expansion-drop}
 

@@ -1,8 +1,5 @@
 -- The expansion of runs, split at a run and put together again.
-use Rattle.std.proofs.Common.{◌≡◌, ℕ, ◌+◌, ◌-◌, ◌<◌, ◌≤◌, zero, suc, List, [], ◌∷◌, ◌++◌, length, get_or, map, replicate, refl, sym, ap, ◌∙◌, arith, append_assoc, length-append, ⊎_elim}
-use Rattle.std.proofs.lemmas.List.{length-replicate, get_or_default}
-use Rattle.std.proofs.lemmas.Bool.{cases_lt}
-use Rattle.run_styles.specs.Expansion.{expansion, Rise}
+use Rattle.run_styles.proofs.Names.{◌≡◌, ℕ, ◌+◌, ◌-◌, ◌<◌, ◌≤◌, zero, suc, List, [], ◌∷◌, ◌++◌, length, get_or, map, replicate, refl, sym, ap, ◌∙◌, arith, append_assoc, length-append, ⊎_elim, length-replicate, get_or_default, cases_lt, expansion, Rise}
 
 pub head-append : (xs ys : List ℕ) (end : ℕ) → get_or (xs ++ ys) 0 end ≡ get_or xs 0 (get_or ys 0 end)
 head-append [] ys end = refl

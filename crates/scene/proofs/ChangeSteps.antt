@@ -5,7 +5,7 @@ use Rattle.std.proofs.lemmas.List.{length-drop, length-take}
 use Rattle.std.proofs.lemmas.Option.{slice_get_within, get_or_from_slice_get}
 use Rattle.ed_model.specs.declared.plan.LineEndTypes.{LineEndTypes}
 use Rattle.ed_model.specs.Steps as model
-use Rattle.ed_model.specs.Steps.{Step, place_of, step_bytes, edited, edited_cells}
+use Rattle.ed_model.specs.Steps.{Step, place_of, step_bytes, edited}
 use Rattle.ed_model.specs.StepLaws.{CellsFollowBytes}
 use Rattle.ed_model.specs.History.{Change, TextStep as Text, ContainerStep}
 use Rattle.ed_model.specs.InverseLaws.{Fits}
@@ -21,7 +21,6 @@ use Rattle.document.specs.declared.room.DocumentRoom.{DocumentRoom}
 use Rattle.document.specs.TextSteps.{step_in, IsStepOn}
 use Rattle.document.specs.Kept.{TakesRoom, no_room}
 use Rattle.document.specs.Undoing.{outline_of, room_of_step, room_of_change}
-use Rattle.line_index.specs.RoomLaws.{lines_for_step}
 use Rattle.selection.specs.Positions.{movement_of, count_of}
 use Rattle.scene.specs.StepNotes.{IsSmallStep}
 use Rattle.scene.specs.Hearing.{hearers}
@@ -154,10 +153,6 @@ small_lent (Delete p n) s text e on place count =
     let l = length_slice text p n on in
     let c : length (slice_range text p (p + n)) < 2 ^ 63 = subst (λ (x : Step). length (step_bytes x) < 2 ^ 63) (sym e) count in
     (subst (λ (x : Step). place_of x < 2 ^ 63) (sym e) place, omega arith)
-
-pub lines_of_room : (types : LineEndTypes) (s : Step) → (room_of_step types s).lines ≡ lines_for_step types s
-lines_of_room types (model.Insert p bytes) = refl
-lines_of_room types (model.Delete p bytes) = refl
 
 -- an index of a history has one step
 pub step_same : (o : Option Change) (s s' : Step) → o ≡ Some (Text s) → o ≡ Some (Text s') → s ≡ s'

@@ -12,7 +12,7 @@ use Rattle.ed_model.specs.proved.Steps.{bytes_of_edited_cells, length_of_range}
 use Rattle.ed_model.specs.proved.Changes.{length_text}
 use Rattle.document.specs.declared.room.DocumentRoom.{DocumentRoom}
 use Rattle.document.specs.declared.text_step.TextStep.TheVariants as lent
-use Rattle.document.specs.Kept.{Kept, ChangeRoom, HasRoom, TakesRoom, no_room, with_freed, AddsNoRoomBut, marker_room_in_all}
+use Rattle.document.specs.Kept.{Kept, ChangeRoom, HasRoom, TakesRoom, no_room, AddsNoRoomBut, marker_room_in_all}
 use Rattle.document.specs.TextSteps.{bytes_out, need_of}
 use Rattle.id_table.specs.Entries.{Entries}
 use Rattle.ed_view.specs.Kept.{KeptView}
@@ -23,7 +23,7 @@ use Rattle.scene.specs.Hearing.{bytes_shared, made_kinds}
 use Rattle.scene.specs.Needs.{notes_needed, bytes_needed, NotesAreEnough, BytesAreEnough}
 use Rattle.scene.specs.proved.Enough.{next_notes, next_bytes}
 use Rattle.scene.specs.proved.Rooms.{appended_collects, deletion_needs, next_room}
-use Rattle.scene.proofs.PerformedSoFar.{made_none, made_next, spare_next}
+use Rattle.scene.proofs.PerformedSoFar.{made_next, spare_next}
 use Rattle.scene.specs.Conversion.{AreLeft, RoomsStay, both_rooms, changes_for, freed_by_all, bytes_for, deletions_of, notes_for, room_of_step, room_of_steps, rooms_added}
 
 -- Notes, and the bytes of their texts.
@@ -54,9 +54,6 @@ pub record StepLeaves (s : Step) (k k' : Kept) (v v' : Entries KeptView) : Type 
 
 -- room left before the first step, after one more of them, after some and then the rest, and after all
 
-left_none : (room all : DocumentRoom) → TakesRoom (both_rooms room all) room all
-left_none room all = record { text_left = omega arith; lines_left = omega arith; insertions_left = omega arith; steps_left = omega arith; bytes_left = omega arith }
-
 left_next : (old now new need rest all : DocumentRoom) → TakesRoom (both_rooms old (both_rooms need rest)) now all → TakesRoom now new need → TakesRoom (both_rooms old rest) new all
 left_next old now new need rest all so takes = record {
   text_left = omega (arith, so.text_left, takes.text_left);
@@ -82,19 +79,6 @@ left_all old new all so = record {
   insertions_left = omega (arith, so.insertions_left);
   steps_left = omega (arith, so.steps_left);
   bytes_left = omega (arith, so.bytes_left);
-}
-
-pub rooms_none : (steps : List Step) (k : Kept) (v : Entries KeptView) (n : Gathered) → RoomsStay steps steps k k v v n n
-rooms_none steps k v n = record {
-  types = refl;
-  room_left = left_none k.room (rooms_added k.document.line_end_types steps);
-  none_made = made_none (with_freed (freed_by_all (changes_for steps)) k.room);
-  spare = refl;
-  markers_in_all = refl;
-  fold_rooms = refl;
-  view_room = refl;
-  note_room = refl;
-  text_room = omega arith;
 }
 
 rooms_next : (s : Step) (rest steps : List Step) (k0 k k' : Kept) (v0 v v' : Entries KeptView) (n0 n n' : Gathered) (texts : ℕ) → RoomsStay (s ∷ rest) steps k0 k v0 v n0 n → StepLeaves s k k' v v'

@@ -1,7 +1,7 @@
 -- Successive writes.
-use Rattle.std.proofs.Common.{◌≡◌, ℕ, zero, suc, ◌+◌, ◌-◌, ◌<◌, Bool, true, false, cond, List, length, take, drop, refl, sym, ◌∙◌, ap, subst, arith, take-add, take-append-drop, length-drop, Option, Some, None, IfSome, Result, Ok, Err, IsErr}
+use Rattle.std.proofs.Common.{◌≡◌, ℕ, zero, suc, ◌+◌, ◌-◌, Bool, true, false, cond, List, length, take, drop, refl, sym, ◌∙◌, ap, subst, arith, take-add, take-append-drop, length-drop, Option, Some, None, IfSome, Result, Ok, Err, IsErr}
 use Rattle.std.specs.Prelude.{◌==◌, ◌&&◌, nat_lt}
-use Rattle.std.proofs.lemmas.Bool.{le-leb, ne_eqb}
+use Rattle.std.proofs.lemmas.Bool.{ne_eqb}
 use Rattle.std.proofs.lemmas.List.{take_all}
 use Rattle.std.specs.Io.KnownBytes.{Keeps, Appends}
 use Rattle.ed_types.specs.declared.script.Command.{Command}
@@ -43,9 +43,6 @@ written_from old mid new bytes at count a b = written_on old mid new bytes at co
 pub still_fresh : (old new : Bool) (count len : ℕ) → (count ≡ 0 → ⊥) → new ≡ cond (count == 0 && nat_lt 0 len) true old → old ≡ false → new ≡ false
 still_fresh old new zero len some is fresh = absurd (some refl)
 still_fresh old new (suc n) len some is fresh = is ∙ ap (λ b. cond (b && nat_lt 0 len) true old) (ne_eqb (suc n) 0 some) ∙ fresh
-
-pub failed_then : (old new : Bool) (count len : ℕ) → count ≡ 0 → 0 < len → new ≡ cond (count == 0 && nat_lt 0 len) true old → new ≡ true
-failed_then old new count len none some is = is ∙ ap (λ n. cond (n == 0 && nat_lt 0 len) true old) none ∙ ap (λ b. cond b true old) (le-leb 1 len some)
 
 pub failed_write : (r : Result (Unit {0}) WriteFailed) (old new : Option (List ℕ)) (bytes : List ℕ) → IsErr r → AppendsFront old new bytes → WritesAll bytes old new r
 failed_write (Ok done) old new bytes is some = cc

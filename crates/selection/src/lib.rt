@@ -16,6 +16,6 @@ mod movements;
 mod selections;
 
 pub use keys::Motion;
-pub use laws::{keys_are_the_messages, movements_are_those_of_steps};
+pub use laws::movements_are_those_of_steps;
 pub use movements::Movement;
 pub use selections::Selection;

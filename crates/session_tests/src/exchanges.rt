@@ -116,7 +116,7 @@ fn is_met(session: &mut Session, row: &Exchange) -> bool {
 }
 
 /// Returns the index of the first exchange that does not go as expected, or `None`.
-pub(crate) fn first_unmet_in(session: &mut Session, rows: &[Exchange]) -> Option<usize> {
+fn first_unmet_in(session: &mut Session, rows: &[Exchange]) -> Option<usize> {
     for index in 0..rows.len() {
         if !is_met(session, &rows[index]) {
             return Some(index);

@@ -2,10 +2,6 @@
 #![tactic(auto)]
 
 #[cfg(test)]
-mod char_cut_tests;
-#[cfg(test)]
-mod ed_types_tests;
-#[cfg(test)]
 mod id_table_tests;
 #[cfg(test)]
 mod large_tests;
@@ -13,5 +9,3 @@ mod large_tests;
 mod macro_script_tests;
 #[cfg(test)]
 mod notify_tests;
-#[cfg(test)]
-mod target_search_tests;

@@ -1,8 +1,6 @@
 -- The cells of a block as a list.
-use Rattle.std.proofs.Common.{◌≡◌, ℕ, zero, suc, ◌+◌, ◌-◌, ◌<◌, ◌≤◌, Bool, true, false, List, [], ◌∷◌, ◌++◌, map, length, get_or, take, drop, set, replicate, Option, Some, None, refl, sym, ap, ◌∙◌, arith, length-append, length-take, length-drop, take-append-drop, append_assoc}
-use Rattle.std.proofs.lemmas.List.{length-map, length-replicate, map-append, take-map, drop-map, drop-drop}
+use Rattle.split_vector.proofs.Names.{◌≡◌, ℕ, zero, suc, ◌+◌, ◌-◌, ◌<◌, ◌≤◌, Bool, true, false, List, [], ◌∷◌, ◌++◌, map, length, get_or, take, drop, set, replicate, Option, Some, None, refl, sym, ap, ◌∙◌, arith, length-append, length-take, length-drop, take-append-drop, append_assoc, length-map, length-replicate, map-append, take-map, drop-map, drop-drop, cells_of}
 use Rattle.split_vector.specs.Cells.{Hold, Run, beside, run_start}
-use Rattle.split_vector.specs.Ownership.{cells_of}
 
 module _ {X : Type 0} where
   abbrev pub empty : Option X

@@ -1,3 +1,5 @@
+pub mod HandNames
+pub mod Names
 pub mod Items
 pub mod Memory
 pub mod Sharing

@@ -6,52 +6,17 @@
 --     of_room, to_room      room for an array is a row of empty places
 --     of_array, to_array      an array is a row of its items
 --     run_out, run_in      the items beside the gap, as an array, move over it
-use mathlib.Core.Path.{◌≡◌, refl, sym, ap, subst, ◌∙◌}
-use Prim.Native.Nat.{ℕ, zero, suc, ◌+◌, ◌-◌, ◌*◌, ◌<◌, ◌≤◌, ◌^◌}
-use native.Mathlib.Omega.{arith}
-use native.Mathlib.Nat.{zero-mul, suc-mul}
-use mathlib.Core.Bool.{Bool, true, false, not}
-use mathlib.Core.List.{List, [], ◌∷◌, ◌++◌, map}
-use lib.ListN.{length, take, drop, set, get_or, replicate, take-append-drop, length-take}
+use Rattle.split_vector.proofs.HandNames.{◌≡◌, refl, sym, ap, subst, ◌∙◌, ℕ, zero, suc, ◌+◌, ◌-◌, ◌*◌, ◌<◌, ◌≤◌, ◌^◌, arith, zero-mul, suc-mul, Bool, true, false, not, List, [], ◌∷◌, ◌++◌, map, length, take, set, get_or, replicate, take-append-drop, length-take, Ura, full_share, Ty, ty_array, Val, vstruct, vcons, vnil, of_list, SProp, ent, sep, emp, ex, guard, via, snd∗, id⊢, mono_r, Fml, Lft, ftrue, fsep, fat, froom, Logic, sem, Array, row, whole_out, whole_in, length-map, length-replicate, given, learn, fact, fact_i, Item, Goal, Seq, Step, step, prop, ‵, raw, some, ◌⊛◌, ◌$◌, ◌∵◌, !, qed, by, move, keep, use0, use1, use2, pick, split, split3, check, show, frame, fsplit, fjoin, fpick, fpack, feq_i, feq_l, rewrite, done, RattleType, Valss, Typed, Is, shows, param, layout, Laws, param_laws, lone, part_at, mem, Ptr, RawPtr, block_ptr, ptr_val, makes_shadow, elements_shared, nothing, peeks, Shape, Struct, within, Tuple, tuple_type, Option, Some, None, type_size, El, R, el_x, elτ, Good, word, memory_before_copy, memory_after_copy, LiesApart, Run, run_start, cells_of, deed_owns, slot, slots, slot_lent, slots_lent}
+use lib.ListN.{drop}
 use lib.Seq.{drop-cons, set_split}
-use seplogic.Ra.Ura.{Ura}
-use base.Fraction.{full_share}
-use mir.Syntax.{Ty, ty_array}
-use mir.Val.{Val, vstruct, vcons, vnil, of_list}
-use base.Logic.{SProp, ent, sep, emp, ex, guard, via, snd∗, id⊢, mono_r}
-use base.Fml.{Fml, Lft, ftrue, fsep, fat, froom}
-use types.Logic.{Logic, sem}
 use types.SemTy.{cells}
 use mir.Raw.{raw as raw_ty}
-use denote.Array.{Array}
-use denote.Index.{row, whole_out, whole_in}
 use Rattle.core.proofs.ptr.Rows as arrays
-use Rattle.std.proofs.lemmas.List.{length-map, length-replicate}
 use Rattle.split_vector.proofs.Items.{none, cells_long, around, cells_around, around_long, spread}
-use types.Kit.{given, learn}
-use contract.Monad.{fact, fact_i}
-use types.Kit.{Item, Goal, Seq, Step, step, prop, ‵, raw, some, ◌⊛◌, ◌$◌, ◌∵◌, !, qed, by, move, keep, drop as skip, use0, use1, use2, pick, split, split3, check, show, frame, fsplit, fjoin, fpick, fpack, feq_i, feq_l, rewrite, done}
-use denote.RattleType.{RattleType, Valss}
-use denote.Laws.{Typed, Is, shows}
-use denote.Param.{param, layout}
-use denote.Param.Laws.{Laws, param_laws}
-use denote.Memory.{lone, part_at, mem}
-use denote.RawPtr.{Ptr, RawPtr, block_ptr, ptr_val}
-use denote.Shadow.{makes_shadow}
-use denote.Slice.{elements_shared}
-use denote.Steps.{nothing, peeks}
-use denote.Struct.Struct.{Shape, Struct, within}
+use types.Kit.{drop as skip}
 use denote.Struct.Owning.{shape}
 use denote.Struct.Declared as Declared
-use denote.Struct.Tuple.{Tuple, tuple_type}
 use borrow.Table.OneValue.{part_in, part_out}
-use Rattle.std.specs.Prelude.{Option, Some, None}
-use Rattle.std.specs.Mem.{type_size}
-use Rattle.core.proofs.mem.Param.{El, R, el_x, elτ}
-use Rattle.std_alloc.proofs.RcSteps.{Good, word}
-use Rattle.core.specs.Ptr.{memory_before_copy, memory_after_copy}
-use Rattle.split_vector.specs.Cells.{LiesApart, Run, run_start}
-use Rattle.split_vector.specs.Ownership.{cells_of, deed_owns, slot, slots, slot_lent, slots_lent}
 use Rattle.split_vector.specs.contracts.cells.Cells as C-type
 use Rattle.split_vector.specs.contracts.cells.Base as B-type
 

@@ -1,18 +1,8 @@
 -- A `&` to the places is made wherever one to an item is. Assumes `Logic`.
-use Prim.Native.Nat.{ℕ, ◌+◌}
-use Rattle.std.specs.Prelude.{List, [], ◌∷◌, Option, Some, None}
-use Rattle.std.specs.Mem.{type_size}
-use seplogic.Ra.Ura.{Ura}
-use base.Fml.{Lft, Incl, ftrue, ffalse}
-use types.Logic.{Logic}
-use denote.RattleType.{RattleType, RowLaws}
-use denote.Param.Laws.{Laws}
-use denote.RawPtr.{Ptr, block_ptr, null_ptr}
+use Rattle.split_vector.proofs.HandNames.{ℕ, ◌+◌, Option, Some, None, type_size, Ura, Lft, Incl, ftrue, ffalse, Logic, RattleType, RowLaws, Laws, Ptr, block_ptr, null_ptr, beside_shr_laws, nothing_shr_laws, said_shr_laws, Lends, Lends-both, Lends-nothing, Lends-said, Lends-false, slot, slots, slot_lent, slots_lent, fit, cells_own, cells_lent}
+use Rattle.std.specs.Prelude.{List, [], ◌∷◌}
 use denote.Sharing.{ShrLaws, said}
-use denote.SharingLaws.{beside_shr_laws, nothing_shr_laws, said_shr_laws}
 use denote.Shares.{Shares-less}
-use denote.Struct.Lending.{Lends, Lends-both, Lends-nothing, Lends-said, Lends-false}
-use Rattle.split_vector.specs.Ownership.{slot, slots, slot_lent, slots_lent, fit, cells_own, cells_lent}
 
 module _ (R : RattleType) (L : RowLaws R) where
   slot_lent_laws : (b o : ℕ) (c : Option R.Denot) → ShrLaws (slot_lent R b o c)

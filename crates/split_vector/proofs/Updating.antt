@@ -1,8 +1,6 @@
 -- Items replaced by what a relation allows for them.
-use Rattle.std.proofs.Common.{◌≡◌, ℕ, ◌+◌, ◌-◌, ◌<◌, ◌≤◌, ◌⊎◌, inl, inr, List, ◌++◌, length, get_or, min, max, sym, ap, ◌∙◌, arith}
-use Rattle.std.proofs.lemmas.Bool.{cases_lt}
-use Rattle.std.proofs.lemmas.List.{length-append, get_or_append_left, get_or-append_right}
-use Rattle.split_vector.specs.Split.{EachBetween, IsUpdated}
+use Rattle.split_vector.proofs.Names.{◌≡◌, ℕ, ◌+◌, ◌-◌, ◌<◌, ◌≤◌, ◌⊎◌, inl, inr, List, ◌++◌, length, get_or, min, max, sym, ap, ◌∙◌, arith, cases_lt, get_or_append_left, get_or-append_right, EachBetween, IsUpdated}
+use Rattle.std.proofs.lemmas.List.{length-append}
 
 module _ {X : Type 0} (R : X → X → Type 0) where
   -- the items of the range that lie in the first of two lists replaced, and those that lie in the second

@@ -1,26 +1,6 @@
 -- A block with no item behind the gap, as the allocator makes it larger: an array of its items, and room. Assumes `Logic`.
 --     opened, closed      the cells and the right to give them back are such a block, and back
-use mathlib.Core.Path.{◌≡◌, refl, sym, ap, ◌∙◌}
-use Prim.Native.Nat.{ℕ, ◌+◌, ◌-◌, ◌*◌, ◌<◌}
-use native.Mathlib.Omega.{arith}
-use mathlib.Core.List.{List, [], ◌∷◌, ◌++◌, map}
-use lib.ListN.{length}
-use seplogic.Ra.Ura.{Ura}
-use mir.Syntax.{Ty, ty_array}
-use base.Logic.{ent, sep}
-use base.Fml.{Fml, froom}
-use types.Logic.{Logic, sem}
-use types.Kit.{‵, ◌⊛◌, ◌$◌, ◌∵◌, !, qed, move, use1, use2, split, fsplit, fjoin, rewrite, done}
-use base.Fraction.{full_share}
-use denote.Array.{Array}
-use denote.Memory.{part_at}
-use denote.RawPtr.{Ptr, block_ptr}
-use Rattle.std.specs.Prelude.{Some}
-use Rattle.std.proofs.lemmas.List.{append-nil, length-map}
-use Rattle.core.specs.Allocator.{array_of, block_with_items}
-use Rattle.core.proofs.mem.Param.{El, R, el_x, elτ}
-use Rattle.std_alloc.proofs.RawLayout.{as_raw, as_written}
-use Rattle.split_vector.specs.Ownership.{cells_of, deed_owns, slots}
+use Rattle.split_vector.proofs.HandNames.{◌≡◌, refl, sym, ap, ◌∙◌, ℕ, ◌+◌, ◌-◌, ◌*◌, ◌<◌, arith, List, [], ◌∷◌, ◌++◌, map, length, Ura, Ty, ty_array, ent, sep, Fml, froom, Logic, sem, ‵, ◌⊛◌, ◌$◌, ◌∵◌, !, qed, move, use1, use2, split, fsplit, fjoin, rewrite, done, full_share, Array, part_at, Ptr, block_ptr, Some, append-nil, length-map, array_of, block_with_items, El, R, el_x, elτ, as_raw, as_written, cells_of, deed_owns, slots}
 use Rattle.split_vector.proofs.Items.{none}
 use Rattle.split_vector.proofs.Memory.{Place, sz, deed_made, deed_used, cut, glue, of_room, to_room, of_array, to_array}
 

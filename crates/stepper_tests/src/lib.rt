@@ -5,5 +5,3 @@
 mod recorder_tests;
 #[cfg(test)]
 mod script_stepper_tests;
-#[cfg(test)]
-mod whole_session_tests;

@@ -17,17 +17,6 @@ const MACRO: &[u8] =
 const MACRO_LISTING: &[u8] =
     b"sci 2\nsend 1 2001 3 0 \"abc\"\nsend 1 2304 0 0 \"\"\nsend 1 2326 0 0 \"\"\n";
 
-/// Two views of a document record, each its own messages, and no refused ones.
-const TWO_VIEWS: &[u8] =
-    b"sci 1\nopen\nopen\nsend 2 2358 0 1 \"\"\nsend 1 3001 0 0 \"\"\nsend 2 3001 0 0 \"\"\n\
-    send 1 2001 1 0 \"ab\"\nsend 1 2001 9 0 \"ab\"\nsend 2 2329 0 0 \"\"\n\
-    send 1 2178 0 0 \"\"\n";
-
-/// The listings of the recordings of both views. The whole text is recorded, although only its first byte is inserted.
-const FIRST_LISTING: &[u8] = b"sci 2\nsend 1 2001 1 0 \"ab\"\nsend 1 2178 0 0 \"\"\n";
-
-const SECOND_LISTING: &[u8] = b"sci 2\nsend 2 2329 0 0 \"\"\n";
-
 /// Performs commands, and passes the replies to a recorder.
 fn feed_replies(rt: &impl Abort, run: &mut Run, commands: &[Command], recorder: &mut Recorder) {
     for command in commands {
@@ -58,8 +47,6 @@ fn assert_recorded(rt: &impl Abort, alloc: Global, script: &[u8], view: u32, wan
 fn a_recorder_takes_what_its_view_records(rt: HostRuntime) {
     assert_recorded(&rt, rt.alloc(), MACRO, 1, MACRO_LISTING);
     assert_recorded(&rt, rt.alloc(), MACRO, 2, b"sci 2\n");
-    assert_recorded(&rt, rt.alloc(), TWO_VIEWS, 1, FIRST_LISTING);
-    assert_recorded(&rt, rt.alloc(), TWO_VIEWS, 2, SECOND_LISTING);
 }
 
 /// Returns a message to view 1 without arguments or text.

@@ -1,16 +1,12 @@
 //! A script forwards and backwards: memory suffices, and a command has the same outcome again after going back.
 
-use ed_types::{Bytes, Outcome};
+use ed_types::Outcome;
 use macro_script::assemble;
 use script_stepper::{StepFault, Stepper};
 
 /// A view, a text inserted, the whole text handed out, and two questions, the first of which is refused.
 const INSERTION: &[u8] =
     b"sci 1\nopen\nsend 1 2003 0 0 \"ab\\x0a\"\nsend 1 2182 0 0 \"\"\nsend 1 2003 9 0 \"z\"\nsend 1 2007 -1 0 \"\"\n";
-
-/// Every command. All `expect` commands except the last are met.
-const EVERY_COMMAND: &[u8] =
-    b"sci 2\nopen\nexpect 1\nload 1 1\nload 1 2\nsend 1 2006 0 0 \"\"\nexpect 2\nclose 1\nexpect 1\n";
 
 /// Returns the value of the next command, or the negated number of its refusal; `None` at the end, or if an allocation
 /// fails.
@@ -61,19 +57,4 @@ fn steps_back_and_forwards(rt: HostRuntime) {
     assert!(rt; gives(&mut stepper, &[-6, 0]));
     assert_eq!(rt; stepper.run_to(0), Ok(()));
     assert!(rt; gives(&mut stepper, &[1, 0, 3, -6, 0]));
-}
-
-#[test]
-fn loads_files_and_keeps_values(rt: HostRuntime) {
-    let alloc = rt.alloc();
-    let script = assemble(alloc, EVERY_COMMAND).expect(&rt, "a script");
-    let mut files = Vec::new(alloc);
-    files
-        .push(Bytes::new(Vec::from_slice(alloc, b"hi").expect(&rt, "memory")))
-        .expect(&rt, "memory");
-    let mut stepper = Stepper::new(alloc, script, files);
-    assert!(rt; gives(&mut stepper, &[1, 1, 0, -6, 2, 1, 0, 0]));
-    // An `expect` reads the value of the command before it, also right after going back.
-    assert_eq!(rt; stepper.run_to(5), Ok(()));
-    assert!(rt; gives(&mut stepper, &[1]));
 }

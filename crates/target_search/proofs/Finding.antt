@@ -1,10 +1,5 @@
 -- The first and the last place that passes a test, as `find` in a list of places.
-use Rattle.std.proofs.Common.{◌≡◌, ℕ, zero, suc, ◌+◌, ◌-◌, ◌<◌, ◌≤◌, Bool, true, false, eqb, List, [], ◌∷◌, ◌++◌, length, reverse, Option, Some, None, refl, sym, ap, ◌∙◌, subst, arith, inl, inr}
-use Rattle.std.specs.List.{range_with_len, find}
-use Rattle.std.proofs.lemmas.List.{reverse-append}
-use Rattle.std.proofs.lemmas.Bool.{cases_Bool, cases_eq, cases_lt, cond-true, cond-false, false≢true, le-leb, lt-leb}
-use Rattle.ed_model.specs.Matches.{is_match, match_in}
-use Rattle.target_search.specs.Found.{NonePasses, IsFirstOf, IsLastOf, FindsFirst, FindsLast}
+use Rattle.target_search.proofs.Names.{◌≡◌, ℕ, zero, suc, ◌+◌, ◌-◌, ◌<◌, ◌≤◌, Bool, true, false, eqb, List, [], ◌∷◌, ◌++◌, length, reverse, Option, Some, None, refl, sym, ap, ◌∙◌, subst, arith, inl, inr, range_with_len, find, reverse-append, cases_Bool, cases_eq, cases_lt, cond-true, cond-false, false≢true, le-leb, lt-leb, is_match, match_in, NonePasses, IsFirstOf, IsLastOf, FindsFirst, FindsLast}
 
 both : (b : Bool) → b ≡ true → b ≡ false → ⊥
 both b t f = false≢true (sym f ∙ t)

@@ -1,12 +1,8 @@
 -- Marks of 64 bytes, bit by bit.
-use Rattle.std.proofs.Common.{◌≡◌, ℕ, ◌+◌, ◌-◌, ◌%◌, ◌^◌, ◌<◌, ◌≤◌, ◌≢◌, Bool, true, false, cond, eqb, List, length, get_or, map, replicate, refl, sym, ap, ◌∙◌, arith, subst, bit_and, bit_or, ◌||◌, ◌&&◌, inl, inr, pow_pos}
+use Rattle.target_search.proofs.Names.{◌≡◌, ℕ, ◌+◌, ◌-◌, ◌%◌, ◌^◌, ◌<◌, ◌≤◌, ◌≢◌, Bool, true, false, cond, eqb, List, length, get_or, map, replicate, refl, sym, ap, ◌∙◌, arith, subst, bit_and, bit_or, ◌||◌, ◌&&◌, inl, inr, pow_pos, length-zip2, get_or-zip2, length-replicate, get_or-replicate, bit_mask_l, mask_l-mod, cases_eq, length-map, NonePasses}
 use Rattle.std.specs.Int.{bit_at}
 use Rattle.std.specs.Simd.Lanes.{zip2, mask_l, top}
-use Rattle.std.proofs.lemmas.Simd.{length-zip2, get_or-zip2, length-replicate, get_or-replicate, bit_mask_l, mask_l-mod}
-use Rattle.std.proofs.lemmas.Bool.{cases_eq}
-use Rattle.std.proofs.lemmas.List.{length-map}
 use Rattle.std.proofs.Math.ListN.{get_or-map}
-use Rattle.target_search.specs.Found.{NonePasses}
 use Rattle.std.proofs.Math.Nat.{div-eq_of_lt}
 
 -- the lanes of 64 bytes that hold one of them

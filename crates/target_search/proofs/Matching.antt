@@ -1,17 +1,11 @@
 -- Where a pattern stands, by what is found in a part of the text.
-use Rattle.std.proofs.Common.{◌≡◌, ℕ, ◌+◌, ◌-◌, ◌<◌, ◌≤◌, min, Bool, true, false, eqb, ◌&&◌, ◌||◌, not, List, ◌++◌, length, map, get_or, take, drop, slice_range, refl, sym, ap, ◌∙◌, subst, arith, inl, inr}
-use Rattle.std.specs.List.{starts_with}
+use Rattle.target_search.proofs.Names.{◌≡◌, ℕ, ◌+◌, ◌-◌, ◌<◌, ◌≤◌, min, Bool, true, false, eqb, ◌&&◌, ◌||◌, not, List, ◌++◌, length, map, get_or, take, drop, slice_range, refl, sym, ap, ◌∙◌, subst, arith, inl, inr, starts_with, cases_Bool, cases_lt, cond-true, eq-eqb, false≢true, length-take, length-drop, length-append, length-take-le, get_or-take, get_or_append_left, get_or-append_right, ext_get_or, take-append-drop, folded, match_case, whole_word, word_start, word_before, word_after, is_match, is_either, stands_at, words_pass, IsPart, NonePasses}
 use Rattle.std.proofs.Math.Bool.{and-true, and-false}
-use Rattle.std.proofs.lemmas.Bool.{cases_Bool, cases_lt, cond-true, eq-eqb, false≢true}
-use Rattle.std.proofs.lemmas.List.{length-take, length-drop, length-append, length-take-le, get_or-take, get_or_append_left, get_or-append_right, ext_get_or, take-append-drop}
 use Rattle.memchr.specs.Find.{OccursAt}
 use Rattle.ed_model.specs.Numbers.{meets}
-use Rattle.ed_model.specs.Matches.{folded, match_case, whole_word, word_start, word_before, word_after, is_match}
 use Rattle.ed_model.specs.proved.Lists.{read_part}
-use Rattle.target_search.specs.Cases.{is_either}
 use Rattle.target_search.specs.Rare.{IsRareOf}
 use Rattle.target_search.specs.declared.rare.RareByte.{RareByte}
-use Rattle.target_search.specs.Found.{stands_at, words_pass, IsPart, NonePasses}
 use Rattle.target_search.proofs.Fronts.{and_assoc, and_both, and_first, front_true, front_long, front_reads, front_pieces}
 
 pub length_part : (xs : List ℕ) (from to : ℕ) → from ≤ to → to ≤ length xs → from + length (slice_range xs from to) ≡ to

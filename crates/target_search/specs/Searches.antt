@@ -1,5 +1,5 @@
 -- What is searched for, and where.
-use Rattle.std.specs.Prelude.{◌≡◌, ℕ, ◌+◌, ◌-◌, ◌<◌, ◌≤◌, Bool, false, List, ◌++◌, length}
+use Rattle.std.specs.Prelude.{◌≡◌, ℕ, ◌+◌, ◌-◌, ◌<◌, Bool, false, List, ◌++◌, length}
 use Rattle.std.specs.Int.{bit_at}
 use Rattle.ed_model.specs.Matches.{is_match}
 use Rattle.target_search.specs.declared.search.Search.{Search}
@@ -17,10 +17,6 @@ is_match_of search place = is_match search.flags (text_of search) search.pattern
 -- the place behind the last one at which a match can begin in a part of the text
 abbrev pub end_in : Search → List ℕ → ℕ → ℕ
 end_in search part offset = offset + length part + 1 - size_of search
-
--- matches that begin from one place up to another begin in the first half of the text and end in the second
-abbrev pub LieOverSeam : Search → ℕ → ℕ → Type 0
-LieOverSeam search from to = (length search.before.now < from + size_of search) × (to ≤ length search.before.now)
 
 -- of the 64 places from this one on, only those whose bit is set can begin a match
 abbrev pub MarksMatches : Search → ℕ → ℕ → Type 0

@@ -2,7 +2,7 @@
 
 ghost use Rattle.std.specs.Prelude.{◌≡◌, ℕ, ◌+◌, ◌≤◌, ◌<◌, true, length};
 ghost use Rattle.ed_model.specs.Matches.{folded};
-ghost use Rattle.target_search.specs.Cases.{is_either};
+ghost use Rattle.target_search.specs.Cases.{MarkPairs, is_either};
 
 use crate::marks::marks_of_two;
 use memchr::arch::all::packedpair::{DefaultFrequencyRank, HeuristicFrequencyRank};
@@ -61,7 +61,7 @@ fn rarest_two(pattern: &[u8]) -> (usize, usize)
 }
 
 impl RareByte {
-    ghost use Rattle.target_search.specs.Rare.{IsRareOf, MarkBoth};
+    ghost use Rattle.target_search.specs.Rare.{IsRareOf};
 
     // Returns the byte of a pattern at a place.
     fn at(pattern: &[u8], place: usize) -> Self
@@ -90,7 +90,7 @@ impl RareByte {
     pub(crate) fn marks_with(&self, other: &Self, bytes: &[u8], start: usize) -> u64
         requires first { start + self.now.place + 64 ≤ length bytes.now }
         requires second { start + other.now.place + 64 ≤ length bytes.now }
-        ensures { MarkBoth self.now other.now bytes.now start result }
+        ensures { MarkPairs bytes.now self.now.cases (start + self.now.place) other.now.cases (start + other.now.place) result }
     {
         marks_of_two(
             bytes,

@@ -17,7 +17,7 @@ pub(crate) struct Search<'a> {
 }
 
 impl<'a> Search<'a> {
-    ghost use Rattle.target_search.specs.Searches.{LieOverSeam, end_in, text_of, size_of, is_match_of};
+    ghost use Rattle.target_search.specs.Searches.{end_in, text_of, size_of, is_match_of};
 
     /// Returns whether the flags allow the bytes around a match at `place`.
     #[inline]
@@ -209,7 +209,7 @@ impl<'a> Search<'a> {
         requires order { from ≤ end }
         ensures order { (from ≤ result.0) × (result.0 ≤ result.1) × (result.1 ≤ end) }
         ensures front { from < result.0 → result.0 + size_of self.now ≤ length self.now.before.now + 1 }
-        ensures seam { result.0 < result.1 → LieOverSeam self.now result.0 result.1 }
+        ensures seam { result.0 < result.1 → ((length self.now.before.now < result.0 + size_of self.now) × (result.1 ≤ length self.now.before.now)) }
         ensures behind { result.1 < end → length self.now.before.now ≤ result.1 }
     {
         let middle = self.before.len();

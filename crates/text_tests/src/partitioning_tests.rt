@@ -150,33 +150,3 @@ fn counts_at_both_places(rt: HostRuntime) {
     row_of_counts::<u32>(&rt, rt.alloc());
     row_of_counts::<u64>(&rt, rt.alloc());
 }
-
-// Inserting or removing a start on either side of the step leaves the others as they are stored.
-fn move_starts<P: Place>(rt: &impl Abort, table: &mut Partitioning<P>) {
-    put_in(rt, table, 0, 4);
-    let stepped = table.stepped();
-    split(rt, table, 3, 7);
-    assert_starts(rt, table, &[0, 5, 6, 7], 7);
-    assert_eq!(rt; table.step_at(), 0);
-    split(rt, table, 1, 2);
-    assert_starts(rt, table, &[0, 2, 5, 6, 7], 7);
-    assert_eq!(rt; table.step_at(), 1);
-    join(rt, table, 3);
-    join(rt, table, 1);
-    assert_starts(rt, table, &[0, 5, 7], 7);
-    assert_eq!(rt; table.step_at(), 0);
-    assert_eq!(rt; table.stepped(), stepped);
-    put_in(rt, table, 0, 1);
-    assert_starts(rt, table, &[0, 6, 8], 8);
-}
-
-fn row_of_starts<P: Place>(rt: &impl Abort, alloc: Global) {
-    let mut table: Partitioning<P> = single_bytes(rt, alloc, 3);
-    move_starts(rt, &mut table);
-}
-
-#[test]
-fn starts_at_both_places(rt: HostRuntime) {
-    row_of_starts::<u32>(&rt, rt.alloc());
-    row_of_starts::<u64>(&rt, rt.alloc());
-}

@@ -1,13 +1,7 @@
-//! Series of calls, for several types of items. The expected lists are written by hand.
+//! `reserve` and `reserve_narrow`, with memory and without, and the count of moved items.
 use split_vector::SplitVector;
 use std::alloc::AllocError;
 use std::process::Abort;
-
-#[derive(Clone, Copy, Debug, PartialEq)]
-struct Mark {
-    line: u32,
-    kind: u8,
-}
 
 /// Returns the two halves as one list.
 fn joined(v: &SplitVector<u8>, rt: &HostRuntime) -> Result<Vec<u8>, AllocError> {
@@ -109,88 +103,4 @@ fn moves_are_counted(rt: HostRuntime) {
     v.insert_reserved(0, b'^');
     assert_eq!(rt; v.moved(), 2001);
     assert_eq!(rt; v.len(), 1001);
-}
-
-// In each long test one function owns the list and lends it to others, which do the rest: owning one over many calls
-// makes a proof slow.
-
-fn grow_about_the_gap(rt: &impl Abort, v: &mut SplitVector<u32>) {
-    v.reserve(4).expect(rt, "memory");
-    v.insert_slice_reserved(0, &[10, 20, 30, 40]);
-    v.delete(1, 1);
-    v.reserve(100).expect(rt, "memory");
-    assert_eq!(rt; v.gap(), 1);
-    assert!(rt; v.spare() >= 100);
-    assert_eq!(rt; v.len(), 3);
-    assert_eq!(rt; v.get(0), 10);
-    assert_eq!(rt; v.get(2), 40);
-}
-
-fn fill_behind_the_gap(rt: &impl Abort, v: &mut SplitVector<u32>) {
-    assert!(rt; v.len() == 3 && v.spare() >= 2);
-    v.set(1, 31);
-    v.insert_fill_reserved(3, 2, 7);
-    let mut part = [0; 4];
-    assert_eq!(rt; v.len(), 5);
-    v.copy_out(1, &mut part);
-    assert_eq!(rt; part.as_slice(), [31, 40, 7, 7].as_slice());
-}
-
-#[test]
-fn growth_keeps_both_sides(rt: HostRuntime) {
-    let mut v: SplitVector<u32> = SplitVector::new(rt.alloc());
-    grow_about_the_gap(&rt, &mut v);
-    fill_behind_the_gap(&rt, &mut v);
-}
-
-fn copy_marks(rt: &impl Abort, v: &mut SplitVector<Mark>) {
-    let first = Mark { line: 1, kind: 2 };
-    let other = Mark { line: 9, kind: 0 };
-    v.reserve(3).expect(rt, "memory");
-    v.insert_fill_reserved(0, 2, first);
-    v.insert_reserved(1, other);
-    assert_eq!(rt; v.len(), 3);
-    assert_eq!(rt; v.get(1), other);
-    let mut part = [other; 3];
-    v.copy_out(0, &mut part);
-    assert_eq!(rt; part.as_slice(), [first, other, first].as_slice());
-    assert_eq!(rt; v.lend(1, 2), [other, first].as_slice());
-}
-
-#[test]
-fn marks_are_copied(rt: HostRuntime) {
-    let mut v: SplitVector<Mark> = SplitVector::new(rt.alloc());
-    copy_marks(&rt, &mut v);
-}
-
-fn divide_over_the_gap(rt: &impl Abort, v: &mut SplitVector<u32>) {
-    v.reserve(6).expect(rt, "memory");
-    v.insert_slice_reserved(0, &[10, 20, 30, 40, 50]);
-    v.insert_reserved(2, 25);
-    assert!(rt; v.gap() == 3 && v.len() == 6);
-    let moved = v.moved();
-    v.update(1, 5, |item| item / 5);
-    let mut all = [0; 6];
-    v.copy_out(0, &mut all);
-    assert_eq!(rt; all.as_slice(), [10, 4, 5, 6, 8, 50].as_slice());
-    assert_eq!(rt; v.gap(), 3);
-    assert_eq!(rt; v.moved(), moved);
-}
-
-fn update_beside_the_gap(rt: &impl Abort, v: &mut SplitVector<u32>) {
-    assert!(rt; v.gap() == 3 && v.len() == 6);
-    let mask = 1;
-    v.update(4, 6, |item| item ^ mask);
-    v.update(0, 3, |item| item / 2);
-    v.update(3, 3, |item| item / 2);
-    let mut all = [0; 6];
-    v.copy_out(0, &mut all);
-    assert_eq!(rt; all.as_slice(), [5, 2, 2, 6, 9, 51].as_slice());
-}
-
-#[test]
-fn items_are_updated_where_they_lie(rt: HostRuntime) {
-    let mut v: SplitVector<u32> = SplitVector::new(rt.alloc());
-    divide_over_the_gap(&rt, &mut v);
-    update_beside_the_gap(&rt, &mut v);
 }

@@ -1,17 +1,6 @@
 -- The code's rule of joining is the definitions' rule.
-use Rattle.std.proofs.Common.{◌≡◌, ◌≤◌, ◌<◌, ◌+◌, ℕ, suc, List, [], ◌∷◌, length, take, get_or, refl, ap, sym, ◌∙◌, arith, reverse, Bool, true, false}
-use Rattle.std.specs.Prelude.{Option, Some, None, ◌||◌, ◌&&◌, nat_lt, not, slice_range, if◌then◌else◌}
-use Rattle.std.proofs.lemmas.Bool.Decides.{nat_tests}
+use Rattle.undo_history.proofs.Names.{◌≡◌, ◌≤◌, ◌<◌, ◌+◌, ℕ, suc, List, [], ◌∷◌, length, take, get_or, refl, ap, sym, ◌∙◌, arith, reverse, Bool, true, false, Option, Some, None, ◌||◌, ◌&&◌, nat_lt, not, slice_range, if◌then◌else◌, nat_tests, Change, TextStep, ContainerStep, goes_on, goes_on_after, belongs, latest_text_step, Transaction, History, joins, joins_last, at_save_point, first_changes, StepKind, Insert, Delete, ChangeKind, Text, Container, StepRecord, step_of, Entry, alone, joined, pushed, transactions, entry_in, entries_in, change_of, bytes_end, last_end, history_of, outline, outline_of, outline_if_any, steps_go_on, belongs_after}
 use Rattle.ed_model.specs.Steps as model
-use Rattle.ed_model.specs.History.{Change, TextStep, ContainerStep, goes_on, goes_on_after, belongs, latest_text_step, Transaction, History, joins, joins_last, at_save_point, first_changes}
-use Rattle.undo_history.specs.declared.records.StepKind.{StepKind}
-use Rattle.undo_history.specs.declared.records.StepKind.TheVariants.{Insert, Delete}
-use Rattle.undo_history.specs.declared.records.ChangeKind.{ChangeKind}
-use Rattle.undo_history.specs.declared.records.ChangeKind.TheVariants.{Text, Container}
-use Rattle.undo_history.specs.declared.records.StepRecord.{StepRecord}
-use Rattle.undo_history.specs.Steps.{step_of}
-use Rattle.undo_history.specs.Records.{Entry, alone, joined, pushed, transactions, entry_in, entries_in, change_of, bytes_end, last_end, history_of}
-use Rattle.undo_history.specs.Joining.{outline, outline_of, outline_if_any, steps_go_on, belongs_after}
 use Rattle.undo_history.proofs.Lists.{latest_first}
 use Rattle.undo_history.proofs.Sealing.{entries_length}
 use Rattle.undo_history.proofs.Reading.{entry_read}

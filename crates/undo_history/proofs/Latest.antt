@@ -1,16 +1,6 @@
 -- The latest step of the text in the last transaction, searched from the end; and how many steps that transaction has.
-use Rattle.std.proofs.Common.{◌≡◌, ◌<◌, ◌+◌, ◌-◌, ℕ, suc, List, [], ◌∷◌, length, take, drop, get_or, refl, ap, ◌∙◌, arith, reverse, ℤ, Bool, true, false}
-use Rattle.std.specs.Prelude.{Option, Some, None, slice_range, if◌then◌else◌}
-use Rattle.std.proofs.lemmas.List.{length-take, length-drop, drop_more}
-use Rattle.ed_model.specs.History.{TextStep, Transaction, latest_text_step, first_changes}
+use Rattle.undo_history.proofs.Names.{◌≡◌, ◌<◌, ◌+◌, ◌-◌, ℕ, suc, List, [], ◌∷◌, length, take, drop, get_or, refl, ap, ◌∙◌, arith, reverse, ℤ, Bool, true, false, Option, Some, None, slice_range, if◌then◌else◌, length-take, length-drop, drop_more, TextStep, Transaction, latest_text_step, first_changes, StepKind, Insert, Delete, Text, Container, StepRecord, step_of, pushed, transactions, entry, entry_in, entries_in, change_of, bytes_end, last_end, last_count, joined_count, next_count, begins_or_none, EndsInOrder, outline, outline_of, outline_if_any}
 use Rattle.ed_model.specs.Steps as model
-use Rattle.undo_history.specs.declared.records.StepKind.{StepKind}
-use Rattle.undo_history.specs.declared.records.StepKind.TheVariants.{Insert, Delete}
-use Rattle.undo_history.specs.declared.records.ChangeKind.TheVariants.{Text, Container}
-use Rattle.undo_history.specs.declared.records.StepRecord.{StepRecord}
-use Rattle.undo_history.specs.Steps.{step_of}
-use Rattle.undo_history.specs.Records.{pushed, transactions, entry, entry_in, entries_in, change_of, bytes_end, last_end, last_count, joined_count, next_count, begins_or_none, EndsInOrder}
-use Rattle.undo_history.specs.Joining.{outline, outline_of, outline_if_any}
 use Rattle.undo_history.proofs.Lists.{latest_first}
 use Rattle.undo_history.proofs.Transactions.{changes_start, changes_join, last_count_start, last_count_join, joined_count_start, joined_count_join}
 use Rattle.undo_history.proofs.Sealing.{entries_length}

@@ -1,3 +1,4 @@
+pub mod Names
 pub mod Parts
 pub mod Lists
 pub mod Transactions

@@ -1,7 +1,5 @@
 -- Lists and their fronts, read from the end.
-use Rattle.std.proofs.Common.{◌≡◌, ◌≤◌, ◌<◌, ◌+◌, ◌-◌, ℕ, zero, suc, List, [], ◌∷◌, ◌++◌, length, take, drop, map, get_or, refl, ap, sym, ◌∙◌, arith, reverse}
-use Rattle.std.specs.Prelude.{Some, slice_get}
-use Rattle.std.proofs.lemmas.List.{take_more, reverse-append, reverse-reverse, length-reverse, length-drop, take-append-drop, take_at, drop_at}
+use Rattle.undo_history.proofs.Names.{◌≡◌, ◌≤◌, ◌<◌, ◌+◌, ◌-◌, ℕ, zero, suc, List, [], ◌∷◌, ◌++◌, length, take, drop, map, get_or, refl, ap, sym, ◌∙◌, arith, reverse, Some, slice_get, take_more, reverse-append, reverse-reverse, length-reverse, length-drop, take-append-drop, take_at, drop_at}
 
 module _ {X : Type 0} where
   -- the front with its last item first

@@ -1,10 +1,6 @@
 -- Undo and redo move the boundary between past and future by one transaction.
-use Rattle.std.proofs.Common.{◌≡◌, ◌≤◌, ◌<◌, ◌+◌, ◌-◌, ℕ, List, [], ◌∷◌, ◌++◌, length, take, drop, map, refl, ap, ap₂, sym, subst, ◌∙◌, arith, reverse, Bool, append_assoc, inl, inr}
-use Rattle.std.specs.Prelude.{Option}
-use Rattle.std.proofs.lemmas.List.{reverse-append, reverse-reverse, length-append, length-reverse, length-take-le, length-drop, take-append-drop, take_all, take_at, drop_at, drop_all}
+use Rattle.undo_history.proofs.Names.{◌≡◌, ◌≤◌, ◌<◌, ◌+◌, ◌-◌, ℕ, List, [], ◌∷◌, ◌++◌, length, take, drop, map, refl, ap, ap₂, sym, subst, ◌∙◌, arith, reverse, Bool, append_assoc, inl, inr, Option, reverse-append, reverse-reverse, length-append, length-reverse, length-take-le, length-drop, take-append-drop, take_all, take_at, drop_at, drop_all, Transaction, History, seal_first, with_last_sealed, undone, undone_to, redone, redone_from, first_changes, undo_changes, redo_changes, inverse_change, Entry, transactions, history_of, last_count, next_count, BeginsOne}
 use Rattle.std.proofs.lemmas.Bool.{cases_lt}
-use Rattle.ed_model.specs.History.{Transaction, History, seal_first, with_last_sealed, undone, undone_to, redone, redone_from, first_changes, undo_changes, redo_changes, inverse_change}
-use Rattle.undo_history.specs.Records.{Entry, transactions, history_of, last_count, next_count, BeginsOne}
 use Rattle.undo_history.proofs.Lists.{front_of_reverse, back_of_reverse, map_reverse}
 use Rattle.undo_history.proofs.Transactions.{cut, last_apart, last_count_within, last_count_some, begins_last, begins_front, begins_more, begins_behind_next, next_count_within, next_is_whole, last_changes, change_in}
 

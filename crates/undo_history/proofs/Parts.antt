@@ -1,9 +1,6 @@
 -- Parts read by their records: a front, one part more, or another record in one place.
-use Rattle.std.proofs.Common.{◌≡◌, ◌≤◌, ◌<◌, ◌-◌, ℕ, zero, suc, List, [], ◌∷◌, ◌++◌, length, take, drop, get_or, refl, ap, sym, ◌∙◌, arith}
-use Rattle.std.specs.Prelude.{slice_range}
-use Rattle.std.proofs.lemmas.List.{take-take, take-append-le}
+use Rattle.undo_history.proofs.Names.{◌≡◌, ◌≤◌, ◌<◌, ◌-◌, ℕ, zero, suc, List, [], ◌∷◌, ◌++◌, length, take, drop, get_or, refl, ap, sym, ◌∙◌, arith, slice_range, take-take, take-append-le, read_parts, last_end, EndsInOrder}
 use Rattle.std.proofs.lemmas.Slice.{between_is}
-use Rattle.undo_history.specs.Records.{read_parts, last_end, EndsInOrder}
 
 -- a part is the same if more comes behind it
 slice_of_front : {X : Type 0} → (n : ℕ) (xs : List X) (a e : ℕ) → e ≤ n → slice_range (take n xs) a e ≡ slice_range xs a e

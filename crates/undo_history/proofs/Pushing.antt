@@ -1,13 +1,6 @@
 -- The future dropped, and a change stored behind the past.
-use Rattle.std.proofs.Common.{◌≡◌, ◌≤◌, ◌+◌, ◌-◌, ℕ, zero, suc, List, [], ◌∷◌, ◌++◌, length, take, drop, refl, ap, ap₂, sym, subst, ◌∙◌, arith, reverse, Bool, true, false, append-nil}
-use Rattle.std.specs.Prelude.{Option, slice_range, not, if◌then◌else◌}
-use Rattle.std.proofs.lemmas.List.{take-take, take_all, drop_at, drop_all, length-append, length-take-le, length-reverse, length-drop, reverse-append}
-use Rattle.ed_model.specs.History.{Change, Transaction, with_change}
+use Rattle.undo_history.proofs.Names.{◌≡◌, ◌≤◌, ◌+◌, ◌-◌, ℕ, zero, suc, List, [], ◌∷◌, ◌++◌, length, take, drop, refl, ap, ap₂, sym, subst, ◌∙◌, arith, reverse, Bool, true, false, append-nil, Option, slice_range, not, if◌then◌else◌, take-take, take_all, drop_at, drop_all, length-append, length-take-le, length-reverse, length-drop, reverse-append, Change, Transaction, with_change, ChangeKind, StepRecord, without_undone, Entry, entry, entry_in, entries_in, change_of, pushed, transactions, history_of, bytes_end, last_end, BeginsOne, EndsInOrder, IsInOrder, LastIsOpen}
 use Rattle.split_vector.specs.Split.{inserted, deleted}
-use Rattle.undo_history.specs.declared.records.ChangeKind.{ChangeKind}
-use Rattle.undo_history.specs.declared.records.StepRecord.{StepRecord}
-use Rattle.undo_history.specs.Dropping.{without_undone}
-use Rattle.undo_history.specs.Records.{Entry, entry, entry_in, entries_in, change_of, pushed, transactions, history_of, bytes_end, last_end, BeginsOne, EndsInOrder, IsInOrder, LastIsOpen}
 use Rattle.undo_history.proofs.Parts.{front_of_parts, parts_of_front, ends_of_front, last_of_front, parts_push, parts_of_more, ends_push, last_of_ends}
 use Rattle.undo_history.proofs.Transactions.{transactions_some}
 use Rattle.undo_history.proofs.Moving.{history}

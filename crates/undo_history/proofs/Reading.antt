@@ -1,13 +1,6 @@
 -- The steps that undo and redo perform, by their places among all steps.
-use Rattle.std.proofs.Common.{◌≡◌, ◌≤◌, ◌<◌, ◌+◌, ◌-◌, ℕ, zero, suc, List, [], ◌∷◌, length, take, drop, map, get_or, refl, ap, sym, subst, ◌∙◌, arith, reverse, Bool, false, inl, inr}
-use Rattle.std.specs.Prelude.{Option, Some, slice_get, slice_range, ◌==◌}
-use Rattle.std.proofs.lemmas.List.{length-map, length-reverse, length-take-le, length-drop, get_or-map, get_or-reverse, get_or-take, get_or-drop, drop-drop, reverse-reverse, take-append-drop}
-use Rattle.std.proofs.lemmas.Bool.Decides.{nat_tests}
-use Rattle.ed_model.specs.History.{Change, inverse_change, undo_changes, redo_changes}
-use Rattle.undo_history.specs.declared.records.StepRecord.{StepRecord}
-use Rattle.undo_history.specs.Records.{Entry, entry, entry_in, entries_in, change_of, bytes_end, last_end, read_parts, last_count, joined_count, next_count, begins_or_none, history_of, BeginsOne, EndsInOrder, IsInOrder}
+use Rattle.undo_history.proofs.Names.{◌≡◌, ◌≤◌, ◌<◌, ◌+◌, ◌-◌, ℕ, zero, suc, List, [], ◌∷◌, length, take, drop, map, get_or, refl, ap, sym, subst, ◌∙◌, arith, reverse, Bool, false, inl, inr, Option, Some, slice_get, slice_range, ◌==◌, length-map, length-reverse, length-take-le, length-drop, get_or-map, get_or-reverse, get_or-take, get_or-drop, drop-drop, reverse-reverse, take-append-drop, nat_tests, Change, inverse_change, undo_changes, redo_changes, StepRecord, Entry, entry, entry_in, entries_in, change_of, bytes_end, last_end, read_parts, last_count, joined_count, next_count, begins_or_none, history_of, BeginsOne, EndsInOrder, IsInOrder, changes_in}
 use Rattle.undo_history.specs.Reading as reading
-use Rattle.undo_history.specs.Reading.{changes_in}
 use Rattle.undo_history.proofs.Parts.{part_read, parts_length, last_end_read, last_of_front, fronts_rise}
 use Rattle.undo_history.proofs.Lists.{read_at, reverse_more}
 use Rattle.undo_history.proofs.Transactions.{change_in, is_or_not, last_count_start, last_count_join, last_count_some, last_count_within, joined_count_start, joined_count_join, next_count_within, begins_front}

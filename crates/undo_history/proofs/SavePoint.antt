@@ -1,12 +1,5 @@
 -- Whether undo and redo reach the save point.
-use Rattle.std.proofs.Common.{◌≡◌, ◌<◌, ◌+◌, ◌-◌, ℕ, List, [], ◌∷◌, length, drop, refl, ap, sym, ◌∙◌, arith, reverse, Bool}
-use Rattle.std.specs.Prelude.{Option}
-use Rattle.std.proofs.lemmas.List.{length-drop, length-reverse, drop_all}
-use Rattle.ed_model.specs.Numbers.{is_number}
-use Rattle.ed_model.specs.History.{Transaction, History, seal_first, undone, undone_to, redone, redone_from, at_save_point}
-use Rattle.ed_model.specs.proved.Histories.{sealed_length}
-use Rattle.undo_history.specs.declared.records.StepRecord.{StepRecord}
-use Rattle.undo_history.specs.Records.{transactions, history_of, entries_in, IsInOrder}
+use Rattle.undo_history.proofs.Names.{◌≡◌, ◌<◌, ◌+◌, ◌-◌, ℕ, List, [], ◌∷◌, length, drop, refl, ap, sym, ◌∙◌, arith, reverse, Bool, Option, length-drop, length-reverse, drop_all, is_number, Transaction, History, seal_first, undone, undone_to, redone, redone_from, at_save_point, sealed_length, StepRecord, transactions, history_of, entries_in, IsInOrder}
 use Rattle.undo_history.proofs.Transactions.{transactions_some}
 use Rattle.undo_history.proofs.Sealing.{entries_length}
 

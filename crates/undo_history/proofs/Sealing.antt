@@ -1,12 +1,5 @@
 -- The effect of sealing, and the tests of a history.
-use Rattle.std.proofs.Common.{◌≡◌, ◌≤◌, ◌<◌, ◌+◌, ◌-◌, ℕ, zero, suc, List, [], ◌∷◌, length, take, drop, set, get_or, refl, ap, ap₂, sym, ◌∙◌, arith, reverse, Bool, true, false}
-use Rattle.std.specs.Prelude.{Option, nat_lt, slice_range, if◌then◌else◌}
-use Rattle.std.proofs.lemmas.List.{length-reverse, length-drop}
-use Rattle.std.proofs.lemmas.Bool.Decides.{nat_tests}
-use Rattle.ed_model.specs.History.{Transaction, can_redo, seal_first, with_last_sealed, sealed_outside_groups, undone, redone}
-use Rattle.ed_model.specs.proved.Histories.{sealed_length}
-use Rattle.undo_history.specs.declared.records.StepRecord.{StepRecord}
-use Rattle.undo_history.specs.Records.{Entry, entry, entry_in, entries_in, alone, joined, pushed, transactions, history_of, read_parts, bytes_end, changed_at, sealed_record, with_sealed, BeginsOne, EndsInOrder, IsInOrder}
+use Rattle.undo_history.proofs.Names.{◌≡◌, ◌≤◌, ◌<◌, ◌+◌, ◌-◌, ℕ, zero, suc, List, [], ◌∷◌, length, take, drop, set, get_or, refl, ap, ap₂, sym, ◌∙◌, arith, reverse, Bool, true, false, Option, nat_lt, slice_range, if◌then◌else◌, length-reverse, length-drop, nat_tests, Transaction, can_redo, seal_first, with_last_sealed, sealed_outside_groups, undone, redone, sealed_length, StepRecord, Entry, entry, entry_in, entries_in, alone, joined, pushed, transactions, history_of, read_parts, bytes_end, changed_at, sealed_record, with_sealed, BeginsOne, EndsInOrder, IsInOrder}
 use Rattle.undo_history.proofs.Parts.{parts_length}
 use Rattle.undo_history.proofs.Lists.{latest_first}
 use Rattle.undo_history.proofs.Transactions.{transactions_some}

@@ -1,9 +1,5 @@
 -- Entries as transactions: where the last one begins, where the next one ends, and what stands on either side of a start.
-use Rattle.std.proofs.Common.{◌≡◌, ◌≤◌, ◌<◌, ℕ, suc, List, [], ◌∷◌, ◌++◌, length, take, drop, map, refl, ap, sym, subst, ◌∙◌, arith, reverse, Bool, true, false, append-nil, append_assoc, ◌⊎◌, inl, inr}
-use Rattle.std.specs.Prelude.{if◌then◌else◌}
-use Rattle.std.proofs.lemmas.List.{reverse-append, length-append, length-reverse, length-take-le}
-use Rattle.ed_model.specs.History.{Change, Transaction, first_changes}
-use Rattle.undo_history.specs.Records.{Entry, alone, joined, pushed, transactions, last_count, joined_count, next_count, BeginsOne}
+use Rattle.undo_history.proofs.Names.{◌≡◌, ◌≤◌, ◌<◌, ℕ, suc, List, [], ◌∷◌, ◌++◌, length, take, drop, map, refl, ap, sym, subst, ◌∙◌, arith, reverse, Bool, true, false, append-nil, append_assoc, ◌⊎◌, inl, inr, if◌then◌else◌, reverse-append, length-append, length-reverse, length-take-le, Change, Transaction, first_changes, Entry, alone, joined, pushed, transactions, last_count, joined_count, next_count, BeginsOne}
 use Rattle.undo_history.proofs.Lists.{reverse_more}
 
 -- One entry.

@@ -14,8 +14,12 @@ pub record Kept : Type 0 where
 abbrev pub kept : History → ℕ → ℕ → ℕ × ℕ → ℕ × ℕ → Kept
 kept history steps bytes taken spare = record { history = history; step_room = steps; byte_room = bytes; taken = taken; spare = spare }
 
+-- the history with no memory: its blocks hold nothing, and there is no room
+abbrev pub holding_nothing : History → Kept
+holding_nothing history = kept history 0 0 (0, 0) (0, 0)
+
 abbrev pub fresh : Kept
-fresh = kept fresh_history 0 0 (0, 0) (0, 0)
+fresh = holding_nothing fresh_history
 
 -- there is room for `steps` more steps with `bytes` bytes in all; a history that does not collect needs none
 abbrev pub HasRoom : Kept → ℕ → ℕ → Type 0
@@ -70,6 +74,8 @@ UsesSpareAtMost bytes old new = (old.spare.0 ≤ new.spare.0 + 1) × (old.spare.
 abbrev pub HistoryBecomes : History → Kept → Kept → Type 0
 HistoryBecomes history old new = new ≡ record old { history = history; spare = new.spare }
 
--- after the collection of steps is turned on or off: if it is off, the blocks have all that they hold to spare
+-- after the collection of steps is turned on or off: if it is off, the blocks hold nothing
 abbrev pub with_collecting : Bool → Kept → Kept
-with_collecting on k = record k { history = collecting_set on k.history; spare = if on then k.spare else k.taken }
+with_collecting on k =
+    kept (collecting_set on k.history) (if on then k.step_room else 0) (if on then k.byte_room else 0) (if on then k.taken else (0, 0))
+    (if on then k.spare else (0, 0))

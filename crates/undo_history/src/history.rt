@@ -7,7 +7,7 @@ ghost use Rattle.ed_model.specs.History.{begins_transaction, appended, joins, Te
 ghost use Rattle.ed_model.specs.History.{sealed_outside_groups, group_begun, group_ended, saved, emptied, reachable};
 ghost use Rattle.ed_model.specs.History.{inverse_change};
 ghost use Rattle.ed_model.specs.Numbers.{is_number};
-ghost use Rattle.undo_history.specs.Kept.{fresh, with_collecting, HasRoom, HistoryBecomes};
+ghost use Rattle.undo_history.specs.Kept.{fresh, holding_nothing, with_collecting, HasRoom, HistoryBecomes};
 ghost use Rattle.undo_history.specs.Kept.{IfSpare, OnlyRoomChanges, RoomAtMost, BlocksAtMost, BlocksGrowBySpare};
 ghost use Rattle.undo_history.specs.Kept.{IfNothingIsDropped, UsesRoom, UsesStepRoom, UsesSpare, UsesStepSpare};
 ghost use Rattle.undo_history.specs.Kept.{UsesSpareAtMost};
@@ -29,6 +29,7 @@ use std::marker::Model;
 /// it.
 #[derive(Drop)]
 pub struct UndoHistory {
+    alloc: Global,
     // The gap of both stands behind all items, since items are only appended, or deleted at the end.
     steps: SplitVector<StepRecord>,
     bytes: SplitVector<u8>,
@@ -75,6 +76,7 @@ impl UndoHistory {
         ensures { result ≡ fresh }
     {
         UndoHistory {
+            alloc,
             steps: SplitVector::new(alloc),
             bytes: SplitVector::new(alloc),
             past: 0,
@@ -255,12 +257,15 @@ impl UndoHistory {
         self.seal_outside_groups();
     }
 
-    /// Forgets all steps, and keeps the memory. This state becomes the save point, and no group is open.
+    /// Forgets all steps, and frees their memory. This state becomes the save point, and no group is open. Room that was
+    /// reserved is gone. Allocates nothing.
     pub fn empty(&mut self)
-        ensures { self.new ≡ record self.old { history = emptied self.old.history; spare = self.old.taken } }
+        ensures { self.new ≡ holding_nothing (emptied self.old.history) }
     {
-        self.steps.delete(0, self.steps.len());
-        self.bytes.delete(0, self.bytes.len());
+        self.steps = SplitVector::new(self.alloc);
+        self.bytes = SplitVector::new(self.alloc);
+        self.step_room = 0;
+        self.byte_room = 0;
         self.past = 0;
         self.transactions = 0;
         self.save_point = Some(0);
@@ -268,7 +273,7 @@ impl UndoHistory {
     }
 
     /// Turns the collection of steps on or off. When it is off, the history forgets all but whether the document counts
-    /// as modified.
+    /// as modified, and frees the memory of its steps like `empty`.
     pub fn set_collecting(&mut self, on: bool)
         ensures { self.new ≡ with_collecting on self.old }
     {

@@ -6,7 +6,7 @@ ghost use Rattle.undo_history.specs.Joining.{IsLatestOutline, steps_go_on, belon
 use crate::records::{ChangeKind, StepKind, StepOutline, StepRecord, bytes_before};
 
 /// Returns whether `step` continues the typing, or the deletion of single characters, of `earlier`.
-pub fn goes_on(step: StepOutline, earlier: StepOutline) -> bool
+pub(crate) fn goes_on(step: StepOutline, earlier: StepOutline) -> bool
     ensures { result ≡ steps_go_on step earlier }
 {
     match (step.kind, earlier.kind) {
@@ -24,7 +24,7 @@ pub fn goes_on(step: StepOutline, earlier: StepOutline) -> bool
 
 /// Returns whether a change with `count` bytes belongs to a transaction by its kind, if `latest` is the latest step of
 /// the text there.
-pub fn belongs(kind: ChangeKind, count: usize, latest: Option<StepOutline>) -> bool
+pub(crate) fn belongs(kind: ChangeKind, count: usize, latest: Option<StepOutline>) -> bool
     ensures { result ≡ belongs_after kind count latest }
 {
     let Some(earlier) = latest else {
@@ -38,7 +38,7 @@ pub fn belongs(kind: ChangeKind, count: usize, latest: Option<StepOutline>) -> b
 
 /// Returns the latest step of the text in the last transaction of the first `past` steps.
 #[inline]
-pub fn find_latest_step(steps: &[StepRecord], past: usize) -> Option<StepOutline>
+pub(crate) fn find_latest_step(steps: &[StepRecord], past: usize) -> Option<StepOutline>
     requires { past ≤ length steps.now }
     ensures { IsLatestOutline steps.now past result }
 {

@@ -69,7 +69,7 @@ fn items_are_few<T: Copy>(items: &SplitVector<T>)
 }
 
 /// Returns all records. Their gap stands behind them, since records are only appended, or deleted at the end.
-pub fn all_steps(steps: &SplitVector<StepRecord>) -> &[StepRecord]
+pub(crate) fn all_steps(steps: &SplitVector<StepRecord>) -> &[StepRecord]
     requires { steps.now.gap ≡ length steps.now.items }
     ensures steps { result.now ≡ steps.now.items }
     ensures within { length steps.now.items < 2 ^ 63 }
@@ -80,7 +80,7 @@ pub fn all_steps(steps: &SplitVector<StepRecord>) -> &[StepRecord]
 }
 
 /// Returns all bytes of a vector whose gap stands behind them.
-pub fn all_bytes(bytes: &SplitVector<u8>) -> &[u8]
+pub(crate) fn all_bytes(bytes: &SplitVector<u8>) -> &[u8]
     requires { bytes.now.gap ≡ length bytes.now.items }
     ensures { result.now ≡ bytes.now.items }
 {
@@ -91,7 +91,7 @@ pub fn all_bytes(bytes: &SplitVector<u8>) -> &[u8]
 /// Returns the place behind all items of a vector whose gap stands there. It is read as the gap, so that an insertion
 /// there needs no check whether the gap has to move.
 #[inline(always)]
-pub fn end_of<T: Copy>(items: &SplitVector<T>) -> usize
+pub(crate) fn end_of<T: Copy>(items: &SplitVector<T>) -> usize
     requires { items.now.gap ≡ length items.now.items }
     ensures end { result ≡ length items.now.items }
     ensures within { length items.now.items + items.now.spare < 2 ^ 63 }
@@ -102,7 +102,7 @@ pub fn end_of<T: Copy>(items: &SplitVector<T>) -> usize
 
 /// Returns how many bytes the first `count` changes have.
 #[tactic(auto, using(crate::proofs::Parts::last_end_read))]
-pub fn bytes_before(steps: &[StepRecord], count: usize) -> usize
+pub(crate) fn bytes_before(steps: &[StepRecord], count: usize) -> usize
     requires { count ≤ length steps.now }
     ensures { result ≡ last_end bytes_end 0 (take count steps.now) }
 {
@@ -113,7 +113,11 @@ pub fn bytes_before(steps: &[StepRecord], count: usize) -> usize
 }
 
 /// Returns what the change at `index` did, and its bytes.
-pub fn change_at<'a>(steps: &[StepRecord], bytes: &'a [u8], index: usize) -> (ChangeKind, &'a [u8])
+pub(crate) fn change_at<'a>(
+    steps: &[StepRecord],
+    bytes: &'a [u8],
+    index: usize,
+) -> (ChangeKind, &'a [u8])
     requires there { index < length steps.now }
     requires in_order { EndsInOrder bytes_end 0 steps.now (length bytes.now) }
     ensures change { slice_get (changes_in steps.now bytes.now) index ≡ Some (change_of result.0 result.1.now) }
@@ -141,7 +145,7 @@ fn bytes_by_kind(kind: ChangeKind, stored: &[u8]) -> &[u8]
 
 /// Seals the last of the first `count` steps, if there is one.
 #[tactic(auto, using(crate::proofs::Sealing::sealed_set))]
-pub fn seal(steps: &mut SplitVector<StepRecord>, count: usize)
+pub(crate) fn seal(steps: &mut SplitVector<StepRecord>, count: usize)
     requires { count ≤ length steps.old.items }
     ensures items { steps.new.items ≡ with_sealed count steps.old.items }
     ensures spare { steps.new.spare ≡ steps.old.spare }

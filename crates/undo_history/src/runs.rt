@@ -7,7 +7,7 @@ use crate::records::StepRecord;
 
 /// Returns how many steps the last transaction of the first `past` steps has: 0 if there is none.
 #[inline]
-pub fn count_before(steps: &[StepRecord], past: usize) -> usize
+pub(crate) fn count_before(steps: &[StepRecord], past: usize) -> usize
     requires { past ≤ length steps.now }
     ensures { (bytes : List ℕ) → result ≡ last_count (reverse (take past (entries_in steps.now bytes))) }
 {
@@ -21,7 +21,7 @@ pub fn count_before(steps: &[StepRecord], past: usize) -> usize
 
 /// Returns how many steps the first transaction behind the first `past` steps has: 0 if there is none.
 #[inline]
-pub fn count_behind(steps: &[StepRecord], past: usize) -> usize
+pub(crate) fn count_behind(steps: &[StepRecord], past: usize) -> usize
     requires { past ≤ length steps.now }
     ensures { (bytes : List ℕ) → result ≡ next_count (drop past (entries_in steps.now bytes)) }
 {
@@ -37,7 +37,7 @@ pub fn count_behind(steps: &[StepRecord], past: usize) -> usize
 }
 
 /// Returns whether the step at `place` is the last of its transaction.
-pub fn is_last_of_next(steps: &[StepRecord], place: usize) -> bool
+pub(crate) fn is_last_of_next(steps: &[StepRecord], place: usize) -> bool
     requires { place < length steps.now }
     ensures { (bytes : List ℕ) → result ≡ begins_or_none (drop (place + 1) (entries_in steps.now bytes)) }
 {

@@ -20,9 +20,8 @@ mod source;
 
 use crate::desk::Desk;
 use crate::dice::Dice;
-use bench_support::{number_at, word_at, words};
 use std::alloc::{AllocError, Global};
-use std::io;
+use std::{env, io};
 
 /// A job of many messages.
 #[derive(Clone, Copy)]
@@ -78,8 +77,24 @@ fn run(rt: &HostRuntime, wanted: &str, seed: usize, size: usize) -> io::Result<(
     Ok(())
 }
 
+/// Returns the word of the command line at `index`, or an empty one.
+fn word_at(words: &[String], index: usize) -> &str {
+    match words.get(index) {
+        Some(word) => word.as_str(),
+        None => "",
+    }
+}
+
+/// Returns the number in the word at `index`, or 0.
+fn number_at(words: &[String], index: usize) -> usize {
+    word_at(words, index).parse::<usize>().unwrap_or(0)
+}
+
 fn main(rt: HostRuntime) -> io::Result<()> {
-    let words = words(&rt)?;
+    let mut words = Vec::new(rt.alloc());
+    for word in env::args(&rt)? {
+        words.push(word)?;
+    }
     run(
         &rt,
         word_at(&words, 1),

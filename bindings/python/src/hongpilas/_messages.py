@@ -44,750 +44,798 @@ class Messages:
 
     # Written by tools/pages/wrappers.py: begin
     def add_text(self, text: Text) -> None:
-        """SCI_ADDTEXT, 2001. Inserts `text` at the caret; then anchor and caret stand after it, for an empty
-        `text` too.
+        """Inserts `text` at the caret, and moves anchor and caret to the end of the inserted text. An empty `text`
+        moves the anchor to the caret. Message: `SCI_ADDTEXT`.
         """
         text = as_bytes(text)
         self.send(constants.SCI_ADDTEXT, len(text), 0, text)
 
     def insert_text(self, position: int, text: Text) -> None:
-        """SCI_INSERTTEXT, 2003. `position` is -1 for the caret, else in 0..n. Inserts `text` at `position`. Here n
-        is the text's length.
+        """Inserts `text` at `position`, or at the caret if `position` is -1. Raises `Refused` with
+        `Refusal.BAD_ARGUMENT` unless `position` is -1 to the text's length. Message: `SCI_INSERTTEXT`.
         """
         self.send(constants.SCI_INSERTTEXT, position, 0, text)
 
     def clear_all(self) -> None:
-        """SCI_CLEARALL, 2004. Deletes the whole text."""
+        """Deletes the whole text. Message: `SCI_CLEARALL`."""
         self.send(constants.SCI_CLEARALL)
 
     def get_length(self) -> int:
-        """SCI_GETLENGTH, 2006. Returns the text's length."""
+        """Returns the length of the text. Message: `SCI_GETLENGTH`."""
         return self.ask(constants.SCI_GETLENGTH)
 
     def get_char_at(self, position: int) -> int:
-        """SCI_GETCHARAT, 2007. Returns the byte at `position`, 0 to 255; 0 outside 0..n-1. Here n is the text's
-        length.
-        """
+        """Returns the byte at `position`, 0 to 255, or 0 if there is none. Message: `SCI_GETCHARAT`."""
         return self.ask(constants.SCI_GETCHARAT, position)
 
     def get_current_pos(self) -> int:
-        """SCI_GETCURRENTPOS, 2008. Returns the caret."""
+        """Returns the position of the caret. Message: `SCI_GETCURRENTPOS`."""
         return self.ask(constants.SCI_GETCURRENTPOS)
 
     def get_anchor(self) -> int:
-        """SCI_GETANCHOR, 2009. Returns the anchor."""
+        """Returns the position of the anchor. Message: `SCI_GETANCHOR`."""
         return self.ask(constants.SCI_GETANCHOR)
 
     def get_style_at(self, position: int) -> int:
-        """SCI_GETSTYLEAT, 2010. Returns the style of the byte at `position`; 0 outside 0..n-1. Here n is the
-        text's length.
-        """
+        """Returns the style of the byte at `position`, or 0 if there is none. Message: `SCI_GETSTYLEAT`."""
         return self.ask(constants.SCI_GETSTYLEAT, position)
 
     def redo(self) -> None:
-        """SCI_REDO, 2011. Performs the next transaction again; does nothing inside a group or if the future is
-        empty.
+        """Performs again the transaction that was undone last. Does nothing inside a group, or if there is no
+        transaction to redo. Message: `SCI_REDO`.
         """
         self.send(constants.SCI_REDO)
 
     def set_undo_collection(self, on: bool) -> None:
-        """SCI_SETUNDOCOLLECTION, 2012. On while on changes nothing; off forgets the history, ends groups and keeps
-        whether the document counts as modified.
+        """Sets whether undo is collected. Off, even if it was off, forgets the history and closes all groups, and
+        keeps whether the document counts as modified. On while undo is collected changes nothing. Message:
+        `SCI_SETUNDOCOLLECTION`.
         """
         self.send(constants.SCI_SETUNDOCOLLECTION, on)
 
     def select_all(self) -> None:
-        """SCI_SELECTALL, 2013. The anchor goes to 0, the caret goes to the text's length."""
+        """Moves the anchor to 0 and the caret to the end of the text. Message: `SCI_SELECTALL`."""
         self.send(constants.SCI_SELECTALL)
 
     def set_save_point(self) -> None:
-        """SCI_SETSAVEPOINT, 2014. Makes the current state the save point."""
+        """Makes the current state the save point, and always sends SCN_SAVEPOINTREACHED. Message:
+        `SCI_SETSAVEPOINT`.
+        """
         self.send(constants.SCI_SETSAVEPOINT)
 
     def get_styled_text(self, start: int, end: int) -> bytes:
-        """SCI_GETSTYLEDTEXT, 2015. `start` lies in 0..n, and `end` in `start`..n or is -1 for the end of the text.
-        Returns byte, style, byte, style and so on; the reply's value is 2(`end`-`start`). Here n is the text's
-        length.
+        """Returns each byte from `start` to `end`, followed by its style; the reply's value is the number of bytes
+        returned. Raises `Refused` with `Refusal.BAD_ARGUMENT` unless `start` and `end` are a range of the text;
+        an `end` of -1 is its end. Message: `SCI_GETSTYLEDTEXT`.
         """
         return self.read(constants.SCI_GETSTYLEDTEXT, start, end)
 
     def can_redo(self) -> bool:
-        """SCI_CANREDO, 2016. Returns whether no group is open, the document is not read-only and the future is not
-        empty.
+        """Returns whether `redo` would change something: no group is open, the document is not read-only, and
+        there is a transaction to redo. Message: `SCI_CANREDO`.
         """
         return self.ask(constants.SCI_CANREDO) != 0
 
     def marker_line_from_handle(self, handle: int) -> int:
-        """SCI_MARKERLINEFROMHANDLE, 2017. Returns the line of `handle`, else -1."""
+        """Returns the line of the marker with `handle`, or -1 if there is none. Message:
+        `SCI_MARKERLINEFROMHANDLE`.
+        """
         return self.ask(constants.SCI_MARKERLINEFROMHANDLE, handle)
 
     def marker_delete_handle(self, handle: int) -> None:
-        """SCI_MARKERDELETEHANDLE, 2018. Removes the marker with `handle`, if there is one."""
+        """Removes the marker with `handle`. If there is one, sends SCN_MODIFIED (`SC_MOD_CHANGEMARKER`). Message:
+        `SCI_MARKERDELETEHANDLE`.
+        """
         self.send(constants.SCI_MARKERDELETEHANDLE, handle)
 
     def get_undo_collection(self) -> bool:
-        """SCI_GETUNDOCOLLECTION, 2019. Returns whether undo is collected."""
+        """Returns whether undo is collected. Message: `SCI_GETUNDOCOLLECTION`."""
         return self.ask(constants.SCI_GETUNDOCOLLECTION) != 0
 
     def goto_line(self, line: int) -> None:
-        """SCI_GOTOLINE, 2024. Anchor and caret go to the start of `line`, brought into 0..L-1. Here L is the
-        number of lines.
+        """Moves anchor and caret to the start of line `line`; a negative number stands for the first line, one
+        that is too great for the last. Message: `SCI_GOTOLINE`.
         """
         self.send(constants.SCI_GOTOLINE, line)
 
     def goto_pos(self, position: int) -> None:
-        """SCI_GOTOPOS, 2025. Anchor and caret go to `position`, clamped. Here clamped means brought into 0..n, n
-        the text's length.
-        """
+        """Moves anchor and caret to `position` (clamped to the text). Message: `SCI_GOTOPOS`."""
         self.send(constants.SCI_GOTOPOS, position)
 
     def set_anchor(self, position: int) -> None:
-        """SCI_SETANCHOR, 2026. The anchor goes to `position`, clamped. Here clamped means brought into 0..n, n the
-        text's length.
-        """
+        """Moves the anchor to `position` (clamped to the text); the caret stays. Message: `SCI_SETANCHOR`."""
         self.send(constants.SCI_SETANCHOR, position)
 
     def get_cur_line(self) -> bytes:
-        """SCI_GETCURLINE, 2027. Returns the line of the caret with its end; the reply's value is the caret less
-        the line's start.
+        """Returns the caret's line with its line end; the reply's value is the caret's distance from the line's
+        start, in bytes. Message: `SCI_GETCURLINE`.
         """
         return self.read(constants.SCI_GETCURLINE)
 
     def get_end_styled(self) -> int:
-        """SCI_GETENDSTYLED, 2028. Returns end styled."""
+        """Returns end styled: the position up to which the document is styled. Message: `SCI_GETENDSTYLED`."""
         return self.ask(constants.SCI_GETENDSTYLED)
 
     def convert_eols(self, mode: int) -> None:
-        """SCI_CONVERTEOLS, 2029. `mode` in 0..2. Turns each CRLF, CR and LF into that line end; Unicode line ends
-        and the mode stay.
+        """Turns each CRLF, CR and LF of the text into one line end: `SC_EOL_CRLF` 0, `SC_EOL_CR` 1 or `SC_EOL_LF`
+        2. Unicode line ends stay, and so does the document's line end. Raises `Refused` with
+        `Refusal.BAD_ARGUMENT` unless `mode` is 0 to 2. Message: `SCI_CONVERTEOLS`.
         """
         self.send(constants.SCI_CONVERTEOLS, mode)
 
     def get_eol_mode(self) -> int:
-        """SCI_GETEOLMODE, 2030. Returns the line end that NEWLINE and PASTE insert."""
+        """Returns the document's line end: `SC_EOL_CRLF`, `SC_EOL_CR` or `SC_EOL_LF`. Message: `SCI_GETEOLMODE`."""
         return self.ask(constants.SCI_GETEOLMODE)
 
     def set_eol_mode(self, mode: int) -> None:
-        """SCI_SETEOLMODE, 2031. `mode` in 0..2: SC_EOL_CRLF 0, SC_EOL_CR 1, SC_EOL_LF 2."""
+        """Sets the document's line end: `SC_EOL_CRLF` 0, `SC_EOL_CR` 1 or `SC_EOL_LF` 2. Raises `Refused` with
+        `Refusal.BAD_ARGUMENT` unless `mode` is 0 to 2. Message: `SCI_SETEOLMODE`.
+        """
         self.send(constants.SCI_SETEOLMODE, mode)
 
     def start_styling(self, position: int) -> None:
-        """SCI_STARTSTYLING, 2032. `position` in 0..n. End styled becomes `position`. Here n is the text's length."""
+        """Moves end styled to `position`. Raises `Refused` with `Refusal.BAD_ARGUMENT` unless `position` is 0 to
+        the text's length. Message: `SCI_STARTSTYLING`.
+        """
         self.send(constants.SCI_STARTSTYLING, position)
 
     def set_styling(self, length: int, style: int) -> None:
-        """SCI_SETSTYLING, 2033. `style` in 0..255, `length` in 0..n-end styled. Styles `length` bytes from end
-        styled on with `style`, and moves end styled after them. Here n is the text's length.
+        """Gives `style` to the `length` bytes from end styled on, and moves end styled after them. If a style
+        changed, sends SCN_MODIFIED (`SC_MOD_CHANGESTYLE`). Raises `Refused` with `Refusal.BAD_ARGUMENT` unless
+        `style` is 0 to 255, and `length` 0 to the number of bytes from end styled on. Message:
+        `SCI_SETSTYLING`.
         """
         self.send(constants.SCI_SETSTYLING, length, style)
 
     def marker_add(self, line: int, number: int) -> int:
-        """SCI_MARKERADD, 2043. `number` in 0..31. Adds marker `number` at the end of `line`'s list; returns its
-        handle; bad line -1; TooMany if handles are used up. Here a bad line is one that is not there.
+        """Adds a marker with `number` to line `line`, after those that it has, and returns its handle; -1 if there
+        is no such line. If it added one, sends SCN_MODIFIED (`SC_MOD_CHANGEMARKER`). Raises `Refused` with
+        `Refusal.BAD_ARGUMENT` unless `number` is 0 to 31, and with `Refusal.TOO_MANY` if marker handles are
+        used up. Message: `SCI_MARKERADD`.
         """
         return self.send(constants.SCI_MARKERADD, line, number)
 
     def marker_delete(self, line: int, number: int) -> None:
-        """SCI_MARKERDELETE, 2044. `number` in -1..31. Removes the first copy of `number` on `line`; -1: all of the
-        line.
+        """Removes from line `line`, if there is such a line, the first marker with `number`, or all markers if
+        that is -1. If it removed one, sends SCN_MODIFIED (`SC_MOD_CHANGEMARKER`). Raises `Refused` with
+        `Refusal.BAD_ARGUMENT` unless `number` is -1 to 31. Message: `SCI_MARKERDELETE`.
         """
         self.send(constants.SCI_MARKERDELETE, line, number)
 
     def marker_delete_all(self, number: int) -> None:
-        """SCI_MARKERDELETEALL, 2045. `number` in -1..31. Removes all of number `number`; -1: all."""
+        """Removes all markers with `number` from the document, or all markers if that is -1. If it removed one,
+        sends one SCN_MODIFIED (`SC_MOD_CHANGEMARKER`) with line -1. Raises `Refused` with
+        `Refusal.BAD_ARGUMENT` unless `number` is -1 to 31. Message: `SCI_MARKERDELETEALL`.
+        """
         self.send(constants.SCI_MARKERDELETEALL, number)
 
     def marker_get(self, line: int) -> int:
-        """SCI_MARKERGET, 2046. Returns the mask of `line`, bit k for number k; bad line 0. Here a bad line is one
-        that is not there.
+        """Returns the mask of the markers of line `line`: bit k is set if it has one with number k; 0 if there is
+        no such line. Message: `SCI_MARKERGET`.
         """
         return self.ask(constants.SCI_MARKERGET, line)
 
     def marker_next(self, line: int, mask: int) -> int:
-        """SCI_MARKERNEXT, 2047. Returns the least line from `line` on whose mask meets the low 32 bits of `mask`,
-        else -1.
+        """Returns the first line from `line` on that has a marker whose bit is set in the low 32 bits of `mask`,
+        or -1. Message: `SCI_MARKERNEXT`.
         """
         return self.ask(constants.SCI_MARKERNEXT, line, mask)
 
     def marker_previous(self, line: int, mask: int) -> int:
-        """SCI_MARKERPREVIOUS, 2048. Returns the greatest line up to `line` whose mask meets the low 32 bits of
-        `mask`, else -1.
+        """Returns the last line up to `line` that has a marker whose bit is set in the low 32 bits of `mask`, or
+        -1. Message: `SCI_MARKERPREVIOUS`.
         """
         return self.ask(constants.SCI_MARKERPREVIOUS, line, mask)
 
     def set_styling_ex(self, styles: Text) -> None:
-        """SCI_SETSTYLINGEX, 2073. Styles as many bytes as `styles` has, from end styled on, with the bytes of
-        `styles`, and moves end styled after them; `styles` has at most n-end styled bytes, else BadArgument.
-        Here n is the text's length.
+        """Gives each byte from end styled on the style that `styles` has for it, and moves end styled after the
+        last one. If a style changed, sends SCN_MODIFIED (`SC_MOD_CHANGESTYLE`). Raises `Refused` with
+        `Refusal.BAD_ARGUMENT` if `styles` has more bytes than there are from end styled on. Message:
+        `SCI_SETSTYLINGEX`.
         """
         styles = as_bytes(styles)
         self.send(constants.SCI_SETSTYLINGEX, len(styles), 0, styles)
 
     def begin_undo_action(self) -> None:
-        """SCI_BEGINUNDOACTION, 2078. Raises the depth of groups by 1; TooMany at its limit."""
+        """Opens an undo group, inside those that are open. Raises `Refused` with `Refusal.TOO_MANY` at the limit
+        of their depth. Message: `SCI_BEGINUNDOACTION`.
+        """
         self.send(constants.SCI_BEGINUNDOACTION)
 
     def end_undo_action(self) -> None:
-        """SCI_ENDUNDOACTION, 2079. Lowers the depth of groups by 1; does nothing at 0."""
+        """Closes the undo group that was opened last. Does nothing if none is open. Message: `SCI_ENDUNDOACTION`."""
         self.send(constants.SCI_ENDUNDOACTION)
 
     def set_line_state(self, line: int, state: int) -> None:
-        """SCI_SETLINESTATE, 2092. `state` in -2^31..2^31-1. Sets the state of `line`."""
+        """Sets the state of line `line`, if there is such a line. If the state changed, sends SCN_MODIFIED
+        (`SC_MOD_CHANGELINESTATE`). Raises `Refused` with `Refusal.BAD_ARGUMENT` unless `state` is -2^31 to
+        2^31-1. Message: `SCI_SETLINESTATE`.
+        """
         self.send(constants.SCI_SETLINESTATE, line, state)
 
     def get_line_state(self, line: int) -> int:
-        """SCI_GETLINESTATE, 2093. Returns the state of `line`; bad line 0. Here a bad line is one that is not
-        there.
-        """
+        """Returns the state of line `line`, or 0 if there is no such line. Message: `SCI_GETLINESTATE`."""
         return self.ask(constants.SCI_GETLINESTATE, line)
 
     def get_line_end_position(self, line: int) -> int:
-        """SCI_GETLINEENDPOSITION, 2136. Returns where the end of `line` begins; the text's length from the last
-        line on; -1 below 0.
+        """Returns where the line end of line `line` begins; the text's length from the last line on; -1 if `line`
+        is negative. Message: `SCI_GETLINEENDPOSITION`.
         """
         return self.ask(constants.SCI_GETLINEENDPOSITION, line)
 
     def get_read_only(self) -> bool:
-        """SCI_GETREADONLY, 2140. Returns whether the document is read-only."""
+        """Returns whether the document is read-only. Message: `SCI_GETREADONLY`."""
         return self.ask(constants.SCI_GETREADONLY) != 0
 
     def set_current_pos(self, position: int) -> None:
-        """SCI_SETCURRENTPOS, 2141. The caret goes to `position`, clamped. Here clamped means brought into 0..n, n
-        the text's length.
-        """
+        """Moves the caret to `position` (clamped to the text); the anchor stays. Message: `SCI_SETCURRENTPOS`."""
         self.send(constants.SCI_SETCURRENTPOS, position)
 
     def set_selection_start(self, position: int) -> None:
-        """SCI_SETSELECTIONSTART, 2142. P is `position`, clamped: the anchor goes to p, and the caret goes to the
-        greater of p and the caret. Here clamped means brought into 0..n, n the text's length.
+        """Moves the anchor to `position` (clamped to the text); if the caret is before it, moves the caret there
+        too. Message: `SCI_SETSELECTIONSTART`.
         """
         self.send(constants.SCI_SETSELECTIONSTART, position)
 
     def get_selection_start(self) -> int:
-        """SCI_GETSELECTIONSTART, 2143. Returns the selection's start."""
+        """Returns the selection's start: the lesser of anchor and caret. Message: `SCI_GETSELECTIONSTART`."""
         return self.ask(constants.SCI_GETSELECTIONSTART)
 
     def set_selection_end(self, position: int) -> None:
-        """SCI_SETSELECTIONEND, 2144. P is `position`, clamped: the caret goes to p, and the anchor goes to the
-        lesser of p and the anchor. Here clamped means brought into 0..n, n the text's length.
+        """Moves the caret to `position` (clamped to the text); if the anchor is after it, moves the anchor there
+        too. Message: `SCI_SETSELECTIONEND`.
         """
         self.send(constants.SCI_SETSELECTIONEND, position)
 
     def get_selection_end(self) -> int:
-        """SCI_GETSELECTIONEND, 2145. Returns the selection's end."""
+        """Returns the selection's end: the greater of anchor and caret. Message: `SCI_GETSELECTIONEND`."""
         return self.ask(constants.SCI_GETSELECTIONEND)
 
     def get_line(self, line: int) -> bytes:
-        """SCI_GETLINE, 2153. Returns `line` with its end; the reply's value is its length; of a bad line an empty
-        text. Here a bad line is one that is not there.
+        """Returns line `line` with its line end; the reply's value is its length. If there is no such line, the
+        text is empty and the value 0. Message: `SCI_GETLINE`.
         """
         return self.read(constants.SCI_GETLINE, line)
 
     def get_line_count(self) -> int:
-        """SCI_GETLINECOUNT, 2154. Returns the number of lines."""
+        """Returns the number of lines, which is at least 1. Message: `SCI_GETLINECOUNT`."""
         return self.ask(constants.SCI_GETLINECOUNT)
 
     def get_modify(self) -> bool:
-        """SCI_GETMODIFY, 2159. Returns whether the document is not at its save point."""
+        """Returns whether the document is modified, that is, not at its save point. Message: `SCI_GETMODIFY`."""
         return self.ask(constants.SCI_GETMODIFY) != 0
 
     def set_sel(self, anchor: int, caret: int) -> None:
-        """SCI_SETSEL, 2160. The caret goes to the text's length for `caret` below 0, else `caret` clamped; then
-        the anchor goes to the caret for `anchor` below 0, else `anchor` clamped. Here clamped means brought
-        into 0..n, n the text's length.
+        """Moves the anchor to `anchor` and the caret to `caret` (both clamped to the text). A negative `caret`
+        stands for the end of the text, and a negative `anchor` for where the caret then is. Message:
+        `SCI_SETSEL`.
         """
         self.send(constants.SCI_SETSEL, anchor, caret)
 
     def get_sel_text(self) -> bytes:
-        """SCI_GETSELTEXT, 2161. Returns the selection; the reply's value is its length."""
+        """Returns the selected text; the reply's value is its length. Message: `SCI_GETSELTEXT`."""
         return self.read(constants.SCI_GETSELTEXT)
 
     def get_text_range(self, start: int, end: int) -> bytes:
-        """SCI_GETTEXTRANGE, 2162. `start` lies in 0..n, and `end` in `start`..n or is -1 for the end of the text.
-        Returns [`start`, `end`); the reply's value is `end`-`start`. Here n is the text's length.
+        """Returns the text from `start` to `end`; the reply's value is its length. Raises `Refused` with
+        `Refusal.BAD_ARGUMENT` unless `start` and `end` are a range of the text; an `end` of -1 is its end.
+        Message: `SCI_GETTEXTRANGE`.
         """
         return self.read(constants.SCI_GETTEXTRANGE, start, end)
 
     def line_from_position(self, position: int) -> int:
-        """SCI_LINEFROMPOSITION, 2166. Returns the line of `position`, clamped. Here clamped means brought into
-        0..n, n the text's length.
-        """
+        """Returns the line that contains `position` (clamped to the text). Message: `SCI_LINEFROMPOSITION`."""
         return self.ask(constants.SCI_LINEFROMPOSITION, position)
 
     def position_from_line(self, line: int) -> int:
-        """SCI_POSITIONFROMLINE, 2167. Returns the start of `line`; below 0 that of the line of the selection's
-        start; the text's length for `line` = the number of lines; -1 beyond.
+        """Returns the start of line `line`. A negative number stands for the line of the selection's start; the
+        number of lines gives the text's length, and a greater number -1. Message: `SCI_POSITIONFROMLINE`.
         """
         return self.ask(constants.SCI_POSITIONFROMLINE, line)
 
     def replace_sel(self, text: Text) -> None:
-        """SCI_REPLACESEL, 2170. Replaces the selection by `text`; anchor and caret stand after `text`."""
+        """Replaces the selection by `text`, and moves anchor and caret to the end of the inserted text. Message:
+        `SCI_REPLACESEL`.
+        """
         self.send(constants.SCI_REPLACESEL, 0, 0, text)
 
     def set_read_only(self, on: bool) -> None:
-        """SCI_SETREADONLY, 2171. `on`: the document is read-only."""
+        """Makes the document read-only, or writable if `on` is False. Message: `SCI_SETREADONLY`."""
         self.send(constants.SCI_SETREADONLY, on)
 
     def can_paste(self) -> bool:
-        """SCI_CANPASTE, 2173. Returns whether the document is not read-only."""
+        """Returns whether text can be pasted: whether the document is not read-only. Message: `SCI_CANPASTE`."""
         return self.ask(constants.SCI_CANPASTE) != 0
 
     def can_undo(self) -> bool:
-        """SCI_CANUNDO, 2174. Returns whether no group is open, the document is not read-only and the past is not
-        empty.
+        """Returns whether `undo` would change something: no group is open, the document is not read-only, and
+        there is a transaction to undo. Message: `SCI_CANUNDO`.
         """
         return self.ask(constants.SCI_CANUNDO) != 0
 
     def empty_undo_buffer(self) -> None:
-        """SCI_EMPTYUNDOBUFFER, 2175. Forgets the history and ends groups; makes the current state the save point."""
+        """Forgets the history, closes all groups, and makes the current state the save point. No view is notified.
+        Message: `SCI_EMPTYUNDOBUFFER`.
+        """
         self.send(constants.SCI_EMPTYUNDOBUFFER)
 
     def undo(self) -> None:
-        """SCI_UNDO, 2176. Takes back the last transaction; does nothing inside a group or if the past is empty."""
+        """Takes back the last transaction. Does nothing inside a group, or if there is no transaction to undo.
+        Message: `SCI_UNDO`.
+        """
         self.send(constants.SCI_UNDO)
 
     def cut(self) -> None:
-        """SCI_CUT, 2177. Copies a selection that is not empty to the clipboard, and deletes the selection; on a
-        read-only document it does neither.
+        """Copies the selection to the clipboard and deletes it. Does nothing if the selection is empty; on a
+        read-only document the clipboard stays as it is. Message: `SCI_CUT`.
         """
         self.send(constants.SCI_CUT)
 
     def copy(self) -> None:
-        """SCI_COPY, 2178. Copies a selection that is not empty to the clipboard."""
+        """Copies the selection to the clipboard. Does nothing if the selection is empty. Message: `SCI_COPY`."""
         self.send(constants.SCI_COPY)
 
     def paste(self) -> None:
-        """SCI_PASTE, 2179. Replaces the selection by a clipboard that is not empty, with each CRLF, CR and LF
-        turned into the document's line end if the view converts pastes; anchor and caret stand after it. With
-        an empty clipboard it does nothing.
+        """Replaces the selection by the clipboard, and moves anchor and caret to the end of the inserted text. If
+        the view converts pastes, each CRLF, CR and LF is inserted as the document's line end. Does nothing if
+        the clipboard is empty. Message: `SCI_PASTE`.
         """
         self.send(constants.SCI_PASTE)
 
     def clear(self) -> None:
-        """SCI_CLEAR, 2180. Deletes the selection, or if that is empty, from the caret to the next cut. Here a cut
-        is a place between two characters.
+        """Deletes the selection, or, if that is empty, the bytes from the caret to the next character boundary.
+        Message: `SCI_CLEAR`.
         """
         self.send(constants.SCI_CLEAR)
 
     def set_text(self, text: Text) -> None:
-        """SCI_SETTEXT, 2181. Replaces the whole text by `text`."""
+        """Replaces the whole text by `text`. Message: `SCI_SETTEXT`."""
         self.send(constants.SCI_SETTEXT, 0, 0, text)
 
     def get_text(self) -> bytes:
-        """SCI_GETTEXT, 2182. Returns the whole text; the reply's value is the text's length."""
+        """Returns the whole text; the reply's value is its length. Message: `SCI_GETTEXT`."""
         return self.read(constants.SCI_GETTEXT)
 
     def get_text_length(self) -> int:
-        """SCI_GETTEXTLENGTH, 2183. Returns the text's length."""
+        """Returns the length of the text. Message: `SCI_GETTEXTLENGTH`."""
         return self.ask(constants.SCI_GETTEXTLENGTH)
 
     def set_target_start(self, position: int) -> None:
-        """SCI_SETTARGETSTART, 2190. The target's start goes to `position`, clamped. Here clamped means brought
-        into 0..n, n the text's length.
-        """
+        """Sets the target's start to `position` (clamped to the text). Message: `SCI_SETTARGETSTART`."""
         self.send(constants.SCI_SETTARGETSTART, position)
 
     def get_target_start(self) -> int:
-        """SCI_GETTARGETSTART, 2191. Returns the target's start."""
+        """Returns the target's start. Message: `SCI_GETTARGETSTART`."""
         return self.ask(constants.SCI_GETTARGETSTART)
 
     def set_target_end(self, position: int) -> None:
-        """SCI_SETTARGETEND, 2192. The target's end goes to `position`, clamped. Here clamped means brought into
-        0..n, n the text's length.
-        """
+        """Sets the target's end to `position` (clamped to the text). Message: `SCI_SETTARGETEND`."""
         self.send(constants.SCI_SETTARGETEND, position)
 
     def get_target_end(self) -> int:
-        """SCI_GETTARGETEND, 2193. Returns the target's end."""
+        """Returns the target's end. Message: `SCI_GETTARGETEND`."""
         return self.ask(constants.SCI_GETTARGETEND)
 
     def replace_target(self, text: Text) -> int:
-        """SCI_REPLACETARGET, 2194. Replaces the target by `text`; the target's start is then where `text` starts
-        and the target's end where it ends; returns its length, or 0 on a read-only document, whose target
-        stays.
+        """Replaces the text between the target's ends by `text`, makes the inserted text the target, and returns
+        its length. On a read-only document it returns 0, and the target stays. Message: `SCI_REPLACETARGET`.
         """
         text = as_bytes(text)
         return self.send(constants.SCI_REPLACETARGET, len(text), 0, text)
 
     def search_in_target(self, text: Text) -> int:
-        """SCI_SEARCHINTARGET, 2197. Looks for `text` between the target's start and the target's end: the first
-        match if the target's start is at most the target's end, else the last. Then the target's start is the
-        start of the match and the target's end its end, backwards too; returns its start. If there is none: -1,
-        and the target stays.
+        """Searches the target for `text` by the view's search flags. Finds the first match, or the last one if the
+        target's start is greater than its end; sets the target's start and end to those of the match, and
+        returns its start. Without a match it returns -1, and the target stays. Message: `SCI_SEARCHINTARGET`.
         """
         text = as_bytes(text)
         return self.send(constants.SCI_SEARCHINTARGET, len(text), 0, text)
 
     def set_search_flags(self, flags: int) -> None:
-        """SCI_SETSEARCHFLAGS, 2198. `flags` is made of SCFIND_WHOLEWORD 0x2, SCFIND_MATCHCASE 0x4 and
-        SCFIND_WORDSTART 0x100000, else BadArgument.
+        """Sets the view's search flags to `flags`: 0, or made of `SCFIND_WHOLEWORD` 0x2, `SCFIND_MATCHCASE` 0x4
+        and `SCFIND_WORDSTART` 0x100000. Raises `Refused` with `Refusal.BAD_ARGUMENT` if `flags` has other bits.
+        Message: `SCI_SETSEARCHFLAGS`.
         """
         self.send(constants.SCI_SETSEARCHFLAGS, flags)
 
     def get_search_flags(self) -> int:
-        """SCI_GETSEARCHFLAGS, 2199. Returns the flags."""
+        """Returns the view's search flags. Message: `SCI_GETSEARCHFLAGS`."""
         return self.ask(constants.SCI_GETSEARCHFLAGS)
 
     def visible_from_doc_line(self, line: int) -> int:
-        """SCI_VISIBLEFROMDOCLINE, 2220. Returns the display line of `line`; for a hidden one that of the last
-        visible line before it; bad line -1. Here a bad line is one that is not there.
+        """Returns the display line of line `line`; for a hidden line that of the last visible line before it; -1
+        if there is no such line. Message: `SCI_VISIBLEFROMDOCLINE`.
         """
         return self.ask(constants.SCI_VISIBLEFROMDOCLINE, line)
 
     def doc_line_from_visible(self, display_line: int) -> int:
-        """SCI_DOCLINEFROMVISIBLE, 2221. Returns the line shown at `display_line`; 0 up to 0; the number of lines
-        past the last.
+        """Returns the line at display line `display_line`; 0 if that is negative, and the number of lines if it is
+        past the last. Message: `SCI_DOCLINEFROMVISIBLE`.
         """
         return self.ask(constants.SCI_DOCLINEFROMVISIBLE, display_line)
 
     def set_fold_level(self, line: int, level: int) -> None:
-        """SCI_SETFOLDLEVEL, 2222. `level` in 0..2^31-1. Sets the level of `line`."""
+        """Sets the fold level of line `line`, if there is such a line. If the level changed, sends SCN_MODIFIED
+        (`SC_MOD_CHANGEFOLD`). Raises `Refused` with `Refusal.BAD_ARGUMENT` unless `level` is 0 to 2^31-1.
+        Message: `SCI_SETFOLDLEVEL`.
+        """
         self.send(constants.SCI_SETFOLDLEVEL, line, level)
 
     def get_fold_level(self, line: int) -> int:
-        """SCI_GETFOLDLEVEL, 2223. Returns the level of `line`; bad line 1024 (SC_FOLDLEVELBASE). Here a bad line
-        is one that is not there.
+        """Returns the fold level of line `line`, or 1024 (`SC_FOLDLEVELBASE`) if there is no such line. Message:
+        `SCI_GETFOLDLEVEL`.
         """
         return self.ask(constants.SCI_GETFOLDLEVEL, line)
 
     def get_last_child(self, line: int, level: int) -> int:
-        """SCI_GETLASTCHILD, 2224. `level` in -1..2^31-1; returns the last child of `line`, by its own number for
-        `level` = -1, else by `level`'s low 12 bits; bad line -1. Here a bad line is one that is not there.
+        """Returns the last child of line `line`: the line before the next one whose level number is at most that
+        of `level`, or that of line `line` if `level` is -1; without such a next line, the last line of the
+        document; -1 if line `line` does not exist. Raises `Refused` with `Refusal.BAD_ARGUMENT` unless `level`
+        is -1 to 2^31-1. Message: `SCI_GETLASTCHILD`.
         """
         return self.ask(constants.SCI_GETLASTCHILD, line, level)
 
     def get_fold_parent(self, line: int) -> int:
-        """SCI_GETFOLDPARENT, 2225. Returns the fold parent of `line`; none, or bad line: -1. Here a bad line is
-        one that is not there.
+        """Returns the fold parent of line `line`, or -1 if it has none or does not exist. Message:
+        `SCI_GETFOLDPARENT`.
         """
         return self.ask(constants.SCI_GETFOLDPARENT, line)
 
     def show_lines(self, first: int, last: int) -> None:
-        """SCI_SHOWLINES, 2226. Shows each existing line from `first` to `last`."""
+        """Makes the lines from `first` to `last` visible, as far as they exist. Message: `SCI_SHOWLINES`."""
         self.send(constants.SCI_SHOWLINES, first, last)
 
     def hide_lines(self, first: int, last: int) -> None:
-        """SCI_HIDELINES, 2227. Hides each existing line from `first` to `last` except line 0."""
+        """Hides the lines from `first` to `last`, as far as they exist, except line 0. Message: `SCI_HIDELINES`."""
         self.send(constants.SCI_HIDELINES, first, last)
 
     def get_line_visible(self, line: int) -> bool:
-        """SCI_GETLINEVISIBLE, 2228. Returns whether `line` is visible; bad line false. Here a bad line is one that
-        is not there.
-        """
+        """Returns whether line `line` is visible; False if there is no such line. Message: `SCI_GETLINEVISIBLE`."""
         return self.ask(constants.SCI_GETLINEVISIBLE, line) != 0
 
     def set_fold_expanded(self, line: int, on: bool) -> None:
-        """SCI_SETFOLDEXPANDED, 2229. Sets the expanded flag of `line` alone; nothing is shown or hidden."""
+        """Sets whether line `line` is expanded, if there is such a line; shows and hides nothing. Message:
+        `SCI_SETFOLDEXPANDED`.
+        """
         self.send(constants.SCI_SETFOLDEXPANDED, line, on)
 
     def get_fold_expanded(self, line: int) -> bool:
-        """SCI_GETFOLDEXPANDED, 2230. Returns whether `line` is expanded; bad line false. Here a bad line is one
-        that is not there.
-        """
+        """Returns whether line `line` is expanded; False if there is no such line. Message: `SCI_GETFOLDEXPANDED`."""
         return self.ask(constants.SCI_GETFOLDEXPANDED, line) != 0
 
     def toggle_fold(self, line: int) -> None:
-        """SCI_TOGGLEFOLD, 2231. Like FOLDLINE with toggle."""
+        """Contracts line `line` if it is an expanded header, and expands it if it is a contracted one; if it is no
+        header, does so with its fold parent; does nothing without one. Message: `SCI_TOGGLEFOLD`.
+        """
         self.send(constants.SCI_TOGGLEFOLD, line)
 
     def ensure_visible(self, line: int) -> None:
-        """SCI_ENSUREVISIBLE, 2232. Makes a hidden `line` visible; before that, makes each of its fold parents
-        visible and expands it if it is contracted, the outermost first. For a visible line it does nothing.
+        """Makes a hidden line `line` visible; before that, makes each of its fold parents visible, and expands
+        those that are contracted, the outermost first. Does nothing for a visible line, or if there is no such
+        line. Message: `SCI_ENSUREVISIBLE`.
         """
         self.send(constants.SCI_ENSUREVISIBLE, line)
 
     def get_all_lines_visible(self) -> bool:
-        """SCI_GETALLLINESVISIBLE, 2236. Returns whether all lines are visible."""
+        """Returns whether all lines are visible. Message: `SCI_GETALLLINESVISIBLE`."""
         return self.ask(constants.SCI_GETALLLINESVISIBLE) != 0
 
     def fold_line(self, line: int, action: int) -> None:
-        """SCI_FOLDLINE, 2237. `action` in 0..2: SC_FOLDACTION_CONTRACT 0, SC_FOLDACTION_EXPAND 1,
-        SC_FOLDACTION_TOGGLE 2. Acts on `line` if it is a header, else on its fold parent, if it has one. To
-        contract sets the header's expanded flag off and hides its children; to expand sets the flag on and
-        shows its children, except the children of contracted headers among them; these it hides.
+        """Contracts, expands or toggles line `line` if it is a header, else its fold parent; does nothing without
+        one. `action` is `SC_FOLDACTION_CONTRACT` 0, `SC_FOLDACTION_EXPAND` 1 or `SC_FOLDACTION_TOGGLE` 2; all
+        else is refused with `Refusal.BAD_ARGUMENT`. Message: `SCI_FOLDLINE`.
         """
         self.send(constants.SCI_FOLDLINE, line, action)
 
     def append_text(self, text: Text) -> None:
-        """SCI_APPENDTEXT, 2282. Inserts `text` at the text's length."""
+        """Inserts `text` at the end of the document. Message: `SCI_APPENDTEXT`."""
         text = as_bytes(text)
         self.send(constants.SCI_APPENDTEXT, len(text), 0, text)
 
     def target_from_selection(self) -> None:
-        """SCI_TARGETFROMSELECTION, 2287. The target's start goes to the selection's start, the target's end goes
-        to the selection's end.
+        """Sets the target's start and end to those of the selection, the lesser first. Message:
+        `SCI_TARGETFROMSELECTION`.
         """
         self.send(constants.SCI_TARGETFROMSELECTION)
 
     def char_left(self) -> None:
-        """SCI_CHARLEFT, 2304. Anchor and caret go to the selection's start if the selection is not empty, else the
-        cut before the caret. Here a cut is a place between two characters.
+        """Moves anchor and caret to the selection's start, or, if it is empty, to the character boundary before
+        the caret. Message: `SCI_CHARLEFT`.
         """
         self.send(constants.SCI_CHARLEFT)
 
     def char_left_extend(self) -> None:
-        """SCI_CHARLEFTEXTEND, 2305. The caret goes to the cut before the caret. Here a cut is a place between two
-        characters.
-        """
+        """Moves the caret to the character boundary before it; the anchor stays. Message: `SCI_CHARLEFTEXTEND`."""
         self.send(constants.SCI_CHARLEFTEXTEND)
 
     def char_right(self) -> None:
-        """SCI_CHARRIGHT, 2306. Anchor and caret go to the selection's end if the selection is not empty, else the
-        cut after the caret. Here a cut is a place between two characters.
+        """Moves anchor and caret to the selection's end, or, if it is empty, to the character boundary after the
+        caret. Message: `SCI_CHARRIGHT`.
         """
         self.send(constants.SCI_CHARRIGHT)
 
     def char_right_extend(self) -> None:
-        """SCI_CHARRIGHTEXTEND, 2307. The caret goes to the cut after the caret. Here a cut is a place between two
-        characters.
-        """
+        """Moves the caret to the character boundary after it; the anchor stays. Message: `SCI_CHARRIGHTEXTEND`."""
         self.send(constants.SCI_CHARRIGHTEXTEND)
 
     def home(self) -> None:
-        """SCI_HOME, 2312. Anchor and caret go to the start of the line of the caret."""
+        """Moves anchor and caret to the start of the caret's line. Message: `SCI_HOME`."""
         self.send(constants.SCI_HOME)
 
     def home_extend(self) -> None:
-        """SCI_HOMEEXTEND, 2313. The caret goes to the start of the line of the caret."""
+        """Moves the caret to the start of its line; the anchor stays. Message: `SCI_HOMEEXTEND`."""
         self.send(constants.SCI_HOMEEXTEND)
 
     def line_end(self) -> None:
-        """SCI_LINEEND, 2314. Anchor and caret go to where the end of the line of the caret begins."""
+        """Moves anchor and caret to where the line end of the caret's line begins. Message: `SCI_LINEEND`."""
         self.send(constants.SCI_LINEEND)
 
     def line_end_extend(self) -> None:
-        """SCI_LINEENDEXTEND, 2315. The caret goes to where the end of the line of the caret begins."""
+        """Moves the caret to where the line end of its line begins; the anchor stays. Message:
+        `SCI_LINEENDEXTEND`.
+        """
         self.send(constants.SCI_LINEENDEXTEND)
 
     def document_start(self) -> None:
-        """SCI_DOCUMENTSTART, 2316. Anchor and caret go to 0."""
+        """Moves anchor and caret to 0. Message: `SCI_DOCUMENTSTART`."""
         self.send(constants.SCI_DOCUMENTSTART)
 
     def document_start_extend(self) -> None:
-        """SCI_DOCUMENTSTARTEXTEND, 2317. The caret goes to 0."""
+        """Moves the caret to 0; the anchor stays. Message: `SCI_DOCUMENTSTARTEXTEND`."""
         self.send(constants.SCI_DOCUMENTSTARTEXTEND)
 
     def document_end(self) -> None:
-        """SCI_DOCUMENTEND, 2318. Anchor and caret go to the text's length."""
+        """Moves anchor and caret to the end of the text. Message: `SCI_DOCUMENTEND`."""
         self.send(constants.SCI_DOCUMENTEND)
 
     def document_end_extend(self) -> None:
-        """SCI_DOCUMENTENDEXTEND, 2319. The caret goes to the text's length."""
+        """Moves the caret to the end of the text; the anchor stays. Message: `SCI_DOCUMENTENDEXTEND`."""
         self.send(constants.SCI_DOCUMENTENDEXTEND)
 
     def delete_back(self) -> None:
-        """SCI_DELETEBACK, 2326. Deletes the selection, or if that is empty, from the cut before the caret to the
-        caret. Here a cut is a place between two characters.
+        """Deletes the selection, or, if that is empty, the bytes from the character boundary before the caret to
+        the caret. Message: `SCI_DELETEBACK`.
         """
         self.send(constants.SCI_DELETEBACK)
 
     def new_line(self) -> None:
-        """SCI_NEWLINE, 2329. Like REPLACESEL with the document's line end."""
+        """Replaces the selection by the document's line end, and moves anchor and caret to the end of the inserted
+        text. Message: `SCI_NEWLINE`.
+        """
         self.send(constants.SCI_NEWLINE)
 
     def line_length(self, line: int) -> int:
-        """SCI_LINELENGTH, 2350. Returns the length of `line` with its end; bad line 0. Here a bad line is one that
-        is not there.
+        """Returns the length of line `line` with its line end, or 0 if there is no such line. Message:
+        `SCI_LINELENGTH`.
         """
         return self.ask(constants.SCI_LINELENGTH, line)
 
     def get_doc_pointer(self) -> int:
-        """SCI_GETDOCPOINTER, 2357. Returns the id of the view's document."""
+        """Returns the id of the view's document. Message: `SCI_GETDOCPOINTER`."""
         return self.ask(constants.SCI_GETDOCPOINTER)
 
     def set_doc_pointer(self, document: int) -> None:
-        """SCI_SETDOCPOINTER, 2358. `document` = 0: a new document (TooMany); else `document` names one
-        (NoSuchDocument; TooMany at the limit of references). That document gains a reference, then the old one
-        loses one; the view is attached last, with the anchor, the caret, the target's start and the target's
-        end 0 and all lines visible and expanded. The same holds for the view's own document.
+        """Attaches the view to `document`, or to a new document if that is 0. That document gains a reference, and
+        then the old one loses one; the view is attached last, with anchor, caret and target 0, and with all
+        lines visible and expanded. The view's other settings stay. The same holds for the view's own document.
+        Raises `Refused` with `Refusal.NO_SUCH_DOCUMENT` if there is no such document; with `Refusal.TOO_MANY`
+        at the limit of its references, or if ids for a new one are used up. Message: `SCI_SETDOCPOINTER`.
         """
         self.send(constants.SCI_SETDOCPOINTER, 0, document)
 
     def set_mod_event_mask(self, mask: int) -> None:
-        """SCI_SETMODEVENTMASK, 2359. `mask` in 0..0x7FFFFF (SC_MODEVENTMASKALL): the kinds of SCN_MODIFIED that
-        this view is notified of.
+        """Sets the view's mask: the kinds of SCN_MODIFIED that it is subscribed to, a bit for each. Raises
+        `Refused` with `Refusal.BAD_ARGUMENT` unless `mask` is 0 to 0x7FFFFF (`SC_MODEVENTMASKALL`). Message:
+        `SCI_SETMODEVENTMASK`.
         """
         self.send(constants.SCI_SETMODEVENTMASK, mask)
 
     def create_document(self, bytes: int, options: int) -> int:
-        """SCI_CREATEDOCUMENT, 2375. `bytes` is not negative, and not used; `options` is 0 or made of
-        SC_DOCUMENTOPTION_STYLES_NONE 1 and SC_DOCUMENTOPTION_TEXT_LARGE 256, else BadArgument; returns the id
-        of a new document with these options, held once by the caller. TooMany if ids are used up.
+        """Creates a document, held once by the caller, and returns its id; `bytes` is not used. `options` is 0, or
+        made of `SC_DOCUMENTOPTION_STYLES_NONE` 1 and `SC_DOCUMENTOPTION_TEXT_LARGE` 256. Raises `Refused` with
+        `Refusal.BAD_ARGUMENT` if `bytes` is negative or `options` has other bits, and with `Refusal.TOO_MANY`
+        if ids are used up. Message: `SCI_CREATEDOCUMENT`.
         """
         return self.send(constants.SCI_CREATEDOCUMENT, bytes, options)
 
     def add_ref_document(self, document: int) -> None:
-        """SCI_ADDREFDOCUMENT, 2376. `document` is held once more; NoSuchDocument, TooMany."""
+        """Adds a reference to `document` that the caller holds. Raises `Refused` with `Refusal.NO_SUCH_DOCUMENT`
+        if there is no such document, and with `Refusal.TOO_MANY` at the limit of its references. Message:
+        `SCI_ADDREFDOCUMENT`.
+        """
         self.send(constants.SCI_ADDREFDOCUMENT, 0, document)
 
     def release_document(self, document: int) -> None:
-        """SCI_RELEASEDOCUMENT, 2377. `document` is held once less; NoSuchDocument, also if no caller holds it."""
+        """Gives back a reference to `document` that a caller holds. Raises `Refused` with
+        `Refusal.NO_SUCH_DOCUMENT` if there is no such document, or if no caller holds it. Message:
+        `SCI_RELEASEDOCUMENT`.
+        """
         self.send(constants.SCI_RELEASEDOCUMENT, 0, document)
 
     def get_mod_event_mask(self) -> int:
-        """SCI_GETMODEVENTMASK, 2378. Returns the mask."""
+        """Returns the view's mask: the kinds of SCN_MODIFIED that it is subscribed to. Message:
+        `SCI_GETMODEVENTMASK`.
+        """
         return self.ask(constants.SCI_GETMODEVENTMASK)
 
     def get_document_options(self) -> int:
-        """SCI_GETDOCUMENTOPTIONS, 2379. Returns the options of the view's document."""
+        """Returns the options of the view's document: 0, or made of `SC_DOCUMENTOPTION_STYLES_NONE` and
+        `SC_DOCUMENTOPTION_TEXT_LARGE`. Message: `SCI_GETDOCUMENTOPTIONS`.
+        """
         return self.ask(constants.SCI_GETDOCUMENTOPTIONS)
 
     def position_before(self, position: int) -> int:
-        """SCI_POSITIONBEFORE, 2417. Returns the greatest cut below `position` (clamped), or 0. Here clamped means
-        brought into 0..n, n the text's length; a cut is a place between two characters.
+        """Returns the last character boundary before `position` (clamped to the text), or 0. Message:
+        `SCI_POSITIONBEFORE`.
         """
         return self.ask(constants.SCI_POSITIONBEFORE, position)
 
     def position_after(self, position: int) -> int:
-        """SCI_POSITIONAFTER, 2418. Returns the least cut above `position` (clamped), or the text's length. Here
-        clamped means brought into 0..n, n the text's length; a cut is a place between two characters.
+        """Returns the first character boundary after `position` (clamped to the text), or the text's length.
+        Message: `SCI_POSITIONAFTER`.
         """
         return self.ask(constants.SCI_POSITIONAFTER, position)
 
     def copy_range(self, start: int, end: int) -> None:
-        """SCI_COPYRANGE, 2419. `start` lies in 0..n, and `end` in `start`..n or is -1 for the end of the text. The
-        clipboard becomes [`start`, `end`), even if that is empty. Here n is the text's length.
+        """Makes the text from `start` to `end` the clipboard, even if that is empty. Raises `Refused` with
+        `Refusal.BAD_ARGUMENT` unless `start` and `end` are a range of the text; an `end` of -1 is its end.
+        Message: `SCI_COPYRANGE`.
         """
         self.send(constants.SCI_COPYRANGE, start, end)
 
     def copy_text(self, text: Text) -> None:
-        """SCI_COPYTEXT, 2420. The clipboard becomes `text`, even if `text` is empty."""
+        """Makes `text` the clipboard, even if it is empty. Message: `SCI_COPYTEXT`."""
         text = as_bytes(text)
         self.send(constants.SCI_COPYTEXT, len(text), 0, text)
 
     def marker_add_set(self, line: int, mask: int) -> None:
-        """SCI_MARKERADDSET, 2466. `mask` in 0..2^32-1. Adds each number whose bit is set, rising; bad line
-        nothing; TooMany if handles do not suffice for all. Here a bad line is one that is not there.
+        """Adds to line `line`, if there is such a line, a marker for each bit that is set in `mask`, in rising
+        order. If it added one, sends one SCN_MODIFIED (`SC_MOD_CHANGEMARKER`). Raises `Refused` with
+        `Refusal.BAD_ARGUMENT` unless `mask` is 0 to 2^32-1, and with `Refusal.TOO_MANY` if there are not enough
+        marker handles for all. Message: `SCI_MARKERADDSET`.
         """
         self.send(constants.SCI_MARKERADDSET, line, mask)
 
     def set_paste_convert_endings(self, on: bool) -> None:
-        """SCI_SETPASTECONVERTENDINGS, 2467. `on`: whether this view converts what it pastes."""
+        """Sets whether this view converts line ends in what it pastes. Message: `SCI_SETPASTECONVERTENDINGS`."""
         self.send(constants.SCI_SETPASTECONVERTENDINGS, on)
 
     def get_paste_convert_endings(self) -> bool:
-        """SCI_GETPASTECONVERTENDINGS, 2468. Returns whether this view converts what it pastes."""
+        """Returns whether this view converts line ends in what it pastes. Message: `SCI_GETPASTECONVERTENDINGS`."""
         return self.ask(constants.SCI_GETPASTECONVERTENDINGS) != 0
 
     def set_indicator_current(self, number: int) -> None:
-        """SCI_SETINDICATORCURRENT, 2500. `number` in 0..31: the view's current indicator."""
+        """Sets the view's current indicator. Raises `Refused` with `Refusal.BAD_ARGUMENT` unless `number` is 0 to
+        31. Message: `SCI_SETINDICATORCURRENT`.
+        """
         self.send(constants.SCI_SETINDICATORCURRENT, number)
 
     def get_indicator_current(self) -> int:
-        """SCI_GETINDICATORCURRENT, 2501. Returns the view's current indicator."""
+        """Returns the view's current indicator. Message: `SCI_GETINDICATORCURRENT`."""
         return self.ask(constants.SCI_GETINDICATORCURRENT)
 
     def set_indicator_value(self, value: int) -> None:
-        """SCI_SETINDICATORVALUE, 2502. `value` in 0..2^31-1, 0 meaning 1: the value that this view fills in."""
+        """Sets the value that this view fills in; 0 stands for 1. Raises `Refused` with `Refusal.BAD_ARGUMENT`
+        unless `value` is 0 to 2^31-1. Message: `SCI_SETINDICATORVALUE`.
+        """
         self.send(constants.SCI_SETINDICATORVALUE, value)
 
     def get_indicator_value(self) -> int:
-        """SCI_GETINDICATORVALUE, 2503. Returns the value that this view fills in."""
+        """Returns the value that this view fills in. Message: `SCI_GETINDICATORVALUE`."""
         return self.ask(constants.SCI_GETINDICATORVALUE)
 
     def indicator_fill_range(self, start: int, length: int) -> None:
-        """SCI_INDICATORFILLRANGE, 2504. `start` in 0..n, `length` in 0..n-`start`. Gives the current indicator the
-        current value over `length` bytes from `start` on. Here n is the text's length.
+        """Gives the view's current indicator the view's value over the `length` bytes from `start` on. If a value
+        changed, sends SCN_MODIFIED (`SC_MOD_CHANGEINDICATOR`). Raises `Refused` with `Refusal.BAD_ARGUMENT`
+        unless these are a range of the text. Message: `SCI_INDICATORFILLRANGE`.
         """
         self.send(constants.SCI_INDICATORFILLRANGE, start, length)
 
     def indicator_clear_range(self, start: int, length: int) -> None:
-        """SCI_INDICATORCLEARRANGE, 2505. `start` in 0..n, `length` in 0..n-`start`. Gives the current indicator
-        the value 0 over `length` bytes from `start` on. Here n is the text's length.
+        """Gives the view's current indicator the value 0 over the `length` bytes from `start` on. If a value
+        changed, sends SCN_MODIFIED (`SC_MOD_CHANGEINDICATOR`). Raises `Refused` with `Refusal.BAD_ARGUMENT`
+        unless these are a range of the text. Message: `SCI_INDICATORCLEARRANGE`.
         """
         self.send(constants.SCI_INDICATORCLEARRANGE, start, length)
 
     def indicator_all_on_for(self, position: int) -> int:
-        """SCI_INDICATORALLONFOR, 2506. Returns bit k for each indicator k that is not 0 at `position`; 0 outside
-        0..n-1. Here n is the text's length.
+        """Returns a mask in which bit k is set if indicator k is not 0 at the byte at `position`; 0 if there is no
+        such byte. Message: `SCI_INDICATORALLONFOR`.
         """
         return self.ask(constants.SCI_INDICATORALLONFOR, position)
 
     def indicator_value_at(self, number: int, position: int) -> int:
-        """SCI_INDICATORVALUEAT, 2507. `number` in 0..31; returns its value at `position`; 0 outside 0..n-1. Here n
-        is the text's length.
+        """Returns the value of indicator `number` at the byte at `position`, or 0 if there is no such byte. Raises
+        `Refused` with `Refusal.BAD_ARGUMENT` unless `number` is 0 to 31. Message: `SCI_INDICATORVALUEAT`.
         """
         return self.ask(constants.SCI_INDICATORVALUEAT, number, position)
 
     def indicator_start(self, number: int, position: int) -> int:
-        """SCI_INDICATORSTART, 2508. `number` in 0..31; returns where the longest run of one value that holds
-        `position` starts; 0 outside 0..n-1. Here n is the text's length.
+        """Returns the start of the longest run of one value of indicator `number` around the byte at `position`; 0
+        if there is no such byte. Raises `Refused` with `Refusal.BAD_ARGUMENT` unless `number` is 0 to 31.
+        Message: `SCI_INDICATORSTART`.
         """
         return self.ask(constants.SCI_INDICATORSTART, number, position)
 
     def indicator_end(self, number: int, position: int) -> int:
-        """SCI_INDICATOREND, 2509. `number` in 0..31; returns the place just after the longest run of one value
-        that holds `position`; 0 outside 0..n-1. Here n is the text's length.
+        """Returns the end of the longest run of one value of indicator `number` around the byte at `position`: the
+        place after its last byte; 0 if there is no such byte. Raises `Refused` with `Refusal.BAD_ARGUMENT`
+        unless `number` is 0 to 31. Message: `SCI_INDICATOREND`.
         """
         return self.ask(constants.SCI_INDICATOREND, number, position)
 
     def set_empty_selection(self, position: int) -> None:
-        """SCI_SETEMPTYSELECTION, 2556. Anchor and caret go to `position`, clamped. Here clamped means brought into
-        0..n, n the text's length.
-        """
+        """Moves anchor and caret to `position` (clamped to the text). Message: `SCI_SETEMPTYSELECTION`."""
         self.send(constants.SCI_SETEMPTYSELECTION, position)
 
     def add_undo_action(self, token: int, flags: int) -> None:
-        """SCI_ADDUNDOACTION, 2560. `flags` in 0..1: UNDO_NONE 0 or UNDO_MAY_COALESCE 1. Appends a container's step
-        with token `token` while undo is collected, also to a read-only document.
+        """Appends a container action with `token` to the history, also on a read-only document. `flags` is
+        `UNDO_NONE` 0, or `UNDO_MAY_COALESCE` 1 for an action that may join the last transaction. Sends
+        SCN_SAVEPOINTLEFT if the document was at its save point. Does nothing while undo is not collected.
+        Raises `Refused` with `Refusal.BAD_ARGUMENT` unless `flags` is 0 or 1. Message: `SCI_ADDUNDOACTION`.
         """
         self.send(constants.SCI_ADDUNDOACTION, token, flags)
 
     def delete_range(self, start: int, length: int) -> None:
-        """SCI_DELETERANGE, 2645. `start` in 0..n, `length` in 0..n-`start`. Deletes the `length` bytes from
-        `start` on. Here n is the text's length.
+        """Deletes the `length` bytes from `start` on. Raises `Refused` with `Refusal.BAD_ARGUMENT` unless these
+        are a range of the text. Message: `SCI_DELETERANGE`.
         """
         self.send(constants.SCI_DELETERANGE, start, length)
 
     def get_selection_empty(self) -> bool:
-        """SCI_GETSELECTIONEMPTY, 2650. Returns whether anchor and caret are at one place."""
+        """Returns whether the selection is empty. Message: `SCI_GETSELECTIONEMPTY`."""
         return self.ask(constants.SCI_GETSELECTIONEMPTY) != 0
 
     def set_line_end_types_allowed(self, types: int) -> None:
-        """SCI_SETLINEENDTYPESALLOWED, 2656. `types` in 0..1: SC_LINE_END_TYPE_DEFAULT 0, SC_LINE_END_TYPE_UNICODE
-        1, for the document, also a read-only one. Rows and the flags of every view go to the lines that contain
-        their starts.
+        """Sets which line ends the document allows, also if it is read-only: `SC_LINE_END_TYPE_DEFAULT` 0, or
+        `SC_LINE_END_TYPE_UNICODE` 1 for those of Unicode too. Line data, and the line flags of each view, go to
+        the lines that contain their starts. Raises `Refused` with `Refusal.BAD_ARGUMENT` unless `types` is 0 or
+        1. Message: `SCI_SETLINEENDTYPESALLOWED`.
         """
         self.send(constants.SCI_SETLINEENDTYPESALLOWED, types)
 
     def get_line_end_types_allowed(self) -> int:
-        """SCI_GETLINEENDTYPESALLOWED, 2657. Returns the types of line ends that the document allows."""
+        """Returns which line ends the document allows: `SC_LINE_END_TYPE_DEFAULT` or `SC_LINE_END_TYPE_UNICODE`.
+        Message: `SCI_GETLINEENDTYPESALLOWED`.
+        """
         return self.ask(constants.SCI_GETLINEENDTYPESALLOWED)
 
     def get_line_end_types_active(self) -> int:
-        """SCI_GETLINEENDTYPESACTIVE, 2658. Returns the types of line ends that are active: those that the document
-        allows.
+        """Returns which line ends divide the text: those that the document allows, `SC_LINE_END_TYPE_DEFAULT` or
+        `SC_LINE_END_TYPE_UNICODE`. Message: `SCI_GETLINEENDTYPESACTIVE`.
         """
         return self.ask(constants.SCI_GETLINEENDTYPESACTIVE)
 
     def set_target_range(self, start: int, end: int) -> None:
-        """SCI_SETTARGETRANGE, 2686. The target's start goes to `start`, the target's end goes to `end`, both
-        clamped. Here clamped means brought into 0..n, n the text's length.
+        """Sets the target's start to `start` and its end to `end` (both clamped to the text). Message:
+        `SCI_SETTARGETRANGE`.
         """
         self.send(constants.SCI_SETTARGETRANGE, start, end)
 
     def get_target_text(self) -> bytes:
-        """SCI_GETTARGETTEXT, 2687. Returns the text between the target's start and the target's end, from the
-        lesser on; the reply's value is its length.
+        """Returns the text between the target's ends, whichever is the lesser; the reply's value is its length.
+        Message: `SCI_GETTARGETTEXT`.
         """
         return self.read(constants.SCI_GETTARGETTEXT)
 
     def target_whole_document(self) -> None:
-        """SCI_TARGETWHOLEDOCUMENT, 2690. The target's start goes to 0, the target's end goes to the text's length."""
+        """Sets the target's start to 0 and its end to the end of the text. Message: `SCI_TARGETWHOLEDOCUMENT`."""
         self.send(constants.SCI_TARGETWHOLEDOCUMENT)
 
     def start_record(self) -> None:
-        """SCI_STARTRECORD, 3001. The view records."""
+        """Starts recording in this view: it is notified by SCN_MACRORECORD of each message marked R, before all
+        else. Message: `SCI_STARTRECORD`.
+        """
         self.send(constants.SCI_STARTRECORD)
 
     def stop_record(self) -> None:
-        """SCI_STOPRECORD, 3002. The view records no longer."""
+        """Stops recording in this view. Message: `SCI_STOPRECORD`."""
         self.send(constants.SCI_STOPRECORD)
 
     def colourise(self, start: int, end: int) -> None:
-        """SCI_COLOURISE, 4003. `start` lies in 0..n, and `end` in `start`..n or is -1 for the end of the text. If
-        end styled is greater than `start`, it becomes `start`; the sending view is asked to style up to `end`.
-        Here n is the text's length.
+        """Asks for styles up to `end`: moves end styled back to `start` if it is greater, and sends the view
+        SCN_STYLENEEDED, even for an empty range. Raises `Refused` with `Refusal.BAD_ARGUMENT` unless `start`
+        and `end` are a range of the text; an `end` of -1 is its end. Message: `SCI_COLOURISE`.
         """
         self.send(constants.SCI_COLOURISE, start, end)
     # Written by tools/pages/wrappers.py: end

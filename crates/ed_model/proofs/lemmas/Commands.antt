@@ -1,16 +1,5 @@
 -- How commands are listed, and read back.
-use Rattle.std.proofs.Common.{◌≡◌, ℕ, ◌^◌, ◌<◌, inl, inr, Bool, true, false, List, [], ◌∷◌, ◌++◌, length, refl, sym, ◌∙◌, ap, subst, arith, ℤ, pos, negsuc, Option, Some, Result, Ok, append-nil, ok_or, codes}
-use Rattle.std.specs.Prelude.{◌==◌, nat_lt, bytes_eq}
-use Rattle.std.specs.List.{AllByRecursion, list_all}
-use Rattle.std.proofs.lemmas.Bool.{cond_both, and_parts, ltb-true, cases_Bool, cond-true, cond-false}
-use Rattle.ed_types.specs.declared.script.Command.{Command}
-use Rattle.ed_types.specs.declared.script.Command.TheVariants.{OpenView, CloseView, LoadFile, SendMessage, Expect}
-use Rattle.ed_types.specs.declared.script.Cause.{Cause}
-use Rattle.ed_types.specs.declared.script.Cause.TheVariants.{UnknownCommand}
-use Rattle.ed_model.specs.Spelling.{space, quote, spelled, spelled_int, spelled_bytes, spelled_text, is_64_bits}
-use Rattle.ed_model.specs.Listing.{listed_command, FitsTypes, is_expect}
-use Rattle.ed_model.specs.Reading.{◌>>=◌, natural, integer, behind, word_of, behind_word, number_field, text_field, ended, Verb, opens, closes, loads, sends, expects, verb_in, verbs, verbs_of, command_of, read_command}
-use Rattle.ed_model.specs.proved.Spelling.{length-spelled-pos, natural-spelled, natural-is, integer-spelled, integer-is, bytes_eq-true}
+use Rattle.ed_model.proofs.Names.{◌≡◌, ℕ, ◌^◌, ◌<◌, inl, inr, Bool, true, false, List, [], ◌∷◌, ◌++◌, length, refl, sym, ◌∙◌, ap, subst, arith, ℤ, pos, negsuc, Option, Some, Result, Ok, append-nil, ok_or, codes, ◌==◌, nat_lt, bytes_eq, AllByRecursion, list_all, cond_both, and_parts, ltb-true, cases_Bool, cond-true, cond-false, Command, OpenView, CloseView, LoadFile, SendMessage, Expect, Cause, UnknownCommand, space, quote, spelled, spelled_int, spelled_bytes, spelled_text, is_64_bits, listed_command, FitsTypes, is_expect, ◌>>=◌, natural, integer, behind, word_of, behind_word, number_field, text_field, ended, Verb, opens, closes, loads, sends, expects, verb_in, verbs, verbs_of, command_of, read_command, length-spelled-pos, natural-spelled, natural-is, integer-spelled, integer-is, bytes_eq-true}
 use Rattle.ed_model.proofs.lemmas.Spelling.{AreWordBytes, AreWordBytes-spelled, AreWordBytes-spelled_int}
 use Rattle.ed_model.proofs.lemmas.Texts.{AreBytes, text_past-spelled, text_past-is}
 use Rattle.ed_model.proofs.lemmas.Fields.{EndsWord, Spells, word_of-word, behind_word-word, word_and_rest, bind-is, behind-is, ok_or-is, number_field-spelled, number_field-is}

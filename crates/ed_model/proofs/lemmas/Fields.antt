@@ -1,14 +1,6 @@
 -- How the fields of a line are spelled, and read back.
-use Rattle.std.proofs.Common.{◌≡◌, ℕ, ◌+◌, ◌<◌, Bool, true, false, cond, List, [], ◌∷◌, ◌++◌, length, take, drop, refl, sym, ◌∙◌, ap, subst, arith, Option, Some, None, Result, Ok, Err, drop_at, take_at, take-append-drop, one-add, ok_or, eq-eqb, length-take}
-use Rattle.std.specs.Prelude.{◌==◌, not}
-use Rattle.std.specs.List.{prefix_len, position_or_len}
-use Rattle.std.proofs.lemmas.List.{drop_min}
-use Rattle.std.proofs.lemmas.Bool.{eqb-true, ne_eqb}
-use Rattle.ed_types.specs.declared.script.Cause.{Cause}
-use Rattle.ed_types.specs.declared.script.Cause.TheVariants.{BadShape, BadNumber}
-use Rattle.ed_model.specs.Spelling.{space}
-use Rattle.ed_model.specs.Reading.{◌>>=◌, behind, word_of, behind_word, not_empty, word_field, number_field}
-use Rattle.ed_model.specs.proved.Reading.{not_empty-some}
+use Rattle.ed_model.proofs.Names.{◌≡◌, ℕ, ◌+◌, ◌<◌, Bool, true, false, cond, List, [], ◌∷◌, ◌++◌, length, take, drop, refl, sym, ◌∙◌, ap, subst, arith, Option, Some, None, Result, Ok, Err, one-add, ok_or, length-take, ◌==◌, not, prefix_len, position_or_len, drop_min, eqb-true, ne_eqb, Cause, BadShape, BadNumber, space, ◌>>=◌, behind, word_of, behind_word, not_empty, word_field, number_field, not_empty-some}
+use Rattle.std.proofs.Common.{drop_at, take_at, take-append-drop, eq-eqb}
 use Rattle.ed_model.proofs.lemmas.Spelling.{AreWordBytes}
 
 -- nothing, or a space first, so that a word ends here

@@ -1,23 +1,10 @@
 -- How whole scripts are listed, and read back.
-use Rattle.std.proofs.Common.{◌≡◌, ℕ, ◌+◌, ◌≤◌, ◌⊎◌, inl, inr, Bool, true, false, cond, List, [], ◌∷◌, ◌++◌, refl, sym, ◌∙◌, ap, subst, arith, Result, Ok, Err, append_assoc, codes, flat_map, nat_le}
-use Rattle.std.specs.Prelude.{◌==◌, not, bytes_eq, slice_index}
-use Rattle.std.specs.List.{AllByRecursion, list_all, slice_split, onto_first, join_with_byte}
-use Rattle.std.proofs.lemmas.Bool.{and_parts, and_from, leb-true, ne_eqb, cases_Bool, cond-true, cond-false, agree_below_at}
+use Rattle.ed_model.proofs.Names.{◌≡◌, ℕ, ◌+◌, ◌≤◌, ◌⊎◌, inl, inr, Bool, true, false, cond, List, [], ◌∷◌, ◌++◌, refl, sym, ◌∙◌, ap, subst, arith, Result, Ok, Err, append_assoc, codes, flat_map, nat_le, ◌==◌, not, bytes_eq, slice_index, AllByRecursion, list_all, slice_split, onto_first, join_with_byte, and_parts, and_from, leb-true, ne_eqb, cases_Bool, cond-true, cond-false, agree_below_at, Command, OpenView, CloseView, LoadFile, SendMessage, Expect, Cause, LineTooLong, BadVersion, line_feed, space, spelled, spelled_int, spelled_byte, spelled_bytes, spelled_text, quote, listed_command, listing, ended_line, version_line, FitsTypes, is_expect, speaks, fits_line, fits_script, ◌>>=◌, read_command, read_version, at_line, read_lines, read_script, reading, bytes_eq-true, read_from, read_first, read_lines-first, read_script-first, reads_within, versions}
 use Rattle.std.proofs.lemmas.List.Splits.{join_with_byte-slice_split}
-use Rattle.ed_types.specs.declared.script.Command.{Command}
-use Rattle.ed_types.specs.declared.script.Command.TheVariants.{OpenView, CloseView, LoadFile, SendMessage, Expect}
-use Rattle.ed_types.specs.declared.script.Cause.{Cause}
-use Rattle.ed_types.specs.declared.script.Cause.TheVariants.{LineTooLong, BadVersion}
 use Rattle.ed_types.specs.declared.script.ScriptFault.{ScriptFault}
 use Rattle.ed_types.specs.declared.script.ScriptFault.TheVariants.{BadLine, TooLong}
-use Rattle.ed_model.specs.Text.{line_feed}
-use Rattle.ed_model.specs.Spelling.{space, spelled, spelled_int, spelled_byte, spelled_bytes, spelled_text, quote}
-use Rattle.ed_model.specs.Listing.{listed_command, listing, ended_line, version_line, FitsTypes, is_expect, speaks, fits_line, fits_script}
-use Rattle.ed_model.specs.Reading.{◌>>=◌, read_command, read_version, at_line, read_lines, read_script, reading}
 use Rattle.ed_model.specs.ScriptLaws.{IsScript, ListingsAreRead, OnlyListingsAreRead, ScriptsHaveOneSpelling, ListingsKeepLimits, first_line}
-use Rattle.ed_model.specs.proved.Spelling.{bytes_eq-true}
 use Rattle.ed_model.proofs.lemmas.Spelling.{AreWordBytes, AreWordBytes-spelled, AreWordBytes-spelled_int}
-use Rattle.ed_model.specs.proved.Reading.{read_from, read_first, read_lines-first, read_script-first, reads_within, versions}
 use Rattle.ed_model.proofs.lemmas.Texts.{AreBytes}
 use Rattle.ed_model.proofs.lemmas.Fields.{bind-is}
 use Rattle.ed_model.proofs.lemmas.Commands.{read_command-listed, read_command-is, IsLineOf}

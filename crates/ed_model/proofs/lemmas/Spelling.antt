@@ -1,11 +1,7 @@
 -- The spelling of a number consists of bytes of words.
-use Rattle.std.proofs.Common.{ℕ, suc, ◌≡◌, ◌^◌, ◌<◌, true, List, [], ◌∷◌, arith, ℤ, pos, negsuc}
-use Rattle.std.specs.List.{AllByRecursion}
+use Rattle.ed_model.proofs.Names.{ℕ, suc, ◌≡◌, ◌^◌, ◌<◌, true, List, [], ◌∷◌, arith, ℤ, pos, negsuc, AllByRecursion, ltb-true, spelled, spelled_int, is_64_bits, AllDigits-spelled}
 use Rattle.std.specs.Str.Parse.{AllDigits}
 use Rattle.std.proofs.lemmas.Str.Parse.{digit_from_value}
-use Rattle.std.proofs.lemmas.Bool.{ltb-true}
-use Rattle.ed_model.specs.Spelling.{spelled, spelled_int, is_64_bits}
-use Rattle.ed_model.specs.proved.Spelling.{AllDigits-spelled}
 
 -- bytes greater than the space can be in words; the line feed and the space cannot
 abbrev pub AreWordBytes : List ℕ → Type 0

@@ -1,14 +1,6 @@
 -- How texts are spelled, and read back.
-use Rattle.std.proofs.Common.{◌≡◌, ℕ, zero, suc, ◌-◌, ◌<◌, true, cond, List, [], ◌∷◌, ◌++◌, length, drop, refl, sym, ◌∙◌, ap, subst, arith, Result, Ok, Err, append_assoc, inl, inr}
-use Rattle.std.specs.Prelude.{nat_lt, nat_eq, ◌==◌}
-use Rattle.std.specs.List.{AllByRecursion, starts_with}
-use Rattle.std.proofs.lemmas.Bool.{cond-true, cond-false, and_parts, ltb-true, eqb-true, cases_Bool}
-use Rattle.std.proofs.lemmas.Bool.Decides.{Decides-eqb}
+use Rattle.ed_model.proofs.Names.{◌≡◌, ℕ, zero, suc, ◌-◌, ◌<◌, true, cond, List, [], ◌∷◌, ◌++◌, length, drop, refl, sym, ◌∙◌, ap, subst, arith, Result, Ok, Err, append_assoc, inl, inr, nat_lt, nat_eq, ◌==◌, AllByRecursion, starts_with, cond-true, cond-false, and_parts, ltb-true, eqb-true, cases_Bool, Decides-eqb, Cause, BadText, quote, spelled_byte, spelled_bytes, front_byte, spells_front, with_byte, text_past}
 use Rattle.std.proofs.lemmas.Slice.Eq.{starts_is}
-use Rattle.ed_types.specs.declared.script.Cause.{Cause}
-use Rattle.ed_types.specs.declared.script.Cause.TheVariants.{BadText}
-use Rattle.ed_model.specs.Spelling.{quote, spelled_byte, spelled_bytes}
-use Rattle.ed_model.specs.Reading.{front_byte, spells_front, with_byte, text_past}
 use Rattle.ed_model.specs.proved.Texts.{length-spelled_byte-pos, text_past-spelled_byte}
 
 abbrev pub AreBytes : List ℕ → Type 0

@@ -4,14 +4,14 @@ use Rattle.std.specs.Prelude.{unwrap_or}
 use Rattle.std.specs.List.{range_with_len}
 use Rattle.std.specs.List.Sorted.{IsStrictlyIncreasing}
 use Rattle.std.proofs.Math.Bool.{and-false}
-use Rattle.std.proofs.lemmas.Bool.{cases_lt, ne_eqb, false≢true}
+use Rattle.std.proofs.lemmas.Bool.{cases_lt, ne_eqb}
 use Rattle.std.proofs.lemmas.List.Elements.{All-contains, All-filter, All-from_get_or, filter_passes, filter-append}
 use Rattle.std.proofs.lemmas.List.FromFn.{length-range_with_len, get_or-range_with_len}
 use Rattle.std.proofs.lemmas.List.Sums.{count_by-le-length, length-filter}
 use Rattle.ed_model.specs.declared.plan.LineEndTypes.{LineEndTypes}
 use Rattle.ed_model.specs.Lines.{is_line_start, unicode_end_before, line_starts, line_of, line_count, start_of_line, start_after_line, line_end_length, end_of_line, knows_unicode}
 use Rattle.ed_model.specs.proved.Bytes.{stands_past}
-use Rattle.ed_model.specs.proved.Rising.{Rises, Climbs, Climbs_from_rises, Rises-filter_range, increasing_from_rises, Contains-filter, Contains-range, range-append, filter_range_none, count_front, count_back, count_at, count_monotone}
+use Rattle.ed_model.specs.proved.Rising.{Rises, Climbs, Climbs_from_rises, Rises-filter_range, increasing_from_rises, range-append, filter_range_none, count_front, count_back, count_at, count_monotone}
 
 no_unicode_end_past : (text : List ℕ) (p : ℕ) → length text ≤ p - 1 → unicode_end_before text p ≡ false
 no_unicode_end_past text p h =
@@ -88,14 +88,6 @@ end_in_range types text line =
 pub start_from_contains : (types : LineEndTypes) (text : List ℕ) (p : ℕ) → Contains (line_starts types text) p → is_line_start types text p ≡ true
 start_from_contains types text p c =
     All-contains (λ s. is_line_start types text s ≡ true) (line_starts types text) p (filter_passes (is_line_start types text) (range_with_len 0 (length text + 1))) c
-
--- each place that passes the test is a line start
-pub contains_from_start : (types : LineEndTypes) (text : List ℕ) (p : ℕ) → is_line_start types text p ≡ true → Contains (line_starts types text) p
-contains_from_start types text p e =
-    elim (cases_lt (length text) p) [
-      | inl past ↦ absurd (false≢true (sym (no_start_past types text p past) ∙ e))
-      | inr within ↦ Contains-filter (is_line_start types text) (range_with_len 0 (length text + 1)) p e (Contains-range (length text + 1) p (omega arith))
-    ]
 
 -- whether a line starts at a place depends only on the four bytes around it
 pub same_start : (types : LineEndTypes) (text other : List ℕ) (p q : ℕ) → eqb p 0 ≡ eqb q 0 → slice_get text (p - 3) ≡ slice_get other (q - 3) → slice_get text (p - 2) ≡ slice_get other (q - 2) → slice_get text (p - 1) ≡ slice_get other (q - 1) → slice_get text p ≡ slice_get other q → is_line_start types text p ≡ is_line_start types other q

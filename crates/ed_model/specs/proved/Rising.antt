@@ -1,12 +1,10 @@
 -- Lists of rising numbers, such as a filter of a range gives, and how many of them are at most a given number.
-use Rattle.std.proofs.Common.{ℕ, zero, suc, ◌≡◌, ◌+◌, ◌-◌, ◌<◌, ◌≤◌, Bool, true, false, cond, List, [], ◌∷◌, ◌++◌, map, length, get_or, filter, count_by, Contains, leb, refl, ap, ap₂, ◌∙◌, inl, inr, arith, le_refl, add-one, add_assoc, map-id, add-zero, zero-add}
+use Rattle.std.proofs.Common.{ℕ, zero, suc, ◌≡◌, ◌+◌, ◌-◌, ◌<◌, ◌≤◌, Bool, true, false, cond, List, [], ◌∷◌, ◌++◌, map, length, get_or, filter, count_by, leb, refl, ap, ap₂, ◌∙◌, inl, inr, arith, le_refl, add-one, add_assoc, map-id, add-zero, zero-add}
 use Rattle.std.specs.Prelude.{reverse}
 use Rattle.std.specs.List.{range_with_len}
 use Rattle.std.specs.List.Sorted.{IsStrictlyIncreasing}
 use Rattle.std.proofs.lemmas.Bool.{cond_both, le-leb, lt-leb, cases_lt, cases_order}
 use Rattle.std.proofs.lemmas.List.{reverse-append}
-use Rattle.std.proofs.lemmas.List.Elements.{Contains-get_or}
-use Rattle.std.proofs.lemmas.List.FromFn.{length-range_with_len, get_or-range_with_len}
 use Rattle.std.proofs.lemmas.List.Sums.{sum_by-cons, sum_by-le-sum_by, count_by-le-length}
 use Rattle.std.proofs.lemmas.Bool.Decides.{nat_tests}
 
@@ -63,29 +61,6 @@ rises_from_increasing low (x ∷ y ∷ xs) h r = (
   h (omega arith),
   rises_from_increasing (x + 1) (y ∷ xs) (λ _. omega (arith, r 0 (omega arith))) (λ k l. rw (add-one k) (rw (add-one (k + 1), add-one k) at (r (k + 1) (omega arith)))),
 )
-
--- membership
-
--- an element of the rest of a list is one of the list
-pub Contains-there : (x y : ℕ) (xs : List ℕ) → Contains xs y → Contains (x ∷ xs) y
-Contains-there x y xs c = (suc c.0, omega (arith, c.1), c.2)
-
-filter_has : (p : ℕ → Bool) (xs : List ℕ) (y k : ℕ) → p y ≡ true → k < length xs → get_or xs k y ≡ y → Contains (filter p xs) y
-filter_has p [] y k e h f = absurd (omega arith)
-filter_has p (x ∷ xs) y zero e h f = rw (f, e) (0, omega arith, refl)
-filter_has p (x ∷ xs) y (suc k) e h f =
-    let rest : Contains (filter p xs) y = filter_has p xs y k e (omega arith) f in
-    cond_both (p x) (x ∷ filter p xs) (filter p xs) (λ l. Contains l y) (λ _. Contains-there x y (filter p xs) rest) (λ _. rest)
-
--- an element that passes the test is kept by the filter
-pub Contains-filter : (p : ℕ → Bool) (xs : List ℕ) (y : ℕ) → p y ≡ true → Contains xs y → Contains (filter p xs) y
-Contains-filter p xs y e c = filter_has p xs y c.0 e c.1 c.2
-
--- a number below n is one of the n numbers from 0 on
-pub Contains-range : (n y : ℕ) → y < n → Contains (range_with_len 0 n) y
-Contains-range n y h =
-    let e : get_or (range_with_len 0 n) y 0 ≡ y = get_or-range_with_len 0 n y 0 h ∙ zero-add y in
-    rw e at (Contains-get_or (range_with_len 0 n) y 0 (omega (arith, length-range_with_len 0 n)))
 
 -- ranges
 

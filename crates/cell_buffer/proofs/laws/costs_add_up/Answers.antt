@@ -1,6 +1,5 @@
 -- Call by call, the bytes first and then the styles.
-use Rattle.std.proofs.Common.{arith, ◌+◌, ◌-◌, ◌≤◌, List, [], ◌∷◌}
-use Rattle.cell_buffer.specs.Buffer.{Buffer}
+use Rattle.cell_buffer.proofs.Names.{arith, ◌+◌, ◌-◌, ◌≤◌, List, [], ◌∷◌, Buffer}
 use Rattle.cell_buffer.specs.SumLaws.{Edited, EachCosts, buffer_after, sum_of_costs}
 use Rattle.cell_buffer.proofs.laws.costs_add_up.Goals as goal
 

@@ -1,8 +1,4 @@
-use Rattle.std.proofs.Common.{◌≡◌, ℕ, [], ◌∷◌, ◌++◌, ◌+◌, ◌∙◌, ap, sym, arith, set, replicate, length}
-use Rattle.std.proofs.lemmas.List.{replicate_more, length-replicate}
-use Rattle.ed_model.specs.Indicators.{changed_range}
-use Rattle.ed_model.specs.proved.Indicators.{nothing_changed}
-use Rattle.cell_buffer.specs.Buffer.{overwritten, range_between}
+use Rattle.cell_buffer.proofs.Names.{◌≡◌, ℕ, [], ◌∷◌, ◌++◌, ◌+◌, ◌∙◌, ap, sym, arith, set, replicate, length, replicate_more, length-replicate, changed_range, nothing_changed, overwritten, range_between}
 use Rattle.cell_buffer.proofs.Pairs.{overwritten_push, overwritten_none}
 use Rattle.cell_buffer.proofs.Changed.{range_put}
 use Rattle.cell_buffer.proofs.styling.fill.Goals as goal

@@ -1,6 +1,4 @@
-use Rattle.std.proofs.Common.{◌≡◌, replicate}
-use Rattle.ed_model.specs.Indicators.{changed_range}
-use Rattle.cell_buffer.specs.Buffer.{overwritten, range_between}
+use Rattle.cell_buffer.proofs.Names.{◌≡◌, replicate, changed_range, overwritten, range_between}
 use Rattle.cell_buffer.proofs.styling.fill.Given as goal
 
 -- `i` styles are written, the range of those that changed is known, and nothing moved

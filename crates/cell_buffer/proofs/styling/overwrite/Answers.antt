@@ -1,8 +1,4 @@
-use Rattle.std.proofs.Common.{◌≡◌, [], ◌∷◌, ◌++◌, ◌+◌, ◌∙◌, ap, sym, arith, set, take, get_or, length}
-use Rattle.std.proofs.lemmas.List.{take_more, length-take-le}
-use Rattle.ed_model.specs.Indicators.{changed_range}
-use Rattle.ed_model.specs.proved.Indicators.{nothing_changed}
-use Rattle.cell_buffer.specs.Buffer.{overwritten, range_between}
+use Rattle.cell_buffer.proofs.Names.{◌≡◌, [], ◌∷◌, ◌++◌, ◌+◌, ◌∙◌, ap, sym, arith, set, take, get_or, length, take_more, length-take-le, changed_range, nothing_changed, overwritten, range_between}
 use Rattle.cell_buffer.proofs.Pairs.{overwritten_push, overwritten_none}
 use Rattle.cell_buffer.proofs.Changed.{range_put}
 use Rattle.cell_buffer.proofs.styling.overwrite.Goals as goal

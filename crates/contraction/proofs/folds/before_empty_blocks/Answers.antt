@@ -1,6 +1,4 @@
-use Rattle.std.proofs.Common.{◌≡◌, ◌+◌, ◌-◌, ◌≤◌, ◌<◌, ◌⊎◌, inl, inr, ℕ, false, List, length, take, drop, get_or, slice_index, refl, sym, ap, ◌∙◌, arith}
-use Rattle.std.proofs.lemmas.Bool.{cases_lt}
-use Rattle.std.proofs.lemmas.List.{get_or-take, get_or-drop, length-take, length-drop}
+use Rattle.contraction.proofs.Names.{◌≡◌, ◌+◌, ◌-◌, ◌≤◌, ◌<◌, ◌⊎◌, inl, inr, ℕ, false, List, length, take, drop, get_or, slice_index, refl, sym, ap, ◌∙◌, arith, cases_lt, get_or-take, get_or-drop, length-take, length-drop}
 use Rattle.contraction.specs.Headings.{heads as heads_by}
 use Rattle.contraction.proofs.folds.before_empty_blocks.Goals as goal
 

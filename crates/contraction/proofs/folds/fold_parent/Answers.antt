@@ -1,5 +1,4 @@
-use Rattle.std.proofs.Common.{◌≡◌, ◌≤◌, length, sym, ap, ◌∙◌, arith, rules}
-use Rattle.contraction.specs.Headings.{last_heading}
+use Rattle.contraction.proofs.Names.{◌≡◌, ◌≤◌, length, sym, ap, ◌∙◌, arith, rules, last_heading}
 use Rattle.contraction.proofs.Headings.{heading_of_parts, in_part, none_from}
 use Rattle.contraction.proofs.folds.fold_parent.Goals as goal
 

@@ -1,5 +1,4 @@
-use Rattle.std.proofs.Common.{◌≡◌, ◌≤◌}
-use Rattle.contraction.specs.Headings.{last_heading}
+use Rattle.contraction.proofs.Names.{◌≡◌, ◌≤◌, last_heading}
 use Rattle.contraction.proofs.folds.last_among.Given as goal
 
 abbrev pub invariant-seeking : goal.invariant-seeking

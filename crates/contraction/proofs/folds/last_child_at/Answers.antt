@@ -1,6 +1,4 @@
-use Rattle.std.proofs.Common.{◌<◌, leb, length, ◌∙◌, arith}
-use Rattle.std.proofs.lemmas.Bool.{lt-leb}
-use Rattle.ed_model.specs.Folding.{number_at}
+use Rattle.contraction.proofs.Names.{◌<◌, leb, length, ◌∙◌, arith, lt-leb, number_at}
 use Rattle.contraction.proofs.FoldLines.{first_later}
 use Rattle.contraction.proofs.folds.last_child_at.Goals as goal
 

@@ -1,5 +1,4 @@
-use Rattle.std.proofs.Common.{◌≡◌, ◌+◌, leb, length}
-use Rattle.ed_model.specs.Folding.{number_at}
+use Rattle.contraction.proofs.Names.{◌≡◌, ◌+◌, leb, length, number_at}
 use Rattle.contraction.proofs.FoldLines.{first_from}
 use Rattle.contraction.proofs.folds.last_child_at.Given as goal
 

@@ -1,6 +1,5 @@
-use Rattle.std.proofs.Common.{◌≡◌, ◌<◌, ℕ, List, Option, Some, None, length, slice_index, sym, ◌∙◌, arith}
-use Rattle.std.specs.Prelude.{IfSome, IfNone}
-use Rattle.contraction.specs.Headings.{heads as heads_by, last_heading}
+use Rattle.contraction.proofs.Names.{◌≡◌, ◌<◌, ℕ, List, Option, Some, None, length, slice_index, sym, ◌∙◌, arith, IfSome, IfNone, last_heading}
+use Rattle.contraction.specs.Headings.{heads as heads_by}
 use Rattle.contraction.proofs.Headings.{last_skipped}
 use Rattle.contraction.proofs.folds.last_heading.Goals as goal
 

@@ -1,6 +1,4 @@
-use Rattle.std.proofs.Common.{◌+◌, sym, ap, ◌∙◌, arith}
-use Rattle.std.proofs.lemmas.Bool.{eq-eqb}
-use Rattle.contraction.specs.LineSets.{starts_at}
+use Rattle.contraction.proofs.Names.{◌+◌, sym, ap, ◌∙◌, arith, eq-eqb, starts_at}
 use Rattle.contraction.proofs.LineSets.{found_at, there_already, inserted_line, not_there}
 use Rattle.contraction.proofs.line_set.insert.Goals as goal
 

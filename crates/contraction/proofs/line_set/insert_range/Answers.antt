@@ -1,7 +1,4 @@
-use Rattle.std.proofs.Common.{◌≡◌, ◌||◌, refl, sym, ap, ◌∙◌, inl, inr, arith, le_refl}
-use Rattle.std.proofs.lemmas.Bool.{cases_lt}
-use Rattle.ed_model.specs.Folding.{is_between}
-use Rattle.contraction.specs.LineSets.{holds}
+use Rattle.contraction.proofs.Names.{◌≡◌, ◌||◌, refl, sym, ap, ◌∙◌, inl, inr, arith, le_refl, cases_lt, is_between, holds}
 use Rattle.contraction.proofs.Outside.{room_for}
 use Rattle.contraction.proofs.LineSets.{between_none}
 use Rattle.contraction.proofs.line_set.insert_range.Goals as goal

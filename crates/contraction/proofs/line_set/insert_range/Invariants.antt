@@ -1,7 +1,4 @@
-use Rattle.std.proofs.Common.{◌≡◌, ℕ, ◌+◌, ◌≤◌, ◌||◌, length}
-use Rattle.ed_model.specs.Folding.{is_between}
-use Rattle.partitioning.specs.Partitions.{ArePartitions}
-use Rattle.contraction.specs.LineSets.{holds}
+use Rattle.contraction.proofs.Names.{◌≡◌, ℕ, ◌+◌, ◌≤◌, ◌||◌, length, is_between, ArePartitions, holds}
 use Rattle.contraction.proofs.line_set.insert_range.Given as goal
 
 abbrev pub invariant-loop-line : goal.invariant-loop-line

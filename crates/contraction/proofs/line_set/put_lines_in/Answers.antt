@@ -1,5 +1,4 @@
-use Rattle.std.proofs.Common.{◌+◌, ap, ◌∙◌}
-use Rattle.contraction.specs.LineSets.{starts_at}
+use Rattle.contraction.proofs.Names.{◌+◌, ap, ◌∙◌, starts_at}
 use Rattle.contraction.proofs.LineSets.{came}
 use Rattle.contraction.proofs.line_set.put_lines_in.Goals as goal
 

@@ -1,8 +1,5 @@
-use Rattle.std.proofs.Common.{◌≡◌, ◌<◌, ◌+◌, ◌++◌, length, take, drop, remove, ap, ◌∙◌, arith}
-use Rattle.std.proofs.lemmas.List.{length-append, length-take-le, length-drop}
-use Rattle.std.proofs.lemmas.List.Edits.{length-remove}
+use Rattle.contraction.proofs.Names.{◌≡◌, ◌<◌, ◌+◌, ◌++◌, length, take, drop, remove, ap, ◌∙◌, arith, length-append, length-take-le, length-drop, length-remove, starts_at}
 use Rattle.ed_model.specs.proved.Lists.{removed_next}
-use Rattle.contraction.specs.LineSets.{starts_at}
 use Rattle.contraction.proofs.LineSets.{found_later, left}
 use Rattle.contraction.proofs.line_set.remove_range.Goals as goal
 

@@ -1,5 +1,4 @@
-use Rattle.std.proofs.Common.{◌≡◌, ◌+◌, ◌++◌, ◌≤◌, length, take, drop}
-use Rattle.partitioning.specs.Partitions.{ArePartitions}
+use Rattle.contraction.proofs.Names.{◌≡◌, ◌+◌, ◌++◌, ◌≤◌, length, take, drop, ArePartitions}
 use Rattle.contraction.proofs.line_set.remove_range.Given as goal
 
 abbrev pub invariant-loop-index : goal.invariant-loop-index

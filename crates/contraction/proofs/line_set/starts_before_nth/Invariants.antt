@@ -1,5 +1,4 @@
-use Rattle.std.proofs.Common.{◌+◌, ◌<◌, ◌≤◌, length, get_or}
-use Rattle.partitioning.specs.Partitions.{ArePartitions}
+use Rattle.contraction.proofs.Names.{◌+◌, ◌<◌, ◌≤◌, length, get_or, ArePartitions}
 use Rattle.contraction.proofs.line_set.starts_before_nth.Given as goal
 
 abbrev pub invariant-halving : goal.invariant-halving

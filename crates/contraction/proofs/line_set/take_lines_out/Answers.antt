@@ -1,5 +1,4 @@
-use Rattle.std.proofs.Common.{◌+◌, ap, ◌∙◌, arith}
-use Rattle.contraction.specs.LineSets.{starts_at}
+use Rattle.contraction.proofs.Names.{◌+◌, ap, ◌∙◌, arith, starts_at}
 use Rattle.contraction.proofs.LineSets.{none_within, went}
 use Rattle.contraction.proofs.line_set.take_lines_out.Goals as goal
 

@@ -1,7 +1,4 @@
-use Rattle.std.proofs.Common.{◌≡◌, ℕ, ◌+◌, ◌<◌, ◌≤◌, List, Option, None, IfSome, length, get_or, take, drop, ◌++◌, subst, sym, ap, ◌∙◌, refl, arith}
-use Rattle.std.proofs.lemmas.List.{get_or_default}
-use Rattle.run_styles.specs.Runs.{Runs}
-use Rattle.decorations.specs.Slots.{slot_at, GaveAway}
+use Rattle.decorations.proofs.Names.{◌≡◌, ℕ, ◌+◌, ◌<◌, ◌≤◌, List, Option, None, IfSome, length, get_or, take, drop, ◌++◌, subst, sym, ap, ◌∙◌, refl, arith, get_or_default, Runs, slot_at, GaveAway}
 use Rattle.decorations.proofs.SlotLists.{slot_read, in_each, looped, done_more, same_more}
 use Rattle.decorations.proofs.slots.delete_from_each.Goals as goal
 

@@ -1,9 +1,5 @@
-use Rattle.std.proofs.Common.{◌≡◌, ◌+◌, ◌≤◌, ℕ, List, length, Option, ap, sym, ◌∙◌, subst, arith, true≢false}
-use Rattle.ed_model.specs.Indicators.{filled, changed_range}
-use Rattle.ed_model.specs.proved.Indicators.{length_filled}
-use Rattle.run_styles.specs.Runs.{Runs, filled as runs_filled}
-use Rattle.decorations.specs.Decorated.{IsClear}
-use Rattle.decorations.specs.Slots.{shown, WasFilled}
+use Rattle.decorations.proofs.Names.{◌≡◌, ◌+◌, ◌≤◌, ℕ, List, length, Option, ap, sym, ◌∙◌, subst, arith, true≢false, filled, changed_range, length_filled, Runs, IsClear, shown, WasFilled}
+use Rattle.run_styles.specs.Runs.{filled as runs_filled}
 use Rattle.decorations.proofs.Values.{room_for_fill, filled_same, shown_full, default_of}
 use Rattle.decorations.proofs.Changed.{answer_is}
 use Rattle.decorations.proofs.slots.fill_slot.Goals as goal

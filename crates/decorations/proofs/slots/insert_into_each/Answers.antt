@@ -1,6 +1,4 @@
-use Rattle.std.proofs.Common.{◌≡◌, ℕ, ◌<◌, ◌≤◌, List, Option, IfSome, length, take, drop, ◌++◌, subst, sym, ap, ◌∙◌, refl, arith}
-use Rattle.run_styles.specs.Runs.{Runs}
-use Rattle.decorations.specs.Slots.{slot_at, InBoth, TookIn, CanTakeIn}
+use Rattle.decorations.proofs.Names.{◌≡◌, ℕ, ◌<◌, ◌≤◌, List, Option, IfSome, length, take, drop, ◌++◌, subst, sym, ap, ◌∙◌, refl, arith, Runs, slot_at, InBoth, TookIn, CanTakeIn}
 use Rattle.decorations.proofs.SlotLists.{slot_read, in_each, looped}
 use Rattle.decorations.proofs.slots.insert_into_each.Goals as goal
 

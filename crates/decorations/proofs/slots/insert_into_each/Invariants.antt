@@ -1,5 +1,4 @@
-use Rattle.std.proofs.Common.{◌≡◌, ℕ, ◌<◌, ◌≤◌}
-use Rattle.decorations.specs.Slots.{slot_at, InBoth, TookIn}
+use Rattle.decorations.proofs.Names.{◌≡◌, ℕ, ◌<◌, ◌≤◌, slot_at, InBoth, TookIn}
 use Rattle.decorations.proofs.slots.insert_into_each.Given as goal
 
 -- the slots before this one are done, and the others unchanged

@@ -1,8 +1,4 @@
-use Rattle.std.proofs.Common.{◌≡◌, ℕ, ◌+◌, ◌<◌, ◌≤◌, List, Option, None, IfSome, length, get_or, set, take, drop, ◌++◌, subst, sym, ap, ◌∙◌, refl, arith}
-use Rattle.std.proofs.lemmas.List.{get_or_default, length-set}
-use Rattle.run_styles.specs.Runs.{Runs}
-use Rattle.decorations.specs.Decorated.{IsEnough}
-use Rattle.decorations.specs.Slots.{slot_at, InBoth, HaveRoomOf}
+use Rattle.decorations.proofs.Names.{◌≡◌, ℕ, ◌+◌, ◌<◌, ◌≤◌, List, Option, None, IfSome, length, get_or, set, take, drop, ◌++◌, subst, sym, ap, ◌∙◌, refl, arith, get_or_default, length-set, Runs, IsEnough, slot_at, InBoth, HaveRoomOf}
 use Rattle.decorations.proofs.SlotLists.{in_each, looped, done_more, same_more}
 use Rattle.decorations.proofs.Memory.{grown_so_far}
 use Rattle.decorations.proofs.slots.reserve_runs.Goals as goal

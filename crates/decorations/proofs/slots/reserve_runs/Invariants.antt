@@ -1,5 +1,4 @@
-use Rattle.std.proofs.Common.{◌≡◌, ℕ, ◌<◌, ◌≤◌, IfSome}
-use Rattle.decorations.specs.Slots.{slot_at, InBoth, HaveRoomOf}
+use Rattle.decorations.proofs.Names.{◌≡◌, ℕ, ◌<◌, ◌≤◌, IfSome, slot_at, InBoth, HaveRoomOf}
 use Rattle.decorations.proofs.slots.reserve_runs.Given as goal
 
 -- the slots before this one have the room, and the others are unchanged

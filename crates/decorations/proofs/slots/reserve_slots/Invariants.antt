@@ -1,5 +1,4 @@
-use Rattle.std.proofs.Common.{◌≡◌, ◌+◌, ◌≤◌, ◌-◌, ℕ, length, vec_capacity}
-use Rattle.decorations.specs.Slots.{slot_at}
+use Rattle.decorations.proofs.Names.{◌≡◌, ◌+◌, ◌≤◌, ◌-◌, ℕ, length, vec_capacity, slot_at}
 use Rattle.decorations.proofs.slots.reserve_slots.Given as goal
 
 abbrev pub invariant-loop-slots : goal.invariant-loop-slots

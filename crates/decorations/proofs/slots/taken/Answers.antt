@@ -1,6 +1,4 @@
-use Rattle.std.proofs.Common.{◌≡◌, ◌∙◌, ℕ, Option, Some, None, IfNone, nat_eq, sym, subst}
-use Rattle.run_styles.specs.Runs.{Runs, IsSameMemory, run_count}
-use Rattle.decorations.specs.Slots.{AreSpare, HasSpare, shown, source_spare}
+use Rattle.decorations.proofs.Names.{◌≡◌, ◌∙◌, ℕ, Option, Some, None, IfNone, nat_eq, sym, subst, Runs, IsSameMemory, run_count, AreSpare, HasSpare, shown, source_spare}
 use Rattle.decorations.proofs.Memory.{one_run, zeros_run}
 use Rattle.decorations.proofs.slots.taken.Goals as goal
 

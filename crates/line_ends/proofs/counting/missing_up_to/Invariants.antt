@@ -1,5 +1,4 @@
-use Rattle.std.proofs.Common.{◌≡◌, ◌+◌, ◌-◌, ◌≤◌, ◌++◌, length}
-use Rattle.line_ends.specs.Conversion.{missing_in}
+use Rattle.line_ends.proofs.Names.{◌≡◌, ◌+◌, ◌-◌, ◌≤◌, ◌++◌, length, missing_in}
 use Rattle.line_ends.proofs.counting.missing_up_to.Given as goal
 
 abbrev pub invariant-counting : goal.invariant-counting

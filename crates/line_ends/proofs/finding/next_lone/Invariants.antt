@@ -1,5 +1,4 @@
-use Rattle.std.proofs.Common.{◌≡◌, ◌+◌, ◌-◌, ◌≤◌, ◌++◌, length}
-use Rattle.line_ends.specs.Conversion.{missing_in}
+use Rattle.line_ends.proofs.Names.{◌≡◌, ◌+◌, ◌-◌, ◌≤◌, ◌++◌, length, missing_in}
 use Rattle.line_ends.proofs.finding.next_lone.Given as goal
 
 abbrev pub invariant-looking : goal.invariant-looking

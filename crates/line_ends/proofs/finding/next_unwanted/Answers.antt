@@ -1,5 +1,4 @@
-use Rattle.std.proofs.Common.{◌+◌, ◌++◌, ◌∙◌, false, sym, ap, drop, arith, length-append}
-use Rattle.ed_model.specs.LineEnds.{unwanted_from}
+use Rattle.line_ends.proofs.Names.{◌+◌, ◌++◌, ◌∙◌, false, sym, ap, drop, arith, length-append, unwanted_from}
 use Rattle.line_ends.proofs.Completed.{none_unwanted}
 use Rattle.line_ends.proofs.Unwanted.{unwanted_on, unwanted_along, unwanted_first, unwanted_end, next_spare}
 use Rattle.line_ends.proofs.finding.next_unwanted.Goals as goal

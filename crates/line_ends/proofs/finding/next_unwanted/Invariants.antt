@@ -1,5 +1,4 @@
-use Rattle.std.proofs.Common.{◌≡◌, ◌+◌, ◌-◌, ◌≤◌, ◌++◌, length}
-use Rattle.line_ends.specs.Conversion.{unwanted_in, unwanted_since}
+use Rattle.line_ends.proofs.Names.{◌≡◌, ◌+◌, ◌-◌, ◌≤◌, ◌++◌, length, unwanted_in, unwanted_since}
 use Rattle.line_ends.proofs.finding.next_unwanted.Given as goal
 
 abbrev pub invariant-looking : goal.invariant-looking

@@ -1,5 +1,4 @@
-use Rattle.std.proofs.Common.{◌++◌, vec_len, vec_capacity, arith}
-use Rattle.ed_model.specs.LineEnds.{converted}
+use Rattle.line_ends.proofs.Names.{◌++◌, vec_len, vec_capacity, arith, converted}
 use Rattle.line_ends.proofs.Pasted.{within_on, items_on, room_on}
 use Rattle.line_ends.proofs.pasting.convert_into.Goals as goal
 

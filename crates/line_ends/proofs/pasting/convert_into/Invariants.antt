@@ -1,5 +1,4 @@
-use Rattle.std.proofs.Common.{◌≡◌, ◌+◌, ◌-◌, ◌≤◌, ◌++◌, drop, length, vec_len, vec_capacity}
-use Rattle.ed_model.specs.LineEnds.{converted}
+use Rattle.line_ends.proofs.Names.{◌≡◌, ◌+◌, ◌-◌, ◌≤◌, ◌++◌, drop, length, vec_len, vec_capacity, converted}
 use Rattle.line_ends.proofs.pasting.convert_into.Given as goal
 
 abbrev pub invariant-pieces : goal.invariant-pieces

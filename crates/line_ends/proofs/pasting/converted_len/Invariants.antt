@@ -1,5 +1,4 @@
-use Rattle.std.proofs.Common.{◌≡◌, ◌+◌, ◌-◌, ◌*◌, ◌≤◌, drop, length}
-use Rattle.ed_model.specs.LineEnds.{converted}
+use Rattle.line_ends.proofs.Names.{◌≡◌, ◌+◌, ◌-◌, ◌*◌, ◌≤◌, drop, length, converted}
 use Rattle.line_ends.proofs.pasting.converted_len.Given as goal
 
 abbrev pub invariant-pieces : goal.invariant-pieces

@@ -1,5 +1,4 @@
-use Rattle.std.proofs.Common.{◌+◌, ◌==◌, get_or, arith}
-use Rattle.std.proofs.lemmas.Bool.{ne_eqb}
+use Rattle.line_ends.proofs.Names.{◌+◌, ◌==◌, get_or, arith, ne_eqb}
 use Rattle.line_ends.proofs.Pasted.{all_quiet, with_one, with_two, alone_behind, alone_at_end, not_alone}
 use Rattle.line_ends.proofs.pasting.next_piece.Goals as goal
 use Rattle.line_ends.proofs.pasting.next_piece.Goals.{else-bytes-quiet-eq13-via-then-bytes-quiet-eq13+then-behind-bytes+else-bytes-behind-eq10, else-bytes-quiet-eq13-via-then-bytes-quiet-eq13+else-behind-bytes, else-bytes-quiet-eq13-via-else-bytes-quiet-eq13}

@@ -1,5 +1,4 @@
-use Rattle.std.proofs.Common.{◌+◌, ◌++◌, refl, sym, ap, ◌∙◌, arith, length-append}
-use Rattle.line_index.specs.Ends.{may_end}
+use Rattle.line_index.proofs.Names.{◌+◌, ◌++◌, refl, sym, ap, ◌∙◌, arith, length-append, may_end}
 use Rattle.line_index.proofs.TextBytes.{no_start_behind}
 use Rattle.line_index.proofs.halves.may_start_behind.Goals as goal
 

@@ -1,5 +1,4 @@
-use Rattle.std.proofs.Common.{◌≡◌, ℕ, ◌-◌, ◌<◌, ◌≤◌, false, ◌++◌}
-use Rattle.ed_model.specs.Lines.{is_line_start}
+use Rattle.line_index.proofs.Names.{◌≡◌, ℕ, ◌-◌, ◌<◌, ◌≤◌, false, ◌++◌, is_line_start}
 use Rattle.line_index.proofs.halves.next_of_few.Given as goal
 
 abbrev pub invariant-looking : goal.invariant-looking

@@ -1,5 +1,4 @@
-use Rattle.std.proofs.Common.{◌≡◌, ℕ, ◌<◌, false, get_or}
-use Rattle.line_index.specs.Ends.{may_end}
+use Rattle.line_index.proofs.Names.{◌≡◌, ℕ, ◌<◌, false, get_or, may_end}
 use Rattle.line_index.proofs.halves.quiet_one_by_one.Given as goal
 
 abbrev pub invariant-loop-count : goal.invariant-loop-count

@@ -1,5 +1,4 @@
-use Rattle.std.proofs.Common.{eqb, take, drop, sym, ap, ◌∙◌}
-use Rattle.std.proofs.lemmas.Simd.{length-chunk, get_or-chunk}
+use Rattle.line_index.proofs.Names.{eqb, take, drop, sym, ap, ◌∙◌, length-chunk, get_or-chunk}
 use Rattle.bit_marks.specs.proved.Bits.{clear_false}
 use Rattle.line_index.proofs.MarkedBytes.{marked_lane}
 use Rattle.line_index.proofs.marks.marks_of.Goals as goal

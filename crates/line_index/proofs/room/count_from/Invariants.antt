@@ -1,5 +1,4 @@
-use Rattle.std.proofs.Common.{◌≡◌, ◌+◌, ◌-◌, ◌≤◌, length}
-use Rattle.line_index.specs.Index.{starts_within}
+use Rattle.line_index.proofs.Names.{◌≡◌, ◌+◌, ◌-◌, ◌≤◌, length, starts_within}
 use Rattle.line_index.proofs.room.count_from.Given as goal
 
 abbrev pub invariant-counting : goal.invariant-counting

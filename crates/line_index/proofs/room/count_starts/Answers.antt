@@ -1,5 +1,4 @@
-use Rattle.std.proofs.Common.{◌≡◌, ◌+◌, length, subst, arith}
-use Rattle.line_index.specs.Index.{starts_within}
+use Rattle.line_index.proofs.Names.{◌≡◌, ◌+◌, length, subst, arith, starts_within}
 use Rattle.line_index.proofs.RoomLemmas.{counted_nowhere, counted_past}
 use Rattle.line_index.proofs.room.count_starts.Goals as goal
 

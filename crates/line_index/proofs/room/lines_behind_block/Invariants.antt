@@ -1,6 +1,4 @@
-use Rattle.std.proofs.Common.{◌≡◌, ◌+◌, ◌-◌, ◌≤◌, length}
-use Rattle.ed_model.specs.declared.plan.LineEndTypes.TheVariants.{Default}
-use Rattle.line_index.specs.Index.{starts_within}
+use Rattle.line_index.proofs.Names.{◌≡◌, ◌+◌, ◌-◌, ◌≤◌, length, Default, starts_within}
 use Rattle.line_index.proofs.room.lines_behind_block.Given as goal
 
 abbrev pub invariant-loop-place : goal.invariant-loop-place

@@ -1,5 +1,4 @@
-use Rattle.std.proofs.Common.{◌+◌, arith}
-use Rattle.ed_model.specs.declared.plan.LineEndTypes.TheVariants.{Default}
+use Rattle.line_index.proofs.Names.{◌+◌, arith, Default}
 use Rattle.line_index.proofs.Blocks.{block_counted}
 use Rattle.line_index.proofs.room.lines_behind_groups.Goals as goal
 

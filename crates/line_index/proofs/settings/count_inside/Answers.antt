@@ -1,8 +1,6 @@
-use Rattle.std.proofs.Common.{◌+◌, [], ◌∷◌, ◌++◌, length, sym, ap, ◌∙◌, arith, length-append}
-use Rattle.ed_model.specs.declared.plan.LineEndTypes.TheVariants.{Unicode}
+use Rattle.line_index.proofs.Names.{◌+◌, [], ◌∷◌, ◌++◌, length, sym, ap, ◌∙◌, arith, length-append, Unicode, starts_within}
 use Rattle.line_index.proofs.SettingLists.{none_starts, one_more_inside}
 use Rattle.line_index.proofs.StartLists.{no_starts, one_more}
-use Rattle.line_index.specs.Index.{starts_within}
 use Rattle.line_index.proofs.settings.count_inside.Goals as goal
 
 pub counting-init : goal.counting-init

@@ -1,5 +1,4 @@
-use Rattle.std.proofs.Common.{◌≡◌, ◌+◌, drop}
-use Rattle.line_index.specs.Edits.{fresh_lines}
+use Rattle.line_index.proofs.Names.{◌≡◌, ◌+◌, drop, fresh_lines}
 use Rattle.line_index.proofs.settings.fresh_lines.Given as goal
 
 abbrev pub invariant-loop-edit : goal.invariant-loop-edit

@@ -1,9 +1,4 @@
-use Rattle.std.proofs.Common.{ℕ, ◌+◌, ◌++◌, List, length, sym, ap, ◌∙◌, arith, append_assoc, length-append}
-use Rattle.std.proofs.lemmas.Bool.{true≢false}
-use Rattle.line_index.specs.declared.edit.LineEdit.{LineEdit}
-use Rattle.line_index.specs.Settings.{all_inside_edits, inside_edits, line_past, lines_inside}
-use Rattle.line_index.specs.Index.{starts_within}
-use Rattle.ed_model.specs.declared.plan.LineEndTypes.TheVariants.{Default}
+use Rattle.line_index.proofs.Names.{ℕ, ◌+◌, ◌++◌, List, length, sym, ap, ◌∙◌, arith, append_assoc, length-append, true≢false, LineEdit, all_inside_edits, inside_edits, line_past, lines_inside, starts_within, Default}
 use Rattle.line_index.proofs.SettingLists.{inside_on, no_middle, past_low}
 use Rattle.line_index.proofs.settings.push_all_inside.Goals as goal
 

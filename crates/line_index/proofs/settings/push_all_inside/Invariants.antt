@@ -1,9 +1,5 @@
-use Rattle.std.proofs.Common.{◌≡◌, ◌+◌, ◌-◌, ◌*◌, ◌<◌, ◌≤◌, ◌++◌, true, length}
+use Rattle.line_index.proofs.Names.{◌≡◌, ◌+◌, ◌-◌, ◌*◌, ◌<◌, ◌≤◌, ◌++◌, true, length, Default, is_line_start, line_starts, starts_within, all_inside_edits, lines_inside}
 use Rattle.std.specs.Prelude.{vec_len, vec_capacity}
-use Rattle.ed_model.specs.declared.plan.LineEndTypes.TheVariants.{Default}
-use Rattle.ed_model.specs.Lines.{is_line_start, line_starts}
-use Rattle.line_index.specs.Index.{starts_within}
-use Rattle.line_index.specs.Settings.{all_inside_edits, lines_inside}
 use Rattle.line_index.proofs.settings.push_all_inside.Given as goal
 
 abbrev pub invariant-adding : goal.invariant-adding

@@ -1,5 +1,4 @@
-use Rattle.std.proofs.Common.{◌-◌, ◌≤◌, ◌++◌}
-use Rattle.line_index.specs.Index.{WereAdded}
+use Rattle.line_index.proofs.Names.{◌-◌, ◌≤◌, ◌++◌, WereAdded}
 use Rattle.line_index.proofs.starts.add_from.Given as goal
 
 abbrev pub invariant-adding : goal.invariant-adding

@@ -1,5 +1,4 @@
-use Rattle.std.proofs.Common.{◌≡◌, ◌+◌, ◌-◌, ◌++◌, subst, arith}
-use Rattle.line_index.specs.Index.{WereAdded}
+use Rattle.line_index.proofs.Names.{◌≡◌, ◌+◌, ◌-◌, ◌++◌, subst, arith, WereAdded}
 use Rattle.line_index.proofs.Added.{can_go_on, added_both, added_none}
 use Rattle.line_index.proofs.starts.add_starts.Goals as goal
 

@@ -1,6 +1,4 @@
-use Rattle.std.proofs.Common.{ℕ, ◌≡◌, ◌+◌, ◌^◌, ◌-◌, ◌<◌, ◌≤◌, List, min, refl, arith, slice_index}
-use Rattle.partitioning.specs.Partitions.{ArePartitions, IsLastAtMost}
-use Rattle.line_index.specs.Change.{near_lines}
+use Rattle.line_index.proofs.Names.{ℕ, ◌≡◌, ◌+◌, ◌^◌, ◌-◌, ◌<◌, ◌≤◌, List, min, refl, arith, slice_index, ArePartitions, IsLastAtMost, near_lines}
 use Rattle.line_index.proofs.Finding.{holds_between, near_at, near_lines_are, last_of_all, next_behind}
 use Rattle.line_index.proofs.starts.few_lines.Goals as goal
 

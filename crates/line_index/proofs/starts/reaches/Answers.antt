@@ -1,5 +1,4 @@
-use Rattle.std.proofs.Common.{◌<◌, arith}
-use Rattle.std.proofs.lemmas.Bool.{ltb-true}
+use Rattle.line_index.proofs.Names.{◌<◌, arith, ltb-true}
 use Rattle.line_index.proofs.Finding.{next_behind}
 use Rattle.line_index.proofs.starts.reaches.Goals as goal
 

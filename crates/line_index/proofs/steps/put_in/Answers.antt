@@ -1,6 +1,4 @@
-use Rattle.std.proofs.Common.{◌≡◌, ℕ, ◌+◌, ◌++◌, List, ap, min, length, take, drop, ◌∙◌, arith, length-append}
-use Rattle.ed_model.specs.Steps.{Insert, edited}
-use Rattle.line_index.specs.Index.{index, last_touched, starts_near, starts_within}
+use Rattle.line_index.proofs.Names.{◌≡◌, ℕ, ◌+◌, ◌++◌, List, ap, min, length, take, drop, ◌∙◌, arith, length-append, Insert, edited, index, last_touched, starts_near, starts_within}
 use Rattle.line_index.proofs.NearBytes.{found_near, near_reaches}
 use Rattle.line_index.proofs.StepLists.{insertion_is, longer}
 use Rattle.line_index.proofs.InsertedLines.{first_is, change_is, range_in, free_in, fits_in, starts_in, left_in}

@@ -1,5 +1,4 @@
-use Rattle.std.proofs.Common.{◌≡◌, ℕ, ◌+◌, ◌++◌, List, ap, min, length, take, drop, ◌∙◌, arith, length-append}
-use Rattle.line_index.specs.Index.{index, last_touched, starts_near, starts_within}
+use Rattle.line_index.proofs.Names.{◌≡◌, ℕ, ◌+◌, ◌++◌, List, ap, min, length, take, drop, ◌∙◌, arith, length-append, index, last_touched, starts_near, starts_within}
 use Rattle.line_index.proofs.NearBytes.{found_near, near_reaches}
 use Rattle.line_index.proofs.StepLists.{deletion_is, shorter}
 use Rattle.line_index.proofs.InsertedLines.{first_is, change_is}

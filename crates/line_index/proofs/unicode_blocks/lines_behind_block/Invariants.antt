@@ -1,6 +1,4 @@
-use Rattle.std.proofs.Common.{◌≡◌, ◌+◌, ◌-◌, ◌≤◌, length}
-use Rattle.ed_model.specs.declared.plan.LineEndTypes.TheVariants.{Unicode}
-use Rattle.line_index.specs.Index.{starts_within}
+use Rattle.line_index.proofs.Names.{◌≡◌, ◌+◌, ◌-◌, ◌≤◌, length, Unicode, starts_within}
 use Rattle.line_index.proofs.unicode_blocks.lines_behind_block.Given as goal
 
 abbrev pub invariant-loop-place : goal.invariant-loop-place

@@ -1,5 +1,4 @@
-use Rattle.std.proofs.Common.{◌+◌, arith}
-use Rattle.ed_model.specs.declared.plan.LineEndTypes.TheVariants.{Unicode}
+use Rattle.line_index.proofs.Names.{◌+◌, arith, Unicode}
 use Rattle.line_index.proofs.Blocks.{block_counted}
 use Rattle.line_index.proofs.unicode_blocks.lines_behind_blocks.Goals as goal
 

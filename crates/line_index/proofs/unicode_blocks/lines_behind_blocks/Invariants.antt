@@ -1,6 +1,4 @@
-use Rattle.std.proofs.Common.{◌≡◌, ◌+◌, ◌-◌, ◌≤◌, length, min}
-use Rattle.ed_model.specs.declared.plan.LineEndTypes.TheVariants.{Unicode}
-use Rattle.line_index.specs.Index.{starts_within}
+use Rattle.line_index.proofs.Names.{◌≡◌, ◌+◌, ◌-◌, ◌≤◌, length, min, Unicode, starts_within}
 use Rattle.line_index.proofs.unicode_blocks.lines_behind_blocks.Given as goal
 
 abbrev pub invariant-adding : goal.invariant-adding

@@ -1,10 +1,4 @@
-use Rattle.std.proofs.Common.{◌≡◌, ◌+◌, ◌<◌, ◌∷◌, List, length, drop, get_or, sym, ap, ◌∙◌, subst, arith}
-use Rattle.std.proofs.lemmas.List.{drop_more}
-use Rattle.line_index.specs.declared.edit.LineEdit.{LineEdit}
-use Rattle.line_index.specs.declared.edit.LineEdit.TheVariants.{Come}
-use Rattle.line_index.specs.Edits.{after_edits, FitLines, lines_after_edit, fresh_by, fresh_lines}
-use Rattle.line_rows.specs.Rows.{markers_together}
-use Rattle.line_index.specs.proved.Edits.{length_after_edit, edit_adds}
+use Rattle.line_rows.proofs.Names.{◌≡◌, ◌+◌, ◌<◌, ◌∷◌, List, length, drop, get_or, sym, ap, ◌∙◌, subst, arith, drop_more, LineEdit, Come, after_edits, FitLines, lines_after_edit, fresh_by, fresh_lines, markers_together, length_after_edit, edit_adds}
 use Rattle.line_rows.proofs.rows.carry_markers.Goals as goal
 
 pub loop-edit-preserved : goal.loop-edit-preserved

@@ -1,7 +1,4 @@
-use Rattle.std.proofs.Common.{◌≡◌, ◌+◌, ◌≤◌, ◌^◌, length, drop}
-use Rattle.line_index.specs.Edits.{after_edits, FitLines, fresh_lines}
-use Rattle.line_rows.specs.Rows.{markers_together}
-use Rattle.marker_store.specs.Lines.{marker_total}
+use Rattle.line_rows.proofs.Names.{◌≡◌, ◌+◌, ◌≤◌, ◌^◌, length, drop, after_edits, FitLines, fresh_lines, markers_together, marker_total}
 use Rattle.line_rows.proofs.rows.carry_markers.Given as goal
 
 -- the edits that are left lead to the same markers

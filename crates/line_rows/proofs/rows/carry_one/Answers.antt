@@ -1,5 +1,4 @@
-use Rattle.std.proofs.Common.{◌+◌, ap, ◌∙◌}
-use Rattle.marker_store.specs.Lines.{MarkedLines, marker_total}
+use Rattle.line_rows.proofs.Names.{◌+◌, ap, ◌∙◌, MarkedLines, marker_total}
 use Rattle.line_rows.proofs.MarkerTotals.{total_with_fresh, total_with_joined}
 use Rattle.line_rows.proofs.rows.carry_one.Goals as goal
 

@@ -1,6 +1,4 @@
-use Rattle.std.proofs.Common.{◌≡◌, ◌∷◌, [], ap, sym, ◌∙◌, arith}
-use Rattle.split_vector.specs.Split.{inserted}
-use Rattle.line_rows.specs.Values.{padded}
+use Rattle.line_rows.proofs.Names.{◌≡◌, ◌∷◌, [], ap, sym, ◌∙◌, arith, inserted, padded}
 use Rattle.line_rows.proofs.Padded.{padded_put, padded_all}
 use Rattle.line_rows.proofs.values.put_behind.Goals as goal
 use Rattle.line_rows.proofs.values.put_behind.Goals.{then-line-len, else-line-len}

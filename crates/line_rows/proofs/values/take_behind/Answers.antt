@@ -1,6 +1,4 @@
-use Rattle.std.proofs.Common.{◌+◌, ◌-◌, ◌∙◌, ap, arith}
-use Rattle.split_vector.specs.Split.{deleted}
-use Rattle.line_rows.specs.Values.{padded}
+use Rattle.line_rows.proofs.Names.{◌+◌, ◌-◌, ◌∙◌, ap, arith, deleted, padded}
 use Rattle.line_rows.proofs.Padded.{padded_joined, padded_joined_behind}
 use Rattle.line_rows.proofs.values.take_behind.Goals as goal
 use Rattle.line_rows.proofs.values.take_behind.Goals.{then-before-line-via-then-before-line, then-before-line-via-else-before-line+then-before-line-le1}

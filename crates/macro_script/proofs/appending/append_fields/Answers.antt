@@ -1,6 +1,4 @@
-use Rattle.std.proofs.Common.{◌≡◌, ◌++◌, ◌∷◌, ℤ, pos, get_or, subst, SFits, w64, to_z-of_z, rules}
-use Rattle.ed_model.specs.Spelling.{spelled_int}
-use Rattle.macro_script.specs.Appending.{AppendsPart}
+use Rattle.macro_script.proofs.Names.{◌≡◌, ◌++◌, ◌∷◌, ℤ, pos, get_or, subst, SFits, w64, to_z-of_z, rules, spelled_int, AppendsPart}
 use Rattle.macro_script.proofs.Pieces.{stopped, field_stopped, one_field_more}
 use Rattle.macro_script.proofs.appending.append_fields.Goals as goal
 

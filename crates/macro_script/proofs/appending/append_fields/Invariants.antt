@@ -1,5 +1,4 @@
-use Rattle.std.proofs.Common.{◌≡◌, ◌++◌, take}
-use Rattle.macro_script.specs.Appending.{number_fields}
+use Rattle.macro_script.proofs.Names.{◌≡◌, ◌++◌, take, number_fields}
 use Rattle.macro_script.proofs.appending.append_fields.Given as goal
 
 abbrev pub invariant-loop-number : goal.invariant-loop-number

@@ -1,6 +1,4 @@
-use Rattle.std.proofs.Common.{sym, ap, ◌∙◌, to_z-of_z}
-use Rattle.std.specs.Fmt.{signed_decimal}
-use Rattle.ed_model.specs.proved.Spelling.{spelled_int-signed, is_64_bits-fits}
+use Rattle.macro_script.proofs.Names.{sym, ap, ◌∙◌, to_z-of_z, signed_decimal, spelled_int-signed, is_64_bits-fits}
 use Rattle.macro_script.proofs.Pieces.{in_words}
 use Rattle.macro_script.proofs.appending.append_integer.Goals as goal
 

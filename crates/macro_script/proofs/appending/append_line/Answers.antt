@@ -1,5 +1,4 @@
-use Rattle.std.proofs.Common.{◌++◌, ◌∷◌, []}
-use Rattle.macro_script.specs.Appending.{number_fields, text_field, lent_text}
+use Rattle.macro_script.proofs.Names.{◌++◌, ◌∷◌, [], number_fields, text_field, lent_text}
 use Rattle.macro_script.proofs.Pieces.{stopped, first_part, then_all}
 use Rattle.macro_script.proofs.appending.append_line.Goals as goal
 

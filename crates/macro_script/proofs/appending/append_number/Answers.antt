@@ -1,5 +1,4 @@
-use Rattle.std.proofs.Common.{sym, ◌∙◌, arith}
-use Rattle.ed_model.specs.proved.Spelling.{spelled-decimal}
+use Rattle.macro_script.proofs.Names.{sym, ◌∙◌, arith, spelled-decimal}
 use Rattle.macro_script.proofs.Pieces.{in_words}
 use Rattle.macro_script.proofs.appending.append_number.Goals as goal
 

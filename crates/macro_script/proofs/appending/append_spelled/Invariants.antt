@@ -1,5 +1,4 @@
-use Rattle.std.proofs.Common.{◌≡◌, ◌≤◌, ◌-◌, ◌++◌, take, length}
-use Rattle.ed_model.specs.Spelling.{spelled_bytes}
+use Rattle.macro_script.proofs.Names.{◌≡◌, ◌≤◌, ◌-◌, ◌++◌, take, length, spelled_bytes}
 use Rattle.macro_script.proofs.appending.append_spelled.Given as goal
 
 abbrev pub invariant-loop-at : goal.invariant-loop-at

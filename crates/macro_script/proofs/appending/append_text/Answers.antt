@@ -1,5 +1,4 @@
-use Rattle.std.proofs.Common.{◌∷◌, [], ◌++◌}
-use Rattle.ed_model.specs.Spelling.{quote, spelled_bytes}
+use Rattle.macro_script.proofs.Names.{◌∷◌, [], ◌++◌, quote, spelled_bytes}
 use Rattle.macro_script.proofs.Pieces.{stopped, first_part, then_all}
 use Rattle.macro_script.proofs.appending.append_text.Goals as goal
 

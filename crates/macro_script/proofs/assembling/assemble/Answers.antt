@@ -1,5 +1,4 @@
-use Rattle.std.proofs.Common.{sym, inl, ap, ◌∙◌, Ok}
-use Rattle.macro_script.specs.Versions.{number_of}
+use Rattle.macro_script.proofs.Names.{sym, inl, ap, ◌∙◌, Ok, number_of}
 use Rattle.macro_script.proofs.WholeTexts.{bad_version, good_version, lines_found, proper_read}
 use Rattle.macro_script.proofs.assembling.assemble.Goals as goal
 

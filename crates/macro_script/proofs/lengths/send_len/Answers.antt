@@ -1,8 +1,4 @@
-use Rattle.std.proofs.Common.{arith, ◌+◌, ◌≡◌, ◌≤◌, SomeIff, ℕ, length, ap, subst, SFits, w64, to_z-of_z, rules}
-use Rattle.ed_types.specs.declared.message.Message.{Message}
-use Rattle.ed_model.specs.Spelling.{spelled_int}
-use Rattle.ed_model.specs.Listing.{listed_command}
-use Rattle.ed_model.specs.Recording.{sent_to}
+use Rattle.macro_script.proofs.Names.{arith, ◌+◌, ◌≡◌, ◌≤◌, SomeIff, ℕ, length, ap, subst, SFits, w64, to_z-of_z, rules, Message, spelled_int, listed_command, sent_to}
 use Rattle.macro_script.proofs.ListedLengths.{length-send}
 use Rattle.macro_script.proofs.lengths.send_len.Goals as goal
 

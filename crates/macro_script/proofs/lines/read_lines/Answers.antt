@@ -1,6 +1,4 @@
-use Rattle.std.proofs.Common.{List, [], ◌∷◌, ◌++◌, ap, ◌∙◌, arith}
-use Rattle.ed_types.specs.declared.script.Command.{Command}
-use Rattle.macro_script.specs.Versions.{number_of}
+use Rattle.macro_script.proofs.Names.{List, [], ◌∷◌, ◌++◌, ap, ◌∙◌, arith, Command, number_of}
 use Rattle.macro_script.proofs.Splitting.{read_one, fault_found, found}
 use Rattle.macro_script.proofs.lines.read_lines.Goals as goal
 

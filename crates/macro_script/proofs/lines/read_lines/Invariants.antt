@@ -1,6 +1,4 @@
-use Rattle.std.proofs.Common.{◌≤◌, ◌*◌, length}
-use Rattle.std.specs.Prelude.{vec_len, vec_capacity}
-use Rattle.macro_script.specs.Versions.{number_of}
+use Rattle.macro_script.proofs.Names.{◌≤◌, ◌*◌, length, vec_len, vec_capacity, number_of}
 use Rattle.macro_script.proofs.Splitting.{IsReadTo}
 use Rattle.macro_script.proofs.lines.read_lines.Given as goal
 

@@ -1,5 +1,4 @@
-use Rattle.std.proofs.Common.{ap₂, ◌∙◌, Some, codes}
-use Rattle.macro_script.specs.Appending.{line_of}
+use Rattle.macro_script.proofs.Names.{ap₂, ◌∙◌, Some, codes, line_of}
 use Rattle.macro_script.proofs.ListedLines.{send_line}
 use Rattle.macro_script.proofs.Pieces.{in_words}
 use Rattle.macro_script.proofs.listing.append_send.Goals as goal

@@ -1,5 +1,4 @@
-use Rattle.std.proofs.Common.{arith, sym, ap, ◌∙◌, Some, w64}
-use Rattle.std.proofs.lemmas.Int.{to_z_pos}
+use Rattle.macro_script.proofs.Names.{arith, sym, ap, ◌∙◌, Some, w64, to_z_pos}
 use Rattle.macro_script.proofs.SpelledNumbers.{integer_some}
 use Rattle.macro_script.proofs.numbers.integer.Goals as goal
 

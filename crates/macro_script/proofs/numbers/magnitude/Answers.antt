@@ -1,5 +1,4 @@
-use Rattle.std.proofs.Common.{arith, sym, ◌∙◌, length}
-use Rattle.std.proofs.lemmas.Bool.{eqb-false}
+use Rattle.macro_script.proofs.Names.{arith, sym, ◌∙◌, length, eqb-false}
 use Rattle.macro_script.proofs.SpelledNumbers.{spelling_of, magnitude_only, magnitude_each}
 use Rattle.macro_script.proofs.numbers.magnitude.Goals as goal
 

@@ -1,6 +1,4 @@
-use Rattle.std.proofs.Common.{arith, sym, ap, ◌∙◌, Some, ◌≡◌, pos, negsuc, to_z, of_z, w64, suc, ◌-◌, ◌-ℤ◌}
-use Rattle.std.proofs.lemmas.Int.{ints}
-use Rattle.ed_model.specs.Spelling.{spelled}
+use Rattle.macro_script.proofs.Names.{arith, sym, ap, ◌∙◌, Some, ◌≡◌, pos, negsuc, to_z, of_z, w64, suc, ◌-◌, ◌-ℤ◌, ints, spelled}
 use Rattle.macro_script.proofs.SpelledNumbers.{negative_some}
 use Rattle.macro_script.proofs.numbers.negative.Goals as goal
 

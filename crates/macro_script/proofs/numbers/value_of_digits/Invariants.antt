@@ -1,5 +1,4 @@
-use Rattle.std.proofs.Common.{◌≡◌, take}
-use Rattle.std.specs.Str.Parse.{AllDigits, digits_value}
+use Rattle.macro_script.proofs.Names.{◌≡◌, take, AllDigits, digits_value}
 use Rattle.macro_script.proofs.numbers.value_of_digits.Given as goal
 
 -- The bytes so far are digits, and this is their value.

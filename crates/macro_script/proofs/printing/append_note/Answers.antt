@@ -1,5 +1,4 @@
-use Rattle.std.proofs.Common.{ap, ◌∙◌, Some, codes}
-use Rattle.macro_script.specs.Appending.{line_of}
+use Rattle.macro_script.proofs.Names.{ap, ◌∙◌, Some, codes, line_of}
 use Rattle.macro_script.proofs.ListedLines.{note_line}
 use Rattle.macro_script.proofs.Pieces.{in_words}
 use Rattle.macro_script.proofs.printing.append_note.Goals as goal

@@ -1,5 +1,4 @@
-use Rattle.ed_types.specs.Heard.{with_text}
-use Rattle.ed_model.specs.Printed.{printed_note}
+use Rattle.macro_script.proofs.Names.{with_text, printed_note}
 use Rattle.macro_script.proofs.Pieces.{stopped, item_stopped, one_item_more}
 use Rattle.macro_script.proofs.printing.append_notes.Goals as goal
 

@@ -1,5 +1,4 @@
-use Rattle.std.proofs.Common.{◌≡◌, ◌++◌, take, flat_map}
-use Rattle.ed_model.specs.Printed.{printed_note}
+use Rattle.macro_script.proofs.Names.{◌≡◌, ◌++◌, take, flat_map, printed_note}
 use Rattle.macro_script.proofs.printing.append_notes.Given as goal
 
 abbrev pub invariant-loop-index : goal.invariant-loop-index

@@ -1,6 +1,4 @@
-use Rattle.std.proofs.Common.{ℤ, List, ℕ, subst, ◌∙◌, ◌≡◌, ◌++◌, flat_map, SFits, w64, to_z-of_z, rules}
-use Rattle.ed_model.specs.Printed.{printed_answer, printed_note}
-use Rattle.macro_script.specs.Appending.{AppendsPart}
+use Rattle.macro_script.proofs.Names.{ℤ, List, ℕ, subst, ◌∙◌, ◌≡◌, ◌++◌, flat_map, SFits, w64, to_z-of_z, rules, printed_answer, printed_note, AppendsPart}
 use Rattle.macro_script.proofs.Pieces.{stopped, first_part, then_all}
 use Rattle.macro_script.proofs.printing.append_reply.Goals as goal
 

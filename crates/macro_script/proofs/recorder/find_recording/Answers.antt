@@ -1,5 +1,4 @@
-use Rattle.std.proofs.Common.{◌∙◌, sym}
-use Rattle.ed_types.specs.Heard.{with_text}
+use Rattle.macro_script.proofs.Names.{◌∙◌, sym, with_text}
 use Rattle.macro_script.proofs.Recorded.{found_here, not_here}
 use Rattle.macro_script.proofs.recorder.find_recording.Goals as goal
 

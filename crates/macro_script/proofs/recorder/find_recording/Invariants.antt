@@ -1,5 +1,4 @@
-use Rattle.std.proofs.Common.{◌≡◌, find, drop}
-use Rattle.macro_script.specs.Recorded.{is_recording, recording_note}
+use Rattle.macro_script.proofs.Names.{◌≡◌, find, drop, is_recording, recording_note}
 use Rattle.macro_script.proofs.recorder.find_recording.Given as goal
 
 abbrev pub invariant-loop-index : goal.invariant-loop-index

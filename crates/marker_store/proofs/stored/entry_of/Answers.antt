@@ -1,6 +1,4 @@
-use Rattle.std.proofs.Common.{◌+◌, ◌-◌, ap, sym, ◌∙◌, arith}
-use Rattle.std.proofs.lemmas.List.{get_or_default}
-use Rattle.marker_store.specs.Entries.{Entry, entry, no_entry}
+use Rattle.marker_store.proofs.Names.{◌+◌, ◌-◌, ap, sym, ◌∙◌, arith, get_or_default, Entry, entry, no_entry}
 use Rattle.marker_store.proofs.Indexes.{all_before_at}
 use Rattle.marker_store.proofs.StoredEntries.{read_near, read_far}
 use Rattle.marker_store.proofs.stored.entry_of.Goals as goal

@@ -1,7 +1,4 @@
-use Rattle.std.proofs.Common.{◌≡◌, ◌+◌, ◌-◌, ◌<◌, ◌≤◌, length, set, ap, ◌∙◌, arith}
-use Rattle.std.proofs.lemmas.List.{get_or_default}
-use Rattle.std.proofs.Math.ListN.{length-set}
-use Rattle.marker_store.specs.Entries.{Entry, no_entry, entries_of}
+use Rattle.marker_store.proofs.Names.{◌≡◌, ◌+◌, ◌-◌, ◌<◌, ◌≤◌, length, set, ap, ◌∙◌, arith, get_or_default, length-set, Entry, no_entry, entries_of}
 use Rattle.marker_store.proofs.Indexes.{all_before_at}
 use Rattle.marker_store.proofs.StoredEntries.{passed_down, before-set}
 use Rattle.marker_store.proofs.stored.lower_step.Goals as goal

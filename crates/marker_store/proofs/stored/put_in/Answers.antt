@@ -1,6 +1,4 @@
-use Rattle.std.proofs.Common.{◌+◌, ◌∷◌, ◌++◌, [], length, take, drop, ap, ◌∙◌, arith, append_assoc, length-append}
-use Rattle.std.proofs.lemmas.List.{length-take-le, length-drop}
-use Rattle.marker_store.specs.Entries.{Entry, entries_of}
+use Rattle.marker_store.proofs.Names.{◌+◌, ◌∷◌, ◌++◌, [], length, take, drop, ap, ◌∙◌, arith, append_assoc, length-append, length-take-le, length-drop, Entry, entries_of}
 use Rattle.marker_store.proofs.Rows.{before-append, before-take, before-drop}
 use Rattle.marker_store.proofs.StoredEntries.{put_near, put_far}
 use Rattle.marker_store.proofs.stored.put_in.Goals as goal

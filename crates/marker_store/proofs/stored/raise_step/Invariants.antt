@@ -1,5 +1,4 @@
-use Rattle.std.proofs.Common.{◌≡◌, ◌+◌, length}
-use Rattle.marker_store.specs.Entries.{entries_of, AllBefore}
+use Rattle.marker_store.proofs.Names.{◌≡◌, ◌+◌, length, entries_of, AllBefore}
 use Rattle.marker_store.proofs.stored.raise_step.Given as goal
 
 abbrev pub invariant-loop-index : goal.invariant-loop-index

@@ -1,6 +1,4 @@
-use Rattle.std.proofs.Common.{◌+◌, ◌-◌, length, take, drop, ap, ◌∙◌, arith, length-append}
-use Rattle.std.proofs.lemmas.List.{length-take-le, length-drop}
-use Rattle.marker_store.specs.Entries.{entries_of}
+use Rattle.marker_store.proofs.Names.{◌+◌, ◌-◌, length, take, drop, ap, ◌∙◌, arith, length-append, length-take-le, length-drop, entries_of}
 use Rattle.marker_store.proofs.Rows.{before-append, before-take, before-drop}
 use Rattle.marker_store.proofs.StoredEntries.{taken_near, taken_far}
 use Rattle.marker_store.proofs.stored.take_out.Goals as goal

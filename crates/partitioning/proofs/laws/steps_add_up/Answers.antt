@@ -1,6 +1,5 @@
 -- Call by call.
-use Rattle.std.proofs.Common.{arith, ℕ, ◌+◌, ◌≤◌, List, [], ◌∷◌}
-use Rattle.split_vector.specs.Split.{apart}
+use Rattle.partitioning.proofs.Names.{arith, ℕ, ◌+◌, ◌≤◌, List, [], ◌∷◌, apart}
 use Rattle.partitioning.specs.SumLaws.{Steps, EachKeepsTo, steps_after, sum_of_ways, sum_between}
 use Rattle.partitioning.proofs.laws.steps_add_up.Goals as goal
 

@@ -1,7 +1,6 @@
-use Rattle.std.proofs.Common.{◌≡◌, ◌+◌, ◌-◌, ◌*◌, ◌%◌, ◌^◌, ◌<◌, length, arith}
+use Rattle.partitioning.proofs.Names.{◌≡◌, ◌+◌, ◌-◌, ◌*◌, ◌%◌, ◌^◌, ◌<◌, length, arith, bool_byte}
 use Rattle.partitioning.proofs.Halving.{halved, halved_again, read_enough, whole, turned_by, moved_up, power_halved, found, may_read_power, must_read_power}
 use Rattle.partitioning.proofs.lookups.last_of_few.Goals as goal
-use mir.Val.{bool_byte}
 
 pub halving-init : goal.halving-init
 halving-init g c =

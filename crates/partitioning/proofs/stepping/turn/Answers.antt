@@ -1,5 +1,4 @@
-use Rattle.std.proofs.Common.{rules, arith}
-use Rattle.std.proofs.lemmas.List.{get_or-map}
+use Rattle.partitioning.proofs.Names.{rules, arith, get_or-map}
 use Rattle.partitioning.proofs.Lists.{turned_of_updated}
 use Rattle.partitioning.proofs.stepping.turn.Goals as goal
 

@@ -1,5 +1,4 @@
-use Rattle.std.proofs.Common.{◌≡◌, ◌<◌, ◌-◌, length, get_or, map, arith}
-use Rattle.std.proofs.lemmas.List.{map-set, length-map}
+use Rattle.partitioning.proofs.Names.{◌≡◌, ◌<◌, ◌-◌, length, get_or, map, arith, map-set, length-map}
 use Rattle.partitioning.proofs.Lists.{read_number, turned_none, turned_more}
 use Rattle.partitioning.proofs.stepping.turn_one.Goals as goal
 

@@ -1,7 +1,4 @@
-use Rattle.std.proofs.Common.{◌≡◌, ◌≢◌, ◌≤◌, ◌∙◌, ◌+◌, ◌-◌, List, sym, ap, arith, get_or, subst}
-use Rattle.std.proofs.lemmas.List.{get_or_default}
-use Rattle.run_styles.specs.Expansion.{expansion, NeighboursDiffer}
-use Rattle.run_styles.specs.Runs.{deleted}
+use Rattle.run_styles.proofs.Names.{◌≡◌, ◌≢◌, ◌≤◌, ◌∙◌, ◌+◌, ◌-◌, List, sym, ap, arith, get_or, subst, get_or_default, expansion, NeighboursDiffer, deleted}
 use Rattle.run_styles.proofs.Tables.{rise_within}
 use Rattle.run_styles.proofs.ByIndex.{length-table, shrink_stands}
 use Rattle.run_styles.proofs.Deleting.{can_lose_part, deleted-deleted, next_shrunk}

@@ -1,6 +1,4 @@
-use Rattle.std.proofs.Common.{◌≡◌, ◌∙◌, sym, ap, arith, length}
-use Rattle.run_styles.specs.Expansion.{expansion}
-use Rattle.run_styles.specs.Runs.{inserted, inserted_value}
+use Rattle.run_styles.proofs.Names.{◌≡◌, ◌∙◌, sym, ap, arith, length, expansion, inserted, inserted_value}
 use Rattle.run_styles.proofs.ByIndex.{length-table}
 use Rattle.run_styles.proofs.Inserting.{value_at_end}
 use Rattle.run_styles.proofs.edits.insert_default.Goals as goal

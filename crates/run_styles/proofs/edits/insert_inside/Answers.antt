@@ -1,5 +1,4 @@
-use Rattle.std.proofs.Common.{◌≡◌, ◌≢◌, ◌⊎◌, ◌∙◌, sym, ap, inl, inr, arith, get_or, true}
-use Rattle.std.proofs.lemmas.List.{get_or_default}
+use Rattle.run_styles.proofs.Names.{◌≡◌, ◌≢◌, ◌⊎◌, ◌∙◌, sym, ap, inl, inr, arith, get_or, true, get_or_default}
 use Rattle.run_styles.proofs.Inserting.{space_before, space_in, not_true, not_false}
 use Rattle.run_styles.proofs.edits.insert_inside.Goals as goal
 use Rattle.run_styles.proofs.edits.insert_inside.Goals.{else-start_of-place-via-then-start_of-place+else-ne, else-start_of-place-via-else-start_of-place}

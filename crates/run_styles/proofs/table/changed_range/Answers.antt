@@ -1,5 +1,4 @@
-use Rattle.std.proofs.Common.{arith}
-use Rattle.run_styles.specs.Expansion.{expansion}
+use Rattle.run_styles.proofs.Names.{arith, expansion}
 use Rattle.run_styles.proofs.ByIndex.{length-table}
 use Rattle.run_styles.proofs.Filling.{filled_same, trimmed}
 use Rattle.run_styles.proofs.table.changed_range.Goals as goal

@@ -1,7 +1,4 @@
-use Rattle.std.proofs.Common.{◌≡◌, ◌∙◌, ◌+◌, ◌-◌, refl, sym, ap, arith, get_or}
-use Rattle.std.proofs.lemmas.List.{get_or_default}
-use Rattle.run_styles.specs.Expansion.{expansion}
-use Rattle.run_styles.specs.Runs.{deleted}
+use Rattle.run_styles.proofs.Names.{◌≡◌, ◌∙◌, ◌+◌, ◌-◌, refl, sym, ap, arith, get_or, get_or_default, expansion, deleted}
 use Rattle.run_styles.proofs.ByIndex.{run_bounds, length-table}
 use Rattle.run_styles.proofs.Deleting.{deleted-none, deleted-deleted, index_within}
 use Rattle.run_styles.proofs.table.delete_runs.Goals as goal

@@ -1,6 +1,4 @@
-use Rattle.std.proofs.Common.{◌≡◌, ◌≤◌, ◌+◌, ◌-◌, length, take, drop, get_or}
-use Rattle.run_styles.specs.Expansion.{expansion, IsTable, NeighboursDiffer}
-use Rattle.run_styles.specs.Runs.{deleted}
+use Rattle.run_styles.proofs.Names.{◌≡◌, ◌≤◌, ◌+◌, ◌-◌, length, take, drop, get_or, expansion, IsTable, NeighboursDiffer, deleted}
 use Rattle.run_styles.proofs.table.delete_runs.Given as goal
 
 abbrev pub invariant-loop-left : goal.invariant-loop-left

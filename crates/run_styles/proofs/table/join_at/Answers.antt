@@ -1,5 +1,4 @@
-use Rattle.std.proofs.Common.{◌≡◌, ◌∙◌, sym, arith, Some, None}
-use Rattle.std.proofs.lemmas.Option.{slice_get_past}
+use Rattle.run_styles.proofs.Names.{◌≡◌, ◌∙◌, sym, arith, Some, None, slice_get_past}
 use Rattle.run_styles.proofs.Neighbours.{read_here, read_same, read_apart, differ_seam, differ_joined}
 use Rattle.run_styles.proofs.ByIndex.{joined}
 use Rattle.run_styles.proofs.table.join_at.Goals as goal

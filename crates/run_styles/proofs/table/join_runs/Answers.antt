@@ -1,5 +1,4 @@
-use Rattle.std.proofs.Common.{◌∙◌, ap, arith, length}
-use Rattle.std.specs.Prelude.{remove}
+use Rattle.run_styles.proofs.Names.{◌∙◌, ap, arith, length, remove}
 use Rattle.run_styles.proofs.ByIndex.{remove-seam, length-seam}
 use Rattle.run_styles.proofs.table.join_runs.Goals as goal
 

@@ -1,6 +1,4 @@
-use Rattle.std.proofs.Common.{◌≡◌, ◌∙◌, ◌+◌, ◌-◌, ◌≤◌, ℕ, List, refl, sym, ap, subst, arith, length, take, drop, get_or, drop-drop}
-use Rattle.std.proofs.lemmas.List.{length-drop, get_or-drop}
-use Rattle.run_styles.specs.Expansion.{NeighboursDiffer}
+use Rattle.run_styles.proofs.Names.{◌≡◌, ◌∙◌, ◌+◌, ◌-◌, ◌≤◌, ℕ, List, refl, sym, ap, subst, arith, length, take, drop, get_or, drop-drop, length-drop, get_or-drop, NeighboursDiffer}
 use Rattle.run_styles.proofs.Tables.{run_before}
 use Rattle.run_styles.proofs.Neighbours.{differ_shorter, differ_take}
 use Rattle.run_styles.proofs.table.overwrite.Goals as goal

@@ -1,5 +1,4 @@
-use Rattle.std.proofs.Common.{◌≡◌, ◌∙◌, sym, arith, None, Some}
-use Rattle.std.proofs.lemmas.Option.{slice_get_past}
+use Rattle.run_styles.proofs.Names.{◌≡◌, ◌∙◌, sym, arith, None, Some, slice_get_past}
 use Rattle.run_styles.proofs.Neighbours.{read_same, read_apart, differ_behind}
 use Rattle.run_styles.proofs.table.widened_end.Goals as goal
 use Rattle.run_styles.proofs.table.widened_end.Goals.{else-end-len-via-then-end-len+else-eq, else-end-len-via-else-end-len}

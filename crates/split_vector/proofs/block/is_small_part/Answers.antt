@@ -1,5 +1,4 @@
-use Rattle.std.proofs.Common.{◌≡◌, ◌*◌, length, take, ap, arith, length-take}
-use Rattle.std.proofs.lemmas.Bool.{leb-true}
+use Rattle.split_vector.proofs.Names.{◌≡◌, ◌*◌, length, take, ap, arith, length-take, leb-true}
 use Rattle.std.specs.Mem.{type_size}
 use Rattle.split_vector.specs.contracts.block.is_small_part.{T-row}
 use Rattle.split_vector.proofs.block.is_small_part.Goals as goal

@@ -1,81 +1,11 @@
 -- `allocate` cuts the new block into empty places, and keeps the right to free it. Assumes `Logic`.
-use mathlib.Core.Path.{◌≡◌, refl, sym, ap, subst}
-use Rattle.std.proofs.lemmas.List.{append-nil}
-use mathlib.Core.Bool.{true, false}
-use Prim.Native.Nat.{ℕ, ◌*◌, ◌<◌, ◌^◌}
-use native.Mathlib.Omega.{arith}
-use mathlib.Core.List.{List, [], ◌∷◌, ◌++◌}
-use lib.Dec.{lit<}
-use seplogic.Ra.Ura.{Ura}
-use mir.Syntax.{Fn, Body, named, w64}
-use mir.MapTy.{inst_fn}
-use mir.Val.{Val, vptr, vint, vstruct, vcons, vnil}
-use base.Logic.{SProp, ent}
-use base.Fml.{Lft, Share, ftrue, flft}
-use prog.Wp.{Env, Calls, Loops, WpFn, Tables}
-use types.Logic.{Logic}
-use contract.Monad.{fact}
-use contract.Running.{tables, tables_of}
-use sound.WpLaws.{WpFn-mono}
-use types.Kit.{Item, ⋆, ‵, raw, ◌⊛◌, later, await, at_ret, ◌$◌, ◌∵◌, !, qed, by, move, keep, use0, use1, use2, use3, split, join, fsplit, rewrite, fsplit3, fjoin, feq_l, suffices, frame, done}
-use types.Part.{whole, agg}
-use types.Run.{stop, fld, lit, of_opd, and_then, no_more, first, exec, returns, enter}
-use types.ByLocal.{alloc_all, pass_all, free_all, look_at, get, get_in, sets, sets_last, is, env}
-use denote.Exit.{yes}
-use denote.RattleType.{RattleType, owns}
-use denote.Memory.{hidden_shr}
-use denote.Param.{layout}
-use denote.RawPtr.{Ptr, block_ptr}
-use denote.Ref.{Bor, ShrRef}
-use denote.Builtin.{RefOf}
-use denote.Signature.{plain}
-use denote.Steps.{nothing}
-use denote.Struct.Tuple.{Tuple}
-use denote.Triple.Clauses.{Clauses, Ended, closing}
-use denote.Triple.Entry.{on_entry}
-use denote.Triple.Spec.{Meets, triple_of}
-use denote.Triple.Table.{entered}
-use denote.Triple.Walked.{says, needs, Stays, stay_dropped, walk_of, ends_at, Goes-dropped, walk_Meets}
-use Rattle.std_alloc.proofs.VecSteps.Shapes.{after}
-use Rattle.std_alloc.proofs.RcSteps.{Good, word, word-Good}
-use lib.ListN.{length}
-use types.Kit.{flt_l, flt_i}
-use types.Run.{bin}
-use denote.Builtin.{usize}
-use Rattle.std.specs.Prelude.{None}
-use Rattle.core.proofs.mem.Param.{El, R, elτ}
-use Rattle.std_alloc.proofs.RawLayout.{as_written}
-use Rattle.split_vector.specs.Ownership.{slots, deed_owns}
+use Rattle.split_vector.proofs.HandNames.{◌≡◌, refl, sym, ap, subst, append-nil, true, false, ℕ, ◌*◌, ◌<◌, ◌^◌, arith, List, [], ◌∷◌, ◌++◌, lit<, Ura, Fn, Body, named, w64, inst_fn, Val, vptr, vint, vstruct, vcons, vnil, SProp, ent, Lft, Share, ftrue, flft, Env, Calls, Loops, WpFn, Tables, Logic, fact, tables, tables_of, WpFn-mono, Item, ⋆, ‵, raw, ◌⊛◌, later, await, at_ret, ◌$◌, ◌∵◌, !, qed, by, move, keep, use0, use1, use2, use3, split, join, fsplit, rewrite, fsplit3, fjoin, feq_l, suffices, frame, done, whole, agg, stop, fld, lit, of_opd, and_then, no_more, first, exec, returns, enter, alloc_all, pass_all, free_all, look_at, get, get_in, sets, sets_last, is, env, yes, RattleType, owns, hidden_shr, layout, Ptr, block_ptr, Bor, ShrRef, RefOf, plain, nothing, Tuple, Clauses, Ended, closing, on_entry, Meets, triple_of, entered, says, needs, Stays, stay_dropped, walk_of, ends_at, Goes-dropped, walk_Meets, after, Good, word, word-Good, length, flt_l, flt_i, bin, usize, None, El, R, elτ, as_written, slots, deed_owns, Incl-trans, replicate, ty_array, Memory, align, capped, capped_fits, Routine, Wp, after_seq, at_return, Fun, ◌⊑◌, FmC, fm_of, any_q, live, vrt, in_variant, size_word, align_word, switches_on, get_tag, lands_as, Is, owned, Struct, Struct-Makes, Triple, calls_at, IfOk, Ok, Err, FitsInBlock, token, Al, second, Answer-typed, takes_key, Takes, at_takes, Answered, Takes-goes, Takes-gives, answers, uncapped, block_ty, block_size, block_align, P, head, arm_body, ok_of, err_of, first_Good}
 use Rattle.split_vector.proofs.Memory.{all_of, all_long, deed_made, Place, Cr, Bs, Mark, sz, mark, mark_made, word_made}
-use base.Fml.{Incl-trans}
-use lib.ListN.{replicate}
-use mir.Syntax.{ty_array}
-use prog.Memory.{Memory, align, capped}
-use prog.Capped.{capped_fits}
-use prog.Routine.{Routine}
-use prog.Wp.{Wp, after_seq, at_return}
-use contract.Monad.{Fun}
-use contract.BorrowLft.{◌⊑◌}
-use sound.WpLaws.{FmC, fm_of}
-use types.Kit.{Post as After, any_q}
-use types.Match.{live, vrt, in_variant}
-use types.Run.{size_word, align_word, switches_on}
-use types.ByLocal.{get_tag, lands_as}
-use denote.Laws.{Is}
-use denote.Steps.{owned}
-use denote.Struct.Struct.{Struct, Struct-Makes}
+use types.Kit.{Post as After}
 use denote.Struct.Declared as Declared
-use denote.Triple.Statement.{Triple}
-use denote.Triple.Call.{calls_at}
-use Rattle.std.specs.Prelude.{IfOk, Ok, Err}
-use Rattle.std.specs.Vec.Ownership.{FitsInBlock}
 use Rattle.core.specs.contracts.result.Result as RS
 use Rattle.core.specs.contracts.alloc.AllocError as AE
-use Rattle.core.proofs.alloc.Calls.{token, Al, second, Answer-typed, takes_key, Takes, at_takes, Answered, Takes-goes, Takes-gives, answers}
-use Rattle.core.proofs.slots.Leases.{uncapped, block_ty, block_size, block_align, args, P}
-use Rattle.std_alloc.proofs.VecSteps.Shapes.{head, arm_body}
-use Rattle.std_alloc.proofs.ResultValues.{ok_of, err_of}
-use Rattle.std_alloc.proofs.RcSteps.{first_Good}
+use Rattle.core.proofs.slots.Leases.{args}
 use Rattle.split_vector.proofs.Memory.{three_val, three_of, of_room}
 use Rattle.split_vector.specs.contracts.cells.Deed as D-type
 use Rattle.split_vector.specs.contracts.cells.allocate as F

@@ -1,65 +1,7 @@
 -- `deallocate` makes the block of its empty places, and hands it back with the allocator's token. Assumes `Logic`.
-use mathlib.Core.Path.{◌≡◌, refl, sym, ap, subst, ◌∙◌}
-use Prim.Native.Nat.{ℕ, ◌+◌, ◌*◌, ◌<◌, ◌^◌}
-use native.Mathlib.Omega.{arith}
-use mathlib.Core.List.{List, [], ◌∷◌, ◌++◌}
-use seplogic.Ra.Ura.{Ura}
-use mir.Syntax.{Fn, named, w64}
-use mir.MapTy.{inst_fn}
-use mir.Val.{Val, vptr, vint, vunit}
-use base.Logic.{SProp, ent, never, id⊢}
-use base.Fml.{Lft, Share, ftrue, froom, flft}
-use prog.Wp.{Env, Calls, Loops, WpFn, Tables}
-use types.Logic.{Logic, sem}
-use contract.Monad.{fact}
-use contract.Running.{tables, tables_of}
-use sound.WpLaws.{WpFn-mono}
-use types.Kit.{Item, ⋆, ‵, raw, ◌⊛◌, given, later, await, learn, at_ret, ◌$◌, ◌∵◌, !, qed, by, move, keep, use1, split, join, group, rewrite, fsplit, fsplit3, fjoin, feq_i, feq_l, suffices, done}
-use types.Part.{whole, sub}
-use types.Run.{stop, fld, unit_lit, of_opd, and_then, no_more, first, blocks, exec, returns, enter}
-use types.ByLocal.{alloc_all, pass_all, free_all, look_at, get, get_in, sets, is, env}
-use denote.Exit.{yes, no}
-use denote.RattleType.{RattleType, owns}
-use denote.Memory.{hidden_shr}
-use denote.RawPtr.{Ptr, block_ptr, ptr_val, in_a_block}
-use denote.Ref.{Bor, ShrRef}
-use denote.Builtin.{RefOf}
-use denote.Signature.{plain}
-use denote.Steps.{nothing}
-use denote.Triple.Clauses.{Clauses, Ended, closing}
-use denote.Triple.Entry.{on_entry}
-use denote.Triple.Spec.{Meets, triple_of}
-use denote.Triple.Table.{entered}
-use denote.Triple.Walked.{needs, Stays, stay_dropped, walk_of, ends_at, Goes-dropped, walk_Meets}
-use Rattle.core.proofs.alloc.Calls.{Goes-blank}
-use Rattle.std_alloc.proofs.VecSteps.Shapes.{after}
-use Rattle.std_alloc.proofs.RcSteps.{word, word-Good}
-use types.Kit.{flt_l}
-use types.Run.{bin}
-use denote.Builtin.{usize}
-use Rattle.std.specs.Prelude.{None}
-use Rattle.core.proofs.mem.Param.{El, R, elτ}
-use Rattle.std_alloc.proofs.RawLayout.{as_raw}
-use Rattle.split_vector.specs.Ownership.{cells_own, slots}
+use Rattle.split_vector.proofs.HandNames.{◌≡◌, refl, sym, ap, subst, ◌∙◌, ℕ, ◌+◌, ◌*◌, ◌<◌, ◌^◌, arith, List, [], ◌∷◌, ◌++◌, Ura, Fn, named, w64, inst_fn, Val, vptr, vint, vunit, SProp, ent, never, id⊢, Lft, Share, ftrue, froom, flft, Env, Calls, Loops, WpFn, Tables, Logic, sem, fact, tables, tables_of, WpFn-mono, Item, ⋆, ‵, raw, ◌⊛◌, given, later, await, learn, at_ret, ◌$◌, ◌∵◌, !, qed, by, move, keep, use1, split, join, group, rewrite, fsplit, fsplit3, fjoin, feq_i, feq_l, suffices, done, whole, sub, stop, fld, unit_lit, of_opd, and_then, no_more, first, blocks, exec, returns, enter, alloc_all, pass_all, free_all, look_at, get, get_in, sets, is, env, yes, no, RattleType, owns, hidden_shr, Ptr, block_ptr, ptr_val, in_a_block, Bor, ShrRef, RefOf, plain, nothing, Clauses, Ended, closing, on_entry, Meets, triple_of, entered, needs, Stays, stay_dropped, walk_of, ends_at, Goes-dropped, walk_Meets, Goes-blank, after, word, word-Good, flt_l, bin, usize, None, El, R, elτ, as_raw, cells_own, slots, Incl-trans, T, length, replicate, ty_unit, ty_array, has_ty, WT, Memory, align, capped, capped_fits, Routine, Fun, ◌⊑◌, FmC, fm_of, size_word, align_word, lands_last, Triple, calls_at_last, Al, second, token, gives_key, Gives, at_gives, Gives-goes, Gives-Gives, uncapped, block_ty, block_size, block_align, P, deed_owns}
 use Rattle.split_vector.proofs.Memory.{all_of, all_long, deed_used, ty_raw, forgets, Cr, Bs, sz, mark, mark_had, word_had}
-use base.Fml.{Incl-trans}
-use lib.Dec.{T}
-use lib.ListN.{length, replicate}
-use mir.Syntax.{ty_unit, ty_array}
-use mir.Val.{has_ty, WT}
-use prog.Memory.{Memory, align, capped}
-use prog.Capped.{capped_fits}
-use prog.Routine.{Routine}
-use contract.Monad.{Fun}
-use contract.BorrowLft.{◌⊑◌}
-use sound.WpLaws.{FmC, fm_of}
-use types.Run.{size_word, align_word}
-use types.ByLocal.{lands_last}
-use denote.Triple.Statement.{Triple}
-use denote.Triple.Call.{calls_at_last}
-use Rattle.core.proofs.alloc.Calls.{Al, second, token, gives_key, Gives, at_gives, Gives-goes, Gives-Gives}
-use Rattle.core.proofs.slots.Leases.{uncapped, block_ty, block_size, block_align, args, P}
-use Rattle.split_vector.specs.Ownership.{deed_owns}
+use Rattle.core.proofs.slots.Leases.{args}
 use Rattle.split_vector.proofs.Memory.{to_room}
 use Rattle.split_vector.specs.contracts.cells.Deed as D-type
 use Rattle.split_vector.specs.contracts.cells.deallocate as F

@@ -1,63 +1,11 @@
 -- `enlarge` hands the allocator the items as an array with room behind it, and splits what it returns into cells again. Assumes `Logic`.
-use mathlib.Core.Path.{◌≡◌, refl, sym, subst}
-use mathlib.Core.Bool.{true, false}
-use Prim.Native.Nat.{ℕ, ◌+◌, ◌-◌, ◌*◌, ◌<◌, ◌≤◌, ◌^◌}
-use native.Mathlib.Omega.{arith}
-use mathlib.Core.List.{List, [], ◌∷◌, ◌++◌}
-use lib.Dec.{T, lit<}
-use lib.ListN.{length}
-use seplogic.Ra.Ura.{Ura}
-use mir.Syntax.{Ty, Fn, Body, named, w64}
-use mir.MapTy.{inst_fn}
-use mir.Val.{Val, vptr, vint, vstruct, vcons, vnil, has_ty, WT}
-use base.Logic.{SProp, ent, sep, via, fst∗, snd∗, never_e, ex}
-use base.Fml.{Fml, Lft, Share, Incl-trans, ftrue, flft}
-use prog.Memory.{Memory}
-use prog.Routine.{Routine}
-use prog.Wp.{Env, Calls, Loops, Wp, WpFn, Tables, after_seq, at_return}
-use types.Logic.{Logic, sem}
-use contract.Monad.{Fun, fact, fact_use}
-use contract.BorrowLft.{◌⊑◌}
-use contract.Running.{tables, tables_of}
-use sound.WpLaws.{FmC, fm_of, WpFn-mono}
-use types.Kit.{Item, Post as After, any_q, ⋆, ‵, raw, ◌⊛◌, later, await, at_ret, ◌$◌, ◌∵◌, !, qed, by, move, keep, use0, use1, use2, split, split3, join, group, rewrite, fsplit, fsplit3, fjoin, feq_l, flt_l, flt_i, suffices, frame, done}
-use types.Part.{whole, sub, agg}
-use types.Match.{live, vrt, in_variant}
-use types.Run.{stop, fld, lit, of_opd, and_then, no_more, first, blocks, exec, switches_on, returns, enter}
-use types.ByLocal.{alloc_all, pass_all, free_all, look_at, get, get_in, get_tag, sets, sets_last, lands_last, is, env}
-use denote.Exit.{yes, no}
-use denote.RattleType.{RattleType, owns}
-use denote.Laws.{Is}
-use denote.Memory.{hidden_shr}
-use denote.Param.{layout}
-use denote.RawPtr.{Ptr, block_ptr, null_ptr}
-use denote.Ref.{Bor, ShrRef}
-use denote.Builtin.{RefOf, usize}
-use denote.Signature.{plain}
-use denote.Steps.{nothing, owned}
-use denote.Struct.Struct.{Struct, Struct-Makes}
+use Rattle.split_vector.proofs.HandNames.{◌≡◌, refl, sym, subst, true, false, ℕ, ◌+◌, ◌-◌, ◌*◌, ◌<◌, ◌≤◌, ◌^◌, arith, List, [], ◌∷◌, ◌++◌, T, lit<, length, Ura, Ty, Fn, Body, named, w64, inst_fn, Val, vptr, vint, vstruct, vcons, vnil, has_ty, WT, SProp, ent, sep, via, fst∗, snd∗, never_e, ex, Fml, Lft, Share, Incl-trans, ftrue, flft, Memory, Routine, Env, Calls, Loops, Wp, WpFn, Tables, after_seq, at_return, Logic, sem, Fun, fact, fact_use, ◌⊑◌, tables, tables_of, FmC, fm_of, WpFn-mono, Item, any_q, ⋆, ‵, raw, ◌⊛◌, later, await, at_ret, ◌$◌, ◌∵◌, !, qed, by, move, keep, use0, use1, use2, split, split3, join, group, rewrite, fsplit, fsplit3, fjoin, feq_l, flt_l, flt_i, suffices, frame, done, whole, sub, agg, live, vrt, in_variant, stop, fld, lit, of_opd, and_then, no_more, first, blocks, exec, switches_on, returns, enter, alloc_all, pass_all, free_all, look_at, get, get_in, get_tag, sets, sets_last, lands_last, is, env, yes, no, RattleType, owns, Is, hidden_shr, layout, Ptr, block_ptr, null_ptr, Bor, ShrRef, RefOf, usize, plain, nothing, owned, Struct, Struct-Makes, Tuple, calls_at_last, Clauses, Ended, closing, on_entry, Meets, triple_of, Triple, entered, needs, Stays, stay_dropped, walk_of, ends_at, Goes-dropped, walk_Meets, IfOk, OnErr, Ok, Err, FitsInBlock, block_with_items, resized_if_ok, El, R, Al, Answer, Answer-typed, Goes-blank, second, token, P, after, head, arm_body, Good, first_Good, word, word-Good, ok_of, err_of, cells_own, deed_owns, slots}
+use types.Kit.{Post as After}
 use denote.Struct.Declared as Declared
-use denote.Struct.Tuple.{Tuple}
-use denote.Triple.Call.{calls_at_last}
-use denote.Triple.Clauses.{Clauses, Ended, closing}
-use denote.Triple.Entry.{on_entry}
-use denote.Triple.Spec.{Meets, triple_of}
-use denote.Triple.Statement.{Triple}
-use denote.Triple.Table.{entered}
-use denote.Triple.Walked.{needs, Stays, stay_dropped, walk_of, ends_at, Goes-dropped, walk_Meets}
-use Rattle.std.specs.Prelude.{IfOk, OnErr, Ok, Err}
-use Rattle.std.specs.Vec.Ownership.{FitsInBlock}
-use Rattle.core.specs.Allocator.{block_with_items, resized_if_ok}
 use Rattle.core.specs.contracts.result.Result as RS
 use Rattle.core.specs.contracts.alloc.AllocError as AE
-use Rattle.core.proofs.mem.Param.{El, R}
-use Rattle.core.proofs.alloc.Calls.{Al, Answer, Answer-typed, Goes-blank, second, token}
 use Rattle.core.proofs.alloc.Resizes.{Flagged, Grows, Resizes, Resizes-gives, Resizes-goes, at_resizes, flagged, resize_key}
-use Rattle.core.proofs.slots.Leases.{args, P}
-use Rattle.std_alloc.proofs.VecSteps.Shapes.{after, head, arm_body}
-use Rattle.std_alloc.proofs.RcSteps.{Good, first_Good, word, word-Good}
-use Rattle.std_alloc.proofs.ResultValues.{ok_of, err_of}
-use Rattle.split_vector.specs.Ownership.{cells_own, deed_owns, slots}
+use Rattle.core.proofs.slots.Leases.{args}
 use Rattle.split_vector.proofs.Memory.{all_of, all_long, Cr, Bs, Mark, sz, mark, mark_had, mark_made, word_had, word_made, says_both, three_val, three_of}
 use Rattle.split_vector.proofs.Whole.{opened, closed}
 use Rattle.split_vector.specs.contracts.cells.Deed as D-type

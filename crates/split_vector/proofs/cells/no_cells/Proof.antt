@@ -1,49 +1,8 @@
 -- `no_cells` owns nothing, and its address is that of a local. Assumes `Logic`.
-use mathlib.Core.Path.{◌≡◌, refl, sym, subst}
-use Prim.Native.Nat.{ℕ, ◌*◌, ◌^◌}
-use native.Mathlib.Omega.{arith}
-use mathlib.Core.List.{List, [], ◌∷◌, ◌++◌}
-use seplogic.Ra.Ura.{Ura}
-use mir.Syntax.{Fn, named}
-use mir.MapTy.{inst_fn}
-use mir.Val.{Val, vptr}
-use base.Logic.{SProp, ent, via, fst∗}
-use base.Fml.{Lft, Share, ftrue, flft}
-use prog.Wp.{Calls, Loops, WpFn, Tables}
-use types.Logic.{Logic}
-use contract.Running.{tables, tables_of}
-use sound.WpLaws.{WpFn-mono}
-use types.Kit.{Item, ⋆, ‵, ◌⊛◌, ◌$◌, ◌∵◌, !, qed, by, move, keep, use0, use3, split, join, fsplit, fjoin, feq_l, suffices, frame, done}
-use types.Part.{agg}
-use types.Run.{stop, and_then, no_more, returns, enter}
-use types.ByLocal.{alloc_all, pass_all, free_all, look_at, get, sets}
-use denote.Exit.{yes}
-use denote.RattleType.{RattleType, owns}
-use denote.Param.{layout}
-use denote.RawPtr.{Ptr, block_ptr}
-use denote.Ref.{Bor, ShrRef}
-use denote.Builtin.{RefOf}
-use denote.Signature.{plain}
-use denote.Steps.{nothing}
-use denote.Struct.Tuple.{Tuple}
-use denote.Triple.Clauses.{Clauses, Ended, closing}
-use denote.Triple.Entry.{on_entry}
-use denote.Triple.Spec.{Meets, triple_of}
-use denote.Triple.Table.{entered}
-use denote.Triple.Walked.{says, Stays, stay_dropped, walk_of, ends_at, Goes-dropped, walk_Meets}
-use Rattle.std_alloc.proofs.RcSteps.{Good, word, word-Good}
-use lib.ListN.{length}
-use types.Kit.{flt_i}
-use types.Run.{addr, from as start}
-use native.Mathlib.Nat.{zero-mul}
-use Rattle.core.proofs.mem.Param.{El, R}
+use Rattle.split_vector.proofs.HandNames.{◌≡◌, refl, sym, subst, ℕ, ◌*◌, ◌^◌, arith, List, [], ◌∷◌, ◌++◌, Ura, Fn, named, inst_fn, Val, vptr, SProp, ent, via, fst∗, Lft, Share, ftrue, flft, Calls, Loops, WpFn, Tables, Logic, tables, tables_of, WpFn-mono, Item, ⋆, ‵, ◌⊛◌, ◌$◌, ◌∵◌, !, qed, by, move, keep, use0, use3, split, join, fsplit, fjoin, feq_l, suffices, frame, done, agg, stop, and_then, no_more, returns, enter, alloc_all, pass_all, free_all, look_at, get, sets, yes, RattleType, owns, layout, Ptr, block_ptr, Bor, ShrRef, RefOf, plain, nothing, Tuple, Clauses, Ended, closing, on_entry, Meets, triple_of, entered, says, Stays, stay_dropped, walk_of, ends_at, Goes-dropped, walk_Meets, Good, word, word-Good, length, flt_i, addr, zero-mul, El, R, Memory, Routine, Fun, ◌⊑◌, Al, P}
+use types.Run.{from as start}
 use Rattle.split_vector.proofs.Memory.{all_of, Cr, Bs, Mark, sz, mark, mark_made, word_made}
-use prog.Memory.{Memory}
-use prog.Routine.{Routine}
-use contract.Monad.{Fun}
-use contract.BorrowLft.{◌⊑◌}
-use Rattle.core.proofs.alloc.Calls.{Al}
-use Rattle.core.proofs.slots.Leases.{args, P}
+use Rattle.core.proofs.slots.Leases.{args}
 use Rattle.split_vector.proofs.Memory.{three_val, three_of}
 use Rattle.split_vector.specs.contracts.cells.Deed as D-type
 use Rattle.split_vector.specs.contracts.cells.no_cells as F

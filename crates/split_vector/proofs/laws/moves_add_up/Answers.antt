@@ -1,7 +1,6 @@
 -- Call by call.
-use Rattle.std.proofs.Common.{arith, ℕ, ◌+◌, ◌-◌, ◌^◌, ◌≤◌, ◌==◌, if◌then◌else◌, Bool, true, false, List, [], ◌∷◌}
+use Rattle.split_vector.proofs.Names.{arith, ℕ, ◌+◌, ◌-◌, ◌^◌, ◌≤◌, ◌==◌, if◌then◌else◌, Bool, true, false, List, [], ◌∷◌, apart, outside, counted}
 use Rattle.std.proofs.Math.Nat.{min-le_left}
-use Rattle.split_vector.specs.Split.{apart, outside, counted}
 use Rattle.split_vector.specs.SumLaws.{Call, PutIn, TakeOut, Moves, moves_after_call, moves_after, cost_of_call, cost_of}
 use Rattle.split_vector.proofs.laws.moves_add_up.Goals as goal
 

@@ -1,51 +1,11 @@
 -- `move_run` moves the values one by one: from the last on if it moves them up, and else from the first on. Assumes `Logic`.
-use mathlib.Core.Path.{◌≡◌, refl, sym, subst}
-use mathlib.Core.Bool.{Bool, true, false, not}
-use mathlib.Core.List.{List, [], ◌∷◌}
+use Rattle.split_vector.proofs.HandNames.{◌≡◌, refl, sym, subst, Bool, true, false, not, List, [], ◌∷◌, ℕ, zero, suc, ◌+◌, ◌-◌, ◌*◌, ◌≤◌, ◌<◌, ◌^◌, arith, Ura, T, ltb→lt, nltb→le, lit<, length, full_share, Ty, Fn, Body, Args, a_type, w64, ty_int, ty_array, inst_fn, Val, vunit, vbool, vint, vptr, SProp, ent, sep, never_e, Lft, Share, Fml, ftrue, ffalse, fsep, fat, flft, froom, ◌⊑◌, Memory, Routine, Env, Out, Wp, WpFn, Tables, at_return, after_seq, after_block, after_turn, Logic, sem, Fun, fact, tables, tables_of, WpFn-mono, Item, Sq, any_q, runs, ‵, raw, ◌⊛◌, some, given, at_ret, ◌$◌, ◌∵◌, !, qed, by, move, keep, drop, use1, use2, join, split, split3, pick, learn, rewrite, fsplit, fjoin, feq_i, suffices, done, stop, look, load, lit, size_lit, bin, unit_lit, of_opd, init, assigns_last, first, blocks, skips, jumps, branches, exec, returns, enter, forget, loops, again, Below, alloc_all, pass_all, free_all, look_at, get, through, sets, sets_last, env, holding, forget_but, take_at, give_at, RattleType, owns, yes, bool, usize, Array, row, part_at, layouts, Ptr, RawPtr, block_ptr, null_ptr, ptr_val, rawptr_vals, rawptr_Tells, plain, heard, nothing, Ended, Clauses, triple_of, entered, Stays, stay_dropped, walk_of, ends_at, walked, Goes-dropped, walk_Meets, points_to, memory_before_copy, memory_after_copy, el_own, sz, el_out, el_in, apart, times_below, one_below, one_more, LiesApart}
 use mathlib.Core.WellFounded.InvImage
-use Prim.Native.Nat.{ℕ, zero, suc, ◌+◌, ◌-◌, ◌*◌, ◌≤◌, ◌<◌, ◌^◌}
-use native.Mathlib.Omega.{arith}
-use seplogic.Ra.Ura.{Ura}
-use lib.Dec.{T, ltb→lt, nltb→le, lit<}
-use lib.ListN.{length}
 use lib.WfN.{lt-wf_rel}
-use base.Fraction.{full_share}
-use mir.Syntax.{Ty, Fn, Body, Args, a_type, w64, ty_int, ty_array}
-use mir.MapTy.{inst_fn}
-use mir.Val.{Val, vunit, vbool, vint, vptr}
-use base.Logic.{SProp, ent, sep, never_e}
-use base.Fml.{Lft, Share, Fml, ftrue, ffalse, fsep, fat, flft, froom}
-use contract.BorrowLft.{◌⊑◌}
-use prog.Memory.{Memory}
-use prog.Routine.{Routine}
-use prog.Wp.{Env, Out, Wp, WpFn, Tables, at_return, after_seq, after_block, after_turn}
-use types.Logic.{Logic, sem}
-use contract.Monad.{Fun, fact}
-use contract.Running.{tables, tables_of}
-use sound.WpLaws.{WpFn-mono}
-use types.Kit.{Item, Sq, any_q, runs, ‵, raw, ◌⊛◌, some, given, at_ret, ◌$◌, ◌∵◌, !, qed, by, move, keep, drop, use1, use2, join, split, split3, pick, learn, rewrite, fsplit, fjoin, feq_i, suffices, done}
-use types.Run.{stop, look, load, lit, size_lit, bin, unit_lit, of_opd, init, assigns_last, first, blocks, skips, jumps, branches, exec, returns, enter, forget, loops, again, Below}
-use types.ByLocal.{alloc_all, pass_all, free_all, look_at, get, through, sets, sets_last, env, holding, forget_but, take_at, give_at}
-use denote.RattleType.{RattleType, owns}
-use denote.Exit.{yes}
-use denote.Builtin.{bool, usize}
-use denote.Array.{Array}
-use denote.Index.{row}
-use denote.Memory.{part_at}
-use denote.Param.{layouts}
 use denote.Plain.{bool_vals, bool_Tells, uint_vals, uint_Tells}
-use denote.RawPtr.{Ptr, RawPtr, block_ptr, null_ptr, ptr_val, rawptr_vals, rawptr_Tells}
-use denote.Signature.{plain}
-use denote.Steps.{heard, nothing}
-use denote.Triple.Clauses.{Ended, Clauses}
-use denote.Triple.Spec.{triple_of}
-use denote.Triple.Table.{entered}
-use denote.Triple.Walked.{Stays, stay_dropped, walk_of, ends_at, walked, Goes-dropped, walk_Meets}
-use Rattle.core.specs.Ptr.{points_to, memory_before_copy, memory_after_copy}
-use Rattle.core.proofs.ptr.Rows.{El, R, el_x, elτ, el_own, sz, Good, el_out, el_in, apart, whole, times_below, one_below, one_more}
+use Rattle.core.proofs.ptr.Rows.{El, R, el_x, elτ, Good, whole}
 use Rattle.core.proofs.ptr.Plans.{Plan, up_Plan, down_Plan}
 use Rattle.core.proofs.slots.Bodies.{after, head}
-use Rattle.split_vector.specs.Cells.{LiesApart}
 use Rattle.split_vector.specs.contracts.raw.move_run as F
 use Rattle.split_vector.specs.contracts.raw.move_run.Key.{name as #self}
 use Rattle.split_vector.proofs.raw.move_run.Statement as stated

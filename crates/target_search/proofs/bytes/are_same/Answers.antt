@@ -1,5 +1,4 @@
-use Rattle.std.proofs.Common.{sym, ◌∙◌, arith, below_more}
-use Rattle.ed_model.specs.Matches.{folded}
+use Rattle.target_search.proofs.Names.{sym, ◌∙◌, arith, below_more, folded}
 use Rattle.target_search.proofs.Fronts.{front_true, front_false}
 use Rattle.target_search.proofs.bytes.are_same.Goals as goal
 

@@ -1,5 +1,4 @@
-use Rattle.std.proofs.Common.{◌≡◌, ℕ, ◌<◌, get_or}
-use Rattle.ed_model.specs.Matches.{folded}
+use Rattle.target_search.proofs.Names.{◌≡◌, ℕ, ◌<◌, get_or, folded}
 use Rattle.target_search.proofs.bytes.are_same.Given as goal
 
 abbrev pub invariant-loop-i : goal.invariant-loop-i

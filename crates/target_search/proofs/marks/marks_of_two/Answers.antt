@@ -1,6 +1,4 @@
-use Rattle.std.proofs.Common.{◌&&◌, take, drop, sym, ◌∙◌}
-use Rattle.std.proofs.lemmas.Simd.{length-chunk, get_or-chunk}
-use Rattle.target_search.specs.Cases.{is_either}
+use Rattle.target_search.proofs.Names.{◌&&◌, take, drop, sym, ◌∙◌, length-chunk, get_or-chunk, is_either}
 use Rattle.bit_marks.specs.proved.Bits.{clear_false}
 use Rattle.target_search.proofs.MarkedBytes.{marked_lane}
 use Rattle.target_search.proofs.marks.marks_of_two.Goals as goal

@@ -1,7 +1,4 @@
-use Rattle.std.proofs.Common.{◌≡◌, ◌+◌, ◌-◌, ◌∙◌, ap, sym, arith, get_or, Some}
-use Rattle.std.proofs.lemmas.List.{get_or_default}
-use Rattle.undo_history.specs.declared.records.StepRecord.{StepRecord}
-use Rattle.undo_history.specs.Joining.{outline, outline_if_any}
+use Rattle.undo_history.proofs.Names.{◌≡◌, ◌+◌, ◌-◌, ◌∙◌, ap, sym, arith, get_or, Some, get_or_default, StepRecord, outline, outline_if_any}
 use Rattle.undo_history.proofs.Latest.{no_step, latest, latest_found, latest_passed, latest_none}
 use Rattle.undo_history.proofs.joining.find_latest_step.Goals as goal
 

@@ -1,10 +1,4 @@
-use Rattle.std.proofs.Common.{◌∙◌, false, ap, sym, arith, get_or, length, Some}
-use Rattle.std.specs.Prelude.{slice_range}
-use Rattle.std.proofs.lemmas.List.{get_or_default}
-use Rattle.undo_history.specs.declared.records.StepKind.TheVariants.{Insert}
-use Rattle.undo_history.specs.declared.records.ChangeKind.TheVariants.{Text}
-use Rattle.undo_history.specs.declared.records.StepRecord.{StepRecord}
-use Rattle.undo_history.specs.Records.{change_of}
+use Rattle.undo_history.proofs.Names.{◌∙◌, false, ap, sym, arith, get_or, length, Some, slice_range, get_or_default, Insert, Text, StepRecord, change_of}
 use Rattle.undo_history.proofs.Reading.{change_read, bytes_range}
 use Rattle.undo_history.proofs.records.change_at.Goals as goal
 

@@ -1,7 +1,4 @@
-use Rattle.std.proofs.Common.{◌≡◌, ◌+◌, ◌-◌, ap, arith, get_or, reverse, take}
-use Rattle.std.proofs.lemmas.List.{get_or_default}
-use Rattle.undo_history.specs.declared.records.StepRecord.{StepRecord}
-use Rattle.undo_history.specs.Records.{entries_in, last_count}
+use Rattle.undo_history.proofs.Names.{◌≡◌, ◌+◌, ◌-◌, ap, arith, get_or, reverse, take, get_or_default, StepRecord, entries_in, last_count}
 use Rattle.undo_history.proofs.Latest.{no_step, count_found, count_passed}
 use Rattle.undo_history.proofs.runs.count_before.Goals as goal
 

@@ -1,5 +1,4 @@
-use Rattle.std.proofs.Common.{◌≡◌, ◌+◌, ◌-◌, ℕ, List, reverse, take}
-use Rattle.undo_history.specs.Records.{entries_in, last_count}
+use Rattle.undo_history.proofs.Names.{◌≡◌, ◌+◌, ◌-◌, ℕ, List, reverse, take, entries_in, last_count}
 use Rattle.undo_history.proofs.runs.count_before.Given as goal
 
 -- none of the steps from `i` on begins a transaction

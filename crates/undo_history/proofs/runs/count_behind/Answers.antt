@@ -1,7 +1,4 @@
-use Rattle.std.proofs.Common.{◌≡◌, [], ap, sym, arith, get_or, drop}
-use Rattle.std.proofs.lemmas.List.{get_or_default, drop_all}
-use Rattle.undo_history.specs.declared.records.StepRecord.{StepRecord}
-use Rattle.undo_history.specs.Records.{entries_in, next_count, joined_count}
+use Rattle.undo_history.proofs.Names.{◌≡◌, [], ap, sym, arith, get_or, drop, get_or_default, drop_all, StepRecord, entries_in, next_count, joined_count}
 use Rattle.undo_history.proofs.Sealing.{entries_length}
 use Rattle.undo_history.proofs.Latest.{no_step, next_begun, joined_found, joined_passed}
 use Rattle.undo_history.proofs.runs.count_behind.Goals as goal

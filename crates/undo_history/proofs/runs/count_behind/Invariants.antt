@@ -1,5 +1,4 @@
-use Rattle.std.proofs.Common.{◌≡◌, ◌+◌, ◌-◌, ℕ, List, drop}
-use Rattle.undo_history.specs.Records.{entries_in, next_count, joined_count}
+use Rattle.undo_history.proofs.Names.{◌≡◌, ◌+◌, ◌-◌, ℕ, List, drop, entries_in, next_count, joined_count}
 use Rattle.undo_history.proofs.runs.count_behind.Given as goal
 
 -- none of the steps before `i` begins another transaction

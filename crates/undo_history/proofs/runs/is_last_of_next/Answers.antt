@@ -1,7 +1,4 @@
-use Rattle.std.proofs.Common.{◌+◌, ap, sym, arith, get_or}
-use Rattle.std.proofs.lemmas.List.{get_or_default, drop_all}
-use Rattle.undo_history.specs.declared.records.StepRecord.{StepRecord}
-use Rattle.undo_history.specs.Records.{entries_in, begins_or_none}
+use Rattle.undo_history.proofs.Names.{◌+◌, ap, sym, arith, get_or, get_or_default, drop_all, StepRecord, entries_in, begins_or_none}
 use Rattle.undo_history.proofs.Sealing.{entries_length}
 use Rattle.undo_history.proofs.Latest.{no_step, begins_there}
 use Rattle.undo_history.proofs.runs.is_last_of_next.Goals as goal

@@ -1,7 +1,4 @@
-use Rattle.std.proofs.Common.{◌≡◌, ◌+◌, ◌-◌, ◌∙◌, ap, sym, arith, length}
-use Rattle.std.proofs.lemmas.List.{length-append, length-take-le, append-nil}
-use Rattle.std.specs.Prelude.{slice_range}
-use Rattle.ed_model.specs.Text.{bytes_of}
+use Rattle.cell_buffer.proofs.Names.{◌≡◌, ◌+◌, ◌-◌, ◌∙◌, ap, sym, arith, length, length-append, length-take-le, append-nil, slice_range, bytes_of}
 use Rattle.cell_buffer.proofs.Pairs.{pairs_length, pairs_bytes}
 use Rattle.cell_buffer.proofs.Stored.{range_before, range_behind, range_across}
 use Rattle.cell_buffer.proofs.cells.Cells.parts_of.Goals as goal

@@ -1,9 +1,4 @@
-use Rattle.std.proofs.Common.{◌≡◌, ◌+◌, ◌∷◌, List, get_or, drop, sym, ap, ◌∙◌, arith}
-use Rattle.std.proofs.lemmas.List.{drop_more}
-use Rattle.ed_model.specs.Rows.{Flags, flags_together}
-use Rattle.line_index.specs.declared.edit.LineEdit.{LineEdit}
-use Rattle.line_index.specs.declared.edit.LineEdit.TheVariants.{Come}
-use Rattle.line_index.specs.Edits.{after_edits}
+use Rattle.contraction.proofs.Names.{◌≡◌, ◌+◌, ◌∷◌, List, get_or, drop, sym, ap, ◌∙◌, arith, drop_more, Flags, flags_together, LineEdit, Come, after_edits}
 use Rattle.contraction.proofs.Carried.{MayFollow, one_more}
 use Rattle.contraction.proofs.contraction.Contraction.carry.Goals as goal
 

@@ -1,7 +1,4 @@
-use Rattle.std.proofs.Common.{◌≡◌, ◌≤◌, drop}
-use Rattle.ed_model.specs.Rows.{flags_together}
-use Rattle.line_index.specs.Edits.{after_edits}
-use Rattle.contraction.specs.ViewLines.{contracted_in_all}
+use Rattle.contraction.proofs.Names.{◌≡◌, ◌≤◌, drop, flags_together, after_edits, contracted_in_all}
 use Rattle.contraction.proofs.Carried.{MayFollow}
 use Rattle.contraction.proofs.contraction.Contraction.carry.Given as goal
 

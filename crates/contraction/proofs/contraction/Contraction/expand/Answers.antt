@@ -1,5 +1,4 @@
-use Rattle.std.proofs.Common.{◌+◌, ◌≤◌, ap, ◌∙◌, arith}
-use Rattle.ed_model.specs.Folding.{last_child, lines_shown}
+use Rattle.contraction.proofs.Names.{◌+◌, ◌≤◌, ap, ◌∙◌, arith, last_child, lines_shown}
 use Rattle.contraction.proofs.Expanding.{size_now, passed_start, passed_next, passed_all}
 use Rattle.contraction.proofs.InAll.{shown_contracted, closed_contracted, same_in_all}
 use Rattle.contraction.proofs.contraction.Contraction.expand.Goals as goal

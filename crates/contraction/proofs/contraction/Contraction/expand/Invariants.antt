@@ -1,5 +1,4 @@
-use Rattle.std.proofs.Common.{◌≡◌, ◌+◌, ◌-◌, ◌<◌, ◌≤◌, length}
-use Rattle.contraction.specs.ViewLines.{contracted_in_all}
+use Rattle.contraction.proofs.Names.{◌≡◌, ◌+◌, ◌-◌, ◌<◌, ◌≤◌, length, contracted_in_all}
 use Rattle.contraction.proofs.Expanding.{Passed}
 use Rattle.contraction.proofs.contraction.Contraction.expand.Given as goal
 

@@ -1,5 +1,4 @@
-use Rattle.std.proofs.Common.{◌<◌, ap, sym, ◌∙◌, arith}
-use Rattle.ed_model.specs.Folding.{with_expanded}
+use Rattle.contraction.proofs.Names.{◌<◌, ap, sym, ◌∙◌, arith, with_expanded}
 use Rattle.contraction.proofs.Kept.{lines_of, length-kept}
 use Rattle.contraction.proofs.Changed.{expanded_after, contracted_after}
 use Rattle.contraction.proofs.InAll.{total_kept}

@@ -1,8 +1,4 @@
-use Rattle.std.proofs.Common.{◌≡◌, ◌+◌, ◌-◌, None, vec_capacity, ap, ◌∙◌, arith}
-use Rattle.ed_model.specs.Indicators.{indicators_after}
-use Rattle.ed_model.specs.Steps.{Delete}
-use Rattle.decorations.specs.Decorated.{Decorated}
-use Rattle.decorations.specs.Slots.{slot_at, for_fill}
+use Rattle.decorations.proofs.Names.{◌≡◌, ◌+◌, ◌-◌, None, vec_capacity, ap, ◌∙◌, arith, indicators_after, Delete, Decorated, slot_at, for_fill}
 use Rattle.decorations.proofs.Kept.{gave_all}
 use Rattle.decorations.proofs.Memory.{gave_memory, have_runs}
 use Rattle.decorations.proofs.decorations.Decorations.delete.Goals as goal

@@ -1,9 +1,4 @@
-use Rattle.std.proofs.Common.{◌≡◌, ◌+◌, ◌≤◌, ℕ, length, Option, Some, None, MatchOption, set, vec_capacity, ap, sym, ◌∙◌, subst, arith}
-use Rattle.ed_model.specs.Indicators.{filled, changed_range}
-use Rattle.ed_model.specs.proved.Indicators.{length_filled}
-use Rattle.run_styles.specs.Runs.{Runs}
-use Rattle.decorations.specs.Decorated.{Decorated, decorated, values_of}
-use Rattle.decorations.specs.Slots.{slot_at, shown, all_shown, held_by, AreSlots, HasSpare, source_spare}
+use Rattle.decorations.proofs.Names.{◌≡◌, ◌+◌, ◌≤◌, ℕ, length, Option, Some, None, MatchOption, set, vec_capacity, ap, sym, ◌∙◌, subst, arith, filled, changed_range, length_filled, Runs, Decorated, decorated, values_of, slot_at, shown, all_shown, held_by, AreSlots, HasSpare, source_spare}
 use Rattle.decorations.proofs.Kept.{filled_slots, filled_all, fill_runs, fill_room}
 use Rattle.decorations.proofs.Memory.{KeepsMemory, filled_memory, filled_runs}
 use Rattle.decorations.proofs.Values.{shown_full}

@@ -1,5 +1,4 @@
-use Rattle.std.proofs.Common.{◌+◌, refl, ◌∙◌}
-use Rattle.decorations.specs.Slots.{slot_at, for_fill}
+use Rattle.decorations.proofs.Names.{◌+◌, refl, ◌∙◌, slot_at, for_fill}
 use Rattle.decorations.proofs.Shown.{values_are}
 use Rattle.decorations.proofs.Values.{tells_used}
 use Rattle.decorations.proofs.decorations.Decorations.is_used.Goals as goal

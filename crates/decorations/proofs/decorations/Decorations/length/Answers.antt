@@ -1,5 +1,4 @@
-use Rattle.std.proofs.Common.{◌≡◌, length, sym, ap, ◌∙◌}
-use Rattle.decorations.specs.Slots.{slot_at, shown}
+use Rattle.decorations.proofs.Names.{◌≡◌, length, sym, ap, ◌∙◌, slot_at, shown}
 use Rattle.decorations.proofs.Numbered.{numbered_length, numbered_all}
 use Rattle.decorations.proofs.Values.{shown_length}
 use Rattle.decorations.proofs.decorations.Decorations.length.Goals as goal

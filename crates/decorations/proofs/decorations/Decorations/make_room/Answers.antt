@@ -1,6 +1,4 @@
-use Rattle.std.proofs.Common.{◌≡◌, ℕ, ◌+◌, ◌≤◌, length, max, refl, ap, ◌∙◌, subst, sym, vec_capacity, arith}
-use Rattle.decorations.specs.Decorated.{Decorated, Held, decorated, AreRunsFor, AreEnough}
-use Rattle.decorations.specs.Slots.{all_shown, held_by, slot_at, for_fill}
+use Rattle.decorations.proofs.Names.{◌≡◌, ℕ, ◌+◌, ◌≤◌, length, max, refl, ap, ◌∙◌, subst, sym, vec_capacity, arith, Decorated, Held, decorated, AreRunsFor, AreEnough, all_shown, held_by, slot_at, for_fill}
 use Rattle.decorations.proofs.Kept.{roomy_slots, grown_slots, grown_shown}
 use Rattle.decorations.proofs.Memory.{grown_runs, enough_each, unused_enough, unused_same, slot_same, held_same}
 use Rattle.decorations.proofs.decorations.Decorations.make_room.Goals as goal

@@ -1,7 +1,4 @@
-use Rattle.std.proofs.Common.{List, ℕ, [], None, replicate, ap, ◌∙◌, vec_capacity}
-use Rattle.run_styles.specs.Runs.{Spare, spare}
-use Rattle.decorations.specs.Decorated.{decorated}
-use Rattle.decorations.specs.Slots.{all_shown, held_by}
+use Rattle.decorations.proofs.Names.{List, ℕ, [], None, replicate, ap, ◌∙◌, vec_capacity, Spare, spare, decorated, all_shown, held_by}
 use Rattle.decorations.proofs.Numbered.{numbered_replicate}
 use Rattle.decorations.proofs.decorations.Decorations.new.Goals as goal
 

@@ -1,5 +1,4 @@
-use Rattle.std.proofs.Common.{◌+◌, vec_capacity}
-use Rattle.decorations.specs.Slots.{all_shown, held_by}
+use Rattle.decorations.proofs.Names.{◌+◌, vec_capacity, all_shown, held_by}
 use Rattle.decorations.proofs.Memory.{runs_stay}
 use Rattle.decorations.proofs.decorations.Decorations.reserve.Goals as goal
 

@@ -1,6 +1,4 @@
-use Rattle.std.proofs.Common.{◌≡◌, ℕ, ◌+◌, ◌<◌, ◌≤◌, length, max, Some, refl, ap, ◌∙◌, subst, sym, vec_capacity, arith}
-use Rattle.decorations.specs.Decorated.{Decorated, Held, decorated, AreRunsFor, IsEnoughFor}
-use Rattle.decorations.specs.Slots.{all_shown, held_by, slot_at, for_fill}
+use Rattle.decorations.proofs.Names.{◌≡◌, ℕ, ◌+◌, ◌<◌, ◌≤◌, length, max, Some, refl, ap, ◌∙◌, subst, sym, vec_capacity, arith, Decorated, Held, decorated, AreRunsFor, IsEnoughFor, all_shown, held_by, slot_at, for_fill}
 use Rattle.decorations.proofs.Kept.{grown_slots, ready_slots, grown_shown}
 use Rattle.decorations.proofs.Memory.{grown_runs, same_elsewhere, enough_for, one_same, one_unused, unused_stays, held_same}
 use Rattle.decorations.proofs.decorations.Decorations.reserve_fill.Goals as goal

@@ -1,7 +1,4 @@
-use Rattle.std.proofs.Common.{◌≡◌, ℕ, ◌+◌, List, Option, Some, None, ap, sym, ◌∙◌, subst, arith}
-use Rattle.run_styles.specs.Runs.{Runs}
-use Rattle.decorations.specs.Decorated.{Decorated, run_about}
-use Rattle.decorations.specs.Slots.{IsKept, for_fill}
+use Rattle.decorations.proofs.Names.{◌≡◌, ℕ, ◌+◌, List, Option, Some, None, ap, sym, ◌∙◌, subst, arith, Runs, Decorated, run_about, IsKept, for_fill}
 use Rattle.decorations.proofs.Shown.{values_are}
 use Rattle.decorations.proofs.RunEnds.{run_is, whole_run}
 use Rattle.decorations.proofs.decorations.Decorations.run.Goals as goal

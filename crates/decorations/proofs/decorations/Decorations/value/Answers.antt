@@ -1,9 +1,5 @@
-use Rattle.std.proofs.Common.{◌≡◌, ℕ, ◌+◌, List, length, Option, Some, None, unwrap_or, refl, ap, sym, ◌∙◌, arith}
-use Rattle.std.specs.Prelude.{pos}
-use Rattle.std.specs.List.{slice_get}
+use Rattle.decorations.proofs.Names.{◌≡◌, ℕ, ◌+◌, List, length, Option, Some, None, unwrap_or, refl, ap, sym, ◌∙◌, arith, pos, slice_get, at_place, slot_at, shown, for_fill}
 use Rattle.std.specs.Option.{option_copied}
-use Rattle.ed_model.specs.TextPlans.{at_place}
-use Rattle.decorations.specs.Slots.{slot_at, shown, for_fill}
 use Rattle.decorations.proofs.Shown.{values_are, zero_past, zero_unused}
 use Rattle.decorations.proofs.Values.{shown_length}
 use Rattle.decorations.proofs.decorations.Decorations.value.Goals as goal

@@ -1,4 +1,4 @@
-use Rattle.std.proofs.Common.{◌≡◌, slice_get, Some, IsSomeAnd, sym, subst}
+use Rattle.std.proofs.Common.{◌≡◌, slice_get, Some, IsSomeAnd, refl, sym, subst}
 use Rattle.ed_model.specs.History.{TextStep as Text}
 use Rattle.document.specs.Kept.{Kept}
 use Rattle.document.specs.Parts.{kept_in}
@@ -20,4 +20,4 @@ returns-clause-lines c = λ step there.
 pub returns-clause-memory : goal.returns-clause-memory
 returns-clause-memory c =
     let made = c.make_step.ensures.stepped in
-    rw (← c.self.view_is) (record { starts = made.starts; runs = runs_told _ _ _ _ _ _ _ _ made.runs; slots = made.slots })
+    rw (← c.self.view_is) (record { starts = made.starts; history = refl; runs = runs_told _ _ _ _ _ _ _ _ made.runs; slots = made.slots })

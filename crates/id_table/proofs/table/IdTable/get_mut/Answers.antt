@@ -1,8 +1,5 @@
 -- The slab lends the value, and only the entry of its id changes.
-use Rattle.std.proofs.Common.{inl, rules, refl, sym, ◌∙◌}
-use Rattle.std.specs.Prelude.{vec_capacity}
-use Rattle.id_table.specs.Entries.{table_of, table_blocks}
-use Rattle.id_table.specs.Order.{IsAt}
+use Rattle.id_table.proofs.Names.{inl, rules, refl, sym, ◌∙◌, vec_capacity, table_of, table_blocks, IsAt}
 use Rattle.id_table.proofs.EntryLemmas.{table_ordered, value_found, value_missing, has_key, written_table}
 use Rattle.id_table.proofs.table.IdTable.get_mut.Goals as goal
 

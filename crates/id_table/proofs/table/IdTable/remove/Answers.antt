@@ -1,8 +1,5 @@
 -- The place of the id is removed, and the value with it.
-use Rattle.std.proofs.Common.{List, rules, sym, ap, ◌∙◌}
-use Rattle.std.specs.Prelude.{vec_capacity}
-use Rattle.id_table.specs.Entries.{Entry, table_of, table_blocks}
-use Rattle.id_table.specs.Order.{IsAt}
+use Rattle.id_table.proofs.Names.{List, rules, sym, ap, ◌∙◌, vec_capacity, Entry, table_of, table_blocks, IsAt}
 use Rattle.id_table.proofs.EntryLemmas.{table_ordered, value_found, value_missing, without_missing, has_key, removed_table}
 use Rattle.id_table.proofs.table.IdTable.remove.Goals as goal
 

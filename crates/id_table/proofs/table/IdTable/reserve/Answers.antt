@@ -1,8 +1,5 @@
 -- Values and places are unchanged.
-use Rattle.std.proofs.Common.{rules, ap, arith, refl}
-use Rattle.std.proofs.lemmas.Bool.{false≢true}
-use Rattle.std.specs.Prelude.{vec_capacity}
-use Rattle.slab.specs.Slab.{Slab}
+use Rattle.id_table.proofs.Names.{rules, ap, arith, refl, false≢true, vec_capacity, Slab}
 use Rattle.id_table.proofs.EntryLemmas.{wider_table, room_kept, fewer_than_ids, has_room, has_places, length_table}
 use Rattle.id_table.proofs.table.IdTable.reserve.Goals as goal
 

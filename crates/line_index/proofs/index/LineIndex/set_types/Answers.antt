@@ -1,5 +1,4 @@
-use Rattle.std.proofs.Common.{◌+◌, ◌++◌, length, ap, ◌∙◌, arith}
-use Rattle.line_index.specs.Index.{Index}
+use Rattle.line_index.proofs.Names.{◌+◌, ◌++◌, length, ap, ◌∙◌, arith, Index}
 use Rattle.line_index.proofs.SettingLists.{can_set, all_set}
 use Rattle.line_index.proofs.index.LineIndex.set_types.Goals as goal
 

@@ -1,7 +1,4 @@
-use Rattle.std.proofs.Common.{List, ℕ, sym, ap, subst, ◌∙◌}
-use Rattle.contraction.specs.Headings.{HeadFrom}
-use Rattle.line_index.specs.Edits.{after_edits}
-use Rattle.line_rows.specs.Values.{first_or}
+use Rattle.line_rows.proofs.Names.{List, ℕ, sym, ap, subst, ◌∙◌, HeadFrom, after_edits, first_or}
 use Rattle.line_rows.proofs.LeastHeading.{edits_fine}
 use Rattle.line_rows.proofs.fold_levels.FoldLevels.carry.Goals as goal
 

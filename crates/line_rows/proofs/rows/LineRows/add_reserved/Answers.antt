@@ -1,7 +1,5 @@
-use Rattle.std.proofs.Common.{ap, ◌∙◌, arith}
+use Rattle.line_rows.proofs.Names.{ap, ◌∙◌, arith, kept_rows, row_room, row_blocks, rows_of}
 use Rattle.line_rows.proofs.RowReads.{parts_length, with_marker}
-use Rattle.line_rows.specs.Kept.{kept_rows, row_room, row_blocks}
-use Rattle.line_rows.specs.Rows.{rows_of}
 use Rattle.line_rows.proofs.rows.LineRows.add_reserved.Goals as goal
 
 pub add_reserved-requires-clause-line : goal.add_reserved-requires-clause-line

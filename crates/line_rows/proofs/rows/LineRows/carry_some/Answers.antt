@@ -1,12 +1,6 @@
-use Rattle.std.proofs.Common.{◌≡◌, ◌+◌, ℕ, length, sym, ap, ◌∙◌, subst, arith}
+use Rattle.line_rows.proofs.Names.{◌≡◌, ◌+◌, ℕ, length, sym, ap, ◌∙◌, subst, arith, FitLines, after_edits, marker_count, rows_together, markers_together, first_or, row_room, row_blocks, KeptRows}
 use Rattle.line_rows.proofs.RowReads.{parts_length, rows_count}
 use Rattle.line_rows.proofs.RowParts.{same_edits, carried}
-use Rattle.line_index.specs.Edits.{FitLines, after_edits}
-use Rattle.ed_model.specs.Changes.{marker_count}
-use Rattle.ed_model.specs.Rows.{rows_together}
-use Rattle.line_rows.specs.Rows.{markers_together}
-use Rattle.line_rows.specs.Values.{first_or}
-use Rattle.line_rows.specs.Kept.{row_room, row_blocks, KeptRows}
 use Rattle.line_rows.proofs.rows.LineRows.carry_some.Goals as goal
 
 pub carry_markers-requires-clause-lines : goal.carry_markers-requires-clause-lines

@@ -1,6 +1,5 @@
-use Rattle.std.proofs.Common.{◌∙◌, arith}
+use Rattle.line_rows.proofs.Names.{◌∙◌, arith, row_room, row_blocks}
 use Rattle.line_rows.proofs.RowReads.{parts_length}
-use Rattle.line_rows.specs.Kept.{row_room, row_blocks}
 use Rattle.line_rows.proofs.rows.LineRows.count.Goals as goal
 
 pub returns-clause-count : goal.returns-clause-count

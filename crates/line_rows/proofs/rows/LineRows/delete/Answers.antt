@@ -1,10 +1,5 @@
-use Rattle.std.proofs.Common.{◌≡◌, ◌+◌, List, length, sym, ap, ◌∙◌, arith}
+use Rattle.line_rows.proofs.Names.{◌≡◌, ◌+◌, List, length, sym, ap, ◌∙◌, arith, marker_count, length-set, marker_total, Marker, row_room, row_blocks, KeptRows}
 use Rattle.line_rows.proofs.RowReads.{went, rows_count, parts_length, rows_deleted}
-use Rattle.ed_model.specs.Changes.{marker_count}
-use Rattle.std.proofs.lemmas.List.{length-set}
-use Rattle.marker_store.specs.Lines.{marker_total}
-use Rattle.ed_model.specs.Rows.{Marker}
-use Rattle.line_rows.specs.Kept.{row_room, row_blocks, KeptRows}
 use Rattle.line_rows.proofs.rows.LineRows.delete.Goals as goal
 
 pub delete-requires : goal.delete-requires

@@ -1,11 +1,5 @@
-use Rattle.std.proofs.Common.{◌≡◌, ◌+◌, List, length, sym, ap, ◌∙◌}
+use Rattle.line_rows.proofs.Names.{◌≡◌, ◌+◌, List, length, sym, ap, ◌∙◌, is_of_number, marker_count, length-map, marker_total, Marker, row_room, row_blocks, KeptRows}
 use Rattle.line_rows.proofs.RowReads.{went, rows_count, rows_dropped}
-use Rattle.ed_model.specs.Changes.{is_of_number}
-use Rattle.ed_model.specs.Changes.{marker_count}
-use Rattle.std.proofs.lemmas.List.{length-map}
-use Rattle.marker_store.specs.Lines.{marker_total}
-use Rattle.ed_model.specs.Rows.{Marker}
-use Rattle.line_rows.specs.Kept.{row_room, row_blocks, KeptRows}
 use Rattle.line_rows.proofs.rows.LineRows.delete_all.Goals as goal
 
 pub returns-clause-rows : goal.returns-clause-rows

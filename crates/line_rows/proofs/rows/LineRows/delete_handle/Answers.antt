@@ -1,10 +1,5 @@
-use Rattle.std.proofs.Common.{◌≡◌, ◌+◌, ◌==◌, List, length, sym, ap, ◌∙◌}
+use Rattle.line_rows.proofs.Names.{◌≡◌, ◌+◌, ◌==◌, List, length, sym, ap, ◌∙◌, Marker, list_any, marker_count, length-map, row_room, row_blocks, KeptRows}
 use Rattle.line_rows.proofs.RowReads.{rows_count, rows_dropped, found_from}
-use Rattle.ed_model.specs.Rows.{Marker}
-use Rattle.std.specs.List.{list_any}
-use Rattle.ed_model.specs.Changes.{marker_count}
-use Rattle.std.proofs.lemmas.List.{length-map}
-use Rattle.line_rows.specs.Kept.{row_room, row_blocks, KeptRows}
 use Rattle.line_rows.proofs.rows.LineRows.delete_handle.Goals as goal
 
 pub returns-clause-line : goal.returns-clause-line

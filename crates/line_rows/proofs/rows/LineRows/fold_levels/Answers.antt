@@ -1,6 +1,5 @@
-use Rattle.std.proofs.Common.{sym, ap, ◌∙◌}
+use Rattle.line_rows.proofs.Names.{sym, ap, ◌∙◌, KeptRows, levels_of, row_room, row_blocks}
 use Rattle.line_rows.proofs.RowReads.{parts_length, rows_levels}
-use Rattle.line_rows.specs.Kept.{KeptRows, levels_of, row_room, row_blocks}
 use Rattle.line_rows.proofs.rows.LineRows.fold_levels.Goals as goal
 
 pub returns-clause-levels : goal.returns-clause-levels

@@ -1,6 +1,5 @@
-use Rattle.std.proofs.Common.{arith}
+use Rattle.line_rows.proofs.Names.{arith, row_room, row_blocks}
 use Rattle.line_rows.proofs.RowReads.{parts_length, parts_level}
-use Rattle.line_rows.specs.Kept.{row_room, row_blocks}
 use Rattle.line_rows.proofs.rows.LineRows.level.Goals as goal
 
 pub get-requires : goal.get-requires

@@ -1,7 +1,5 @@
-use Rattle.std.proofs.Common.{ℕ, ap, ◌∙◌}
+use Rattle.line_rows.proofs.Names.{ℕ, ap, ◌∙◌, KeptRows, levels_of, Valued}
 use Rattle.line_rows.proofs.RowReads.{rows_levels}
-use Rattle.line_rows.specs.Kept.{KeptRows, levels_of}
-use Rattle.line_rows.specs.Values.{Valued}
 use Rattle.line_rows.proofs.rows.LineRows.levels.Goals as goal
 
 pub returns-clause-values : goal.returns-clause-values

@@ -1,8 +1,5 @@
-use Rattle.std.proofs.Common.{◌==◌, ◌∙◌}
+use Rattle.line_rows.proofs.Names.{◌==◌, ◌∙◌, Marker, list_any, row_room, row_blocks}
 use Rattle.line_rows.proofs.RowReads.{found_from}
-use Rattle.ed_model.specs.Rows.{Marker}
-use Rattle.std.specs.List.{list_any}
-use Rattle.line_rows.specs.Kept.{row_room, row_blocks}
 use Rattle.line_rows.proofs.rows.LineRows.line_of_handle.Goals as goal
 
 pub returns : goal.returns

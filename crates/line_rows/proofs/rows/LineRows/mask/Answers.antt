@@ -1,7 +1,5 @@
-use Rattle.std.proofs.Common.{ap, ◌∙◌, arith}
+use Rattle.line_rows.proofs.Names.{ap, ◌∙◌, arith, mask_of, row_room, row_blocks}
 use Rattle.line_rows.proofs.RowReads.{parts_length, parts_markers}
-use Rattle.ed_model.specs.LinePlans.{mask_of}
-use Rattle.line_rows.specs.Kept.{row_room, row_blocks}
 use Rattle.line_rows.proofs.rows.LineRows.mask.Goals as goal
 
 pub mask-requires : goal.mask-requires

@@ -1,8 +1,5 @@
-use Rattle.std.proofs.Common.{◌∙◌}
+use Rattle.line_rows.proofs.Names.{◌∙◌, meets, mask_of, row_room, row_blocks}
 use Rattle.line_rows.proofs.RowReads.{found_from}
-use Rattle.ed_model.specs.Numbers.{meets}
-use Rattle.ed_model.specs.LinePlans.{mask_of}
-use Rattle.line_rows.specs.Kept.{row_room, row_blocks}
 use Rattle.line_rows.proofs.rows.LineRows.next.Goals as goal
 
 pub returns : goal.returns

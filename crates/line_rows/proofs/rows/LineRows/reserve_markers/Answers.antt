@@ -1,7 +1,4 @@
-use Rattle.std.proofs.Common.{◌≡◌, ap, arith, ◌∙◌}
-use Rattle.ed_model.specs.Changes.{marker_count}
-use Rattle.marker_store.specs.Lines.{marker_total}
-use Rattle.line_rows.specs.Kept.{KeptRows}
+use Rattle.line_rows.proofs.Names.{◌≡◌, ap, arith, ◌∙◌, marker_count, marker_total, KeptRows}
 use Rattle.line_rows.proofs.RowReads.{rows_count}
 use Rattle.line_rows.proofs.rows.LineRows.reserve_markers.Goals as goal
 

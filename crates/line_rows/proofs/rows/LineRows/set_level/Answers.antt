@@ -1,8 +1,5 @@
-use Rattle.std.proofs.Common.{ℕ, set, refl, ap, ◌∙◌, arith}
+use Rattle.line_rows.proofs.Names.{ℕ, set, refl, ap, ◌∙◌, arith, Valued, kept_rows, row_room, row_blocks, rows_of}
 use Rattle.line_rows.proofs.RowReads.{parts_length, parts_level, with_level}
-use Rattle.line_rows.specs.Values.{Valued}
-use Rattle.line_rows.specs.Kept.{kept_rows, row_room, row_blocks}
-use Rattle.line_rows.specs.Rows.{rows_of}
 use Rattle.line_rows.proofs.rows.LineRows.set_level.Goals as goal
 
 pub get-before-requires : goal.get-before-requires

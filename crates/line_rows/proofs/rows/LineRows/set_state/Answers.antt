@@ -1,10 +1,5 @@
-use Rattle.std.proofs.Common.{max, ◌+◌, ℤ, set, refl, ap, ◌∙◌, arith}
+use Rattle.line_rows.proofs.Names.{max, ◌+◌, ℤ, set, refl, ap, ◌∙◌, arith, Valued, to_z-of_z, w32, kept_rows, row_room, row_blocks, rows_of}
 use Rattle.line_rows.proofs.RowReads.{parts_length, parts_state, with_state}
-use Rattle.line_rows.specs.Values.{Valued}
-use Rattle.std.proofs.lemmas.Int.{to_z-of_z}
-use Rattle.std.proofs.Common.{w32}
-use Rattle.line_rows.specs.Kept.{kept_rows, row_room, row_blocks}
-use Rattle.line_rows.specs.Rows.{rows_of}
 use Rattle.line_rows.proofs.rows.LineRows.set_state.Goals as goal
 
 pub get-before-requires : goal.get-before-requires

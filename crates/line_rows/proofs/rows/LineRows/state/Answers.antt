@@ -1,8 +1,5 @@
-use Rattle.std.proofs.Common.{◌∙◌, arith}
+use Rattle.line_rows.proofs.Names.{◌∙◌, arith, to_z-of_z, w32, row_room, row_blocks}
 use Rattle.line_rows.proofs.RowReads.{parts_length, parts_state}
-use Rattle.std.proofs.lemmas.Int.{to_z-of_z}
-use Rattle.std.proofs.Common.{w32}
-use Rattle.line_rows.specs.Kept.{row_room, row_blocks}
 use Rattle.line_rows.proofs.rows.LineRows.state.Goals as goal
 
 pub get-requires : goal.get-requires

@@ -1,6 +1,4 @@
-use Rattle.std.proofs.Common.{◌≡◌, ◌+◌, ◌<◌, ◌≤◌, ◌^◌, length, drop}
-use Rattle.line_index.specs.Edits.{after_edits, FitLines, fresh_lines}
-use Rattle.line_rows.specs.Values.{first_or, stored_after}
+use Rattle.line_rows.proofs.Names.{◌≡◌, ◌+◌, ◌<◌, ◌≤◌, ◌^◌, length, drop, after_edits, FitLines, fresh_lines, first_or, stored_after}
 use Rattle.line_rows.proofs.values.LineValues.carry.Given as goal
 
 -- the edits that are left lead to the same values, and there is room for them

@@ -1,6 +1,4 @@
-use Rattle.std.proofs.Common.{◌≡◌, ◌<◌, ◌≤◌, ◌+◌, ◌∙◌, max, ap, arith, length, set}
-use Rattle.std.proofs.lemmas.List.{length-set}
-use Rattle.line_rows.specs.Values.{padded, valued}
+use Rattle.line_rows.proofs.Names.{◌≡◌, ◌<◌, ◌≤◌, ◌+◌, ◌∙◌, max, ap, arith, length, set, length-set, padded, valued}
 use Rattle.line_rows.proofs.Padded.{padded_set, padded_set_stored, padded_length}
 use Rattle.line_rows.proofs.values.LineValues.set.Goals as goal
 

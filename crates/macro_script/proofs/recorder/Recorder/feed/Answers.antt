@@ -1,6 +1,4 @@
-use Rattle.std.proofs.Common.{◌≡◌, ◌++◌, ◌∙◌, ap, sym, true, append-nil}
-use Rattle.ed_model.specs.Listing.{keeps_limits}
-use Rattle.macro_script.specs.Recorded.{sends_for, recorded_sends}
+use Rattle.macro_script.proofs.Names.{◌≡◌, ◌++◌, ◌∙◌, ap, sym, true, append-nil, keeps_limits, sends_for, recorded_sends}
 use Rattle.macro_script.proofs.recorder.Recorder.feed.Goals as goal
 
 pub returns-in_default-clause-too_long : goal.returns-in_default-clause-too_long

@@ -1,7 +1,4 @@
-use Rattle.std.proofs.Common.{rules, ◌≡◌, ◌+◌, ◌≤◌, ◌∷◌, ◌++◌, [], ◌∙◌, ap, sym, true, ℤ, nat_lt, length, SFits, w64, to_z, of_z, to_z-of_z}
-use Rattle.ed_types.specs.declared.script.Command.{Command}
-use Rattle.ed_model.specs.Listing.{listing, listed_command, keeps_limits}
-use Rattle.ed_model.specs.Recording.{sent_to}
+use Rattle.macro_script.proofs.Names.{rules, ◌≡◌, ◌+◌, ◌≤◌, ◌∷◌, ◌++◌, [], ◌∙◌, ap, sym, true, ℤ, nat_lt, length, SFits, w64, to_z, of_z, to_z-of_z, Command, listing, listed_command, keeps_limits, sent_to}
 use Rattle.macro_script.proofs.Adding.{line_added, line_too_long, room_is}
 use Rattle.macro_script.proofs.script.Script.fits_send.Goals as goal
 

@@ -1,5 +1,4 @@
-use Rattle.std.proofs.Common.{◌≡◌, ◌+◌, ◌-◌, ◌*◌, ◌%◌, ◌^◌, ◌<◌, length, arith}
-use mir.Val.{bool_byte}
+use Rattle.marker_store.proofs.Names.{◌≡◌, ◌+◌, ◌-◌, ◌*◌, ◌%◌, ◌^◌, ◌<◌, length, arith, bool_byte}
 use Rattle.marker_store.proofs.Halving.{begun, turned_by, cut_found, moved_up, power_halved}
 use Rattle.marker_store.proofs.placed.PlacedMarkers.cut.Goals as goal
 

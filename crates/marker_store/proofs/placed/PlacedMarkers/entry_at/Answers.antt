@@ -1,5 +1,4 @@
-use Rattle.std.proofs.Common.{◌≡◌, ◌+◌, ◌<◌, length, suc, ap, ◌∙◌, arith}
-use Rattle.marker_store.specs.Entries.{entries_of, entry, Entry}
+use Rattle.marker_store.proofs.Names.{◌≡◌, ◌+◌, ◌<◌, length, suc, ap, ◌∙◌, arith, entries_of, entry, Entry}
 use Rattle.marker_store.proofs.Indexes.{ordered_before, ordered_behind, all_before_at}
 use Rattle.marker_store.proofs.StoredEntries.{length-entries}
 use Rattle.marker_store.proofs.placed.PlacedMarkers.entry_at.Goals as goal

@@ -1,5 +1,4 @@
-use Rattle.std.proofs.Common.{◌+◌, ◌<◌, length, arith, ap, ◌∙◌}
-use Rattle.marker_store.specs.Entries.{Entry}
+use Rattle.marker_store.proofs.Names.{◌+◌, ◌<◌, length, arith, ap, ◌∙◌, Entry}
 use Rattle.marker_store.proofs.Rows.{from_less}
 use Rattle.marker_store.proofs.Indexes.{from_at, from_past}
 use Rattle.marker_store.proofs.Passes.{none_before, none_more, none_all}

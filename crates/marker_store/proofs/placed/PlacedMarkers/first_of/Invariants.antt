@@ -1,5 +1,4 @@
-use Rattle.std.proofs.Common.{take}
-use Rattle.marker_store.specs.Entries.{NoneIs}
+use Rattle.marker_store.proofs.Names.{take, NoneIs}
 use Rattle.marker_store.proofs.placed.PlacedMarkers.first_of.Given as goal
 
 abbrev pub invariant-loop-index : goal.invariant-loop-index

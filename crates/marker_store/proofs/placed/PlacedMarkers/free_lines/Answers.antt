@@ -1,5 +1,4 @@
-use Rattle.std.proofs.Common.{arith, ◌+◌, ap}
-use Rattle.marker_store.specs.Entries.{Entry}
+use Rattle.marker_store.proofs.Names.{arith, ◌+◌, ap, Entry}
 use Rattle.marker_store.proofs.Rows.{from_less}
 use Rattle.marker_store.proofs.Indexes.{from_at}
 use Rattle.marker_store.proofs.placed.PlacedMarkers.free_lines.Goals as goal

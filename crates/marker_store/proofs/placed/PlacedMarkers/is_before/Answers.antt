@@ -1,7 +1,4 @@
-use Rattle.std.proofs.Common.{◌≡◌, ℕ, ◌+◌, ◌-◌, ◌<◌, ◌≤◌, List, length, get_or, take, drop, suc, ltb, true, false, ap, sym, ◌∙◌, arith}
-use Rattle.std.proofs.lemmas.Bool.{ltb-true, ltb-false}
-use Rattle.std.proofs.lemmas.List.{get_or_default}
-use Rattle.marker_store.specs.Entries.{Entry, no_entry, entries_of, AllBefore, AllFrom, Ordered}
+use Rattle.marker_store.proofs.Names.{◌≡◌, ℕ, ◌+◌, ◌-◌, ◌<◌, ◌≤◌, List, length, get_or, take, drop, suc, ltb, true, false, ap, sym, ◌∙◌, arith, ltb-true, ltb-false, get_or_default, Entry, no_entry, entries_of, AllBefore, AllFrom, Ordered}
 use Rattle.marker_store.proofs.Indexes.{ordered_before, ordered_behind, all_before_at}
 use Rattle.marker_store.proofs.StoredEntries.{length-entries, read_near, read_far}
 use Rattle.marker_store.proofs.placed.PlacedMarkers.is_before.Goals as goal

@@ -1,6 +1,4 @@
-use Rattle.std.proofs.Common.{◌-◌, refl, arith, ap}
-use Rattle.std.proofs.lemmas.Bool.{false≢true}
-use Rattle.marker_store.specs.Entries.{Entry}
+use Rattle.marker_store.proofs.Names.{◌-◌, refl, arith, ap, false≢true, Entry}
 use Rattle.marker_store.proofs.Rows.{from_less}
 use Rattle.marker_store.proofs.Indexes.{before_at, from_at, from_past, before_first, before_next}
 use Rattle.marker_store.proofs.placed.PlacedMarkers.is_cut.Goals as goal

@@ -1,6 +1,4 @@
-use Rattle.std.proofs.Common.{◌<◌, length, arith, sym, ◌∙◌}
-use Rattle.std.proofs.lemmas.List.{take_all}
-use Rattle.marker_store.specs.Entries.{entry}
+use Rattle.marker_store.proofs.Names.{◌<◌, length, arith, sym, ◌∙◌, take_all, entry}
 use Rattle.marker_store.proofs.Finds.{has_more, line_none, line_some, none_kept}
 use Rattle.marker_store.proofs.placed.PlacedMarkers.line_of_handle.Goals as goal
 

@@ -1,7 +1,4 @@
-use Rattle.std.proofs.Common.{◌≡◌, ◌+◌, ◌<◌, length, take, arith, sym, ap, ◌∙◌}
-use Rattle.std.specs.Prelude.{bit_or, ◌^◌}
-use Rattle.ed_model.specs.LinePlans.{mask_of}
-use Rattle.marker_store.specs.Entries.{Entry, entry, row}
+use Rattle.marker_store.proofs.Names.{◌≡◌, ◌+◌, ◌<◌, length, take, arith, sym, ap, ◌∙◌, bit_or, ◌^◌, mask_of, Entry, entry, row}
 use Rattle.marker_store.proofs.Rows.{row_before, from_less}
 use Rattle.marker_store.proofs.Indexes.{from_at, from_past}
 use Rattle.marker_store.proofs.Passes.{row_next, mask_next, row_all}

@@ -1,6 +1,4 @@
-use Rattle.std.proofs.Common.{◌≡◌, take}
-use Rattle.ed_model.specs.LinePlans.{mask_of}
-use Rattle.marker_store.specs.Entries.{row}
+use Rattle.marker_store.proofs.Names.{◌≡◌, take, mask_of, row}
 use Rattle.marker_store.proofs.placed.PlacedMarkers.mask.Given as goal
 
 abbrev pub invariant-loop-index : goal.invariant-loop-index

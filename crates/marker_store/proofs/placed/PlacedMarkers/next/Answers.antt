@@ -1,7 +1,4 @@
-use Rattle.std.proofs.Common.{◌≡◌, ◌<◌, ◌^◌, List, length, arith, sym, ap, subst, ◌∙◌}
-use Rattle.std.specs.Prelude.{bit_and}
-use Rattle.std.proofs.lemmas.List.{take_all}
-use Rattle.marker_store.specs.Entries.{Entry, entry, row}
+use Rattle.marker_store.proofs.Names.{◌≡◌, ◌<◌, ◌^◌, List, length, arith, sym, ap, subst, ◌∙◌, bit_and, take_all, Entry, entry, row}
 use Rattle.marker_store.proofs.Indexes.{from_at}
 use Rattle.marker_store.proofs.Masks.{Unfit, none_passed, unfit_next, next_none, next_some}
 use Rattle.marker_store.proofs.placed.PlacedMarkers.next.Goals as goal

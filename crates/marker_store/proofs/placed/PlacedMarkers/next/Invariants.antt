@@ -1,5 +1,4 @@
-use Rattle.std.proofs.Common.{ℕ, ◌≤◌, take}
-use Rattle.marker_store.specs.Entries.{row}
+use Rattle.marker_store.proofs.Names.{ℕ, ◌≤◌, take, row}
 use Rattle.marker_store.proofs.Masks.{Unfit}
 use Rattle.marker_store.proofs.placed.PlacedMarkers.next.Given as goal
 

@@ -1,6 +1,4 @@
-use Rattle.std.proofs.Common.{◌≡◌, ℕ, ◌+◌, ◌-◌, ◌<◌, ◌^◌, length, drop, min, arith, sym, ap, subst, ◌∙◌}
-use Rattle.std.specs.Prelude.{bit_and}
-use Rattle.marker_store.specs.Entries.{Entry, entry, row}
+use Rattle.marker_store.proofs.Names.{◌≡◌, ℕ, ◌+◌, ◌-◌, ◌<◌, ◌^◌, length, drop, min, arith, sym, ap, subst, ◌∙◌, bit_and, Entry, entry, row}
 use Rattle.marker_store.proofs.Indexes.{before_at}
 use Rattle.marker_store.proofs.Masks.{Unfit, none_behind, unfit_back, previous_none, previous_some}
 use Rattle.marker_store.proofs.placed.PlacedMarkers.previous.Goals as goal

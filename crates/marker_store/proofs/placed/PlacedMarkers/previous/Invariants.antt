@@ -1,5 +1,4 @@
-use Rattle.std.proofs.Common.{ℕ, ◌+◌, ◌<◌, ◌≤◌, drop, min}
-use Rattle.marker_store.specs.Entries.{row}
+use Rattle.marker_store.proofs.Names.{ℕ, ◌+◌, ◌<◌, ◌≤◌, drop, min, row}
 use Rattle.marker_store.proofs.Masks.{Unfit}
 use Rattle.marker_store.proofs.placed.PlacedMarkers.previous.Given as goal
 

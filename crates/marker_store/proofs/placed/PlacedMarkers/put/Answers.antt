@@ -1,5 +1,4 @@
-use Rattle.std.proofs.Common.{◌∷◌, ◌++◌, take, drop, arith, ap, ◌∙◌}
-use Rattle.marker_store.specs.Entries.{entries_of}
+use Rattle.marker_store.proofs.Names.{◌∷◌, ◌++◌, take, drop, arith, ap, ◌∙◌, entries_of}
 use Rattle.marker_store.proofs.Moves.{placed_put}
 use Rattle.marker_store.proofs.StoredEntries.{length-entries}
 use Rattle.marker_store.proofs.placed.PlacedMarkers.put.Goals as goal

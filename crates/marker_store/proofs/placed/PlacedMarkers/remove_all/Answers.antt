@@ -1,7 +1,4 @@
-use Rattle.std.proofs.Common.{◌≡◌, ◌<◌, length, take, arith, sym, ap, ◌∙◌}
-use Rattle.ed_model.specs.proved.Lists.{front_kept}
-use Rattle.marker_store.specs.Dropping.{kept}
-use Rattle.marker_store.specs.Entries.{entry}
+use Rattle.marker_store.proofs.Names.{◌≡◌, ◌<◌, length, take, arith, sym, ap, ◌∙◌, front_kept, kept, entry}
 use Rattle.marker_store.proofs.Passes.{kept_without, length-without}
 use Rattle.marker_store.proofs.placed.PlacedMarkers.remove_all.Goals as goal
 

@@ -1,5 +1,4 @@
-use Rattle.std.proofs.Common.{◌≡◌, ◌+◌, ◌-◌, ◌≤◌, length, take}
-use Rattle.marker_store.specs.Dropping.{kept}
+use Rattle.marker_store.proofs.Names.{◌≡◌, ◌+◌, ◌-◌, ◌≤◌, length, take, kept}
 use Rattle.marker_store.proofs.placed.PlacedMarkers.remove_all.Given as goal
 
 abbrev pub invariant-passing : goal.invariant-passing

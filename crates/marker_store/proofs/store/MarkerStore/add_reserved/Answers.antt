@@ -1,7 +1,4 @@
-use Rattle.std.proofs.Common.{◌<◌, arith, ap, ◌∙◌}
-use Rattle.std.specs.Prelude.{◌++◌, ◌∷◌, [], slice_set}
-use Rattle.marker_store.specs.Lines.{markers_of}
-use Rattle.marker_store.specs.Entries.{rows_from}
+use Rattle.marker_store.proofs.Names.{◌<◌, arith, ap, ◌∙◌, ◌++◌, ◌∷◌, [], slice_set, markers_of, rows_from}
 use Rattle.marker_store.proofs.Rows.{length-rows}
 use Rattle.marker_store.proofs.Calls.{rows_put}
 use Rattle.marker_store.proofs.Deletions.{within_put, length-put}

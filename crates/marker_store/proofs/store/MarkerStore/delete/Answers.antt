@@ -1,5 +1,4 @@
-use Rattle.std.proofs.Common.{◌<◌, arith, ap, sym, ◌∙◌}
-use Rattle.marker_store.specs.Entries.{rows_from}
+use Rattle.marker_store.proofs.Names.{◌<◌, arith, ap, sym, ◌∙◌, rows_from}
 use Rattle.marker_store.proofs.Rows.{length-rows}
 use Rattle.marker_store.proofs.Calls.{total_is}
 use Rattle.marker_store.proofs.Deletions.{differs, rows_cleared, rows_first_gone, within_cleared, within_first_gone}

@@ -1,6 +1,4 @@
-use Rattle.std.proofs.Common.{arith, ap, sym, ◌∙◌}
-use Rattle.marker_store.specs.declared.drops.Drops.TheVariants.{Each, Number}
-use Rattle.marker_store.specs.Entries.{rows_from}
+use Rattle.marker_store.proofs.Names.{arith, ap, sym, ◌∙◌, Each, Number, rows_from}
 use Rattle.marker_store.proofs.Calls.{total_is}
 use Rattle.marker_store.proofs.Deletions.{differs, rows_kept, within_kept}
 use Rattle.marker_store.proofs.Flags.{marked_kept}

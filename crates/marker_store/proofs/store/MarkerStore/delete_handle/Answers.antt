@@ -1,6 +1,4 @@
-use Rattle.std.proofs.Common.{arith, ap, sym, refl, ◌∙◌}
-use Rattle.marker_store.specs.declared.drops.Drops.TheVariants.{Handle}
-use Rattle.marker_store.specs.Entries.{rows_from}
+use Rattle.marker_store.proofs.Names.{arith, ap, sym, refl, ◌∙◌, Handle, rows_from}
 use Rattle.marker_store.proofs.Calls.{total_is}
 use Rattle.marker_store.proofs.Deletions.{rows_kept, within_kept}
 use Rattle.marker_store.proofs.Flags.{marked_kept}

@@ -1,5 +1,4 @@
-use Rattle.std.proofs.Common.{◌<◌, arith, sym, ap, ◌∙◌}
-use Rattle.ed_model.specs.LinePlans.{mask_of}
+use Rattle.marker_store.proofs.Names.{◌<◌, arith, sym, ap, ◌∙◌, mask_of}
 use Rattle.marker_store.proofs.Rows.{length-rows}
 use Rattle.marker_store.proofs.Calls.{markers_at}
 use Rattle.marker_store.proofs.Flags.{row_unmarked}

@@ -1,6 +1,4 @@
-use Rattle.std.proofs.Common.{◌≡◌, ◌+◌, ◌-◌, ◌<◌, arith, ap, refl, sym, ◌∙◌}
-use Rattle.marker_store.specs.Lines.{with_joined}
-use Rattle.marker_store.specs.Entries.{rows_from, rows_of}
+use Rattle.marker_store.proofs.Names.{◌≡◌, ◌+◌, ◌-◌, ◌<◌, arith, ap, refl, sym, ◌∙◌, with_joined, rows_from, rows_of}
 use Rattle.marker_store.proofs.Rows.{length-rows}
 use Rattle.marker_store.proofs.Calls.{rows_lowered}
 use Rattle.marker_store.proofs.Deletions.{within_lowered, length-lowered}

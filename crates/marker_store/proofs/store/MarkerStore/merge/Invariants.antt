@@ -1,6 +1,4 @@
-use Rattle.std.proofs.Common.{◌≡◌, ◌+◌, ◌-◌, ◌≤◌, length}
-use Rattle.marker_store.specs.Lines.{with_joined}
-use Rattle.marker_store.specs.Entries.{AllBefore, AllMarked, rows_of}
+use Rattle.marker_store.proofs.Names.{◌≡◌, ◌+◌, ◌-◌, ◌≤◌, length, with_joined, AllBefore, AllMarked, rows_of}
 use Rattle.marker_store.proofs.store.MarkerStore.merge.Given as goal
 
 abbrev pub invariant-joining : goal.invariant-joining

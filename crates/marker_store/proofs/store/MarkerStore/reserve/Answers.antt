@@ -1,6 +1,4 @@
-use Rattle.std.proofs.Common.{ap}
-use Rattle.marker_store.specs.Lines.{marked_lines}
-use Rattle.marker_store.specs.Entries.{Placed, rows_of}
+use Rattle.marker_store.proofs.Names.{ap, marked_lines, Placed, rows_of}
 use Rattle.marker_store.proofs.Calls.{total_is}
 use Rattle.marker_store.proofs.store.MarkerStore.reserve.Goals as goal
 

@@ -1,7 +1,4 @@
-use Rattle.std.proofs.Common.{◌-◌, List, arith, ap, length, ◌∙◌}
-use Rattle.marker_store.specs.Lines.{MarkedLines, with_joined}
-use Rattle.marker_store.specs.declared.drops.Drops.TheVariants.{Each}
-use Rattle.marker_store.specs.Entries.{Entry, rows_from, rows_of}
+use Rattle.marker_store.proofs.Names.{◌-◌, List, arith, ap, length, ◌∙◌, MarkedLines, with_joined, Each, Entry, rows_from, rows_of}
 use Rattle.marker_store.proofs.Rows.{length-rows}
 use Rattle.marker_store.proofs.Calls.{total_is}
 use Rattle.marker_store.proofs.Deletions.{within_kept, kept_none, rows_restarted}

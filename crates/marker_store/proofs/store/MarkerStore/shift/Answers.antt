@@ -1,6 +1,4 @@
-use Rattle.std.proofs.Common.{◌≤◌, arith, ap, ◌∙◌}
-use Rattle.marker_store.specs.Lines.{marked_lines, with_fresh}
-use Rattle.marker_store.specs.Entries.{rows_from}
+use Rattle.marker_store.proofs.Names.{◌≤◌, arith, ap, ◌∙◌, marked_lines, with_fresh, rows_from}
 use Rattle.marker_store.proofs.Rows.{length-rows}
 use Rattle.marker_store.proofs.Calls.{rows_raised}
 use Rattle.marker_store.proofs.Deletions.{within_raised, length-raised}

@@ -1,6 +1,4 @@
-use Rattle.std.proofs.Common.{◌≡◌, ◌≤◌, ◌<◌, ◌-◌, length, get_or, map, ap, sym, ◌∙◌, arith}
-use Rattle.std.proofs.lemmas.List.{length-map}
-use Rattle.partitioning.specs.Stored.{starts_of}
+use Rattle.partitioning.proofs.Names.{◌≡◌, ◌≤◌, ◌<◌, ◌-◌, length, get_or, map, ap, sym, ◌∙◌, arith, length-map, starts_of}
 use Rattle.partitioning.proofs.Lists.{read_number}
 use Rattle.partitioning.proofs.Steps.{length-starts_of, read_far}
 use Rattle.partitioning.proofs.table.Partitioning.starts_by.Goals as goal

@@ -1,5 +1,4 @@
-use Rattle.std.proofs.Common.{arith, sym}
-use Rattle.run_styles.specs.Expansion.{expansion}
+use Rattle.run_styles.proofs.Names.{arith, sym, expansion}
 use Rattle.run_styles.proofs.ByIndex.{length-table}
 use Rattle.run_styles.proofs.Filling.{filled-none, changed_is}
 use Rattle.run_styles.proofs.Reading.{count_runs}

@@ -1,6 +1,4 @@
-use Rattle.std.proofs.Common.{◌∙◌, arith, get_or}
-use Rattle.std.proofs.lemmas.List.{get_or_default}
-use Rattle.run_styles.specs.Expansion.{expansion, IsTable}
+use Rattle.run_styles.proofs.Names.{◌∙◌, arith, get_or, get_or_default, expansion, IsTable}
 use Rattle.run_styles.proofs.ByIndex.{length-table, grow_stands}
 use Rattle.run_styles.proofs.Inserting.{filled-inserted, length-inserted}
 use Rattle.run_styles.proofs.Reading.{count_runs}

@@ -1,5 +1,4 @@
-use Rattle.std.proofs.Common.{◌≡◌, ◌+◌, ◌<◌, [], ◌∷◌, length, map, take, drop, sym, ap, ◌∙◌, arith, Some}
-use Rattle.split_vector.specs.Block.{block_items, block_cells}
+use Rattle.split_vector.proofs.Names.{◌≡◌, ◌+◌, ◌<◌, [], ◌∷◌, length, map, take, drop, sym, ap, ◌∙◌, arith, Some, block_items, block_cells}
 use Rattle.split_vector.proofs.Items.{cells_long, item_left, item_right, read_one, somes_inj}
 use Rattle.split_vector.proofs.block.Block.get.Goals as goal
 use Rattle.split_vector.proofs.block.Block.get.Goals.{then-index-self, else-index-self}

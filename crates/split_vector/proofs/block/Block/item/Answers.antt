@@ -1,6 +1,4 @@
-use Rattle.std.proofs.Common.{◌<◌, length, drop, ap, arith, length-take, length-drop, Some}
-use Rattle.std.proofs.lemmas.List.{length-map}
-use Rattle.split_vector.specs.Block.{block_cells}
+use Rattle.split_vector.proofs.Names.{◌<◌, length, drop, ap, arith, length-take, length-drop, Some, length-map, block_cells}
 use Rattle.split_vector.proofs.Items.{sole}
 use Rattle.split_vector.proofs.block.Block.item.Goals as goal
 

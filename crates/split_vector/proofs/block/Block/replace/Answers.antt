@@ -1,5 +1,4 @@
-use Rattle.std.proofs.Common.{◌≡◌, ◌+◌, ◌-◌, ◌++◌, length, set, refl, sym, ap, ◌∙◌, arith}
-use Rattle.std.proofs.lemmas.List.{set-append_left, set-append_right}
+use Rattle.split_vector.proofs.Names.{◌≡◌, ◌+◌, ◌-◌, ◌++◌, length, set, refl, sym, ap, ◌∙◌, arith, set-append_left, set-append_right}
 use Rattle.split_vector.proofs.block.Block.replace.Goals as goal
 
 pub returns-then-index-self-clause-items : goal.returns-then-index-self-clause-items

@@ -1,5 +1,4 @@
-use Rattle.std.proofs.Common.{◌≤◌, ◌-◌, take, drop}
-use Rattle.split_vector.specs.Block.{Has, block_items}
+use Rattle.split_vector.proofs.Names.{◌≤◌, ◌-◌, take, drop, Has, block_items}
 use Rattle.split_vector.proofs.block.Block.slide_back.Given as goal
 
 abbrev pub decreases-parts : goal.decreases-parts

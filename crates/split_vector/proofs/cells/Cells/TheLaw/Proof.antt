@@ -1,17 +1,8 @@
 -- A `&` to the places reaches each item. Assumes `Logic`.
-use mathlib.Core.List.{[], ◌++◌}
-use base.Fml.{Incl-trans}
-use contract.BorrowLft.{meet_⊑_left}
-use denote.RattleType.{RattleType}
-use denote.RawPtr.{RawPtr}
-use denote.Param.Laws.{Laws}
-use denote.Param.Shared.{copy_shared}
-use denote.Struct.Laws.{field_copy}
-use denote.Struct.Lending.{of_Lends}
+use Rattle.split_vector.proofs.HandNames.{[], ◌++◌, Incl-trans, meet_⊑_left, RattleType, RawPtr, Laws, copy_shared, field_copy, of_Lends, cells_of}
 use Rattle.core.specs.contracts.marker.PhantomData as marker
 use Rattle.split_vector.specs.contracts.cells.Cells as C
 use Rattle.split_vector.proofs.cells.Cells.TheLaw.Statement.{statement}
-use Rattle.split_vector.specs.Ownership.{cells_of}
 use Rattle.split_vector.proofs.Sharing.{cells_lent_laws, Lends-cells}
 
 pub shares : (R : RattleType) (L : Laws R) → statement R L

@@ -1,5 +1,4 @@
-use Rattle.std.proofs.Common.{sym, ap, ◌∙◌, take}
-use Rattle.split_vector.specs.Ownership.{cells_of}
+use Rattle.split_vector.proofs.Names.{sym, ap, ◌∙◌, take, cells_of}
 use Rattle.split_vector.proofs.Items.{left_run, somes_inj}
 use Rattle.split_vector.proofs.cells.Cells.left.Goals as goal
 

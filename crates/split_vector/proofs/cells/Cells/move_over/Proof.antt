@@ -1,56 +1,7 @@
 -- `move_over` hands the items beside the gap and the room of the gap to the loop, and puts both back. Assumes `Logic`.
-use mathlib.Core.Path.{◌≡◌, refl, sym, subst, ap, ◌∙◌}
-use mathlib.Core.Bool.{Bool, not}
-use mathlib.Core.List.{List, [], ◌∷◌, ◌++◌}
-use Prim.Native.Nat.{ℕ, ◌+◌, ◌*◌, ◌<◌, ◌^◌}
-use native.Mathlib.Omega.{arith}
-use lib.Dec.{T}
-use lib.ListN.{length}
-use seplogic.Ra.Ura.{Ura}
-use base.Fraction.{full_share}
-use base.Logic.{SProp, ent, emp, never, id⊢}
-use base.Fml.{Lft, GName, Share, ftrue, fsep, fat, flft, fobs, fbor}
-use mir.Syntax.{Fn, named, w64, ty_unit}
-use mir.MapTy.{inst_fn}
-use mir.Val.{Val, vptr, vbool, vint, vunit, has_ty, WT}
-use prog.Memory.{Memory}
-use prog.Routine.{Routine}
-use prog.Wp.{Env, WpFn, Tables}
-use types.Logic.{Logic}
-use contract.BorrowLft.{◌⊑◌}
-use contract.Monad.{Fun, fact, fact_i}
-use contract.Running.{tables, tables_of}
-use sound.WpLaws.{fm_of, WpFn-mono}
-use types.Kit.{Item, ⋆, ‵, raw, ◌⊛◌, some, later, at_ret, ◌$◌, ◌∵◌, !, qed, by, move, keep, use0, use1, use2, drop as let_go, split, join, pick, rewrite, fsplit, fsplit3, fjoin, fjoin3, feq_i, feq_l, flt_l, flt_i, suffices, frame, await, done}
-use types.Part.{whole, sub}
-use types.Run.{stop, fld, size_word, unit_lit, no_more, and_then, of_opd, bin, first, blocks, exec, returns, enter}
-use types.ByLocal.{alloc_all, pass_all, free_all, look_at, get, get_in, is, sets, lands_last, env, take_at, give_at}
+use Rattle.split_vector.proofs.HandNames.{◌≡◌, refl, sym, subst, ap, ◌∙◌, Bool, not, List, [], ◌∷◌, ◌++◌, ℕ, ◌+◌, ◌*◌, ◌<◌, ◌^◌, arith, T, length, Ura, full_share, SProp, ent, emp, never, id⊢, Lft, GName, Share, ftrue, fsep, fat, flft, fobs, fbor, Fn, named, w64, ty_unit, inst_fn, Val, vptr, vbool, vint, vunit, has_ty, WT, Memory, Routine, Env, WpFn, Tables, Logic, ◌⊑◌, Fun, fact, fact_i, tables, tables_of, fm_of, WpFn-mono, Item, ⋆, ‵, raw, ◌⊛◌, some, later, at_ret, ◌$◌, ◌∵◌, !, qed, by, move, keep, use0, use1, use2, split, join, pick, rewrite, fsplit, fsplit3, fjoin, fjoin3, feq_i, feq_l, flt_l, flt_i, suffices, frame, await, done, whole, sub, stop, fld, size_word, unit_lit, no_more, and_then, of_opd, bin, first, blocks, exec, returns, enter, alloc_all, pass_all, free_all, look_at, get, get_in, is, sets, lands_last, env, take_at, give_at, bool, usize, unit, yes, no, mem, layout, owns, Ptr, RawPtr, block_ptr, in_a_block, rawptr_vals, MutBor, MutRef, pure_i, plain, heard, nothing, only, opens, closes, calls_at_last, Clauses, Ended, closing, on_entry, Meets, triple_of, Triple, Contract, entered, says, Stays, stay_dropped, stay_ref, walk_of, ends_at, Goes-dropped, Goes-ref, walk_Meets, memory_before_copy, memory_after_copy, El, R, args, times_below, uncapped, after, word, word-Good, CanMove, Hold, LiesApart, Run, beside, slots, cells_own}
+use types.Kit.{drop as let_go}
 use types.SemTy.{Body as Borrowed}
-use denote.Builtin.{bool, usize, unit}
-use denote.Exit.{yes, no}
-use denote.Memory.{mem}
-use denote.Param.{layout}
-use denote.RattleType.{owns}
-use denote.RawPtr.{Ptr, RawPtr, block_ptr, in_a_block, rawptr_vals}
-use denote.Ref.{MutBor, MutRef}
-use denote.Shadow.{pure_i}
-use denote.Signature.{plain}
-use denote.Steps.{heard, nothing, only, opens, closes}
-use denote.Triple.Call.{calls_at_last}
-use denote.Triple.Clauses.{Clauses, Ended, closing}
-use denote.Triple.Entry.{on_entry}
-use denote.Triple.Spec.{Meets, triple_of}
-use denote.Triple.Statement.{Triple, Contract}
-use denote.Triple.Table.{entered}
-use denote.Triple.Walked.{says, Stays, stay_dropped, stay_ref, walk_of, ends_at, Goes-dropped, Goes-ref, walk_Meets}
-use Rattle.core.specs.Ptr.{memory_before_copy, memory_after_copy}
-use Rattle.core.proofs.mem.Param.{El, R, args}
-use Rattle.core.proofs.ptr.Rows.{times_below}
-use Rattle.core.proofs.slots.Leases.{uncapped}
-use Rattle.std_alloc.proofs.VecSteps.Shapes.{after}
-use Rattle.std_alloc.proofs.RcSteps.{word, word-Good}
-use Rattle.split_vector.specs.Cells.{CanMove, Hold, LiesApart, Run, beside}
-use Rattle.split_vector.specs.Ownership.{slots, cells_own}
 use Rattle.split_vector.proofs.Items.{cells_spread, run_starts, spread, spread_long}
 use Rattle.split_vector.proofs.Memory.{Cr, Bs, sz, Place, all_of, word_had, Outside, begin, begins, begin_apart, run_out, run_in}
 use Rattle.split_vector.specs.contracts.raw.move_run as callee

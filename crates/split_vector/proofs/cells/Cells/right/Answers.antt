@@ -1,5 +1,4 @@
-use Rattle.std.proofs.Common.{length, sym, ap, ◌∙◌, arith, take, drop}
-use Rattle.split_vector.specs.Ownership.{cells_of}
+use Rattle.split_vector.proofs.Names.{length, sym, ap, ◌∙◌, arith, take, drop, cells_of}
 use Rattle.split_vector.proofs.Items.{cells_long, right_run, somes_inj}
 use Rattle.split_vector.proofs.cells.Cells.right.Goals as goal
 

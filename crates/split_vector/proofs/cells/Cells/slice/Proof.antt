@@ -1,59 +1,8 @@
 -- `slice` shows a run of values that the places lend. Assumes `Logic`.
-use mathlib.Core.Path.{◌≡◌, refl, sym, ap, subst, ◌∙◌}
-use Prim.Native.Nat.{ℕ, ◌+◌, ◌*◌, ◌<◌, ◌^◌}
-use native.Mathlib.Omega.{arith}
-use mathlib.Core.List.{List, [], ◌∷◌, ◌++◌}
-use seplogic.Ra.Ura.{Ura}
-use base.Fraction.{full_share}
-use mir.Syntax.{Fn, named, w64}
-use mir.MapTy.{inst_fn}
-use mir.Val.{Val, vptr, vint}
-use base.Logic.{SProp, ent, never, id⊢}
-use base.Fml.{Lft, Share, ftrue, fat, flft}
-use prog.Wp.{Env, Calls, Loops, WpFn, Tables}
-use types.Logic.{Logic}
-use contract.Monad.{fact}
-use contract.Running.{tables, tables_of}
-use sound.WpLaws.{WpFn-mono}
-use types.Kit.{Item, ⋆, ‵, ◌⊛◌, at_ret, ◌$◌, ◌∵◌, !, qed, by, move, keep, drop, use1, split, join, rewrite, fsplit, fjoin, feq_i, feq_l, suffices, frame, done}
-use types.Part.{whole, sub, agg}
-use types.Run.{stop, fld, of_opd, and_then, no_more, first, blocks, exec, returns, enter}
-use types.ByLocal.{alloc_all, pass_all, free_all, look_at, get, get_in, sets, sets_last, is, env}
-use denote.Exit.{yes, no}
-use denote.RattleType.{owns}
-use denote.Memory.{hidden_shr}
-use denote.Param.{layout}
-use denote.RawPtr.{Ptr, in_a_block}
-use denote.Ref.{Bor, ShrRef}
-use denote.Builtin.{RefOf}
-use denote.Signature.{plain}
+use Rattle.split_vector.proofs.HandNames.{◌≡◌, refl, sym, ap, subst, ◌∙◌, ℕ, ◌+◌, ◌*◌, ◌<◌, ◌^◌, arith, List, [], ◌∷◌, ◌++◌, Ura, full_share, Fn, named, w64, inst_fn, Val, vptr, vint, SProp, ent, never, id⊢, Lft, Share, ftrue, fat, flft, Env, Calls, Loops, WpFn, Tables, Logic, fact, tables, tables_of, WpFn-mono, Item, ⋆, ‵, ◌⊛◌, at_ret, ◌$◌, ◌∵◌, !, qed, by, move, keep, drop, use1, split, join, rewrite, fsplit, fjoin, feq_i, feq_l, suffices, frame, done, whole, sub, agg, stop, fld, of_opd, and_then, no_more, first, blocks, exec, returns, enter, alloc_all, pass_all, free_all, look_at, get, get_in, sets, sets_last, is, env, yes, no, owns, hidden_shr, layout, Ptr, in_a_block, Bor, ShrRef, RefOf, plain, nothing, spared, Clauses, Ended, closing, on_entry, Meets, triple_of, entered, run_framed, says, needs, Stays, stay_dropped, walk_of, ends_at, Goes-dropped, walk_Meets, after, word, word-Good, length, take, length-take, length-drop, map, flt_l, flt_i, bin, take_at, give_at, usize, SliceRefOf, Some, length-map, El, R, args, el_x, times_below, IsRun, cells_lent, ShrSlice, slice_val, elements_shared, size_word, uncapped}
 use denote.Opens.{hide, unhide}
-use denote.Steps.{nothing}
-use denote.Triple.Carry.{spared}
-use denote.Triple.Clauses.{Clauses, Ended, closing}
-use denote.Triple.Entry.{on_entry}
-use denote.Triple.Spec.{Meets, triple_of}
-use denote.Triple.Table.{entered, run_framed}
-use denote.Triple.Walked.{says, needs, Stays, stay_dropped, walk_of, ends_at, Goes-dropped, walk_Meets}
-use Rattle.std_alloc.proofs.VecSteps.Shapes.{after}
-use Rattle.std_alloc.proofs.RcSteps.{word, word-Good}
-use lib.ListN.{length, take, length-take, length-drop}
 use lib.ListN.{drop as drop_l}
-use mathlib.Core.List.{map}
-use types.Kit.{flt_l, flt_i}
-use types.Run.{bin}
-use types.ByLocal.{take_at, give_at}
-use denote.Builtin.{usize, SliceRefOf}
-use Rattle.std.specs.Prelude.{Some}
-use Rattle.std.proofs.lemmas.List.{length-map}
-use Rattle.core.proofs.mem.Param.{El, R, args, el_x}
-use Rattle.core.proofs.ptr.Rows.{times_below}
-use Rattle.split_vector.specs.Cells.{IsRun}
-use Rattle.split_vector.specs.Ownership.{cells_lent}
 use Rattle.split_vector.proofs.Memory.{all_of, Cr, Bs, sz, word_had, run_seen}
-use denote.Slice.{ShrSlice, slice_val, elements_shared}
-use types.Run.{size_word}
-use Rattle.core.proofs.slots.Leases.{uncapped}
 use Rattle.split_vector.specs.contracts.cells.Cells.slice.Key.{name as #self}
 use Rattle.split_vector.proofs.cells.Cells.slice.Statement as stated
 use Rattle.split_vector.proofs.cells.Cells.slice.Code as code

@@ -1,5 +1,4 @@
-use Rattle.std.proofs.Common.{◌≡◌}
-use Rattle.split_vector.specs.Split.{IsUpdated}
+use Rattle.split_vector.proofs.Names.{◌≡◌, IsUpdated}
 use Rattle.split_vector.proofs.cells.Cells.update_right.Given as goal
 
 -- the items before `index` are replaced

@@ -1,6 +1,4 @@
-use Rattle.std.proofs.Common.{◌+◌, ◌-◌, ◌≡◌, Some, subst, arith}
-use Rattle.target_search.specs.Found.{FindsFirst}
-use Rattle.target_search.specs.Searches.{size_of, is_match_of}
+use Rattle.target_search.proofs.Names.{◌+◌, ◌-◌, ◌≡◌, Some, subst, arith, FindsFirst, size_of, is_match_of}
 use Rattle.target_search.proofs.Finding.{first_then, first_wider}
 use Rattle.target_search.proofs.search.Search.first.Goals as goal
 

@@ -1,6 +1,4 @@
-use Rattle.std.proofs.Common.{◌-◌, ◌+◌, ◌≤◌}
-use Rattle.target_search.specs.Found.{NonePasses}
-use Rattle.target_search.specs.Searches.{is_match_of}
+use Rattle.target_search.proofs.Names.{◌-◌, ◌+◌, ◌≤◌, NonePasses, is_match_of}
 use Rattle.target_search.proofs.search.Search.first_by_rare_bytes.Given as goal
 
 abbrev pub invariant-searching : goal.invariant-searching

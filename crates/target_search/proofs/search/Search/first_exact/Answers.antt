@@ -1,6 +1,4 @@
-use Rattle.std.proofs.Common.{◌≡◌, ◌+◌, ◌-◌, length, None, slice_range, subst, sym, refl, arith}
-use Rattle.target_search.specs.Found.{FindsFirst, NonePasses}
-use Rattle.target_search.specs.Searches.{text_of, size_of, is_match_of}
+use Rattle.target_search.proofs.Names.{◌≡◌, ◌+◌, ◌-◌, length, None, slice_range, subst, sym, refl, arith, FindsFirst, NonePasses, text_of, size_of, is_match_of}
 use Rattle.target_search.proofs.Finding.{none_then, none_at}
 use Rattle.target_search.proofs.Matching.{length_part, none_without_byte}
 use Rattle.target_search.proofs.search.Search.first_exact.Goals as goal

@@ -1,6 +1,4 @@
-use Rattle.std.proofs.Common.{◌-◌, ◌+◌, ◌≤◌, length}
-use Rattle.target_search.specs.Found.{NonePasses}
-use Rattle.target_search.specs.Searches.{is_match_of}
+use Rattle.target_search.proofs.Names.{◌-◌, ◌+◌, ◌≤◌, length, NonePasses, is_match_of}
 use Rattle.target_search.proofs.search.Search.first_exact.Given as goal
 
 abbrev pub invariant-passing : goal.invariant-passing

@@ -1,6 +1,4 @@
-use Rattle.std.proofs.Common.{◌≡◌, ◌+◌, ◌-◌, length, None, slice_range, refl, subst, sym, arith}
-use Rattle.target_search.specs.Found.{FindsFirst}
-use Rattle.target_search.specs.Searches.{text_of, size_of, is_match_of}
+use Rattle.target_search.proofs.Names.{◌≡◌, ◌+◌, ◌-◌, length, None, slice_range, refl, subst, sym, arith, FindsFirst, text_of, size_of, is_match_of}
 use Rattle.target_search.proofs.Matching.{length_part, part_of_part, not_where_not_found, stands_where_found, words_allowed, is_match_at}
 use Rattle.target_search.proofs.search.Search.first_from.Goals as goal
 

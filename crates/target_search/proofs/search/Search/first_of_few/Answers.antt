@@ -1,5 +1,4 @@
-use Rattle.std.proofs.Common.{◌+◌, sym, ◌∙◌, arith}
-use Rattle.target_search.specs.Searches.{is_match_of}
+use Rattle.target_search.proofs.Names.{◌+◌, sym, ◌∙◌, arith, is_match_of}
 use Rattle.target_search.proofs.Finding.{none_then, none_at}
 use Rattle.target_search.proofs.search.Search.first_of_few.Goals as goal
 

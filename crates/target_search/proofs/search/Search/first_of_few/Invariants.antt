@@ -1,6 +1,4 @@
-use Rattle.std.proofs.Common.{◌+◌}
-use Rattle.target_search.specs.Found.{NonePasses}
-use Rattle.target_search.specs.Searches.{is_match_of}
+use Rattle.target_search.proofs.Names.{◌+◌, NonePasses, is_match_of}
 use Rattle.target_search.proofs.search.Search.first_of_few.Given as goal
 
 abbrev pub invariant-loop-at : goal.invariant-loop-at

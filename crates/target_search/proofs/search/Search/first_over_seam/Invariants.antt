@@ -1,5 +1,4 @@
-use Rattle.target_search.specs.Found.{NonePasses}
-use Rattle.target_search.specs.Searches.{is_match_of}
+use Rattle.target_search.proofs.Names.{NonePasses, is_match_of}
 use Rattle.target_search.proofs.search.Search.first_over_seam.Given as goal
 
 abbrev pub invariant-loop-place : goal.invariant-loop-place

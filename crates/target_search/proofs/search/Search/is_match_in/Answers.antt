@@ -1,7 +1,4 @@
-use Rattle.std.proofs.Common.{◌+◌, eqb, map, sym, ap, ◌∙◌}
-use Rattle.std.specs.List.{starts_with}
-use Rattle.ed_model.specs.Matches.{folded}
-use Rattle.target_search.specs.Searches.{text_of, size_of}
+use Rattle.target_search.proofs.Names.{◌+◌, eqb, map, sym, ap, ◌∙◌, starts_with, folded, text_of, size_of}
 use Rattle.target_search.proofs.Matching.{same_slice, told_by_bytes, words_refuse}
 use Rattle.target_search.proofs.search.Search.is_match_in.Goals as goal
 

@@ -1,7 +1,5 @@
-use Rattle.std.proofs.Common.{◌-◌, ◌&&◌, eqb, length, map, take, sym, ap, ◌∙◌, arith, length-append}
-use Rattle.std.specs.List.{starts_with}
-use Rattle.ed_model.specs.Matches.{folded}
-use Rattle.target_search.specs.Searches.{text_of}
+use Rattle.target_search.proofs.Names.{◌-◌, ◌&&◌, eqb, length, map, take, sym, ap, ◌∙◌, arith, starts_with, folded, text_of}
+use Rattle.std.proofs.Common.{length-append}
 use Rattle.target_search.proofs.Matching.{stands_over_seam, told_by_bytes, words_refuse}
 use Rattle.target_search.proofs.search.Search.is_match_over_seam.Goals as goal
 

@@ -1,6 +1,4 @@
-use Rattle.std.proofs.Common.{◌+◌, ◌-◌, ◌≡◌, Some, subst, arith}
-use Rattle.target_search.specs.Found.{FindsLast, IsLastOf}
-use Rattle.target_search.specs.Searches.{size_of, is_match_of}
+use Rattle.target_search.proofs.Names.{◌+◌, ◌-◌, ◌≡◌, Some, subst, arith, FindsLast, IsLastOf, size_of, is_match_of}
 use Rattle.target_search.proofs.Finding.{last_then, last_wider}
 use Rattle.target_search.proofs.search.Search.last.Goals as goal
 

@@ -1,6 +1,4 @@
-use Rattle.std.proofs.Common.{◌-◌, ◌+◌, ◌≤◌, length}
-use Rattle.target_search.specs.Found.{NonePasses}
-use Rattle.target_search.specs.Searches.{size_of, is_match_of}
+use Rattle.target_search.proofs.Names.{◌-◌, ◌+◌, ◌≤◌, length, NonePasses, size_of, is_match_of}
 use Rattle.target_search.proofs.search.Search.last_by_rare_bytes.Given as goal
 
 abbrev pub invariant-searching : goal.invariant-searching

@@ -1,6 +1,4 @@
-use Rattle.std.proofs.Common.{◌≡◌, ◌+◌, ◌-◌, length, None, subst, sym, arith}
-use Rattle.target_search.specs.Found.{FindsLast}
-use Rattle.target_search.specs.Searches.{text_of, size_of, is_match_of}
+use Rattle.target_search.proofs.Names.{◌≡◌, ◌+◌, ◌-◌, length, None, subst, sym, arith, FindsLast, text_of, size_of, is_match_of}
 use Rattle.target_search.proofs.Matching.{not_where_not_found, stands_where_found, words_allowed, is_match_at}
 use Rattle.target_search.proofs.search.Search.last_exact.Goals as goal
 

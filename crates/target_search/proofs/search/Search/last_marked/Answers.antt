@@ -1,5 +1,4 @@
-use Rattle.std.proofs.Common.{◌≡◌, ◌+◌, true, false, subst, sym, ◌∙◌, arith}
-use Rattle.target_search.specs.Searches.{is_match_of}
+use Rattle.target_search.proofs.Names.{◌≡◌, ◌+◌, true, false, subst, sym, ◌∙◌, arith, is_match_of}
 use Rattle.target_search.proofs.MarkedBytes.{still_marks, none_above, none_unmarked}
 use Rattle.target_search.proofs.search.Search.last_marked.Goals as goal
 

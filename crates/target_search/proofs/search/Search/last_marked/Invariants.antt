@@ -1,5 +1,4 @@
-use Rattle.std.proofs.Common.{◌+◌}
-use Rattle.target_search.specs.Searches.{MarksMatches}
+use Rattle.target_search.proofs.Names.{◌+◌, MarksMatches}
 use Rattle.target_search.proofs.search.Search.last_marked.Given as goal
 
 abbrev pub invariant-looking : goal.invariant-looking

@@ -1,6 +1,4 @@
-use Rattle.std.proofs.Common.{◌≡◌, ◌+◌, get_or, false, inl, inr, subst, arith}
-use Rattle.target_search.specs.Cases.{is_either}
-use Rattle.target_search.specs.Searches.{text_of, is_match_of}
+use Rattle.target_search.proofs.Names.{◌≡◌, ◌+◌, get_or, false, inl, inr, subst, arith, is_either, text_of, is_match_of}
 use Rattle.target_search.proofs.Fronts.{one_fails}
 use Rattle.target_search.proofs.Matching.{not_where_other_byte}
 use Rattle.target_search.proofs.search.Search.marks.Goals as goal

@@ -1,6 +1,4 @@
-use Rattle.std.proofs.Common.{ap, ◌∙◌}
-use Rattle.std.specs.Prelude.{nat_lt}
-use Rattle.ed_model.specs.History.{can_redo}
+use Rattle.undo_history.proofs.Names.{ap, ◌∙◌, nat_lt, can_redo}
 use Rattle.undo_history.proofs.Sealing.{can_redo_here}
 use Rattle.undo_history.proofs.history.UndoHistory.can_redo.Goals as goal
 

@@ -1,9 +1,4 @@
-use Rattle.std.proofs.Common.{◌≡◌, ◌+◌, ◌≤◌, ◌<◌, ◌∙◌, ap, sym, arith, length, drop, Some}
-use Rattle.std.specs.Prelude.{slice_get, ◌==◌}
-use Rattle.ed_model.specs.History.{redo_changes}
-use Rattle.undo_history.specs.Kept.{Kept}
-use Rattle.undo_history.specs.Reading.{changes_in}
-use Rattle.undo_history.specs.Records.{entries_in, next_count, change_of, begins_or_none}
+use Rattle.undo_history.proofs.Names.{◌≡◌, ◌+◌, ◌≤◌, ◌<◌, ◌∙◌, ap, sym, arith, length, drop, Some, slice_get, ◌==◌, redo_changes, Kept, changes_in, entries_in, next_count, change_of, begins_or_none}
 use Rattle.undo_history.proofs.Reading.{redo_length, redo_within, redo_read, redo_last}
 use Rattle.undo_history.proofs.Sealing.{entries_length}
 use Rattle.undo_history.proofs.history.UndoHistory.change_to_redo.Goals as goal

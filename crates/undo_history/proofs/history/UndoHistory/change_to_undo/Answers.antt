@@ -1,11 +1,4 @@
-use Rattle.std.proofs.Common.{◌≡◌, ◌+◌, ◌-◌, ◌≤◌, ◌<◌, ◌∙◌, ap, sym, arith, get_or, length, take, reverse, Some}
-use Rattle.std.specs.Prelude.{slice_get, ◌==◌}
-use Rattle.std.proofs.lemmas.List.{get_or_default}
-use Rattle.ed_model.specs.History.{undo_changes}
-use Rattle.undo_history.specs.declared.records.StepRecord.{StepRecord}
-use Rattle.undo_history.specs.Kept.{Kept}
-use Rattle.undo_history.specs.Reading.{changes_in}
-use Rattle.undo_history.specs.Records.{entries_in, last_count, change_of}
+use Rattle.undo_history.proofs.Names.{◌≡◌, ◌+◌, ◌-◌, ◌≤◌, ◌<◌, ◌∙◌, ap, sym, arith, get_or, length, take, reverse, Some, slice_get, ◌==◌, get_or_default, undo_changes, StepRecord, Kept, changes_in, entries_in, last_count, change_of}
 use Rattle.undo_history.proofs.Latest.{no_step}
 use Rattle.undo_history.proofs.Reading.{undo_length, undo_within, undo_read, undo_last}
 use Rattle.undo_history.proofs.Sealing.{entries_length}

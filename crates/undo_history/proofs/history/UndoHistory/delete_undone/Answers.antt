@@ -1,8 +1,4 @@
-use Rattle.std.proofs.Common.{ℕ, ◌≡◌, ◌≤◌, ◌+◌, ◌-◌, ◌∙◌, ap, ap₂, arith, length, take}
-use Rattle.std.proofs.lemmas.List.{length-take-le}
-use Rattle.undo_history.specs.Kept.{Kept, kept}
-use Rattle.undo_history.specs.Dropping.{without_undone}
-use Rattle.undo_history.specs.Records.{entries_in, history_of}
+use Rattle.undo_history.proofs.Names.{ℕ, ◌≡◌, ◌≤◌, ◌+◌, ◌-◌, ◌∙◌, ap, ap₂, arith, length, take, length-take-le, Kept, kept, without_undone, entries_in, history_of}
 use Rattle.undo_history.proofs.Pushing.{past_bytes, past_bytes_there, deleted_behind, dropped_in_order, dropped_view}
 use Rattle.undo_history.proofs.history.UndoHistory.delete_undone.Goals as goal
 

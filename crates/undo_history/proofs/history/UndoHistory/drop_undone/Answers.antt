@@ -1,7 +1,4 @@
-use Rattle.std.proofs.Common.{[], ◌≡◌, ◌≤◌, ◌+◌, ◌∙◌, sym, ap, arith, length, drop, reverse}
-use Rattle.undo_history.specs.Kept.{Kept, kept}
-use Rattle.undo_history.specs.Dropping.{without_undone}
-use Rattle.undo_history.specs.Records.{entries_in, transactions}
+use Rattle.undo_history.proofs.Names.{[], ◌≡◌, ◌≤◌, ◌+◌, ◌∙◌, sym, ap, arith, length, drop, reverse, Kept, kept, without_undone, entries_in, transactions}
 use Rattle.undo_history.proofs.Pushing.{all_past, past_is_all}
 use Rattle.undo_history.proofs.history.UndoHistory.drop_undone.Goals as goal
 

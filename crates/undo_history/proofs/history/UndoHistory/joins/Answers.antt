@@ -1,11 +1,4 @@
-use Rattle.std.proofs.Common.{◌≡◌, ◌-◌, ◌∙◌, ap, sym, arith, get_or, length, take, reverse, false}
-use Rattle.std.specs.Prelude.{nat_lt}
-use Rattle.std.proofs.lemmas.List.{get_or_default}
-use Rattle.ed_model.specs.History.{joins, at_save_point, belongs, latest_text_step, first_changes}
-use Rattle.undo_history.specs.declared.records.StepRecord.{StepRecord}
-use Rattle.undo_history.specs.Kept.{Kept}
-use Rattle.undo_history.specs.Records.{history_of, entries_in, transactions, change_of, bytes_end, EndsInOrder}
-use Rattle.undo_history.specs.Joining.{belongs_after, outline_if_any}
+use Rattle.undo_history.proofs.Names.{◌≡◌, ◌-◌, ◌∙◌, ap, sym, arith, get_or, length, take, reverse, false, nat_lt, get_or_default, joins, at_save_point, belongs, latest_text_step, first_changes, StepRecord, Kept, history_of, entries_in, transactions, change_of, bytes_end, EndsInOrder, belongs_after, outline_if_any}
 use Rattle.undo_history.proofs.Latest.{no_step}
 use Rattle.undo_history.proofs.Joins.{joins_here, belongs_by_outlines, sealed_no, saved_no, group_yes, later_yes, by_kind, lt_true, lt_false}
 use Rattle.undo_history.proofs.history.UndoHistory.joins.Goals as goal

@@ -1,9 +1,5 @@
-use Rattle.std.proofs.Common.{◌≡◌, ◌+◌, ◌++◌, [], ◌∷◌, ◌∙◌, ap, ap₂, sym, subst, arith, length, take, drop, reverse, true}
+use Rattle.undo_history.proofs.Names.{◌≡◌, ◌+◌, ◌++◌, [], ◌∷◌, ◌∙◌, ap, ap₂, sym, subst, arith, length, take, drop, reverse, true, length-append, with_change, Kept, entries_in, transactions, change_of, history_of, LastIsOpen}
 use Rattle.std.proofs.lemmas.Grind.{common_steps}
-use Rattle.std.proofs.lemmas.List.{length-append}
-use Rattle.ed_model.specs.History.{with_change}
-use Rattle.undo_history.specs.Kept.{Kept}
-use Rattle.undo_history.specs.Records.{entries_in, transactions, change_of, history_of, LastIsOpen}
 use Rattle.undo_history.proofs.Moving.{history}
 use Rattle.undo_history.proofs.Pushing.{stored_record, stored_in_order, stored_view, inserted_behind, past_is_all, count_within}
 use Rattle.undo_history.proofs.history.UndoHistory.push.Goals as goal

@@ -1,7 +1,4 @@
-use Rattle.std.proofs.Common.{◌≡◌, ◌+◌, ◌≤◌, ◌<◌, ◌∙◌, ap, ap₂, arith, length, drop}
-use Rattle.ed_model.specs.History.{redone}
-use Rattle.undo_history.specs.Kept.{Kept, kept}
-use Rattle.undo_history.specs.Records.{entries_in, history_of, next_count}
+use Rattle.undo_history.proofs.Names.{◌≡◌, ◌+◌, ◌≤◌, ◌<◌, ◌∙◌, ap, ap₂, arith, length, drop, redone, Kept, kept, entries_in, history_of, next_count}
 use Rattle.undo_history.proofs.Reading.{redo_within}
 use Rattle.undo_history.proofs.Pushing.{count_within}
 use Rattle.undo_history.proofs.Sealing.{entries_length, redone_in_order, redone_view, with_sealed_length}

@@ -1,5 +1,4 @@
-use Rattle.std.proofs.Common.{ap, sym, ◌∙◌, arith}
-use Rattle.ed_model.specs.History.{at_save_point, redone}
+use Rattle.undo_history.proofs.Names.{ap, sym, ◌∙◌, arith, at_save_point, redone}
 use Rattle.undo_history.proofs.Pushing.{count_within}
 use Rattle.undo_history.proofs.SavePoint.{behind_redo, nothing_redone}
 use Rattle.undo_history.proofs.history.UndoHistory.redo_gets_to_save_point.Goals as goal

@@ -1,7 +1,4 @@
-use Rattle.std.proofs.Common.{◌∙◌, ap, sym, arith, drop, length}
-use Rattle.ed_model.specs.History.{redo_changes}
-use Rattle.undo_history.specs.Kept.{Kept}
-use Rattle.undo_history.specs.Records.{entries_in, next_count}
+use Rattle.undo_history.proofs.Names.{◌∙◌, ap, sym, arith, drop, length, redo_changes, Kept, entries_in, next_count}
 use Rattle.undo_history.proofs.Reading.{redo_length}
 use Rattle.undo_history.proofs.Sealing.{entries_length}
 use Rattle.undo_history.proofs.history.UndoHistory.redo_len.Goals as goal

@@ -1,7 +1,4 @@
-use Rattle.std.proofs.Common.{◌≡◌, ◌+◌, ◌∙◌, ap, ap₂, arith, length}
-use Rattle.ed_model.specs.History.{sealed_outside_groups}
-use Rattle.undo_history.specs.Kept.{Kept, kept}
-use Rattle.undo_history.specs.Records.{entries_in, history_of}
+use Rattle.undo_history.proofs.Names.{◌≡◌, ◌+◌, ◌∙◌, ap, ap₂, arith, length, sealed_outside_groups, Kept, kept, entries_in, history_of}
 use Rattle.undo_history.proofs.Sealing.{sealed_in_order, sealed_history, sealed_outside, with_sealed_length}
 use Rattle.undo_history.proofs.history.UndoHistory.seal_outside_groups.Goals as goal
 

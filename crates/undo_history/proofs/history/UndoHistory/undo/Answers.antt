@@ -1,7 +1,4 @@
-use Rattle.std.proofs.Common.{◌≡◌, ◌+◌, ◌-◌, ◌∙◌, ap, ap₂, arith, length, take, reverse}
-use Rattle.ed_model.specs.History.{undone}
-use Rattle.undo_history.specs.Kept.{Kept, kept}
-use Rattle.undo_history.specs.Records.{entries_in, history_of, last_count}
+use Rattle.undo_history.proofs.Names.{◌≡◌, ◌+◌, ◌-◌, ◌∙◌, ap, ap₂, arith, length, take, reverse, undone, Kept, kept, entries_in, history_of, last_count}
 use Rattle.undo_history.proofs.Reading.{undo_within}
 use Rattle.undo_history.proofs.Sealing.{entries_length, undone_in_order, undone_view, with_sealed_length}
 use Rattle.undo_history.proofs.history.UndoHistory.undo.Goals as goal

@@ -1,6 +1,4 @@
-use Rattle.std.proofs.Common.{ap, ◌∙◌}
-use Rattle.ed_model.specs.Numbers.{is_number}
-use Rattle.ed_model.specs.History.{at_save_point, undone}
+use Rattle.undo_history.proofs.Names.{ap, ◌∙◌, is_number, at_save_point, undone}
 use Rattle.undo_history.proofs.SavePoint.{behind_undo}
 use Rattle.undo_history.proofs.history.UndoHistory.undo_gets_to_save_point.Goals as goal
 

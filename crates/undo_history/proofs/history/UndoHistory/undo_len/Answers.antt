@@ -1,7 +1,4 @@
-use Rattle.std.proofs.Common.{◌∙◌, ap, sym, take, reverse, length}
-use Rattle.ed_model.specs.History.{undo_changes}
-use Rattle.undo_history.specs.Kept.{Kept}
-use Rattle.undo_history.specs.Records.{entries_in, last_count}
+use Rattle.undo_history.proofs.Names.{◌∙◌, ap, sym, take, reverse, length, undo_changes, Kept, entries_in, last_count}
 use Rattle.undo_history.proofs.Reading.{undo_length}
 use Rattle.undo_history.proofs.history.UndoHistory.undo_len.Goals as goal
 
