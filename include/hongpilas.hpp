@@ -580,9 +580,9 @@ class BasicView {
   Answer<void> SelectAll() noexcept(nothrow) { return as_done(SCI_SELECTALL, 0, 0); }
   /// Makes the current state the save point, and always sends SCN_SAVEPOINTREACHED. Message: `SCI_SETSAVEPOINT`.
   Answer<void> SetSavePoint() noexcept(nothrow) { return as_done(SCI_SETSAVEPOINT, 0, 0); }
-  /// Returns each byte from `start` to `end`, followed by its style; the reply's value is the number of bytes
-  /// returned. Refused with `Refusal::BadArgument` unless `start` and `end` are a range of the text; an `end` of -1
-  /// is its end. Message: `SCI_GETSTYLEDTEXT`.
+  /// Returns each byte from `start` to `end`, followed by its style; the value, which `ask` returns, is the number of
+  /// bytes returned. Refused with `Refusal::BadArgument` unless `start` and `end` are a range of the text; an `end`
+  /// of -1 is its end. Message: `SCI_GETSTYLEDTEXT`.
   [[nodiscard]] Answer<std::string> GetStyledText(std::int64_t start, std::int64_t end) const noexcept(nothrow) {
     return read_copy(SCI_GETSTYLEDTEXT, start, end);
   }
@@ -609,8 +609,8 @@ class BasicView {
   Answer<void> GotoPos(std::int64_t position) noexcept(nothrow) { return as_done(SCI_GOTOPOS, position, 0); }
   /// Moves the anchor to `position` (clamped to the text); the caret stays. Message: `SCI_SETANCHOR`.
   Answer<void> SetAnchor(std::int64_t position) noexcept(nothrow) { return as_done(SCI_SETANCHOR, position, 0); }
-  /// Returns the caret's line with its line end; the reply's value is the caret's distance from the line's start, in
-  /// bytes. Message: `SCI_GETCURLINE`.
+  /// Returns the caret's line with its line end; the value, which `ask` returns, is the caret's distance from the
+  /// line's start, in bytes. Message: `SCI_GETCURLINE`.
   [[nodiscard]] Answer<std::string> GetCurLine() const noexcept(nothrow) { return read_copy(SCI_GETCURLINE, 0, 0); }
   /// Like GetCurLine, but lent, not copied: the text is valid until the next question that returns a text.
   [[nodiscard]] Answer<std::string_view> GetCurLineView() const noexcept(nothrow) { return read_lent(SCI_GETCURLINE, 0, 0); }
@@ -687,8 +687,8 @@ class BasicView {
   Answer<void> SetSelectionEnd(std::int64_t position) noexcept(nothrow) { return as_done(SCI_SETSELECTIONEND, position, 0); }
   /// Returns the selection's end: the greater of anchor and caret. Message: `SCI_GETSELECTIONEND`.
   [[nodiscard]] Answer<std::int64_t> GetSelectionEnd() const noexcept(nothrow) { return ask_number(SCI_GETSELECTIONEND, 0, 0); }
-  /// Returns line `line` with its line end; the reply's value is its length. If there is no such line, the text is
-  /// empty and the value 0. Message: `SCI_GETLINE`.
+  /// Returns line `line` with its line end; the value, which `ask` returns, is its length. If there is no such line,
+  /// the text is empty and the value 0. Message: `SCI_GETLINE`.
   [[nodiscard]] Answer<std::string> GetLine(std::int64_t line) const noexcept(nothrow) { return read_copy(SCI_GETLINE, line, 0); }
   /// Like GetLine, but lent, not copied: the text is valid until the next question that returns a text.
   [[nodiscard]] Answer<std::string_view> GetLineView(std::int64_t line) const noexcept(nothrow) { return read_lent(SCI_GETLINE, line, 0); }
@@ -699,12 +699,13 @@ class BasicView {
   /// Moves the anchor to `anchor` and the caret to `caret` (both clamped to the text). A negative `caret` stands for
   /// the end of the text, and a negative `anchor` for where the caret then is. Message: `SCI_SETSEL`.
   Answer<void> SetSel(std::int64_t anchor, std::int64_t caret) noexcept(nothrow) { return as_done(SCI_SETSEL, anchor, caret); }
-  /// Returns the selected text; the reply's value is its length. Message: `SCI_GETSELTEXT`.
+  /// Returns the selected text; the value, which `ask` returns, is its length. Message: `SCI_GETSELTEXT`.
   [[nodiscard]] Answer<std::string> GetSelText() const noexcept(nothrow) { return read_copy(SCI_GETSELTEXT, 0, 0); }
   /// Like GetSelText, but lent, not copied: the text is valid until the next question that returns a text.
   [[nodiscard]] Answer<std::string_view> GetSelTextView() const noexcept(nothrow) { return read_lent(SCI_GETSELTEXT, 0, 0); }
-  /// Returns the text from `start` to `end`; the reply's value is its length. Refused with `Refusal::BadArgument`
-  /// unless `start` and `end` are a range of the text; an `end` of -1 is its end. Message: `SCI_GETTEXTRANGE`.
+  /// Returns the text from `start` to `end`; the value, which `ask` returns, is its length. Refused with
+  /// `Refusal::BadArgument` unless `start` and `end` are a range of the text; an `end` of -1 is its end. Message:
+  /// `SCI_GETTEXTRANGE`.
   [[nodiscard]] Answer<std::string> GetTextRange(std::int64_t start, std::int64_t end) const noexcept(nothrow) {
     return read_copy(SCI_GETTEXTRANGE, start, end);
   }
@@ -747,7 +748,7 @@ class BasicView {
   Answer<void> Clear() noexcept(nothrow) { return as_done(SCI_CLEAR, 0, 0); }
   /// Replaces the whole text by `text`. Message: `SCI_SETTEXT`.
   Answer<void> SetText(Text text) noexcept(nothrow) { return as_done(SCI_SETTEXT, 0, 0, text); }
-  /// Returns the whole text; the reply's value is its length. Message: `SCI_GETTEXT`.
+  /// Returns the whole text; the value, which `ask` returns, is its length. Message: `SCI_GETTEXT`.
   [[nodiscard]] Answer<std::string> GetText() const noexcept(nothrow) { return read_copy(SCI_GETTEXT, 0, 0); }
   /// Like GetText, but lent, not copied: the text is valid until the next question that returns a text.
   [[nodiscard]] Answer<std::string_view> GetTextView() const noexcept(nothrow) { return read_lent(SCI_GETTEXT, 0, 0); }
@@ -971,8 +972,8 @@ class BasicView {
   /// Sets the target's start to `start` and its end to `end` (both clamped to the text). Message:
   /// `SCI_SETTARGETRANGE`.
   Answer<void> SetTargetRange(std::int64_t start, std::int64_t end) noexcept(nothrow) { return as_done(SCI_SETTARGETRANGE, start, end); }
-  /// Returns the text between the target's ends, whichever is the lesser; the reply's value is its length. Message:
-  /// `SCI_GETTARGETTEXT`.
+  /// Returns the text between the target's ends, whichever is the lesser; the value, which `ask` returns, is its
+  /// length. Message: `SCI_GETTARGETTEXT`.
   [[nodiscard]] Answer<std::string> GetTargetText() const noexcept(nothrow) { return read_copy(SCI_GETTARGETTEXT, 0, 0); }
   /// Like GetTargetText, but lent, not copied: the text is valid until the next question that returns a text.
   [[nodiscard]] Answer<std::string_view> GetTargetTextView() const noexcept(nothrow) { return read_lent(SCI_GETTARGETTEXT, 0, 0); }

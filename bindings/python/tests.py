@@ -7,6 +7,7 @@ import inspect
 import mmap
 import os
 import pickle
+import re
 import subprocess
 import sys
 import tempfile
@@ -308,9 +309,9 @@ class Texts(unittest.TestCase):
 
 
 class Methods(unittest.TestCase):
-    def test_each_message_has_a_method_with_its_name_and_number(self):
-        told = [inspect.getdoc(method).split(".")[0] for name, method in vars(Messages).items() if "SCI_" in (method.__doc__ or "")]
-        sent = {f"{name}, {number}" for name, number in vars(constants).items() if name.startswith("SCI_")}
+    def test_each_message_has_a_method_that_names_it(self):
+        told = [name for method in vars(Messages).values() for name in re.findall(r"Message:\s`(\w+)`\.$", inspect.getdoc(method) or "")]
+        sent = {name for name in vars(constants) if name.startswith("SCI_")}
         self.assertEqual((set(told), len(told)), (sent, len(sent)))
 
     def test_types_are_hinted(self):

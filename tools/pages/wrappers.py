@@ -130,7 +130,7 @@ def sentences(message, methods, language):
         text = re.sub(r"`([a-z]+[A-Z]\w*)`", lambda name: f"`{in_snake_case(name[1])}`", text)
     text = re.sub(r"\b[A-Z]{3,}\b", lambda word: f"`{methods[word[0]]}`" if word[0] in methods else word[0], text)
     text = re.sub(r"\b(?:BadArgument|NoSuchDocument|TooMany)\b", lambda name: refusal(name[0]), text)
-    return re.sub(r"\bfalse\b", no, text).replace("Refused with", refused).replace("the value is", "the reply's value is")
+    return re.sub(r"\bfalse\b", no, text).replace("Refused with", refused).replace("the value is", "the value, which `ask` returns, is")
 
 
 def told(message, methods, language, width, before):

@@ -104,9 +104,9 @@ class Messages:
         self.send(constants.SCI_SETSAVEPOINT)
 
     def get_styled_text(self, start: int, end: int) -> bytes:
-        """Returns each byte from `start` to `end`, followed by its style; the reply's value is the number of bytes
-        returned. Raises `Refused` with `Refusal.BAD_ARGUMENT` unless `start` and `end` are a range of the text;
-        an `end` of -1 is its end. Message: `SCI_GETSTYLEDTEXT`.
+        """Returns each byte from `start` to `end`, followed by its style; the value, which `ask` returns, is the
+        number of bytes returned. Raises `Refused` with `Refusal.BAD_ARGUMENT` unless `start` and `end` are a
+        range of the text; an `end` of -1 is its end. Message: `SCI_GETSTYLEDTEXT`.
         """
         return self.read(constants.SCI_GETSTYLEDTEXT, start, end)
 
@@ -147,8 +147,8 @@ class Messages:
         self.send(constants.SCI_SETANCHOR, position)
 
     def get_cur_line(self) -> bytes:
-        """Returns the caret's line with its line end; the reply's value is the caret's distance from the line's
-        start, in bytes. Message: `SCI_GETCURLINE`.
+        """Returns the caret's line with its line end; the value, which `ask` returns, is the caret's distance from
+        the line's start, in bytes. Message: `SCI_GETCURLINE`.
         """
         return self.read(constants.SCI_GETCURLINE)
 
@@ -292,8 +292,8 @@ class Messages:
         return self.ask(constants.SCI_GETSELECTIONEND)
 
     def get_line(self, line: int) -> bytes:
-        """Returns line `line` with its line end; the reply's value is its length. If there is no such line, the
-        text is empty and the value 0. Message: `SCI_GETLINE`.
+        """Returns line `line` with its line end; the value, which `ask` returns, is its length. If there is no
+        such line, the text is empty and the value 0. Message: `SCI_GETLINE`.
         """
         return self.read(constants.SCI_GETLINE, line)
 
@@ -313,12 +313,12 @@ class Messages:
         self.send(constants.SCI_SETSEL, anchor, caret)
 
     def get_sel_text(self) -> bytes:
-        """Returns the selected text; the reply's value is its length. Message: `SCI_GETSELTEXT`."""
+        """Returns the selected text; the value, which `ask` returns, is its length. Message: `SCI_GETSELTEXT`."""
         return self.read(constants.SCI_GETSELTEXT)
 
     def get_text_range(self, start: int, end: int) -> bytes:
-        """Returns the text from `start` to `end`; the reply's value is its length. Raises `Refused` with
-        `Refusal.BAD_ARGUMENT` unless `start` and `end` are a range of the text; an `end` of -1 is its end.
+        """Returns the text from `start` to `end`; the value, which `ask` returns, is its length. Raises `Refused`
+        with `Refusal.BAD_ARGUMENT` unless `start` and `end` are a range of the text; an `end` of -1 is its end.
         Message: `SCI_GETTEXTRANGE`.
         """
         return self.read(constants.SCI_GETTEXTRANGE, start, end)
@@ -393,7 +393,7 @@ class Messages:
         self.send(constants.SCI_SETTEXT, 0, 0, text)
 
     def get_text(self) -> bytes:
-        """Returns the whole text; the reply's value is its length. Message: `SCI_GETTEXT`."""
+        """Returns the whole text; the value, which `ask` returns, is its length. Message: `SCI_GETTEXT`."""
         return self.read(constants.SCI_GETTEXT)
 
     def get_text_length(self) -> int:
@@ -813,8 +813,8 @@ class Messages:
         self.send(constants.SCI_SETTARGETRANGE, start, end)
 
     def get_target_text(self) -> bytes:
-        """Returns the text between the target's ends, whichever is the lesser; the reply's value is its length.
-        Message: `SCI_GETTARGETTEXT`.
+        """Returns the text between the target's ends, whichever is the lesser; the value, which `ask` returns, is
+        its length. Message: `SCI_GETTARGETTEXT`.
         """
         return self.read(constants.SCI_GETTARGETTEXT)
 

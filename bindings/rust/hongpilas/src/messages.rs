@@ -39,9 +39,10 @@ impl View<'_> {
         self.ask(sys::SCI_GETSTYLEAT, position, 0)
     }
 
-    /// Returns each byte from `start` to `end`, followed by its style; the reply's value is the
-    /// number of bytes returned. Refused with [`Refusal::BadArgument`] unless `start` and `end`
-    /// are a range of the text; an `end` of -1 is its end. Message: `SCI_GETSTYLEDTEXT`.
+    /// Returns each byte from `start` to `end`, followed by its style; the value, which `ask`
+    /// returns, is the number of bytes returned. Refused with [`Refusal::BadArgument`] unless
+    /// `start` and `end` are a range of the text; an `end` of -1 is its end. Message:
+    /// `SCI_GETSTYLEDTEXT`.
     pub fn get_styled_text(&self, start: i64, end: i64) -> Result<Vec<u8>, Refusal> {
         self.read(sys::SCI_GETSTYLEDTEXT, start, end)
     }
@@ -63,8 +64,8 @@ impl View<'_> {
         self.ask_flag(sys::SCI_GETUNDOCOLLECTION, 0, 0)
     }
 
-    /// Returns the caret's line with its line end; the reply's value is the caret's distance
-    /// from the line's start, in bytes. Message: `SCI_GETCURLINE`.
+    /// Returns the caret's line with its line end; the value, which `ask` returns, is the
+    /// caret's distance from the line's start, in bytes. Message: `SCI_GETCURLINE`.
     pub fn get_cur_line(&self) -> Result<Vec<u8>, Refusal> {
         self.read(sys::SCI_GETCURLINE, 0, 0)
     }
@@ -128,8 +129,8 @@ impl View<'_> {
         self.ask(sys::SCI_GETSELECTIONEND, 0, 0)
     }
 
-    /// Returns line `line` with its line end; the reply's value is its length. If there is no
-    /// such line, the text is empty and the value 0. Message: `SCI_GETLINE`.
+    /// Returns line `line` with its line end; the value, which `ask` returns, is its length. If
+    /// there is no such line, the text is empty and the value 0. Message: `SCI_GETLINE`.
     pub fn get_line(&self, line: i64) -> Result<Vec<u8>, Refusal> {
         self.read(sys::SCI_GETLINE, line, 0)
     }
@@ -145,14 +146,15 @@ impl View<'_> {
         self.ask_flag(sys::SCI_GETMODIFY, 0, 0)
     }
 
-    /// Returns the selected text; the reply's value is its length. Message: `SCI_GETSELTEXT`.
+    /// Returns the selected text; the value, which `ask` returns, is its length. Message:
+    /// `SCI_GETSELTEXT`.
     pub fn get_sel_text(&self) -> Result<Vec<u8>, Refusal> {
         self.read(sys::SCI_GETSELTEXT, 0, 0)
     }
 
-    /// Returns the text from `start` to `end`; the reply's value is its length. Refused with
-    /// [`Refusal::BadArgument`] unless `start` and `end` are a range of the text; an `end` of
-    /// -1 is its end. Message: `SCI_GETTEXTRANGE`.
+    /// Returns the text from `start` to `end`; the value, which `ask` returns, is its length.
+    /// Refused with [`Refusal::BadArgument`] unless `start` and `end` are a range of the text;
+    /// an `end` of -1 is its end. Message: `SCI_GETTEXTRANGE`.
     pub fn get_text_range(&self, start: i64, end: i64) -> Result<Vec<u8>, Refusal> {
         self.read(sys::SCI_GETTEXTRANGE, start, end)
     }
@@ -182,7 +184,8 @@ impl View<'_> {
         self.ask_flag(sys::SCI_CANUNDO, 0, 0)
     }
 
-    /// Returns the whole text; the reply's value is its length. Message: `SCI_GETTEXT`.
+    /// Returns the whole text; the value, which `ask` returns, is its length. Message:
+    /// `SCI_GETTEXT`.
     pub fn get_text(&self) -> Result<Vec<u8>, Refusal> {
         self.read(sys::SCI_GETTEXT, 0, 0)
     }
@@ -353,8 +356,8 @@ impl View<'_> {
         self.ask(sys::SCI_GETLINEENDTYPESACTIVE, 0, 0)
     }
 
-    /// Returns the text between the target's ends, whichever is the lesser; the reply's value
-    /// is its length. Message: `SCI_GETTARGETTEXT`.
+    /// Returns the text between the target's ends, whichever is the lesser; the value, which
+    /// `ask` returns, is its length. Message: `SCI_GETTARGETTEXT`.
     pub fn get_target_text(&self) -> Result<Vec<u8>, Refusal> {
         self.read(sys::SCI_GETTARGETTEXT, 0, 0)
     }
