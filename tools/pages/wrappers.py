@@ -129,6 +129,8 @@ def sentences(message, methods, language):
     if language != "C++":
         text = re.sub(r"`([a-z]+[A-Z]\w*)`", lambda name: f"`{in_snake_case(name[1])}`", text)
     text = re.sub(r"\b[A-Z]{3,}\b", lambda word: f"`{methods[word[0]]}`" if word[0] in methods else word[0], text)
+    if language == "Rust" and message.spelled == TAKES_NO_DOCUMENT:
+        text = text.replace("if that is 0", "if that is `None`")
     text = re.sub(r"\b(?:BadArgument|NoSuchDocument|TooMany)\b", lambda name: refusal(name[0]), text)
     return re.sub(r"\bfalse\b", no, text).replace("Refused with", refused).replace("the value is", "the value, which `ask` returns, is")
 

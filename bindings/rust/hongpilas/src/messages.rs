@@ -793,10 +793,10 @@ impl ViewMut<'_> {
         self.as_done(sys::SCI_NEWLINE, 0, 0, &[])
     }
 
-    /// Attaches the view to `document`, or to a new document if that is 0. That document gains
-    /// a reference, and then the old one loses one; the view is attached last, with anchor,
-    /// caret and target 0, and with all lines visible and expanded. The view's other settings
-    /// stay. The same holds for the view's own document. Refused with
+    /// Attaches the view to `document`, or to a new document if that is `None`. That document
+    /// gains a reference, and then the old one loses one; the view is attached last, with
+    /// anchor, caret and target 0, and with all lines visible and expanded. The view's other
+    /// settings stay. The same holds for the view's own document. Refused with
     /// [`Refusal::NoSuchDocument`] if there is no such document; with [`Refusal::TooMany`] at
     /// the limit of its references, or if ids for a new one are used up. Message:
     /// `SCI_SETDOCPOINTER`.
