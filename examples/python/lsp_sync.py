@@ -7,17 +7,39 @@ keeps a copy, applies the steps to it in their order, and asks the copy as it is
 
 It runs over the package `hongpilas`. `lsp_sync.py --random COUNT SEED` makes random edits by two views of a document, and compares after each.
 """
+from __future__ import annotations
+
 import bisect
+import json
 import random
 import re
 import sys
+from typing import Callable, Dict, Iterable, Iterator, NamedTuple
 
-from hongpilas import EndOfLine, Modification, Notification, Session
+from hongpilas import EndOfLine, Modification, Notification, Session, View
 
 LINE_END = re.compile(rb"\r\n|\n|\r")
+#: A place as LSP has it: a "line", and a "character", which is a column in UTF-16.
+Position = Dict[str, int]
 
 
-def utf16_length(text):
+class Change(NamedTuple):
+    """A change of LSP: what lies between two places becomes a text."""
+
+    start: Position
+    end: Position
+    text: str
+
+    def as_lsp(self) -> dict[str, object]:
+        """A TextDocumentContentChangeEvent."""
+        return {"range": {"start": self.start, "end": self.end}, "text": self.text}
+
+    def __str__(self) -> str:
+        places = (f"{place['line']}:{place['character']}" for place in (self.start, self.end))
+        return f"  {' to '.join(places)} becomes {self.text!r}"
+
+
+def utf16_length(text: bytes | bytearray) -> int:
     """How many code units of UTF-16 a text in UTF-8 has."""
     return len(text.decode().encode("utf-16-le")) // 2
 
@@ -25,31 +47,31 @@ def utf16_length(text):
 class Copy:
     """A copy of a document's text, with the starts of its lines as LSP has them: behind each LF, CR and CRLF."""
 
-    def __init__(self, text=b""):
+    def __init__(self, text: bytes = b""):
         self.text, self.starts = bytearray(text), [0]
         self.starts += [match.end() for match in LINE_END.finditer(text)]
 
-    def position(self, offset):
-        """A place as LSP has it: a line, and a column in UTF-16. It must not lie amid a CRLF, where LSP has no place."""
+    def position(self, offset: int) -> Position:
+        """A place as LSP has it. It must not lie amid a CRLF, where LSP has no place."""
         line = bisect.bisect_right(self.starts, offset) - 1
         return {"line": line, "character": utf16_length(self.text[self.starts[line] : offset])}
 
-    def is_amid_crlf(self, offset):
+    def is_amid_crlf(self, offset: int) -> bool:
         return 0 < offset and self.text[offset - 1 : offset + 1] == b"\r\n"
 
-    def change(self, start, end, text):
+    def change(self, start: int, end: int, text: bytes) -> Change:
         """Puts a text in the place of what lies from start to end, and returns that as a change of LSP."""
         # What ends amid a CRLF takes the other half along.
         if self.is_amid_crlf(start):
             start, text = start - 1, b"\r" + text
         if self.is_amid_crlf(end):
             end, text = end + 1, text + b"\n"
-        told = {"range": {"start": self.position(start), "end": self.position(end)}, "text": text.decode()}
+        told = Change(self.position(start), self.position(end), text.decode())
         self.text[start:end] = text
         self.find_starts(start, end, start + len(text))
         return told
 
-    def find_starts(self, start, old_end, new_end):
+    def find_starts(self, start: int, old_end: int, new_end: int) -> None:
         """Finds the lines anew from a change on as far as it reaches, and moves those behind it. A CR before it, or a LF behind it, is a neighbour."""
         first, last = bisect.bisect_left(self.starts, start), bisect.bisect_right(self.starts, old_end + 1)
         found = (match.end() for match in LINE_END.finditer(self.text, max(start - 1, 0), new_end + 2))
@@ -61,10 +83,10 @@ class Copy:
 class Synchronizer:
     """Makes changes for a server of the notifications of one view of a document. Other views of the document tell the same: their notifications are skipped."""
 
-    def __init__(self, view):
+    def __init__(self, view: View):
         self.view, self.copy = view, Copy(view.get_text())
 
-    def changes(self):
+    def changes(self) -> Iterator[Change]:
         """The changes of the last reply, in the order in which a server applies them: `contentChanges` of textDocument/didChange."""
         for note in self.view.notes():
             if note.code == Notification.MODIFIED and note.kind & Modification.INSERTTEXT:
@@ -76,37 +98,31 @@ class Synchronizer:
 class Server:
     """A server's side, as the protocol describes it: a text in Unicode, to which changes are applied."""
 
-    def __init__(self, text):
+    def __init__(self, text: str):
         self.text = text
 
-    def offset(self, position):
+    def offset(self, position: Position) -> int:
         """The index in the text of a line and a column in UTF-16."""
         lines = re.split(r"(?<=\n)|(?<=\r)(?!\n)", self.text)
         line = lines[position["line"]].encode("utf-16-le")[: 2 * position["character"]]
         return len("".join(lines[: position["line"]])) + len(line.decode("utf-16-le"))
 
-    def apply(self, changes):
+    def apply(self, changes: Iterable[Change]) -> None:
         for change in changes:
-            start, end = (self.offset(change["range"][place]) for place in ("start", "end"))
-            self.text = self.text[:start] + change["text"] + self.text[end:]
-
-
-def shown(change):
-    """A change in one line."""
-    places = (f"{place['line']}:{place['character']}" for place in change["range"].values())
-    return f"  {' to '.join(places)} becomes {change['text']!r}"
+            start, end = self.offset(change.start), self.offset(change.end)
+            self.text = self.text[:start] + change.text + self.text[end:]
 
 
 class Pair:
     """A document with two views, and a server's copy of it."""
 
-    def __init__(self, session, text):
+    def __init__(self, session: Session, text: str):
         self.views = session.new_view(), session.new_view()
         self.views[1].set_doc_pointer(self.views[0].get_doc_pointer())
         self.views[0].set_text(text)
         self.sync, self.server = Synchronizer(self.views[0]), Server(text)
 
-    def told(self):
+    def told(self) -> list[Change]:
         """The changes of the last reply, once the server has them, too."""
         changes = list(self.sync.changes())
         self.server.apply(changes)
@@ -115,26 +131,28 @@ class Pair:
         return changes
 
 
-def tour():
+def tour() -> None:
     """Edits of one step and of several, with what a server is told."""
     with Session() as session:
         pair = Pair(session, "größer 😀 one\r\ntwo 😀 one\n")
         view, other = pair.views
 
-        def show(what):
-            print(what)
-            print("\n".join(map(shown, pair.told())))
+        def show(what: str) -> list[Change]:
+            changes = pair.told()
+            print(what, *changes, sep="\n")
+            return changes
 
         other.insert_text(len("größer 😀".encode()), "!")
-        show("an insertion behind a smile, by the other view")
-        replaced = []
+        inserted = show("an insertion behind a smile, by the other view")
+        print("  as the protocol has it:", json.dumps([change.as_lsp() for change in inserted]))
+        replaced: list[Change] = []
         with view.undo_group():
             view.target_whole_document()
             while view.search_in_target("one") >= 0:
                 view.replace_target("three")
                 replaced += pair.told()
                 view.set_target_range(view.get_target_end(), view.get_length())
-        print("all of a word replaced, in a group", *map(shown, replaced), sep="\n")
+        print("all of a word replaced, in a group", *replaced, sep="\n")
         other.undo()
         show("the group undone, in one message")
         view.convert_eols(EndOfLine.LF)
@@ -146,11 +164,11 @@ def tour():
 ALPHABET = ("a", "é", "€", "😀", "\r", "\n", "\r\n")
 
 
-def random_text(draw):
+def random_text(draw: random.Random) -> str:
     return "".join(draw.choices(ALPHABET, k=draw.randrange(6)))
 
 
-def random_place(draw, view):
+def random_place(draw: random.Random, view: View) -> int:
     """A place between two characters. It can lie amid a CRLF."""
     place = draw.randint(0, view.get_length())
     while place < view.get_length() and 0x80 <= view.get_char_at(place) < 0xC0:
@@ -158,30 +176,30 @@ def random_place(draw, view):
     return place
 
 
-def insert(draw, view):
+def insert(draw: random.Random, view: View) -> None:
     view.insert_text(random_place(draw, view), random_text(draw))
 
 
-def delete(draw, view):
+def delete(draw: random.Random, view: View) -> None:
     start, end = sorted(random_place(draw, view) for _ in range(2))
     view.delete_range(start, end - start)
 
 
-def replace_selection(draw, view):
+def replace_selection(draw: random.Random, view: View) -> None:
     view.set_sel(random_place(draw, view), random_place(draw, view))
     view.replace_sel(random_text(draw))
 
 
-def paste(draw, view):
+def paste(draw: random.Random, view: View) -> None:
     view.copy_text(random_text(draw))
     view.paste()
 
 
-def set_text(draw, view):
+def set_text(draw: random.Random, view: View) -> None:
     view.set_text("".join(random_text(draw) for _ in range(4)))
 
 
-def replace_all(draw, view):
+def replace_all(draw: random.Random, view: View) -> Iterator[None]:
     """Replaces a character everywhere, in one group. The caller takes what each message tells."""
     word, other = draw.choice(ALPHABET), random_text(draw)
     with view.undo_group():
@@ -192,7 +210,9 @@ def replace_all(draw, view):
             view.set_target_range(view.get_target_end(), view.get_length())
 
 
-EDITS = (
+#: An edit of random arguments. One of several messages stops after each.
+Edit = Callable[[random.Random, View], "Iterator[None] | None"]
+EDITS: tuple[Edit, ...] = (
     insert, insert, insert, delete, replace_selection, paste, set_text, replace_all,
     lambda draw, view: view.undo(), lambda draw, view: view.undo(), lambda draw, view: view.redo(),
     lambda draw, view: view.convert_eols(draw.randrange(3)), lambda draw, view: view.delete_back(), lambda draw, view: view.new_line(),
@@ -200,7 +220,7 @@ EDITS = (
 )  # fmt: skip
 
 
-def try_random(count, seed):
+def try_random(count: int, seed: int) -> None:
     """Makes random edits, and compares the server's copy after each message."""
     draw, changes = random.Random(seed), 0
     with Session() as session:
