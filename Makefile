@@ -95,8 +95,10 @@ out/edit_scintilla.c: examples/c/edit.c examples/c/edit_scintilla.diff
 	mkdir -p out
 	patch -s -o $@ examples/c/edit.c examples/c/edit_scintilla.diff
 
+out/edit out/edit_scintilla: examples/c/terminal.h
+
 out/edit_scintilla: out/edit_scintilla.c
-	$(CC) -std=c99 -O2 -Iinclude $< $(DOOR) out/libhongpilas.a -o $@
+	$(CC) -std=c99 -O2 -Iinclude -Iexamples/c $< $(DOOR) out/libhongpilas.a -o $@
 
 out/hongpilas.pc:
 	mkdir -p out

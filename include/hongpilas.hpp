@@ -797,7 +797,8 @@ class BasicView {
   [[nodiscard]] Answer<std::int64_t> GetLastChild(std::int64_t line, std::int64_t level) const noexcept(nothrow) {
     return ask_number(SCI_GETLASTCHILD, line, level);
   }
-  /// Returns the fold parent of line `line`, or -1 if it has none or does not exist. Message: `SCI_GETFOLDPARENT`.
+  /// Returns the fold parent of line `line`: the nearest earlier header with a smaller level number; -1 if there is
+  /// none, or no such line. Message: `SCI_GETFOLDPARENT`.
   [[nodiscard]] Answer<std::int64_t> GetFoldParent(std::int64_t line) const noexcept(nothrow) { return ask_number(SCI_GETFOLDPARENT, line, 0); }
   /// Makes the lines from `first` to `last` visible, as far as they exist. Message: `SCI_SHOWLINES`.
   Answer<void> ShowLines(std::int64_t first, std::int64_t last) noexcept(nothrow) { return as_done(SCI_SHOWLINES, first, last); }
@@ -959,9 +960,9 @@ class BasicView {
   /// Returns whether the selection is empty. Message: `SCI_GETSELECTIONEMPTY`.
   [[nodiscard]] Answer<bool> GetSelectionEmpty() const noexcept(nothrow) { return ask_flag(SCI_GETSELECTIONEMPTY, 0, 0); }
   /// Sets which line ends the document allows, also if it is read-only: `SC_LINE_END_TYPE_DEFAULT` 0, or
-  /// `SC_LINE_END_TYPE_UNICODE` 1 for those of Unicode too. Line data, and the line flags of each view, go to the
-  /// lines that contain their starts. Refused with `Refusal::BadArgument` unless `types` is 0 or 1. Message:
-  /// `SCI_SETLINEENDTYPESALLOWED`.
+  /// `SC_LINE_END_TYPE_UNICODE` 1 for those of Unicode too. Line data (markers, fold levels, line states) and the
+  /// line flags of each view go to the lines that contain their starts. Refused with `Refusal::BadArgument` unless
+  /// `types` is 0 or 1. Message: `SCI_SETLINEENDTYPESALLOWED`.
   Answer<void> SetLineEndTypesAllowed(std::int64_t types) noexcept(nothrow) { return as_done(SCI_SETLINEENDTYPESALLOWED, types, 0); }
   /// Returns which line ends the document allows: `SC_LINE_END_TYPE_DEFAULT` or `SC_LINE_END_TYPE_UNICODE`. Message:
   /// `SCI_GETLINEENDTYPESALLOWED`.
@@ -985,8 +986,8 @@ class BasicView {
   /// Stops recording in this view. Message: `SCI_STOPRECORD`.
   Answer<void> StopRecord() noexcept(nothrow) { return as_done(SCI_STOPRECORD, 0, 0); }
   /// Asks for styles up to `end`: moves end styled back to `start` if it is greater, and sends the view
-  /// SCN_STYLENEEDED, even for an empty range. Refused with `Refusal::BadArgument` unless `start` and `end` are a
-  /// range of the text; an `end` of -1 is its end. Message: `SCI_COLOURISE`.
+  /// SCN_STYLENEEDED with the position `end`, even for an empty range. Refused with `Refusal::BadArgument` unless
+  /// `start` and `end` are a range of the text; an `end` of -1 is its end. Message: `SCI_COLOURISE`.
   Answer<void> Colourise(std::int64_t start, std::int64_t end) noexcept(nothrow) { return as_done(SCI_COLOURISE, start, end); }
   // Written by tools/pages/wrappers.py: end
 

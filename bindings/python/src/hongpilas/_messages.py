@@ -476,8 +476,8 @@ class Messages:
         return self.ask(constants.SCI_GETLASTCHILD, line, level)
 
     def get_fold_parent(self, line: int) -> int:
-        """Returns the fold parent of line `line`, or -1 if it has none or does not exist. Message:
-        `SCI_GETFOLDPARENT`.
+        """Returns the fold parent of line `line`: the nearest earlier header with a smaller level number; -1 if
+        there is none, or no such line. Message: `SCI_GETFOLDPARENT`.
         """
         return self.ask(constants.SCI_GETFOLDPARENT, line)
 
@@ -788,9 +788,9 @@ class Messages:
 
     def set_line_end_types_allowed(self, types: int) -> None:
         """Sets which line ends the document allows, also if it is read-only: `SC_LINE_END_TYPE_DEFAULT` 0, or
-        `SC_LINE_END_TYPE_UNICODE` 1 for those of Unicode too. Line data, and the line flags of each view, go to
-        the lines that contain their starts. Raises `Refused` with `Refusal.BAD_ARGUMENT` unless `types` is 0 or
-        1. Message: `SCI_SETLINEENDTYPESALLOWED`.
+        `SC_LINE_END_TYPE_UNICODE` 1 for those of Unicode too. Line data (markers, fold levels, line states) and
+        the line flags of each view go to the lines that contain their starts. Raises `Refused` with
+        `Refusal.BAD_ARGUMENT` unless `types` is 0 or 1. Message: `SCI_SETLINEENDTYPESALLOWED`.
         """
         self.send(constants.SCI_SETLINEENDTYPESALLOWED, types)
 
@@ -834,8 +834,9 @@ class Messages:
 
     def colourise(self, start: int, end: int) -> None:
         """Asks for styles up to `end`: moves end styled back to `start` if it is greater, and sends the view
-        SCN_STYLENEEDED, even for an empty range. Raises `Refused` with `Refusal.BAD_ARGUMENT` unless `start`
-        and `end` are a range of the text; an `end` of -1 is its end. Message: `SCI_COLOURISE`.
+        SCN_STYLENEEDED with the position `end`, even for an empty range. Raises `Refused` with
+        `Refusal.BAD_ARGUMENT` unless `start` and `end` are a range of the text; an `end` of -1 is its end.
+        Message: `SCI_COLOURISE`.
         """
         self.send(constants.SCI_COLOURISE, start, end)
     # Written by tools/pages/wrappers.py: end

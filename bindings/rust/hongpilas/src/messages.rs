@@ -236,8 +236,8 @@ impl View<'_> {
         self.ask(sys::SCI_GETLASTCHILD, line, level)
     }
 
-    /// Returns the fold parent of line `line`, or -1 if it has none or does not exist. Message:
-    /// `SCI_GETFOLDPARENT`.
+    /// Returns the fold parent of line `line`: the nearest earlier header with a smaller level
+    /// number; -1 if there is none, or no such line. Message: `SCI_GETFOLDPARENT`.
     pub fn get_fold_parent(&self, line: i64) -> Result<i64, Refusal> {
         self.ask(sys::SCI_GETFOLDPARENT, line, 0)
     }
@@ -914,9 +914,9 @@ impl ViewMut<'_> {
 
     /// Sets which line ends the document allows, also if it is read-only:
     /// `SC_LINE_END_TYPE_DEFAULT` 0, or `SC_LINE_END_TYPE_UNICODE` 1 for those of Unicode too.
-    /// Line data, and the line flags of each view, go to the lines that contain their starts.
-    /// Refused with [`Refusal::BadArgument`] unless `types` is 0 or 1. Message:
-    /// `SCI_SETLINEENDTYPESALLOWED`.
+    /// Line data (markers, fold levels, line states) and the line flags of each view go to the
+    /// lines that contain their starts. Refused with [`Refusal::BadArgument`] unless `types` is
+    /// 0 or 1. Message: `SCI_SETLINEENDTYPESALLOWED`.
     pub fn set_line_end_types_allowed(&mut self, types: i64) -> Result<(), Refusal> {
         self.as_done(sys::SCI_SETLINEENDTYPESALLOWED, types, 0, &[])
     }
@@ -950,9 +950,9 @@ impl ViewMut<'_> {
     }
 
     /// Asks for styles up to `end`: moves end styled back to `start` if it is greater, and
-    /// sends the view SCN_STYLENEEDED, even for an empty range. Refused with
-    /// [`Refusal::BadArgument`] unless `start` and `end` are a range of the text; an `end` of
-    /// -1 is its end. Message: `SCI_COLOURISE`.
+    /// sends the view SCN_STYLENEEDED with the position `end`, even for an empty range. Refused
+    /// with [`Refusal::BadArgument`] unless `start` and `end` are a range of the text; an `end`
+    /// of -1 is its end. Message: `SCI_COLOURISE`.
     pub fn colourise(&mut self, start: i64, end: i64) -> Result<(), Refusal> {
         self.as_done(sys::SCI_COLOURISE, start, end, &[])
     }
