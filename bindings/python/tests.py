@@ -253,7 +253,8 @@ class Texts(unittest.TestCase):
             file.write(b"a\0b")
             file.flush()
             mapped = mmap.mmap(file.fileno(), 3, access=mmap.ACCESS_READ)
-            for text in (mapped, memoryview(mapped), array.array("i", [1, 2]), memoryview(bytearray(b"abcd")).cast("B", (2, 2)), memoryview(b"abcd")[1:3], b"", bytearray()):
+            square, part = memoryview(bytearray(b"abcd")).cast("B", (2, 2)), memoryview(b"abcd")[1:3]
+            for text in (mapped, memoryview(mapped), array.array("i", [1, 2]), square, part, b"", bytearray()):
                 view.set_text(text)
                 self.assertEqual(view.get_text(), bytes(text))
                 self.assertEqual(view.read_range(0, view.get_length()), bytes(text))
