@@ -421,7 +421,7 @@ using View = BasicView<Throwing>;
 class [[nodiscard]] UndoGroup {
  public:
   UndoGroup(UndoGroup &&other) noexcept : session_(std::exchange(other.session_, nullptr)), view_(other.view_) {}
-  UndoGroup &operator=(UndoGroup &&other) noexcept {
+  UndoGroup &operator=(UndoGroup other) noexcept {
     std::swap(session_, other.session_);
     std::swap(view_, other.view_);
     return *this;
@@ -443,7 +443,7 @@ class [[nodiscard]] UndoGroup {
 class [[nodiscard]] Document {
  public:
   Document(Document &&other) noexcept : session_(std::exchange(other.session_, nullptr)), view_(other.view_), id_(other.id_) {}
-  Document &operator=(Document &&other) noexcept {
+  Document &operator=(Document other) noexcept {
     std::swap(session_, other.session_);
     std::swap(view_, other.view_);
     std::swap(id_, other.id_);
@@ -508,7 +508,7 @@ class BasicView {
     if (start < 0 || count < 0) return Policy::answer(Result<std::string_view>(Refusal::BadArgument));
     const auto length = static_cast<std::size_t>(count);
     const hongpilas_answer answer = hongpilas_lend_range(session_, id_, static_cast<std::size_t>(start), length, &bytes);
-    return Policy::answer(detail::result_of(answer, detail::lent(bytes, length)));
+    return Policy::answer(detail::result_of(answer, detail::lent(bytes, answer == HONGPILAS_DONE ? length : 0)));
   }
 
   /// Begins an undo group, which ends with the object that is returned. Refused: TooMany at the limit of depth.

@@ -56,7 +56,9 @@ static void try_documents(Session &session) {
   std::cout << "released: " << hongpilas::name_of(reader.results().SetDocPointer(id).error()) << "\n";
   Document made = keeper.create_document();
   Document other = keeper.create_document();
+  const std::int64_t first = made.id();
   made = std::move(other);
+  std::cout << "released by an assignment: " << hongpilas::name_of(keeper.results().ReleaseDocument(first).error()) << "\n";
   const std::int64_t left = made.release();
   keeper.ReleaseDocument(left);
   std::cout << "released by hand: " << hongpilas::name_of(keeper.results().ReleaseDocument(left).error()) << "\n";
