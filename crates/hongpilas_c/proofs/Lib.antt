@@ -1,3 +1,4 @@
 pub mod AsBox
 pub mod Refusing
 pub mod ReadTexts
+pub mod QueryAnswers
