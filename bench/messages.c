@@ -12,7 +12,7 @@
 
 /* `instructions` wants one run of each row at the lower size. */
 #ifndef BENCH_RUNS
-#define BENCH_RUNS 5
+#define BENCH_RUNS  5
 #define BENCH_SIZES 2
 #endif
 
@@ -26,10 +26,10 @@ typedef struct side {
   void (*whole_text)(void);
 } side;
 
-static char *text;   /* lines of 40 bytes, with their ends */
-static size_t room;  /* how many bytes of it there are */
-static size_t size;  /* how many of them the document has at first */
-static char *buffer; /* where texts come back to */
+static char *text;       /* lines of 40 bytes, with their ends */
+static size_t room;      /* how many bytes of it there are */
+static size_t size;      /* how many of them the document has at first */
+static char *buffer;     /* where texts come back to */
 static int64_t notified; /* the sum of the lengths of all notifications, so that each is read */
 
 /* ---- Ours ---- */
@@ -53,10 +53,10 @@ static int64_t send_ours(uint32_t number, int64_t w, int64_t l, const char *byte
 /* Reads all notifications of the last reply, as a program does whose view listens. */
 static int64_t send_ours_and_read(uint32_t number, int64_t w, int64_t l, const char *bytes, size_t length) {
   int64_t value = send_ours(number, w, l, bytes, length);
-  size_t count = hongpilas_note_count(&session);
+  size_t count = hongpilas_note_count_unchecked(session);
   hongpilas_note_data note;
   for (size_t i = 0; i < count; i++) {
-    must(hongpilas_note(&session, i, &note), "no such notification");
+    must(hongpilas_note_unchecked(session, i, &note), "no such notification");
     notified += note.length;
   }
   return value;
@@ -92,13 +92,9 @@ static void text_range_theirs(int64_t from, int64_t to) {
   scintilla_send(widget, SCI_GETTEXTRANGE, 0, (intptr_t)&range);
 }
 
-static void lent_range_theirs(int64_t from, int64_t to) {
-  scintilla_send(widget, SCI_GETRANGEPOINTER, (uintptr_t)from, (intptr_t)(to - from));
-}
+static void lent_range_theirs(int64_t from, int64_t to) { scintilla_send(widget, SCI_GETRANGEPOINTER, (uintptr_t)from, (intptr_t)(to - from)); }
 
-static void whole_text_theirs(void) {
-  scintilla_send(widget, SCI_GETTEXT, (uintptr_t)scintilla_send(widget, SCI_GETLENGTH, 0, 0) + 1, (intptr_t)buffer);
-}
+static void whole_text_theirs(void) { scintilla_send(widget, SCI_GETTEXT, (uintptr_t)scintilla_send(widget, SCI_GETLENGTH, 0, 0) + 1, (intptr_t)buffer); }
 
 /* The start of its SCNotification, up to the length. */
 typedef struct scintilla_notification {
@@ -121,13 +117,10 @@ static void take_theirs(void *sender, int id, const scintilla_notification *noti
   notified += notification->length;
 }
 
-static unsigned long (*connect_signal)(void *sender, const char *signal, void (*called)(void), void *data,
-                                       void *destroy, int flags);
+static unsigned long (*connect_signal)(void *sender, const char *signal, void (*called)(void), void *data, void *destroy, int flags);
 
 /* Connects the widget's signal, which calls nothing before. */
-static void listen_to_theirs(void) {
-  must(connect_signal(widget, "sci-notify", (void (*)(void))take_theirs, NULL, NULL, 0) != 0, "no signal connected");
-}
+static void listen_to_theirs(void) { must(connect_signal(widget, "sci-notify", (void (*)(void))take_theirs, NULL, NULL, 0) != 0, "no signal connected"); }
 
 /* Opens Scintilla's widget, which is shown nowhere but wants a display all the same. */
 static bool open_theirs(const char *library) {
@@ -180,7 +173,7 @@ static void insert(const side *s, long count) {
   for (long i = 0; i < count; i++) s->send(SCI_INSERTTEXT, below((int64_t)size), 0, "inserted", 8);
 }
 
-static void delete(const side *s, long count) {
+static void delete (const side *s, long count) {
   for (long i = 0; i < count; i++) s->send(SCI_DELETERANGE, below((int64_t)size - 8 * count), 8, NULL, 0);
 }
 
@@ -255,8 +248,7 @@ static void load_typed(const side *s, long count) {
 
 static void undo(const side *s, long count) {
   (void)count;
-  while (s->send(SCI_CANUNDO, 0, 0, NULL, 0) && s->send(SCI_GETLENGTH, 0, 0, NULL, 0) > (int64_t)size)
-    s->send(SCI_UNDO, 0, 0, NULL, 0);
+  while (s->send(SCI_CANUNDO, 0, 0, NULL, 0) && s->send(SCI_GETLENGTH, 0, 0, NULL, 0) > (int64_t)size) s->send(SCI_UNDO, 0, 0, NULL, 0);
 }
 
 static void add_markers(const side *s, long count) {
@@ -347,8 +339,7 @@ static void convert_ends(const side *s, long count) {
 }
 
 static void set_levels(const side *s, long count) {
-  for (long i = 0; i < count; i++)
-    s->send(SCI_SETFOLDLEVEL, i, i % 8 == 0 ? SC_FOLDLEVELBASE | SC_FOLDLEVELHEADERFLAG : SC_FOLDLEVELBASE + 1, NULL, 0);
+  for (long i = 0; i < count; i++) s->send(SCI_SETFOLDLEVEL, i, i % 8 == 0 ? SC_FOLDLEVELBASE | SC_FOLDLEVELHEADERFLAG : SC_FOLDLEVELBASE + 1, NULL, 0);
 }
 
 static void load_levels(const side *s, long count) {
@@ -491,16 +482,13 @@ static void print_row(const row *r, const side *sides, int side_count, int mebib
 }
 
 /* Whether a row is wanted by a part of its name, or by `=` and its whole name. */
-static bool is_wanted(const char *name, const char *wanted) {
-  return wanted[0] == '=' ? strcmp(name, wanted + 1) == 0 : strstr(name, wanted) != NULL;
-}
+static bool is_wanted(const char *name, const char *wanted) { return wanted[0] == '=' ? strcmp(name, wanted + 1) == 0 : strstr(name, wanted) != NULL; }
 
 static void print_rows(const row *rows, size_t count, const side *sides, int side_count, const char *wanted) {
   for (size_t i = 0; i < count; i++)
     for (int large = 0; large < SIZES; large++) {
       size = (size_t)(large ? 16 : 1) * MEBIBYTE;
-      if (rows[i].counts[large] > 0 && is_wanted(rows[i].name, wanted))
-        print_row(&rows[i], sides, side_count, large ? 16 : 1, rows[i].counts[large]);
+      if (rows[i].counts[large] > 0 && is_wanted(rows[i].name, wanted)) print_row(&rows[i], sides, side_count, large ? 16 : 1, rows[i].counts[large]);
     }
 }
 
@@ -514,16 +502,14 @@ static void print_table(int side_count, const char *wanted) {
       {send_ours_and_read, text_range_ours, lent_range_ours, whole_text_ours},
       {send_theirs, text_range_theirs, lent_range_theirs, whole_text_theirs},
   };
-  printf("| Work, ns an operation           | MiB | ours: least (median)      |%s\n",
-         side_count == 2 ? " Scintilla                 | ratio |" : "");
+  printf("| Work, ns an operation           | MiB | ours: least (median)      |%s\n", side_count == 2 ? " Scintilla                 | ratio |" : "");
   printf("|---|---|---|%s\n", side_count == 2 ? "---|---|" : "");
   print_rows(quiet_rows, sizeof quiet_rows / sizeof *quiet_rows, quiet, side_count, wanted);
   double quiet_sum = log_sum;
   int quiet_count = compared;
   if (side_count == 2) listen_to_theirs();
   print_rows(notified_rows, sizeof notified_rows / sizeof *notified_rows, notified_sides, side_count, wanted);
-  if (quiet_count > 0)
-    printf("Geometric mean of %d ratios without notifications: %.2f\n", quiet_count, exp(quiet_sum / quiet_count));
+  if (quiet_count > 0) printf("Geometric mean of %d ratios without notifications: %.2f\n", quiet_count, exp(quiet_sum / quiet_count));
 }
 
 static void make_text(void) {

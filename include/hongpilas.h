@@ -330,7 +330,7 @@ HONGPILAS_MUST_USE hongpilas_answer hongpilas_copy_range_unchecked(hongpilas_ses
 #define SCI_SETFOLDLEVEL           2222 /* Sets the fold level of line `line`, if there is such a line. */
 #define SCI_GETFOLDLEVEL           2223 /* Returns the fold level of line `line`, or 1024 (`SC_FOLDLEVELBASE`) if there is no such line. */
 #define SCI_GETLASTCHILD           2224 /* Returns the last child of line `line`. */
-#define SCI_GETFOLDPARENT          2225 /* Returns the fold parent of line `line`, or -1 if it has none or does not exist. */
+#define SCI_GETFOLDPARENT          2225 /* Returns the fold parent of line `line`. */
 #define SCI_SHOWLINES              2226 /* Makes the lines from `first` to `last` visible, as far as they exist. */
 #define SCI_HIDELINES              2227 /* Hides the lines from `first` to `last`, as far as they exist, except line 0. */
 #define SCI_GETLINEVISIBLE         2228 /* Returns whether line `line` is visible; false if there is no such line. */

@@ -6,17 +6,15 @@
 #include <errno.h>
 #include <fcntl.h>
 #include <limits.h>
-#include <signal.h>
 #include <stdio.h>
 #include <stdlib.h>
 #include <string.h>
-#include <sys/ioctl.h>
 #include <sys/stat.h>
-#include <termios.h>
 #include <unistd.h>
 
-enum { TAB_COLUMNS = 4, MARGIN = 8, BOOKMARK = 1, DEEPEST = 1000, LEAST_ROWS = 2, LEAST_COLUMNS = 24 };
-enum { ESCAPE = 0x1B, RUBOUT = 0x7F, NOTHING = -1, AT_END = -2 };
+#include "terminal.h"
+
+enum { TAB_COLUMNS = 4, MARGIN = 8, BOOKMARK = 1, DEEPEST = 1000 };
 
 /* A view, and what part of it is shown. */
 typedef struct pane {
@@ -28,19 +26,17 @@ typedef struct pane {
 static hongpilas_session *session;
 static pane panes[2], bottom; /* bottom is the last row, whose text has a view of its own */
 static int pane_count = 1, active = 0;
-static int rows = 24, columns = 80;
 static int64_t goal = -1, goal_before = -1; /* the column that moves by rows keep to, of this key and the one before; or -1 */
 static char file_name[4096], needle[256], notice[256];
 static bool is_over;
-static volatile sig_atomic_t is_resized, is_ended; /* by a signal */
 
 /* What the notes said. The bytes from `from` to `to` changed since their fold levels were set. */
-static struct { bool is_modified; int64_t lines, position, from, to; } heard = {false, 1, 0, INT64_MAX, -1};
+static struct {
+  bool is_modified;
+  int64_t lines, position, from, to;
+} heard = {false, 1, 0, INT64_MAX, -1};
 
 #define say(...) snprintf(notice, sizeof notice, __VA_ARGS__)
-
-static int64_t least(int64_t a, int64_t b) { return a < b ? a : b; }
-static int64_t greatest(int64_t a, int64_t b) { return a > b ? a : b; }
 
 /* ---- The component ---- */
 
@@ -136,8 +132,7 @@ static int64_t indentation(const pane *p, int64_t line) {
 static void set_level(int64_t line, int64_t level) {
   if (ask(SCI_GETFOLDLEVEL, line) == level) return;
   command(SCI_SETFOLDLEVEL, line, level);
-  for (int i = 0; i < pane_count && !(level & SC_FOLDLEVELHEADERFLAG); i++)
-    send_text(&panes[i], SCI_SETFOLDEXPANDED, line, true, NULL, 0);
+  for (int i = 0; i < pane_count && !(level & SC_FOLDLEVELHEADERFLAG); i++) send_text(&panes[i], SCI_SETFOLDEXPANDED, line, true, NULL, 0);
 }
 
 /* In each view, hidden are the lines that have a contracted header above them, and no others. Makes it so again from a line on, after levels
@@ -149,8 +144,7 @@ static void hide_and_show(const pane *p, int64_t line, int64_t last) {
   for (; line < heard.lines; line++) {
     int64_t number = ask_of(p, SCI_GETFOLDLEVEL, line) & SC_FOLDLEVELNUMBERMASK;
     bool is_visible = number <= above || above < 0;
-    if (is_visible != (ask_of(p, SCI_GETLINEVISIBLE, line) != 0))
-      send_text(p, is_visible ? SCI_SHOWLINES : SCI_HIDELINES, line, line, NULL, 0);
+    if (is_visible != (ask_of(p, SCI_GETLINEVISIBLE, line) != 0)) send_text(p, is_visible ? SCI_SHOWLINES : SCI_HIDELINES, line, line, NULL, 0);
     else if (is_visible && line > last) return;
     if (is_visible) above = ask_of(p, SCI_GETFOLDEXPANDED, line) ? -1 : number;
   }
@@ -198,22 +192,6 @@ static void fold_all(int64_t none) {
 }
 
 /* ---- The screen ---- */
-
-static void take_size(void) {
-  struct winsize size;
-  is_resized = 0;
-  if (ioctl(STDOUT_FILENO, TIOCGWINSZ, &size) != 0 || size.ws_row == 0 || size.ws_col == 0) return;
-  rows = (int)greatest(size.ws_row, LEAST_ROWS);
-  columns = (int)greatest(size.ws_col, LEAST_COLUMNS);
-}
-
-/* One character: a tab as blanks, and what cannot be shown as a point, also the controls from U+0080 on. */
-static void draw_character(const uint8_t *bytes, size_t count, int64_t width) {
-  bool is_control = bytes[0] < ' ' || bytes[0] == RUBOUT || (count == 2 && bytes[0] == 0xC2 && bytes[1] < 0xA0);
-  if (bytes[0] == '\t') printf("%*s", (int)width, "");
-  else if (is_control || (bytes[0] >= 0x80 && count == 1)) putchar('.');
-  else fwrite(bytes, 1, count, stdout);
-}
 
 /* A line's text from the pane's first column on, with what is selected in reverse. */
 static void draw_text(const pane *p, int64_t line, int64_t width) {
@@ -269,9 +247,9 @@ static void draw_status(int64_t line, int64_t column) {
   char text[sizeof file_name + 1024];
   const char *name = file_name + greatest(0, (int64_t)strlen(file_name) - columns / 3);
   while ((*name & 0xC0) == 0x80) name++;
-  snprintf(text, sizeof text, "%s%s%s%s  line %lld of %lld, column %lld, last change at %lld%*s", notice,
-           notice[0] == '\0' ? "" : "  ", *name == '\0' ? "no name" : name, heard.is_modified ? ", changed" : "",
-           (long long)line + 1, (long long)heard.lines, (long long)column + 1, (long long)heard.position, columns, "");
+  snprintf(text, sizeof text, "%s%s%s%s  line %lld of %lld, column %lld, last change at %lld%*s", notice, notice[0] == '\0' ? "" : "  ",
+           *name == '\0' ? "no name" : name, heard.is_modified ? ", changed" : "", (long long)line + 1, (long long)heard.lines, (long long)column + 1,
+           (long long)heard.position, columns, "");
   draw_bottom(text, true);
 }
 
@@ -291,59 +269,7 @@ static void draw(void) {
   printf("\x1b[%d;%dH\x1b[?25h", (int)(row - p->top) + 1, (int)(column - p->left) + MARGIN + 1 + active * (int)(width + 2));
 }
 
-/* ---- Keys ---- */
-
-/* The key that was pressed last: the character that was typed, or a name as in `commands`, or "" for a new size of the terminal. */
-static char key[16];
-static int read_ahead = NOTHING; /* the byte behind it, where it was read to see where the key ends */
-
-static bool is_key(const char *name) { return strcmp(key, name) == 0; }
-static bool is_text(void) { return key[0] != '\0' && (key[0] != '^' || key[1] == '\0'); }
-
-/* The next byte, or NOTHING where none comes within a tenth of a second. */
-static int next_byte(void) {
-  unsigned char byte;
-  int ahead = read_ahead;
-  read_ahead = NOTHING;
-  if (ahead != NOTHING) return ahead;
-  ssize_t count = read(STDIN_FILENO, &byte, 1);
-  if (count < 0 && errno != EINTR && errno != EAGAIN) return AT_END;
-  return count == 1 ? byte : NOTHING;
-}
-
-/* Reads what a terminal sends behind an escape: `[` or `O`, and on to the byte that closes it. Else the escape is a key itself. */
-static void read_sequence(void) {
-  size_t length = 2;
-  read_ahead = next_byte();
-  if (read_ahead != '[' && read_ahead != 'O') return;
-  for (int byte; length < sizeof key - 1 && (byte = next_byte()) >= 0;) {
-    key[length++] = (char)byte;
-    if (length > 3 && byte >= '@' && byte != '[') break;
-  }
-  key[2] = '[';
-  key[length] = '\0';
-}
-
-/* Reads on in the character that begins with this byte. What does not belong to it is left for the next key. */
-static void read_character(int byte) {
-  size_t whole = byte < 0xC2 || byte > 0xF4 ? 1 : byte < 0xE0 ? 2 : byte < 0xF0 ? 3 : 4, length = 1;
-  key[0] = (char)byte;
-  while (length < whole && (byte = next_byte()) >= 0x80 && byte < 0xC0) key[length++] = (char)byte;
-  if (length < whole) read_ahead = byte;
-  key[length] = '\0';
-}
-
-/* Shows what was drawn, and waits for a key or a new size of the terminal. False where no key can come any more. */
-static bool read_key(void) {
-  int byte;
-  fflush(stdout);
-  while ((byte = next_byte()) == NOTHING && !is_resized && !is_ended) continue;
-  key[0] = '\0';
-  if (byte == RUBOUT || (byte >= 0 && byte < ' ' && byte != '\t')) sprintf(key, "^%c", byte ^ 0x40);
-  else if (byte >= 0) read_character(byte);
-  if (byte == ESCAPE) read_sequence();
-  return byte != AT_END && !is_ended;
-}
+/* ---- Questions ---- */
 
 /* Asks in the last row. False where Escape leaves it. */
 static bool prompt(const char *question, char *answer, size_t room) {
@@ -467,8 +393,7 @@ static int write_file(const char *name, const uint8_t *bytes, size_t length) {
   int made = mkstemp(beside);
   FILE *file = made < 0 ? NULL : fdopen(made, "wb");
   bool is_written = file != NULL && (length == 0 || fwrite(bytes, 1, length, file) == length) && fflush(file) == 0 &&
-                    fchown(made, old.st_uid, old.st_gid) == 0 && fchmod(made, old.st_mode & 07777) == 0 && fsync(made) == 0 &&
-                    rename(beside, place) == 0;
+                    fchown(made, old.st_uid, old.st_gid) == 0 && fchmod(made, old.st_mode & 07777) == 0 && fsync(made) == 0 && rename(beside, place) == 0;
   int reason = is_written ? 0 : errno;
   if (!is_written && made >= 0) unlink(beside);
   if (!is_written && is_new) unlink(place);
@@ -571,8 +496,7 @@ static void new_line(int64_t none) {
   int64_t end = ask(SCI_GETSELECTIONSTART, none);
   command(SCI_BEGINUNDOACTION, 0, 0);
   command(SCI_NEWLINE, 0, 0);
-  for (int64_t at = start_of(p, line_at(p, end)); at < end && is_blank(p, at); at++)
-    type_text(ask(SCI_GETCHARAT, at) == '\t' ? "\t" : " ", 1);
+  for (int64_t at = start_of(p, line_at(p, end)); at < end && is_blank(p, at); at++) type_text(ask(SCI_GETCHARAT, at) == '\t' ? "\t" : " ", 1);
   command(SCI_ENDUNDOACTION, 0, 0);
 }
 
@@ -587,6 +511,7 @@ static const struct {
   int64_t argument;
   const char *name;
 } commands[] = {
+    // clang-format off
     {"^[[P", show_keys, 0, "F1       these keys"},
     {"^O", leave, 0, "Ctrl-O   open a file"},
     {"^S", save, 0, "Ctrl-S   save"},
@@ -622,6 +547,7 @@ static const struct {
     {"^[[R", search, 1, NULL},                  {"^[[1;2R", search, -1, NULL},
     {"^U", fold_all, 0, NULL},                  {"^[[17~", other_view, 1, NULL},
     {"^[[[A", show_keys, 0, NULL}, {"^[[[B", go_to_bookmark, 1, NULL}, {"^[[[C", search, 1, NULL}, /* F1 to F3 of Linux's console */
+    // clang-format on
 };
 
 static void run_key(void) {
@@ -644,35 +570,6 @@ static void show_keys(int64_t none) {
 }
 
 /* ---- The program ---- */
-
-static struct termios found_terminal;
-static void note_size(int signal) { is_resized = signal; }
-static void note_end(int signal) { is_ended = signal; }
-
-static void leave_terminal(void) {
-  fputs("\x1b[?7h\x1b[?1049l", stdout);
-  fflush(stdout);
-  tcsetattr(STDIN_FILENO, TCSAFLUSH, &found_terminal);
-}
-
-/* Keys as they are sent, a read of at most a tenth of a second, and a screen of its own, whose rows end where they end. */
-static bool take_terminal(void) {
-  static const int ends[] = {SIGTERM, SIGHUP, SIGINT, SIGQUIT};
-  if (!isatty(STDOUT_FILENO) || tcgetattr(STDIN_FILENO, &found_terminal) != 0) return false;
-  struct termios raw = found_terminal;
-  cfmakeraw(&raw);
-  raw.c_cc[VMIN] = 0;
-  raw.c_cc[VTIME] = 1;
-  signal(SIGWINCH, note_size);
-  for (size_t i = 0; i < sizeof ends / sizeof *ends; i++) signal(ends[i], note_end);
-  signal(SIGXFSZ, SIG_IGN); /* a write tells where a file may not grow */
-  if (tcsetattr(STDIN_FILENO, TCSAFLUSH, &raw) != 0) return false;
-  atexit(leave_terminal);
-  setvbuf(stdout, NULL, _IOFBF, 1 << 16);
-  fputs("\x1b[?1049h\x1b[?7l", stdout);
-  take_size();
-  return true;
-}
 
 static void edit(const char *name) {
   send_text(&bottom, SCI_SETUNDOCOLLECTION, false, 0, NULL, 0);

@@ -133,6 +133,7 @@ static void must_give_back(hongpilas_session *session, uint32_t view, uint32_t n
   long before;
   must_do(session, view, SCI_SETUNDOCOLLECTION, 1, 0);
   must(send(session, view, SCI_INSERTTEXT, text), "there is memory");
+  must_do(session, view, SCI_GETLENGTH, 0, 0); /* the reply before it, with its notes, is freed here */
   before = blocks;
   must_do(session, view, number, 0, 0);
   must(blocks == before - 2, "a forgotten history gives its memory back");
@@ -155,7 +156,7 @@ static void bound_messages(hongpilas_session *session, uint32_t own, uint32_t th
     before = blocks;
     bound_history(session, own);
     must(history <= MOST_HISTORY, "the history has its bound");
-    must(history != 0 || blocks == before - 2, "a host gets a history's memory back");
+    must(history != 0 || blocks <= before - 2, "a host gets a history's memory back");
     forgotten += history == 0;
   }
   must(forgotten > 0 && forgotten < MESSAGES / 2, "a host forgets a history at its bound");

@@ -81,8 +81,8 @@ struct Times {
 };
 
 enum Group { EDITS, UNDOS, LINES, FOLDS, STYLES, SEARCHES, QUESTIONS, GROUPS };
-static const char *const group_names[GROUPS] = {"insert, delete, replace", "undo, redo", "markers, levels, states", "fold, hide, show", "styles, indicators",
-                                                "search in 64 KiB", "questions, caret"};
+static const char *const group_names[GROUPS] = {"insert, delete, replace", "undo, redo",       "markers, levels, states", "fold, hide, show",
+                                                "styles, indicators",      "search in 64 KiB", "questions, caret"};
 static Times ours[GROUPS], theirs[GROUPS];
 
 static std::uint64_t state;
@@ -121,7 +121,8 @@ static double now_ns() { return double(std::chrono::steady_clock::now().time_sin
 static Number call(Group group, size_t view, std::uint32_t number, Number w = 0, Number l = 0, const Bytes &text = Bytes()) {
   Number value = 0;
   double begun = now_ns();
-  hongpilas_answer answer = hongpilas_send_unchecked(session, view_ids[view], number, w, l, reinterpret_cast<const uint8_t *>(text.data()), text.size(), &value);
+  hongpilas_answer answer =
+      hongpilas_send_unchecked(session, view_ids[view], number, w, l, reinterpret_cast<const uint8_t *>(text.data()), text.size(), &value);
   ours[group].add(now_ns() - begun);
   if (answer != HONGPILAS_DONE) fail("an answer", answer, 0);
   calls++;
@@ -219,8 +220,8 @@ static void compare(bool whole) {
 // Work. Each kind is a few calls, which the model does too.
 
 static Bytes draw_text(Number most) {
-  static const char *const words[] = {"let", "x", "= ", "editor", "(line)", "\n", "\n", "\r\n", "    ",
-                                      "\xC3\xA9", "text_of", ", ", "\xE2\x80\xA8", "\r", "; ", "/* a longer remark */"};
+  static const char *const words[] = {"let",  "x",        "= ",      "editor", "(line)",       "\n", "\n", "\r\n",
+                                      "    ", "\xC3\xA9", "text_of", ", ",     "\xE2\x80\xA8", "\r", "; ", "/* a longer remark */"};
   Bytes text;
   for (Number wanted = 1 + below(most); Number(text.size()) < wanted;) text += words[below(16) == 0 ? 7 + below(9) : below(16)];
   return text;
@@ -493,10 +494,13 @@ static int work(double megabytes, double minutes, const char *scintilla) {
   std::uint64_t done = calls, next_compare = calls + 1000;
   while (now_ns() - begun < minutes * 60e9) {
     switch (below(12)) {
-      case 0: case 1: do_typing(); break;
-      case 2: case 3: do_edits(wanted); break;
+      case 0:
+      case 1: do_typing(); break;
+      case 2:
+      case 3: do_edits(wanted); break;
       case 4: do_undo(); break;
-      case 5: case 6: do_lines(); break;
+      case 5:
+      case 6: do_lines(); break;
       case 7: do_folds(); break;
       case 8: do_styles(); break;
       case 9: do_search(); break;
@@ -513,8 +517,8 @@ static int work(double megabytes, double minutes, const char *scintilla) {
   print_moment((now_ns() - begun) / 60e9, done);
   compare(true);
   std::printf("load: %g MiB, %.1f minutes, of which %.1f on a processor, %" PRIu64 " calls; compared %" PRIu64 " times, %" PRIu64
-              " of these over the whole document\n", megabytes, (now_ns() - begun) / 60e9, double(std::clock()) / CLOCKS_PER_SEC / 60, calls - done, compared,
-              compared_whole);
+              " of these over the whole document\n",
+              megabytes, (now_ns() - begun) / 60e9, double(std::clock()) / CLOCKS_PER_SEC / 60, calls - done, compared, compared_whole);
   print_times("Hongpilas, microseconds", ours);
   if (widgets[0] != nullptr) print_times("Scintilla, microseconds", theirs);
   std::printf("load: at the end the library holds %.1f MiB, at the most it held %.1f; alive are %.1f (%" PRId64 " bytes of text, %" PRId64

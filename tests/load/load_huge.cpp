@@ -21,8 +21,8 @@ using Number = std::int64_t;
 
 static constexpr Number REPEAT = 1 << 20;
 
-static Bytes repeated;                     // the text that repeats
-static std::vector<Number> ends_before;    // how many LF stand before a place of it
+static Bytes repeated;                   // the text that repeats
+static std::vector<Number> ends_before;  // how many LF stand before a place of it
 static hongpilas_session *session;
 static std::uint32_t views[3];
 static std::uint64_t calls, compared;
@@ -238,8 +238,8 @@ static Number peak() {
   return kilobytes;
 }
 
-static Number wanted;                   // how long the document is before the work
-static const Number SPARE = 8 << 20;    // how much longer it may become
+static Number wanted;                 // how long the document is before the work
+static const Number SPARE = 8 << 20;  // how much longer it may become
 static double stage_begun;
 
 // Tells how long a part took, and the most memory that was held so far.
@@ -301,7 +301,8 @@ static void do_some(Number place) {
       }
       break;
     }
-    case 1: case 2: {
+    case 1:
+    case 2: {
       Number p = std::min(std::max<Number>(place + below(100000) - 50000, 0), length);
       must_be(ask(SCI_LINEFROMPOSITION, p), line_of(p), "the line of a place");
       ask(SCI_GETCHARAT, p);

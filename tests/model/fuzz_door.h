@@ -456,6 +456,7 @@ static void lend_by_door(side *s, uint32_t view, uint64_t start, uint64_t count,
   const uint8_t *bytes = (const uint8_t *)hongpilas_direct_status(e->view, SCI_GETRANGEPOINTER, (uptr_t)start, (sptr_t)count, &status);
   must(requests == counts.requests, "lending takes no memory");
   if (answer == HONGPILAS_DONE) {
+    must(count == 0 || (uintptr_t)bytes >= PAGE, "what is lent has an address");
     if (count > 0) must_be_text(bytes, count, wanted, count, "the lent range");
     keep_lent(s, bytes, (size_t)count);
   } else {

@@ -71,11 +71,11 @@ def theorem(name):
 def pages():
     """The files that it writes, by their places in the crate."""
     found = {}
-    rust = ["//! Each example of `examples/`, as a theorem: what its script prints is computed from the definitions.", ""]
+    rust = ["//! Each example of `examples/messages`, as a theorem: what its script prints is computed from the definitions.", ""]
     for group, names in GROUPS.items():
         module = type_name(group) + "Examples"
         found["specs/%s.antt" % module] = (
-            "-- Worked examples, written by tools/example_theorems.py from examples/.\n"
+            "-- Worked examples, written by tools/pages/example_theorems.py from examples/messages.\n"
             "use Rattle.std.specs.Prelude.{[], ◌∷◌, codes}\nuse Rattle.ed_model.specs.Prints.{Prints, joined_lines}\n\n"
             + "\n".join(theorem(name) for name in names))
         rust.append("ghost use Rattle.ed_model.specs.%s.{%s};" % (module, ", ".join(type_name(n) for n in names)))

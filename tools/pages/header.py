@@ -2,7 +2,9 @@
 """Writes Scintilla's names and numbers into include/hongpilas.h, names and marks into c/names.c, and the count of messages into README.md, from
 the definitions.
 
-Beside each message stands what docs/MESSAGES.md says of it first. SCI_ has its numbers from the rows of crates/ed_types/specs/Messages.antt; SCN_, SC_, SCFIND_ and UNDO_ have theirs from the definitions of
+Beside each message stands what docs/MESSAGES.md says of it first.
+
+SCI_ has its numbers from the rows of crates/ed_types/specs/Messages.antt; SCN_, SC_, SCFIND_ and UNDO_ have theirs from the definitions of
 crates/ed_model/specs that DEFINED names, and what no definition reads from a constant of the code. Run it at the top of the repository after a
 message or a constant was added. With --check it writes nothing, and fails where
 

@@ -1,6 +1,7 @@
 #!/usr/bin/env python3
 """Checks docs/MESSAGES.md: each message of the table in crates/ed_types has an entry with its name, number and marks, and the script that an entry links
-sends its message. The page has the refusals of ed_types with their numbers, and names no refusal, message or notification that is not there.
+sends its message. The page has the refusals of ed_types with their numbers, and names no refusal, message, notification or place in itself that is not
+there.
 
 Run it at the top of the repository or anywhere in it. It writes nothing, with or without --check, and ends with status 1 where an entry is wrong; what it
 then prints also names a script that sends the message.
@@ -75,6 +76,8 @@ def names_faults():
     known = {name for name, _ in refusals}
     refused = {name for names in re.findall(r"[Rr]efused with ([A-Z]\w+)|and with ([A-Z]\w+)", page) for name in names if name}
     yield from (f"{message_page.PAGE}: there is no refusal {name}" for name in sorted(refused - known))
+    places = set(re.findall(r'<a id="(\w+)">', page)) | {re.sub(r"[^\w-]", "", it.lower().replace(" ", "-")) for it in re.findall(r"^#+ (.*)$", page, re.M)}
+    yield from (f"{message_page.PAGE}: a link leads to #{place}, which is not there" for place in sorted(set(re.findall(r"\]\(#([^)]*)\)", page)) - places))
     notes = {name for name, _ in header.notes()}
     yield from (f"{message_page.PAGE}: there is no notification {name}" for name in sorted(set(re.findall(r"\bSCN_\w+", page)) - notes))
     messages = {name for _, name, _ in table()} | WORDS

@@ -1,12 +1,6 @@
 -- How many rows there are once a step has carried them, and how much room for lines is left.
-use Rattle.std.proofs.Common.{◌≤◌, ◌+◌, List, [], ◌∷◌, length, sym, subst, arith}
-use Rattle.ed_model.specs.declared.plan.LineEndTypes.{LineEndTypes}
-use Rattle.ed_model.specs.proved.Lines.{few_lines}
-use Rattle.ed_model.specs.Steps.{Step, Insert, Delete, step_bytes}
-use Rattle.line_index.specs.declared.edit.LineEdit.{LineEdit}
-use Rattle.line_index.specs.Edits.{after_edit, after_edits, FitLines, fresh_lines}
+use Rattle.document.proofs.Names.{◌≤◌, ◌+◌, List, [], ◌∷◌, length, sym, subst, arith, LineEndTypes, few_lines, Step, Insert, Delete, step_bytes, LineEdit, after_edit, after_edits, FitLines, fresh_lines, lines_for_step}
 use Rattle.line_index.specs.proved.Edits.{length_after_edit, edit_adds}
-use Rattle.line_index.specs.RoomLaws.{lines_for_step}
 
 -- Edits.
 

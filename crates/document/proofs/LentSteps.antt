@@ -1,14 +1,10 @@
 -- Steps that the history lends.
-use Rattle.std.proofs.Common.{◌≡◌, ℕ, List, Option, Some, IsSomeAnd, refl, subst}
+use Rattle.document.proofs.Names.{◌≡◌, ℕ, List, Option, Some, IsSomeAnd, refl, subst, text_of, Step, Insert, Delete, Kept, CanMake, IsLentOf}
 use Rattle.ed_model.specs.History.{Change, TextStep}
 use Rattle.ed_model.specs.InverseLaws.{Fits}
-use Rattle.ed_model.specs.Session.{text_of}
-use Rattle.ed_model.specs.Steps.{Step, Insert, Delete}
 use Rattle.document.specs.declared.text_step.TextStep.{TextStep as Lent}
 use Rattle.document.specs.declared.text_step.TextStep.TheVariants as lent
-use Rattle.document.specs.Kept.{Kept}
 use Rattle.document.specs.TextSteps.{step_in}
-use Rattle.document.specs.Undoing.{CanMake, IsLentOf}
 
 -- it is the step of the change, if that one fits the text
 step_of_lent : (step : Lent) (made : Step) (text : List ℕ) → IsLentOf (Some step) (TextStep made) → Fits made text → step_in step text ≡ made

@@ -1,4 +1,5 @@
 -- Lemmas.
+pub mod Names
 pub mod LineSteps
 pub mod PieceLemmas
 pub mod CarrySteps

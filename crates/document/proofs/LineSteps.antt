@@ -1,19 +1,6 @@
 -- The index of a document's lines, before a step and after it: the facts that it requires of a step, and the room.
-use Rattle.std.proofs.Common.{◌≡◌, ℕ, ◌+◌, ◌≤◌, List, ◌++◌, length, take, drop, slice_range, refl, ap, sym, ◌∙◌, arith}
-use Rattle.std.proofs.lemmas.List.{length-map, map-append, take-map, drop-map}
-use Rattle.ed_model.specs.declared.plan.LineEndTypes.{LineEndTypes}
-use Rattle.ed_model.specs.Text.{Cell, bytes_of}
-use Rattle.ed_model.specs.Lines.{line_starts, line_count, end_of_line}
-use Rattle.ed_model.specs.MergeLaws.{end_of, put_in}
-use Rattle.ed_model.specs.Steps.{Step, Insert, Delete, place_of, edited, edited_cells}
-use Rattle.ed_model.specs.proved.Lines.{end_in_range}
-use Rattle.ed_model.specs.proved.Steps.{bytes_of_edited_cells, length_of_range}
+use Rattle.document.proofs.Names.{◌≡◌, ℕ, ◌+◌, ◌≤◌, List, ◌++◌, length, take, drop, slice_range, refl, ap, sym, ◌∙◌, arith, length-map, map-append, take-map, drop-map, LineEndTypes, Cell, bytes_of, line_starts, line_count, end_of_line, end_of, put_in, Step, Insert, Delete, place_of, edited, edited_cells, end_in_range, bytes_of_edited_cells, length_of_range, Index, IsIndexOf, IsInsertion, IsDeletion, bytes_near, lines_for_insertion, lines_for_deletion, InsertionAddsFewLines, DeletionAddsFewLines, change_about, change_of, HasLinesOf}
 use Rattle.ed_model.specs.proved.Lists.{length_slice}
-use Rattle.line_index.specs.Index.{Index, IsIndexOf, IsInsertion, IsDeletion, bytes_near}
-use Rattle.line_index.specs.RoomLaws.{lines_for_insertion, lines_for_deletion, InsertionAddsFewLines, DeletionAddsFewLines}
-use Rattle.line_index.specs.Change.{change_about}
-use Rattle.line_index.specs.StepEdits.{change_of}
-use Rattle.document.specs.Parts.{HasLinesOf}
 
 -- The end of a line lies in the text.
 

@@ -1,15 +1,8 @@
 -- The line that the markers with a handle left.
-use Rattle.std.proofs.Common.{◌≡◌, ◌≤◌, ℕ, zero, suc, ◌+◌, ◌-◌, ◌==◌, not, Bool, true, false, cond, if◌then◌else◌, List, [], ◌∷◌, ◌++◌, length, filter, Option, Some, None, refl, ap, sym, subst, ◌∙◌, arith, append_assoc, length-append}
-use Rattle.std.specs.List.{range_with_len, list_any}
-use Rattle.std.specs.Prelude.{find, ◌||◌}
-use Rattle.std.proofs.lemmas.Bool.{eq-eqb, ne_eqb, eqb-true, eqb-false}
+use Rattle.document.proofs.Names.{◌≡◌, ◌≤◌, ℕ, zero, suc, ◌+◌, ◌-◌, ◌==◌, not, Bool, true, false, cond, if◌then◌else◌, List, [], ◌∷◌, ◌++◌, length, filter, Option, Some, None, refl, ap, sym, subst, ◌∙◌, arith, append_assoc, length-append, range_with_len, list_any, find, ◌||◌, eq-eqb, ne_eqb, eqb-true, eqb-false, Marker, Row, marker_count, without_markers, line_with_handle, row_at, has_handle, first_from, line_it_left}
 use Rattle.std.proofs.lemmas.List.Sums.{sum_by-cons}
 use Rattle.std.proofs.lemmas.List.Filters.{length-filter_both}
-use Rattle.ed_model.specs.Rows.{Marker, Row}
-use Rattle.ed_model.specs.Changes.{marker_count, without_markers, line_with_handle}
 use Rattle.ed_model.specs.proved.Changes.{marker_count-cons}
-use Rattle.line_rows.specs.Kept.{row_at, has_handle, first_from}
-use Rattle.document.specs.Changes.{line_it_left}
 
 row_behind : (front : List Row) (row : Row) (rest : List Row) → row_at (front ++ row ∷ rest) (length front) ≡ row
 row_behind [] row rest = refl

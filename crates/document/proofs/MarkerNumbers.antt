@@ -1,17 +1,5 @@
 -- The numbers of a mask, one after the other, and markers with them.
-use Rattle.std.proofs.Common.{◌≡◌, ◌≢◌, ◌≤◌, ◌<◌, ℕ, zero, suc, ◌+◌, ◌-◌, ◌/◌, ◌%◌, ◌^◌, cond, List, [], ◌∷◌, ◌++◌, length, filter, refl, ap, ◌∙◌, arith, append_assoc}
-use Rattle.std.specs.List.{range_with_len}
-use Rattle.std.specs.Prelude.{slice_set}
-use Rattle.std.proofs.lemmas.Bool.{eq-eqb, ne_eqb}
-use Rattle.std.proofs.lemmas.List.{set-get_or, get_or-set_same, append-nil}
-use Rattle.ed_model.specs.Numbers.{has_bit}
-use Rattle.ed_model.specs.LinePlans.{numbers_in}
-use Rattle.ed_model.specs.Rows.{Marker, Row, fresh_row}
-use Rattle.ed_model.specs.Changes.{with_markers, new_markers, with_new_markers}
-use Rattle.line_rows.specs.Kept.{KeptRows, RowRoom, kept_rows, row_at}
-use Rattle.document.specs.Changes.{numbers_of, with_more_markers}
-use Rattle.document.specs.Kept.{ChangeRoom}
-use Rattle.document.specs.Parts.{document_in, spare_in}
+use Rattle.document.proofs.Names.{◌≡◌, ◌≢◌, ◌≤◌, ◌<◌, ℕ, zero, suc, ◌+◌, ◌-◌, ◌/◌, ◌%◌, ◌^◌, cond, List, [], ◌∷◌, ◌++◌, length, filter, refl, ap, ◌∙◌, arith, append_assoc, range_with_len, slice_set, eq-eqb, ne_eqb, set-get_or, get_or-set_same, append-nil, has_bit, numbers_in, Marker, Row, fresh_row, with_markers, new_markers, with_new_markers, KeptRows, RowRoom, kept_rows, row_at, numbers_of, with_more_markers, ChangeRoom, document_in, spare_in}
 use Rattle.document.specs.declared.kept.Document.TheInside.{Inside}
 
 -- those from a number on

@@ -1,12 +1,9 @@
 -- How many bits of a mask are set, and how many numbers it has.
-use Rattle.std.proofs.Common.{◌≡◌, ℕ, zero, suc, ◌+◌, ◌<◌, ◌/◌, ◌^◌, ◌==◌, Bool, true, false, cond, List, ◌∷◌, length, refl, ap, ◌∙◌, arith, filter, count_ones}
-use Rattle.std.specs.List.{range_with_len}
+use Rattle.document.proofs.Names.{◌≡◌, ℕ, zero, suc, ◌+◌, ◌<◌, ◌/◌, ◌^◌, ◌==◌, Bool, true, false, cond, List, ◌∷◌, length, refl, ap, ◌∙◌, arith, filter, count_ones, range_with_len, has_bit, numbers_in}
 use Rattle.std.specs.Int.{bit_at}
 use Rattle.std.proofs.lemmas.Nat.{ones_le_self}
 use Rattle.std.proofs.lemmas.Nat.Bits.{bit_at-suc, bit_at-lt, bit_at_lowest}
 use lib.Count.{ones_step}
-use Rattle.ed_model.specs.Numbers.{has_bit}
-use Rattle.ed_model.specs.LinePlans.{numbers_in}
 
 counted : (s t : Bool) (x y : ℕ) (xs ys : List ℕ) → s ≡ t → length xs ≡ length ys → length (cond s (x ∷ xs) xs) ≡ length (cond t (y ∷ ys) ys)
 counted true true x y xs ys e h = ap suc h

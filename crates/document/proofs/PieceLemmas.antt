@@ -1,15 +1,6 @@
 -- Bytes that are inserted piece by piece: the text after each piece, and its number of lines.
-use Rattle.std.proofs.Common.{◌≡◌, ℕ, ◌+◌, ◌-◌, ◌≤◌, List, ◌++◌, length, take, drop, slice_range, ap, ◌∙◌, arith, append_assoc, length-append}
-use Rattle.std.proofs.lemmas.List.{take_at, drop_at, length-map, length-take-le, map-append}
+use Rattle.document.proofs.Names.{◌≡◌, ℕ, ◌+◌, ◌-◌, ◌≤◌, List, ◌++◌, length, take, drop, slice_range, ap, ◌∙◌, arith, append_assoc, length-append, take_at, drop_at, length-map, length-take-le, map-append, LineEndTypes, Cell, bytes_of, plain_cell, plain_cells, line_count, Insert, edited_cells, bytes_of_edited_cells, Index, lines_for_insertion, InsertionAddsFewLines, FirstBytesHaveFewLines, HasLinesOf}
 use Rattle.std.proofs.Math.Seq.{take-add}
-use Rattle.ed_model.specs.declared.plan.LineEndTypes.{LineEndTypes}
-use Rattle.ed_model.specs.Text.{Cell, bytes_of, plain_cell, plain_cells}
-use Rattle.ed_model.specs.Lines.{line_count}
-use Rattle.ed_model.specs.Steps.{Insert, edited_cells}
-use Rattle.ed_model.specs.proved.Steps.{bytes_of_edited_cells}
-use Rattle.line_index.specs.Index.{Index}
-use Rattle.line_index.specs.RoomLaws.{lines_for_insertion, InsertionAddsFewLines, FirstBytesHaveFewLines}
-use Rattle.document.specs.Parts.{HasLinesOf}
 use Rattle.document.proofs.LineSteps.{lines_of_index}
 
 -- The text after each piece.

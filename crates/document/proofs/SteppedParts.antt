@@ -1,19 +1,7 @@
 -- The effect of a step on the parts of a document.
-use Rattle.std.proofs.Common.{◌≡◌, ◌≤◌, ◌<◌, ◌+◌, ◌^◌, ℕ, Bool, true, false, List, length, refl, sym, ap, ◌∙◌, arith}
-use Rattle.std.proofs.lemmas.List.{length-map}
-use Rattle.ed_model.specs.Text.{Cell, bytes_of}
-use Rattle.ed_model.specs.Lines.{line_count}
-use Rattle.ed_model.specs.Steps.{Step, edited, edited_cells}
+use Rattle.document.proofs.Names.{◌≡◌, ◌≤◌, ◌<◌, ◌+◌, ◌^◌, ℕ, Bool, true, false, List, length, refl, sym, ap, ◌∙◌, arith, length-map, Cell, bytes_of, line_count, Step, edited, edited_cells, end_of, bytes_of_edited_cells, length_of_bytes, lines_for_step, change_of, KeptRows, bound_of, LinesOf, IndicatorsOf, ArePartsOf, HasLinesOf, IsChange, AreCarried}
 use Rattle.ed_model.specs.Indicators.{indicator_after, indicators_after}
-use Rattle.ed_model.specs.MergeLaws.{end_of}
-use Rattle.ed_model.specs.proved.Steps.{bytes_of_edited_cells, length_of_bytes}
 use Rattle.line_index.specs.declared.change.LineChange.{LineChange}
-use Rattle.line_index.specs.RoomLaws.{lines_for_step}
-use Rattle.line_index.specs.StepEdits.{change_of}
-use Rattle.line_rows.specs.Kept.{KeptRows}
-use Rattle.document.specs.Kept.{bound_of}
-use Rattle.document.specs.Places.{LinesOf, IndicatorsOf}
-use Rattle.document.specs.Parts.{ArePartsOf, HasLinesOf, IsChange, AreCarried}
 use Rattle.document.proofs.LineSteps.{lines_of_index}
 
 -- a text that fits places of 32 bits has fewer lines than these can count

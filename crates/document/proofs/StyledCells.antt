@@ -1,10 +1,5 @@
 -- Cells whose styles change: their bytes stay, and so do the other parts of the document.
-use Rattle.std.proofs.Common.{◌≡◌, ℕ, List, length, sym, subst, ◌∙◌, arith}
-use Rattle.ed_model.specs.Text.{Cell, bytes_of}
-use Rattle.line_index.specs.Index.{IsIndexOf}
-use Rattle.line_rows.specs.Kept.{KeptRows}
-use Rattle.document.specs.Places.{LinesOf, IndicatorsOf}
-use Rattle.document.specs.Parts.{ArePartsOf}
+use Rattle.document.proofs.Names.{◌≡◌, ℕ, List, length, sym, subst, ◌∙◌, arith, Cell, bytes_of, IsIndexOf, KeptRows, LinesOf, IndicatorsOf, ArePartsOf}
 
 -- the parts of a document whose cells have other styles
 pub parts_restyled :

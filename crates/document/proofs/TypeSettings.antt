@@ -1,19 +1,7 @@
 -- Another setting of line ends: the rows are carried with the lines, and there is room for the new ones.
-use Rattle.std.proofs.Common.{◌≡◌, ◌+◌, ℕ, List, length, refl, ap, sym, ◌∙◌, arith}
-use Rattle.ed_model.specs.declared.plan.LineEndTypes.{LineEndTypes}
-use Rattle.ed_model.specs.Text.{Cell, bytes_of}
-use Rattle.ed_model.specs.Lines.{line_count}
-use Rattle.ed_model.specs.Rows.{Row, rows_together}
+use Rattle.document.proofs.Names.{◌≡◌, ◌+◌, ℕ, List, length, refl, ap, sym, ◌∙◌, arith, LineEndTypes, Cell, bytes_of, line_count, Row, rows_together, JoinsRows, LineEdit, after_edits, fresh_lines, IsIndexOf, edits_of_setting, SettingsBringAll, SettingsCarryRows, KeptRows, LinesOf, IndicatorsOf, ArePartsOf}
 use Rattle.ed_model.specs.Carry.{regrouped}
 use Rattle.ed_model.specs.CarryLaws.{RegroupingLeavesARowForEachLine}
-use Rattle.ed_model.specs.MergeLaws.{JoinsRows}
-use Rattle.line_index.specs.declared.edit.LineEdit.{LineEdit}
-use Rattle.line_index.specs.Edits.{after_edits, fresh_lines}
-use Rattle.line_index.specs.Index.{IsIndexOf}
-use Rattle.line_index.specs.Settings.{edits_of_setting, SettingsBringAll, SettingsCarryRows}
-use Rattle.line_rows.specs.Kept.{KeptRows}
-use Rattle.document.specs.Places.{LinesOf, IndicatorsOf}
-use Rattle.document.specs.Parts.{ArePartsOf}
 use Rattle.document.proofs.LineSteps.{lines_of_index}
 
 -- there is a row for each line of the text

@@ -120,7 +120,7 @@ impl Document {
 
     /// Returns whether the document counts as unmodified after undo or redo. If there is nothing to undo or redo,
     /// returns whether it does now.
-    pub fn is_at_save_point_behind(&self, direction: Direction) -> bool
+    pub(crate) fn is_at_save_point_behind(&self, direction: Direction) -> bool
         ensures { result ≡ at_save_point (history_behind direction self.now.document.history) }
     {
         match direction {

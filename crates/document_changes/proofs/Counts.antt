@@ -1,13 +1,5 @@
 -- Counts of markers.
-use Rattle.std.proofs.Common.{◌≡◌, ℕ, zero, suc, ◌+◌, ◌<◌, Bool, true, false, cond, List, [], ◌∷◌, ◌++◌, length, get_or, set, refl, ap, sym, arith, length-append}
-use Rattle.std.specs.Prelude.{◌==◌, not, filter, Some, None, slice_index_or}
-use Rattle.std.proofs.lemmas.Bool.{eqb-true, eqb-false, eq-eqb, ne_eqb, cond-true, cond-false}
-use Rattle.ed_model.specs.Notes.{heard}
-use Rattle.ed_model.specs.Rows.{Row, Marker, fresh_row}
-use Rattle.ed_model.specs.Session.{Document, View}
-use Rattle.ed_model.specs.Changes.{new_markers, with_new_markers, without_markers, marker_count, marker_note, line_with_handle}
-use Rattle.ed_model.specs.proved.Changes.{marker_count-cons}
-use Rattle.document_changes.specs.Lines.{marker_notice}
+use Rattle.document_changes.proofs.Names.{◌≡◌, ℕ, zero, suc, ◌+◌, ◌<◌, Bool, true, false, cond, List, [], ◌∷◌, ◌++◌, length, get_or, set, refl, ap, sym, arith, length-append, ◌==◌, not, filter, Some, None, slice_index_or, eqb-true, eqb-false, eq-eqb, ne_eqb, cond-true, cond-false, heard, Row, Marker, fresh_row, Document, View, new_markers, with_new_markers, without_markers, marker_count, marker_note, line_with_handle, marker_count-cons, marker_notice}
 
 -- Notes are sent if markers were added or deleted.
 

@@ -1,3 +1,4 @@
+pub mod Names
 pub mod Unmoved
 pub mod Told
 pub mod Counts

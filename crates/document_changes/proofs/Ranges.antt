@@ -1,8 +1,5 @@
 -- A range of changed bytes lies within what the change affects.
-use Rattle.std.proofs.Common.{◌≡◌, ℕ, suc, zero, take, ◌+◌, ◌<◌, ◌≤◌, ◌^◌, Bool, true, false, cond, List, [], ◌∷◌, length, refl, ap, arith}
-use Rattle.std.specs.Prelude.{◌==◌, not, filter, slice_index, slice_index_or, unwrap_or, Option, Some, None, IfSome}
-use Rattle.std.specs.List.{AllByRecursion, range_with_len, last_or}
-use Rattle.ed_model.specs.Indicators.{changed_places, changed_range, extent}
+use Rattle.document_changes.proofs.Names.{◌≡◌, ℕ, suc, zero, take, ◌+◌, ◌<◌, ◌≤◌, ◌^◌, Bool, true, false, cond, List, [], ◌∷◌, length, refl, ap, arith, ◌==◌, not, filter, slice_index, slice_index_or, unwrap_or, Option, Some, None, IfSome, AllByRecursion, range_with_len, last_or, changed_places, changed_range, extent}
 
 abbrev AreBelow : ℕ → List ℕ → Type 0
 AreBelow n ks = AllByRecursion (λ k. k < n) ks

@@ -1,9 +1,7 @@
 -- The states of lines are the same or not.
-use Rattle.std.proofs.Common.{◌≡◌, Bool, true, false, refl, ap, arith}
-use Rattle.std.specs.Prelude.{ℤ, pos, negsuc, int_le, nat_le, ◌&&◌}
+use Rattle.document_changes.proofs.Names.{◌≡◌, Bool, true, false, refl, ap, arith, ℤ, pos, negsuc, int_le, nat_le, ◌&&◌, is_same}
 use Rattle.std.proofs.Math.Nat.{le_antisymm}
 use lib.Dec.{T, leb→le, le→leb}
-use Rattle.ed_model.specs.Changes.{is_same}
 
 passed : (b : Bool) → T b → b ≡ true
 passed true t = refl

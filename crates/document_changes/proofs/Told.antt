@@ -1,25 +1,7 @@
 -- The notes of changes.
-use Rattle.std.proofs.Common.{◌≡◌, ℕ, ◌-◌, ◌<◌, ◌≤◌, true, false, List, [], ◌∷◌, ◌++◌, length, refl, ap, sym, subst, arith}
-use Rattle.std.specs.Prelude.{◌==◌, filter, bit_or, Option, Some, None}
-use Rattle.std.proofs.lemmas.List.{append-nil, length-map}
-use Rattle.std.proofs.lemmas.Bool.{eqb-true, cond_both}
-use Rattle.ed_types.specs.Notices.{Notice}
-use Rattle.ed_model.specs.declared.plan.DocumentChange.{DocumentChange}
+use Rattle.document_changes.proofs.Names.{◌≡◌, ℕ, ◌-◌, ◌<◌, ◌≤◌, true, false, List, [], ◌∷◌, ◌++◌, length, refl, ap, sym, subst, arith, ◌==◌, filter, bit_or, Option, Some, None, append-nil, length-map, eqb-true, cond_both, Notice, DocumentChange, Document, View, told, heard, range_note, performed_user, change_style, changed_range, styles_of, changed_document, change_told, range_notes, marker_count, document_row, Entries, Gathered, KeptView, watchers, IsWatched, hearers, AreTold, IsChanged, level_notice, marker_notice, is_quiet, is_of_types, is_frequent, notes_of_change}
 use Rattle.ed_model.specs.declared.plan.DocumentChange.TheVariants as change
-use Rattle.ed_model.specs.Session.{Document, View}
-use Rattle.ed_model.specs.Notes.{told, heard, range_note, performed_user, change_style}
-use Rattle.ed_model.specs.Indicators.{changed_range}
-use Rattle.ed_model.specs.Text.{styles_of}
 use Rattle.ed_model.specs.Numbers.{meets}
-use Rattle.ed_model.specs.Changes.{changed_document, change_told, range_notes, marker_count, document_row}
-use Rattle.id_table.specs.Entries.{Entries}
-use Rattle.notify.specs.Gathered.{Gathered}
-use Rattle.ed_view.specs.Kept.{KeptView}
-use Rattle.scene.specs.Scenes.{watchers, IsWatched}
-use Rattle.scene.specs.Hearing.{hearers}
-use Rattle.document_changes.specs.Changed.{AreTold, IsChanged}
-use Rattle.document_changes.specs.Lines.{level_notice, marker_notice}
-use Rattle.document_changes.specs.Needs.{is_quiet, is_of_types, is_frequent, notes_of_change}
 use Rattle.document_changes.proofs.Unmoved.{is_changed}
 
 -- a change without notes

@@ -1,20 +1,8 @@
 -- Changes that leave the text unchanged, and the positions of views.
-use Rattle.std.proofs.Common.{◌≡◌, ℕ, false, List, [], ◌∷◌, map, length, take, replicate, refl, ap, sym, ◌∙◌}
-use Rattle.std.specs.List.{AllByRecursion}
-use Rattle.ed_model.specs.declared.plan.DocumentChange.{DocumentChange}
+use Rattle.document_changes.proofs.Names.{◌≡◌, ℕ, false, List, [], ◌∷◌, map, length, take, replicate, refl, ap, sym, ◌∙◌, AllByRecursion, DocumentChange, line_count, Document, View, lines_in, is_large, changed_document, changed_lines, change_told, styled, text_of_styled, Entries, Gathered, KeptView, views_of, watchers, StandsIfOn, IsWatched, AreTold, IsChanged, is_of_types}
 use Rattle.ed_model.specs.declared.plan.DocumentChange.TheVariants as change
-use Rattle.ed_model.specs.Lines.{line_count}
-use Rattle.ed_model.specs.Session.{Document, View, lines_in, is_large}
-use Rattle.ed_model.specs.Changes.{changed_document, changed_lines, change_told, styled}
 use Rattle.ed_model.specs.SoundLaws.{occurrences}
 use Rattle.ed_model.specs.proved.Steps.{length_of_bytes}
-use Rattle.ed_model.specs.proved.Changes.{text_of_styled}
-use Rattle.id_table.specs.Entries.{Entries}
-use Rattle.notify.specs.Gathered.{Gathered}
-use Rattle.ed_view.specs.Kept.{KeptView}
-use Rattle.scene.specs.Scenes.{views_of, watchers, StandsIfOn, IsWatched}
-use Rattle.document_changes.specs.Changed.{AreTold, IsChanged}
-use Rattle.document_changes.specs.Needs.{is_of_types}
 
 -- the document keeps all that positions of views depend on
 pub record KeepsPlaces (old new : Document) : Type 0 where

@@ -1,11 +1,7 @@
 -- What undo and redo keep, and what they tell.
-use Rattle.std.proofs.Common.{◌≡◌, ℕ, ap, ◌∙◌, true, false, List, [], ◌∷◌, length, refl, Bool, cond, ◌+◌, max, arith}
+use Rattle.document_edits.proofs.Names.{◌≡◌, ℕ, ap, ◌∙◌, true, false, List, [], ◌∷◌, length, refl, Bool, cond, ◌+◌, max, arith, nil_from_length, Scene, change_performed, changes_performed, transaction_performed, is_last, changes_lines, TextStep, History, Change, ContainerStep, Gathered, gathered}
 use Rattle.std.specs.Prelude.{nat_lt}
-use Rattle.std.proofs.lemmas.List.{nil_from_length}
-use Rattle.ed_model.specs.Performing.{Scene, change_performed, changes_performed, transaction_performed, is_last, changes_lines}
-use Rattle.ed_model.specs.History.{TextStep, History, Change, ContainerStep}
 use Rattle.ed_model.specs.Notes.{bit_if, multi_step}
-use Rattle.notify.specs.Gathered.{Gathered, gathered}
 use Rattle.document_edits.specs.History.{no_notes}
 
 -- Undo and redo keep the document's id.

@@ -1,3 +1,4 @@
+pub mod Names
 pub mod Stepping
 pub mod Needing
 pub mod Widths

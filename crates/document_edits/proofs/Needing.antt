@@ -1,18 +1,6 @@
 -- What is told of needs.
-use Rattle.std.proofs.Common.{◌≡◌, ℕ, ap, sym, ◌∙◌, List, [], ◌∷◌, length, subst, ◌+◌, arith, ◌<◌, ◌≤◌, ◌-◌, ◌^◌, min}
-use Rattle.ed_model.specs.Session.{watching}
-use Rattle.ed_model.specs.Performing.{Scene}
-use Rattle.ed_model.specs.Steps.{Step, Insert, Delete}
-use Rattle.ed_model.specs.History.{TextStep}
+use Rattle.document_edits.proofs.Names.{◌≡◌, ℕ, ap, sym, ◌∙◌, List, [], ◌∷◌, length, subst, ◌+◌, arith, ◌<◌, ◌≤◌, ◌-◌, ◌^◌, min, watching, Scene, Step, Insert, Delete, TextStep, amount_sum, room_sum, no_room, DocumentRoom, capped, capped_room, room_of_step, room_of_steps, free_behind, note_room, notes_of_step, bytes_of_step, leaving_count, same_room, SceneNeed, no_need, need_sum, IsAtLeast, NeedsSteps}
 use Rattle.ed_model.specs.declared.plan.LineEndTypes.{LineEndTypes}
-use Rattle.document.specs.Kept.{amount_sum, room_sum, no_room}
-use Rattle.document.specs.declared.room.DocumentRoom.{DocumentRoom}
-use Rattle.scene.specs.Undoing.{capped, capped_room}
-use Rattle.scene.specs.Conversion.{room_of_step, room_of_steps, free_behind}
-use Rattle.scene.specs.Needs.{note_room, notes_of_step, bytes_of_step, leaving_count}
-use Rattle.scene.specs.proved.Rooms.{same_room}
-use Rattle.scene.specs.declared.need.SceneNeed.{SceneNeed}
-use Rattle.document_edits.specs.Needs.{no_need, need_sum, IsAtLeast, NeedsSteps}
 
 -- One step.
 

@@ -1,24 +1,9 @@
 -- Steps in turn, out of the room that was made for all of them.
-use Rattle.std.proofs.Common.{◌≡◌, ℕ, ◌==◌, ap, sym, ◌∙◌, true, false, List, [], ◌∷◌, ◌++◌, length, refl, subst, Bool, cond, ◌+◌, arith, ◌<◌, ◌≤◌, slice_range, ◌-◌, ◌≢◌, zero, suc}
-use Rattle.std.proofs.lemmas.Bool.{eqb-true, eqb-false}
-use Rattle.std.proofs.lemmas.List.{nil_from_length}
-use Rattle.ed_model.specs.Session.{Document, text_of, watching}
-use Rattle.ed_model.specs.Performing.{Scene, edit_made, step_made, sealed_scene}
-use Rattle.ed_model.specs.Steps.{Step, insertion, Insert, Delete, replacement, step_bytes, deletion}
-use Rattle.ed_model.specs.History.{TextStep, History, Transaction, sealed_outside_groups, with_last_sealed}
-use Rattle.ed_model.specs.proved.Steps.{length_of_range}
+use Rattle.document_edits.proofs.Names.{◌≡◌, ℕ, ◌==◌, ap, sym, ◌∙◌, true, false, List, [], ◌∷◌, ◌++◌, length, refl, subst, Bool, cond, ◌+◌, arith, ◌<◌, ◌≤◌, slice_range, ◌-◌, ◌≢◌, zero, suc, eqb-true, eqb-false, nil_from_length, Document, text_of, watching, Scene, edit_made, step_made, sealed_scene, Step, insertion, Insert, Delete, replacement, step_bytes, deletion, TextStep, History, Transaction, sealed_outside_groups, with_last_sealed, length_of_range, Gathered, Kept, HasRoom, TakesRoom, bytes_out, step_in, need_of, views_of, scene_in, IsWatched, room_of_step, room_of_steps, notes_for, bytes_for, notes_needed, bytes_needed, NotesAreEnough, BytesAreEnough, SealingNeedsTheSame, appended_collects, deletion_needs, first_room, next_room, first_notes, next_notes, first_bytes, next_bytes}
 use Rattle.id_table.specs.Entries.{Entries}
-use Rattle.notify.specs.Gathered.{Gathered}
-use Rattle.document.specs.Kept.{Kept, HasRoom, TakesRoom}
 use Rattle.document.specs.declared.text_step.TextStep.TheVariants as lent
-use Rattle.document.specs.TextSteps.{bytes_out, step_in, need_of}
 use Rattle.ed_view.specs.Kept.{KeptView}
-use Rattle.scene.specs.Scenes.{views_of, scene_in, IsWatched}
-use Rattle.scene.specs.Conversion.{room_of_step, room_of_steps, notes_for, bytes_for}
-use Rattle.scene.specs.Needs.{notes_needed, bytes_needed, NotesAreEnough, BytesAreEnough, SealingNeedsTheSame}
-use Rattle.scene.specs.proved.Rooms.{appended_collects, deletion_needs, first_room, next_room}
 use Rattle.scene.specs.Hearing.{bytes_shared, made_kinds}
-use Rattle.scene.specs.proved.Enough.{first_notes, next_notes, first_bytes, next_bytes}
 use Rattle.scene.specs.proved.Watched.{watched_with_history}
 
 -- The steps of a replacement.

@@ -1,9 +1,5 @@
 -- Room that is asked for, and the width of places.
-use Rattle.std.proofs.Common.{◌≡◌, ℕ, sym, length, subst, ◌+◌, arith, ◌<◌}
-use Rattle.ed_model.specs.Session.{Document, is_large}
-use Rattle.document.specs.Kept.{FitsWidth, bound_of}
-use Rattle.document.specs.declared.room.DocumentRoom.{DocumentRoom}
-use Rattle.scene.specs.Undoing.{capped, capped_room}
+use Rattle.document_edits.proofs.Names.{◌≡◌, ℕ, sym, length, subst, ◌+◌, arith, ◌<◌, Document, is_large, FitsWidth, bound_of, DocumentRoom, capped, capped_room}
 
 -- what is asked for, which may be capped, fits as well
 pub capped_fits : (d : Document) (room need : DocumentRoom) → need ≡ capped_room room → FitsWidth d (length d.cells + room.text) → FitsWidth d (length d.cells + need.text)

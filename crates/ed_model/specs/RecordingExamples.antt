@@ -1,4 +1,4 @@
--- Worked examples, written by tools/example_theorems.py from examples/.
+-- Worked examples, written by tools/pages/example_theorems.py from examples/messages.
 use Rattle.std.specs.Prelude.{[], ◌∷◌, codes}
 use Rattle.ed_model.specs.Prints.{Prints, joined_lines}
 

@@ -1,4 +1,4 @@
-//! Each example of `examples/`, as a theorem: what its script prints is computed from the definitions.
+//! Each example of `examples/messages`, as a theorem: what its script prints is computed from the definitions.
 
 ghost use Rattle.ed_model.specs.TextExamples.{Expects, Hello, Refusals, LineQueries, MixedLineEnds, NewView, LoadFiles, ScriptSpelling, ExpectAtTheStart, ExpectsOfEveryCommand, TextLengthAndAppending};
 ghost use Rattle.ed_model.specs.UndoExamples.{AllNotesOfAnInsertion, ContainerSteps, ReadOnlyNotes, SavePointAmidTyping, SavePointInAGroup, SavePointOnADroppedBranch, UndoCollection, WhichDeletionsJoin, ContainerStepFirst, ContainerStepsAlone, ContainerStepsJoin, GroupsAndSeals, UndoQueries, CollectionOffEndsGroups};

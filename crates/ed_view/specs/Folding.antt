@@ -53,10 +53,6 @@ LeavesFoldRoom old new need = (new.hidden ≡ old.hidden) × (old.contracted ≤
 abbrev pub LeavesRoomAfter : ViewChange → KeptView → KeptView → Type 0
 LeavesRoomAfter change old new = LeavesFoldRoom old.room new.room (fold_need old.view.flags change)
 
--- no room is lost
-abbrev pub KeepsFoldRoom : FoldRoom → FoldRoom → Type 0
-KeepsFoldRoom old new = (old.hidden ≤ new.hidden) × (old.contracted ≤ new.contracted)
-
 -- room that is enough stays as it is
 abbrev pub StaysIfEnough : (need old new : ℕ) → Type 0
 StaysIfEnough need old new = need ≤ old → new ≡ old

@@ -43,28 +43,28 @@ impl View {
     }
 
     /// Sets the search flags (`SCI_SETSEARCHFLAGS`).
-    pub fn set_search_flags(&mut self, flags: u32)
+    pub(crate) fn set_search_flags(&mut self, flags: u32)
         ensures { self.new ≡ record self.old { view = record self.old.view { search_flags = flags } } }
     {
         self.search_flags = flags;
     }
 
     /// Sets the mask: the kinds of change for which the view listens, as bits (`SCI_SETMODEVENTMASK`).
-    pub fn set_mask(&mut self, mask: u32)
+    pub(crate) fn set_mask(&mut self, mask: u32)
         ensures { self.new ≡ record self.old { view = record self.old.view { mask = mask } } }
     {
         self.mask = mask;
     }
 
     /// Sets the current indicator (`SCI_SETINDICATORCURRENT`).
-    pub fn set_indicator(&mut self, indicator: u32)
+    pub(crate) fn set_indicator(&mut self, indicator: u32)
         ensures { self.new ≡ record self.old { view = record self.old.view { indicator = indicator } } }
     {
         self.indicator = indicator;
     }
 
     /// Sets the value with which the view fills indicators (`SCI_SETINDICATORVALUE`).
-    pub fn set_indicator_value(&mut self, value: u32)
+    pub(crate) fn set_indicator_value(&mut self, value: u32)
         ensures { self.new ≡ record self.old { view = record self.old.view { indicator_value = value } } }
     {
         self.indicator_value = value;
@@ -72,14 +72,14 @@ impl View {
 
     /// Sets whether the view converts the line ends of pasted text to those of the document
     /// (`SCI_SETPASTECONVERTENDINGS`).
-    pub fn set_paste_conversion(&mut self, on: bool)
+    pub(crate) fn set_paste_conversion(&mut self, on: bool)
         ensures { self.new ≡ record self.old { view = record self.old.view { converts_pastes = on } } }
     {
         self.converts_pastes = on;
     }
 
     /// Sets whether the view records the messages that it is sent (`SCI_STARTRECORD`, `SCI_STOPRECORD`).
-    pub fn set_recording(&mut self, on: bool)
+    pub(crate) fn set_recording(&mut self, on: bool)
         ensures { self.new ≡ record self.old { view = record self.old.view { records = on } } }
     {
         self.records = on;

@@ -5,7 +5,7 @@ ghost use Rattle.ed_model.specs.declared.plan.ViewChange.TheVariants as change_t
 ghost use Rattle.ed_model.specs.Folding.{is_visible, lines_shown, lines_hidden, with_expanded};
 ghost use Rattle.ed_model.specs.Changes.{changed_view};
 ghost use Rattle.ed_view.specs.Kept.{contracted_in_all, most_contracted_room};
-ghost use Rattle.ed_view.specs.Folding.{fold_need as need_of, HasFoldRoom, KeepsFoldRoom, LeavesRoomAfter, StaysIfEnough};
+ghost use Rattle.ed_view.specs.Folding.{fold_need as need_of, HasFoldRoom, LeavesRoomAfter, StaysIfEnough};
 
 use crate::view::View;
 use contraction::Levels;
@@ -68,7 +68,7 @@ impl View {
         ensures spare { self.new.spare ≡ self.old.spare }
         ensures ok { OnOk result (HasFoldRoom self.new.room need) }
         ensures room_is_there { HasFoldRoom self.old.room need → IsOk result × (self.new ≡ self.old) }
-        ensures room_stays { KeepsFoldRoom self.old.room self.new.room }
+        ensures room_stays { (self.old.room.hidden ≤ self.new.room.hidden) × (self.old.room.contracted ≤ self.new.room.contracted) }
         ensures hidden_is_there { StaysIfEnough need.hidden self.old.room.hidden self.new.room.hidden }
         ensures contracted_is_there { StaysIfEnough need.contracted self.old.room.contracted self.new.room.contracted }
         ensures at_most_hidden { self.new.room.hidden ≤ max need.hidden (2 * self.old.room.hidden + 1) }
@@ -84,7 +84,7 @@ impl View {
     }
 
     /// Shows the lines from `first` up to `past`, counted from 0 (`SCI_SHOWLINES`). Needs no room.
-    pub fn show(&mut self, first: usize, past: usize)
+    pub(crate) fn show(&mut self, first: usize, past: usize)
         requires within { past ≤ length self.old.view.flags }
         ensures view { self.new.view ≡ record self.old.view { flags = lines_shown first past self.old.view.flags } }
         ensures room { self.new.room ≡ self.old.room }
@@ -95,7 +95,7 @@ impl View {
 
     /// Hides the lines from `first` up to `past`, but never line 0 (`SCI_HIDELINES`). There must be room for all lines
     /// to be hidden.
-    pub fn hide(&mut self, first: usize, past: usize)
+    pub(crate) fn hide(&mut self, first: usize, past: usize)
         requires within { past ≤ length self.old.view.flags }
         requires room { length self.old.view.flags ≤ self.old.room.hidden }
         ensures view { self.new.view ≡ record self.old.view { flags = lines_hidden first past self.old.view.flags } }
@@ -107,7 +107,7 @@ impl View {
 
     /// Expands or contracts a line, and leaves its children as they are (`SCI_SETFOLDEXPANDED`). Contracting needs room
     /// for one more contracted line.
-    pub fn set_expanded(&mut self, line: usize, on: bool)
+    pub(crate) fn set_expanded(&mut self, line: usize, on: bool)
         requires within { line < length self.old.view.flags }
         requires room { HasFoldRoom self.old.room (need_of self.old.view.flags (change_to.SetExpanded line on)) }
         ensures view { self.new.view ≡ record self.old.view { flags = with_expanded line on self.old.view.flags } }
@@ -120,7 +120,7 @@ impl View {
 
     /// Contracts a header, and hides its children. There must be room for all lines to be hidden, and for one more
     /// contracted line.
-    pub fn contract(&mut self, levels: &Levels, header: usize)
+    pub(crate) fn contract(&mut self, levels: &Levels, header: usize)
         requires levels { length levels.now ≡ length self.old.view.flags }
         requires within { header < length self.old.view.flags }
         requires room { HasFoldRoom self.old.room (need_of self.old.view.flags (change_to.Contract header)) }
@@ -134,7 +134,7 @@ impl View {
 
     /// Expands a header, and shows each of its children that no contracted header between them hides. There must be
     /// room for all lines to be hidden.
-    pub fn expand(&mut self, levels: &Levels, header: usize)
+    pub(crate) fn expand(&mut self, levels: &Levels, header: usize)
         requires levels { length levels.now ≡ length self.old.view.flags }
         requires within { header < length self.old.view.flags }
         requires room { length self.old.view.flags ≤ self.old.room.hidden }
@@ -148,7 +148,7 @@ impl View {
 
     /// Makes a hidden line visible (`SCI_ENSUREVISIBLE`): its fold parents are made visible and expanded first, the
     /// outermost before the others. There must be room for all lines to be hidden, unless the line is visible already.
-    pub fn ensure_visible(&mut self, levels: &Levels, line: usize)
+    pub(crate) fn ensure_visible(&mut self, levels: &Levels, line: usize)
         requires levels { length levels.now ≡ length self.old.view.flags }
         requires within { line < length self.old.view.flags }
         requires room { HasFoldRoom self.old.room (need_of self.old.view.flags (change_to.EnsureVisible line)) }

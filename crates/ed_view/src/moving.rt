@@ -14,7 +14,7 @@ use selection::{Movement, Selection};
 impl View {
     /// Carries the flags through edits of the document's lines, for example when it counts other line ends. Nothing
     /// else changes. Allocates nothing.
-    pub fn carry_lines(&mut self, edits: &[LineEdit])
+    pub(crate) fn carry_lines(&mut self, edits: &[LineEdit])
         requires lines { FitLines (length self.old.view.flags) edits.now }
         requires few { AreFewLines self.old.view.large (length self.old.view.flags + fresh_lines edits.now) }
         ensures view { self.new.view ≡ with_edited_lines edits.now self.old.view }

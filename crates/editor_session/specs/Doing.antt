@@ -3,7 +3,6 @@ use Rattle.std.specs.Prelude.{◌≡◌, ◌++◌, ◌≤◌, ℕ, ℤ, false, L
 use Rattle.ed_types.specs.Notices.{Notice}
 use Rattle.ed_model.specs.declared.plan.Plan.{Plan}
 use Rattle.ed_model.specs.History.{latest_text_step}
-use Rattle.ed_model.specs.Notes.{told as notes_told, modify_attempt, blank as blank_note}
 use Rattle.ed_model.specs.declared.plan.DocumentChange.{DocumentChange}
 use Rattle.ed_model.specs.Session.{View, with_document}
 use Rattle.ed_model.specs.Changes.{changed_document, changed_lines, change_told}
@@ -24,7 +23,6 @@ use Rattle.document_edits.specs.History.{scene_gone}
 use Rattle.document_edits.specs.Widths.{ChangesFitWidth}
 use Rattle.message_requests.specs.Requested.{session_in}
 use Rattle.message_requests.specs.declared.state.SessionState.{SessionState}
-use Rattle.editor_session.specs.Documents.{OfDocument}
 
 -- the plan is done: the session is that after it, the value and the bytes are the reply's, and its notes were put behind those before
 pub record IsDone (r : Request) (what : Plan) (s : SessionState) (before after : List Notice) (value : ℤ) (bytes : List ℕ) : Type 0 where
@@ -43,10 +41,6 @@ pub record CanGoOnceThereIsRoom (direction : Direction) (views : Entries KeptVie
 pub record Goes (view : ℕ) (direction : Direction) (s : SessionState) (notes : Gathered) (k : Kept) (s' : SessionState) (notes' : Gathered) : Type 0 where
   pub session_after : session_in s' ≡ (let t = session_of (session_in s) (scene_gone direction s.views notes k) in record t { views = caret_behind view (latest_text_step (reverse (changes_of direction k.document.history))) t.views })
   pub notes_after : notes'.notes ≡ (scene_gone direction s.views notes k).notes
-
--- undo or redo is made in the document with the id: the session and the notes are those after it
-abbrev pub GoesAt : ℕ → ℕ → Direction → SessionState → Gathered → SessionState → Gathered → Type 0
-GoesAt document view direction s notes s' notes' = OfDocument s.documents document (λ k. Goes view direction s notes k s' notes')
 
 -- Changes of a document.
 
@@ -77,8 +71,3 @@ IfChangeIsFree change views P k = needs_room change ≡ false → notes_of_chang
 pub record Changes (change : DocumentChange) (sender : ℕ) (text : List ℕ) (k : Kept) (s : SessionState) (notes : Gathered) (s' : SessionState) (notes' : Gathered) : Type 0 where
   pub session_after : session_in s' ≡ (let t = session_in s in record t { documents = with_document (changed_document text change k.document) t.documents; views = map (changed_lines change k.document) t.views })
   pub notes_after : TellsOfChange change sender text k s.views notes notes'
-
--- the views of the document with the id are told of an attempt to edit it
-abbrev pub TellsOfAttempt : SessionState → ℕ → Gathered → Gathered → Type 0
-TellsOfAttempt s document notes notes' =
-    OfDocument s.documents document (λ k. notes'.notes ≡ notes.notes ++ notes_told (watchers k.document s.views) (blank_note modify_attempt))

@@ -16,7 +16,6 @@ use Rattle.document.specs.Kept.{Kept}
 use Rattle.ed_view.specs.Kept.{KeptView}
 use Rattle.scene.specs.Scenes.{views_of}
 use Rattle.message_requests.specs.Requested.{documents_in}
-use Rattle.editor_session.specs.Documents.{OfDocument}
 
 -- the bytes of a source lie in a text of the length
 abbrev pub IsStoredIn : Source → ℕ → Type 0

@@ -3,7 +3,7 @@ use Rattle.std.specs.Prelude.{◌≡◌, ℕ, List, [], length}
 use Rattle.ed_model.specs.declared.plan.Edit.{Edit}
 use Rattle.ed_model.specs.declared.plan.Edit.TheVariants as edit
 use Rattle.ed_model.specs.declared.plan.Follow.{Follow}
-use Rattle.ed_model.specs.LineEnds.{conversion_steps, converted}
+use Rattle.ed_model.specs.LineEnds.{conversion_steps}
 use Rattle.ed_model.specs.Steps.{Step, replacement}
 use Rattle.ed_model.specs.Session.{Document, text_of}
 use Rattle.ed_model.specs.Performing.{Scene, edit_made, followed, session_of}
@@ -15,8 +15,8 @@ use Rattle.scene.specs.Scenes.{kept_scene, IsWatched}
 use Rattle.document_edits.specs.Widths.{StepsFitWidth}
 use Rattle.message_requests.specs.Requested.{session_in}
 use Rattle.message_requests.specs.declared.state.SessionState.{SessionState}
-use Rattle.editor_session.specs.Documents.{OfDocument, HasDocument}
-use Rattle.editor_session.specs.Edited.{IsEditWithin, IsPastedFor, stored_bytes, taken_along}
+use Rattle.editor_session.specs.Documents.{OfDocument}
+use Rattle.editor_session.specs.Edited.{IsEditWithin, stored_bytes, taken_along}
 
 -- the steps of an edit of the document
 abbrev pub edit_steps : Edit → List ℕ → List ℕ → List ℕ → Document → List Step
@@ -35,10 +35,6 @@ edited_scene change text clipboard pasted views notes k = edit_made (edit_steps 
 abbrev pub IfNoSteps : Edit → List ℕ → List ℕ → List ℕ → Type 0 → Kept → Type 0
 IfNoSteps change text clipboard pasted P k = edit_steps change text clipboard pasted k.document ≡ [] → P
 
--- if the edit has no steps in the session's document with the id, this holds
-abbrev pub IfNoStepsAt : ℕ → Edit → List ℕ → List ℕ → SessionState → Type 0 → Type 0
-IfNoStepsAt document change text pasted s P = OfDocument s.documents document (IfNoSteps change text s.clipboard.items pasted P)
-
 -- the scene of a document of the session after the edit
 abbrev pub scene_after : Edit → List ℕ → List ℕ → SessionState → Gathered → Kept → Scene
 scene_after change text pasted s notes k = edited_scene change text s.clipboard.items pasted s.views notes k
@@ -51,10 +47,6 @@ pub record CanEdit (change : Edit) (text pasted : List ℕ) (follow : Follow) (t
   pub wide : EditFitsWidth change text s.clipboard.items pasted k
   pub take : taken ≡ taken_along follow (text_of k.document)
 
--- the session has a document with the id, in which the edit can be made
-abbrev pub CanEditAt : ℕ → Edit → List ℕ → List ℕ → Follow → List ℕ → SessionState → Type 0
-CanEditAt document change text pasted follow taken s = HasDocument s.documents document (CanEdit change text pasted follow taken s)
-
 pub record Edits (view : ℕ) (change : Edit) (text pasted : List ℕ) (follow : Follow) (s : SessionState) (notes : Gathered) (k : Kept) (s' : SessionState) (notes' : Gathered) : Type 0 where
   pub session_after : session_in s' ≡ followed view (text_of k.document) follow (session_of (session_in s) (scene_after change text pasted s notes k))
   pub notes_after : notes'.notes ≡ (scene_after change text pasted s notes k).notes
@@ -65,15 +57,3 @@ EditsAt document view change text pasted follow s notes s' notes' =
     OfDocument s.documents document (λ k. Edits view change text pasted follow s notes k s' notes')
 
 -- The clipboard before and after an edit.
-
--- these are the bytes of the clipboard that the edit puts into the document with the id, if it puts in some
-abbrev pub IsPasted : SessionState → ℕ → Edit → List ℕ → Type 0
-IsPasted s document change pasted = OfDocument s.documents document (λ k. IsPastedFor change s.clipboard.items k.document.line_end pasted)
-
--- if the clipboard has no bytes with the line ends of the document with the id, this holds
-abbrev pub IfPastesNothing : SessionState → ℕ → Type 0 → Type 0
-IfPastesNothing s document P = OfDocument s.documents document (λ k. converted k.document.line_end s.clipboard.items ≡ [] → P)
-
--- these are the bytes of the document with the id that go to the clipboard
-abbrev pub IsTaken : SessionState → ℕ → Follow → List ℕ → Type 0
-IsTaken s document follow taken = OfDocument s.documents document (λ k. taken ≡ taken_along follow (text_of k.document))

@@ -1,5 +1,5 @@
 -- What plan a message has, and what its plan does, said of a session's state before and after.
-use Rattle.std.specs.Prelude.{◌≡◌, ℕ, ℤ, pos, Bool, false, List, [], Ok}
+use Rattle.std.specs.Prelude.{◌≡◌, ℕ, ℤ, Bool, false, List, [], Ok}
 use Rattle.ed_types.specs.declared.message.Message.{Message}
 use Rattle.ed_types.specs.Notices.{Notice}
 use Rattle.ed_model.specs.declared.plan.Edit.{Edit}
@@ -9,11 +9,10 @@ use Rattle.ed_model.specs.declared.plan.Plan.TheVariants as plan
 use Rattle.ed_model.specs.Performing.{quiet, response}
 use Rattle.ed_model.specs.Table.{table}
 use Rattle.notify.specs.Gathered.{Gathered}
-use Rattle.document.specs.declared.undoing.Direction.{Direction}
 use Rattle.message_requests.specs.Requested.{session_in}
 use Rattle.message_requests.specs.declared.state.SessionState.{SessionState}
 use Rattle.editor_session.specs.Planned.{IsPlannedAs, planned_message}
-use Rattle.editor_session.specs.Performed.{IsAnswered, IfFree, IsPlannedForSomeValueWithText, going}
+use Rattle.editor_session.specs.Performed.{IsAnswered, IfFree, IsPlannedForSomeValueWithText}
 
 -- the message to the view has this plan on the document with the id, and is recorded or not
 abbrev pub HasPlan : SessionState → ℕ → Message → ℕ → Plan → Bool → Type 0
@@ -37,11 +36,6 @@ abbrev pub IsPlanPerformed : SessionState → ℕ → ℕ → List ℕ → (ℤ 
 IsPlanPerformed old document view text what before new after =
     (value : ℤ) → IsPerformed old document view text (what value) before new value [] after
 
--- each message that undoes or redoes is answered by 0 and the notes
-abbrev pub HasGone : SessionState → ℕ → ℕ → Direction → Gathered → SessionState → Gathered → Type 0
-HasGone old document view direction before new after =
-    (text : List ℕ) → IsPerformed old document view text (going direction) before new (pos 0) [] after
-
 -- each message with this text that has this plan, for any value, is answered by that value, and the plan adds no notes
 abbrev pub TellsNothing : SessionState → ℕ → ℕ → List ℕ → (ℤ → Plan) → SessionState → Type 0
 TellsNothing old document view text what new =
@@ -55,16 +49,6 @@ TellsNothingForAnyText old document view what new =
 -- if some message with this text that has this plan, for any value, needs no memory, this holds
 abbrev pub IfPlanIsFree : SessionState → ℕ → ℕ → List ℕ → (ℤ → Plan) → Type 0 → Type 0
 IfPlanIsFree s document view text what P = (value : ℤ) → IfFree (session_in s) document view text (what value) P
-
--- if some message that has this plan, for any value and with any text, needs no memory, this holds
-abbrev pub IfPlanIsFreeForAnyText : SessionState → ℕ → ℕ → (ℤ → Plan) → Type 0 → Type 0
-IfPlanIsFreeForAnyText s document view what P =
-    (value : ℤ) (text : List ℕ) → IfFree (session_in s) document view text (what value) P
-
--- each message that has this plan and is not recorded is answered by the value alone
-abbrev pub AnswersAlone : SessionState → ℕ → ℕ → Plan → SessionState → ℤ → Type 0
-AnswersAlone old document view what new value =
-    (m : Message) → HasPlan old view m document what false → table (session_in old) view m ≡ Ok (session_in new, quiet value)
 
 -- each message that has this plan, for any value, and is not recorded is answered by that value alone
 abbrev pub AnswersItsValue : SessionState → ℕ → ℕ → (ℤ → Plan) → SessionState → Type 0

@@ -20,14 +20,6 @@ IsRange start count bytes k = bytes ≡ slice_range (text_of k.document) start (
 abbrev pub styled_range : ℕ → ℕ → Kept → List ℕ
 styled_range start count k = styled_text (slice_range k.document.cells start (start + count))
 
--- these are the `count` bytes from `start` on of the document with the id
-abbrev pub HandsOut : SessionState → ℕ → ℕ → ℕ → List ℕ → Type 0
-HandsOut s document start count bytes = OfDocument s.documents document (IsRange start count bytes)
-
--- they are these bytes, each followed by its style
-abbrev pub HandsOutStyled : SessionState → ℕ → ℕ → ℕ → List ℕ → Type 0
-HandsOutStyled s document start count bytes = OfDocument s.documents document (λ k. bytes ≡ styled_range start count k)
-
 -- the view is lent the `count` bytes from `start` on of the document with the id
 abbrev pub LendsRange : SessionState → ℕ → ℕ → ℕ → ℕ → Type 0
 LendsRange s document view start count =

@@ -1,10 +1,11 @@
 //! The view that a message is sent to, and the document that it is attached to; and the request that its plan reads.
 
+ghost use Rattle.id_table.specs.Entries.{value_at};
 ghost use Rattle.std.specs.Prelude.{◌≡◌, IfSome, IfNone, Some, None};
-ghost use Rattle.ed_model.specs.Session.{view_at};
+ghost use Rattle.ed_model.specs.Session.{document_at, view_at};
 ghost use Rattle.message_requests.specs.Requested.{session_in};
 ghost use Rattle.session_changes.specs.Kept.{IsKept};
-ghost use Rattle.editor_session.specs.Attached.{IsDocumentOf, IsKeptFor, request_in};
+ghost use Rattle.editor_session.specs.Attached.{request_in};
 
 use document::Document;
 use ed_view::View;
@@ -24,8 +25,8 @@ pub(crate) struct Attached<'a> {
 pub(crate) fn look_up(state: &SessionState, view: u32) -> Option<Attached<'_>>
     requires kept { IsKept state.now }
     ensures view { IfSome result (λ found. view_at (session_in state.now).views view ≡ Some found.view.now.view) }
-    ensures document { IfSome result (λ found. IsDocumentOf state.now found.view.now found.document.now) }
-    ensures entry { IfSome result (λ found. IsKeptFor state.now found.view.now found.document.now) }
+    ensures document { IfSome result (λ found. document_at (session_in state.now).documents found.view.now.view.document ≡ Some found.document.now.document) }
+    ensures entry { IfSome result (λ found. value_at state.now.documents.entries found.view.now.view.document ≡ Some found.document.now) }
     ensures none { IfNone result (view_at (session_in state.now).views view ≡ None) }
 {
     let Some(view) = state.views.get(view) else {

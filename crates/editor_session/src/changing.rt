@@ -1,19 +1,21 @@
 //! Changes of the document, of the view and of the session other than edits of the text; and attempts to edit a
 //! read-only document. Room is made for all that a change needs, before anything changes.
 
-ghost use Rattle.std.specs.Prelude.{◌≡◌, ◌≤◌, not, true, false, length, OnOk, OnErr, IfErr, IsOk, IsSome};
+ghost use Rattle.editor_session.specs.Documents.{OfDocument};
+ghost use Rattle.ed_model.specs.Notes.{blank as blank_note, modify_attempt, told as notes_told};
+ghost use Rattle.std.specs.Prelude.{List, ℤ, ℕ, ◌++◌, ◌≡◌, ◌≤◌, not, true, false, length, OnOk, OnErr, IfErr, IsOk, IsSome};
 ghost use Rattle.ed_types.specs.declared.refusal.Refusal.TheVariants.{OutOfMemory};
 ghost use Rattle.ed_model.specs.declared.plan.Plan.TheVariants as plan;
 ghost use Rattle.ed_model.specs.Changes.{changed_document};
 ghost use Rattle.id_table.specs.Entries.{value_at};
 ghost use Rattle.document_changes.specs.Fit.{IsFitChange, bytes_read};
-ghost use Rattle.scene.specs.Scenes.{views_of, IsWatched};
+ghost use Rattle.scene.specs.Scenes.{watchers, views_of, IsWatched};
 ghost use Rattle.message_requests.specs.Requested.{session_in};
 ghost use Rattle.session_changes.specs.Folding.{takes_fold_room};
 ghost use Rattle.session_changes.specs.Kept.{IsKept};
-ghost use Rattle.editor_session.specs.Doing.{views_changed, TellsOfChange, IfChangeIsFree, TellsOfAttempt};
-ghost use Rattle.editor_session.specs.Performed.{IsPlannedForSomeValue};
-ghost use Rattle.editor_session.specs.Performing.{IsPlanned, IsPlanPerformed, TellsNothing, TellsNothingForAnyText, IfPlanIsFree, IfPlanIsFreeForAnyText, AnswersItsValue};
+ghost use Rattle.editor_session.specs.Doing.{views_changed, TellsOfChange, IfChangeIsFree};
+ghost use Rattle.editor_session.specs.Performed.{IfFree, IsPlannedForSomeValue};
+ghost use Rattle.editor_session.specs.Performing.{IsPlanned, IsPlanPerformed, TellsNothing, TellsNothingForAnyText, IfPlanIsFree, AnswersItsValue};
 
 use document::Document;
 use document_changes::{change_document, change_note_need, reserve_change};
@@ -158,7 +160,7 @@ pub(crate) fn perform_view_change(
     ensures same { OnErr result (session_in state.new ≡ session_in state.old) }
     ensures refused { IfErr result (λ refusal. refusal ≡ OutOfMemory) }
     ensures kept { IsKept state.new }
-    ensures free { IfPlanIsFreeForAnyText state.old document view (plan.ChangeView change) (IsOk result) }
+    ensures free { (value : ℤ) (text : List ℕ) → IfFree (session_in state.old) document view text (plan.ChangeView change value) (IsOk result) }
 {
     // States that the session stays sound.
     soundness_is_kept();
@@ -213,7 +215,7 @@ pub(crate) fn perform_attempt(
 ) -> Result<(), Refusal>
     requires kept { IsKept state.now }
     requires there { IsSome (value_at state.now.documents.entries document) }
-    ensures told { OnOk result (TellsOfAttempt state.now document notes.old notes.new) }
+    ensures told { OnOk result (OfDocument state.now.documents document (λ k. notes.new.notes ≡ notes.old.notes ++ notes_told (watchers k.document state.now.views) (blank_note modify_attempt))) }
     ensures refused { IfErr result (λ refusal. refusal ≡ OutOfMemory) }
 {
     let Some(document) = state.documents.get(document) else {

@@ -1,5 +1,6 @@
 //! Edits of the text: room is made for all of an edit, and then it is made, with what follows it.
 
+ghost use Rattle.ed_model.specs.Session.{text_of};
 ghost use Rattle.std.specs.Prelude.{◌≡◌, [], true, false, length, OnOk, OnErr, IfOk, IfErr, IsOk, IsSome};
 ghost use Rattle.ed_types.specs.declared.refusal.Refusal.TheVariants.{OutOfMemory};
 ghost use Rattle.ed_model.specs.declared.plan.Edit.TheVariants as edit;
@@ -9,9 +10,9 @@ ghost use Rattle.scene.specs.Scenes.{AreNamed, IsWatched};
 ghost use Rattle.document_edits.specs.Edits.{MakesEdit};
 ghost use Rattle.message_requests.specs.Requested.{session_in};
 ghost use Rattle.session_changes.specs.Kept.{IsKept, DocumentsAreNamed};
-ghost use Rattle.editor_session.specs.Edited.{IsEditWithin, TakesWithin, is_turned, clipboard_need};
-ghost use Rattle.editor_session.specs.Edits.{edit_steps, EditFitsWidth, IfNoStepsAt, CanEditAt, EditsAt, IsPasted, IfPastesNothing, IsTaken};
-ghost use Rattle.editor_session.specs.Documents.{HasDocument};
+ghost use Rattle.editor_session.specs.Edited.{taken_along, IsPastedFor, IsEditWithin, TakesWithin, is_turned, clipboard_need};
+ghost use Rattle.editor_session.specs.Edits.{CanEdit, IfNoSteps, edit_steps, EditFitsWidth, EditsAt};
+ghost use Rattle.editor_session.specs.Documents.{OfDocument, HasDocument};
 ghost use Rattle.editor_session.specs.Performing.{IsPlanned, editing, IsPlanPerformed, IfPlanIsFree};
 
 use crate::edits::{follow_edit, source_bytes};
@@ -87,14 +88,14 @@ fn edit_making_room(
     notes: &mut NoteList,
 ) -> Result<(), AllocError>
     requires kept { IsKept state.old }
-    requires can { CanEditAt document edit text.now pasted.now follow taken.items state.old }
+    requires can { HasDocument state.old.documents document (CanEdit edit text.now pasted.now follow taken.items state.old) }
     ensures edited { let edited = EditsAt document view edit text.now pasted.now follow state.old notes.old in
         OnOk result (edited state.new notes.new) }
     ensures same { OnErr result (session_in state.new ≡ session_in state.old) }
     ensures documents { DocumentsAreNamed state.new.documents.entries }
     ensures views { AreNamed state.new.views.entries }
     ensures limits { state.new.limits ≡ state.old.limits }
-    ensures free { IfNoStepsAt document edit text.now pasted.now state.old (IsOk result) }
+    ensures free { OfDocument state.old.documents document (IfNoSteps edit text.now state.old.clipboard.items pasted.now (IsOk result)) }
 {
     let SessionState {
         documents,
@@ -163,9 +164,9 @@ fn pasted_bytes(
     edit: Edit,
 ) -> Result<Vec<u8>, AllocError>
     requires there { IsSome (value_at state.now.documents.entries document) }
-    ensures pasted { IfOk result (λ bytes. IsPasted state.now document edit bytes.items) }
+    ensures pasted { IfOk result (λ bytes. OfDocument state.now.documents document (λ k. IsPastedFor edit state.now.clipboard.items k.document.line_end bytes.items)) }
     ensures free { is_turned edit ≡ false → IsOk result }
-    ensures empty { IfPastesNothing state.now document (IsOk result) }
+    ensures empty { OfDocument state.now.documents document (λ k. converted k.document.line_end state.now.clipboard.items ≡ [] → IsOk result) }
 {
     if !is_turned(edit) {
         return Ok(Vec::new(alloc));
@@ -189,7 +190,7 @@ fn taken_bytes(
     follow: Follow,
 ) -> Result<Vec<u8>, AllocError>
     requires can { HasDocument state.now.documents document (λ k. TakesWithin follow (length k.document.cells)) }
-    ensures taken { IfOk result (λ bytes. IsTaken state.now document follow bytes.items) }
+    ensures taken { IfOk result (λ bytes. OfDocument state.now.documents document (λ k. bytes.items ≡ taken_along follow (text_of k.document))) }
     ensures free { clipboard_need follow ≡ 0 → IsOk result }
 {
     let Follow::Clipboard { start, count } = follow else {

@@ -2,8 +2,8 @@
 
 ghost use Rattle.std.specs.Prelude.{◌≡◌, ◌≤◌, ◌+◌, ◌*◌, ◌++◌, IfOk, IfErr, IsOk, vec_len, vec_capacity};
 ghost use Rattle.ed_types.specs.declared.refusal.Refusal.TheVariants.{OutOfMemory};
-ghost use Rattle.editor_session.specs.Documents.{HasDocument};
-ghost use Rattle.editor_session.specs.Ranges.{HasRange, styled_range, HandsOut, HandsOutStyled};
+ghost use Rattle.editor_session.specs.Documents.{OfDocument, HasDocument};
+ghost use Rattle.editor_session.specs.Ranges.{IsRange, HasRange, styled_range};
 
 use document::Document;
 use ed_types::Refusal;
@@ -64,7 +64,7 @@ pub(crate) fn hand_out(
     count: usize,
 ) -> Result<Vec<u8>, Refusal>
     requires range { HasDocument state.now.documents document (HasRange start count) }
-    ensures bytes { IfOk result (λ bytes. HandsOut state.now document start count bytes.items) }
+    ensures bytes { IfOk result (λ bytes. OfDocument state.now.documents document (IsRange start count bytes.items)) }
     ensures refused { IfErr result (λ refusal. refusal ≡ OutOfMemory) }
     ensures free { count ≡ 0 → IsOk result }
 {
@@ -91,7 +91,7 @@ pub(crate) fn hand_out_styled(
     count: usize,
 ) -> Result<Vec<u8>, Refusal>
     requires range { HasDocument state.now.documents document (HasRange start count) }
-    ensures bytes { IfOk result (λ bytes. HandsOutStyled state.now document start count bytes.items) }
+    ensures bytes { IfOk result (λ bytes. OfDocument state.now.documents document (λ k. bytes.items ≡ styled_range start count k)) }
     ensures refused { IfErr result (λ refusal. refusal ≡ OutOfMemory) }
     ensures free { count ≡ 0 → IsOk result }
 {

@@ -1,15 +1,18 @@
 //! Undo and redo in a document of the session.
 
-ghost use Rattle.std.specs.Prelude.{◌≡◌, pos, [], true, false, OnOk, OnErr, IfErr};
+ghost use Rattle.ed_model.specs.Table.{table};
+ghost use Rattle.ed_model.specs.Performing.{quiet};
+ghost use Rattle.ed_types.specs.declared.message.Message.{Message};
+ghost use Rattle.std.specs.Prelude.{List, ℕ, ◌≡◌, pos, [], true, false, OnOk, OnErr, IfErr};
 ghost use Rattle.ed_types.specs.declared.refusal.Refusal.TheVariants.{OutOfMemory};
 ghost use Rattle.scene.specs.Scenes.{AreNamed};
 ghost use Rattle.document_edits.specs.History.{no_notes};
 ghost use Rattle.message_requests.specs.Requested.{session_in};
 ghost use Rattle.session_changes.specs.Kept.{IsKept, DocumentsAreNamed};
-ghost use Rattle.editor_session.specs.Doing.{CanGoOnceThereIsRoom, GoesAt};
+ghost use Rattle.editor_session.specs.Doing.{Goes, CanGoOnceThereIsRoom};
 ghost use Rattle.editor_session.specs.Performed.{going, IsPlannedForSomeValue};
-ghost use Rattle.editor_session.specs.Documents.{HasDocument};
-ghost use Rattle.editor_session.specs.Performing.{HasGone, AnswersAlone};
+ghost use Rattle.editor_session.specs.Documents.{OfDocument, HasDocument};
+ghost use Rattle.editor_session.specs.Performing.{HasPlan, IsPerformed};
 
 use crate::edits::set_caret;
 use document::Direction;
@@ -35,7 +38,7 @@ fn go_making_room(
 ) -> Result<(), AllocError>
     requires kept { IsKept state.old }
     requires can { HasDocument state.old.documents document (CanGoOnceThereIsRoom direction state.old.views) }
-    ensures gone { OnOk result (GoesAt document view direction state.old notes.old state.new notes.new) }
+    ensures gone { OnOk result (OfDocument state.old.documents document (λ k. Goes view direction state.old notes.old k state.new notes.new)) }
     ensures same { OnErr result (session_in state.new ≡ session_in state.old) }
     ensures documents { DocumentsAreNamed state.new.documents.entries }
     ensures views { AreNamed state.new.views.entries }
@@ -75,7 +78,7 @@ pub(crate) fn perform_transaction(
 ) -> Result<(), Refusal>
     requires kept { IsKept state.old }
     requires sent { IsPlannedForSomeValue (session_in state.old) document view (λ value. going direction) }
-    ensures answer { OnOk result (HasGone state.old document view direction notes.old state.new notes.new) }
+    ensures answer { OnOk result ((text : List ℕ) → IsPerformed state.old document view text (going direction) notes.old state.new (pos 0) [] notes.new) }
     ensures same { OnErr result (session_in state.new ≡ session_in state.old) }
     ensures refused { IfErr result (λ refusal. refusal ≡ OutOfMemory) }
     ensures kept { IsKept state.new }
@@ -101,7 +104,7 @@ pub(crate) fn perform_transaction_unheard(
 ) -> bool
     requires kept { IsKept state.old }
     requires sent { IsPlannedForSomeValue (session_in state.old) document view (λ value. going direction) }
-    ensures answer { result ≡ true → AnswersAlone state.old document view (going direction) state.new (pos 0) }
+    ensures answer { result ≡ true → ((m : Message) → HasPlan state.old view m document (going direction) false → table (session_in state.old) view m ≡ Ok (session_in state.new, quiet (pos 0))) }
     ensures same { result ≡ false → session_in state.new ≡ session_in state.old }
     ensures kept { IsKept state.new }
 {

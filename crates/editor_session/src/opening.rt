@@ -1,12 +1,12 @@
 //! Opening and closing views.
 
 ghost use Rattle.std.specs.Prelude.{◌≡◌, ◌<◌, ◌+◌, ◌^◌, Ok, Err, OnOk, OnErr, IfOk, IfErr, true};
-ghost use Rattle.ed_model.specs.Session.{view_at};
+ghost use Rattle.ed_model.specs.Session.{new_view, new_document, view_at};
 ghost use Rattle.ed_model.specs.Table.{opened, closed};
 ghost use Rattle.message_requests.specs.Requested.{session_in};
 ghost use Rattle.scene.specs.Scenes.{AreNamed};
 ghost use Rattle.session_changes.specs.Kept.{IsKept, DocumentsAreNamed};
-ghost use Rattle.editor_session.specs.Opening.{with_view_on_new, IsViewOnNew};
+ghost use Rattle.editor_session.specs.Opening.{document_for, with_view_on_new};
 
 use document::Document;
 use document_table::the_living_are_left;
@@ -21,7 +21,7 @@ use std::alloc::{AllocError, Global};
 ///
 /// `AllocError` if an allocation fails.
 fn make_view(alloc: Global, document: u32, view: u32) -> Result<(Document, View), AllocError>
-    ensures { IfOk result (λ made. IsViewOnNew view document made.0 made.1) }
+    ensures { IfOk result (λ made. (made.0.document ≡ document_for view document) × (made.1.view ≡ new_view view (new_document document 0))) }
 {
     let mut made = Document::new(alloc, document, 0)?;
     let Ok(()) = made.reserve_view() else {

@@ -10,8 +10,8 @@ use std::alloc::Global;
 use std::process::Abort;
 use std::test::Fail;
 
-/// The script `examples/all_notes_of_an_insertion.sci`, the text that it prints, its listing, and the text of its check.
-/// `tools/run_examples.py` runs all examples.
+/// The script `examples/messages/all_notes_of_an_insertion.sci`, the text that it prints, its listing, and the text of its check.
+/// `tools/ci/run_examples.py` runs all examples.
 const SCRIPT: &[u8] =
     b"sci 1\nopen\nsend 1 2003 0 0 \"ab\\x0a\"\nsend 1 2182 0 0 \"\"\nsend 1 2003 9 0 \"z\"\nsend 1 2007 -1 0 \"\"\n";
 

@@ -148,7 +148,7 @@ fn task_of_matches(alloc: Global, matches: &ArgMatches<'_>) -> Result<Option<Tas
 /// # Errors
 ///
 /// Always: `Usage` with the text for the user, or `OutOfMemory` if an allocation fails.
-pub fn no_job(alloc: Global) -> Result<Job, WordFault>
+pub(crate) fn no_job(alloc: Global) -> Result<Job, WordFault>
     ensures { IsErr result }
 {
     let error = command(alloc)?.error(ErrorKind::InvalidSubcommand, "no job")?;
@@ -160,7 +160,7 @@ pub fn no_job(alloc: Global) -> Result<Job, WordFault>
 /// # Errors
 ///
 /// `Usage` with the text for the user if the words are no task, and `OutOfMemory` if an allocation fails.
-pub fn parsed_task(alloc: Global, words: &[String]) -> Result<Task, WordFault> {
+pub(crate) fn parsed_task(alloc: Global, words: &[String]) -> Result<Task, WordFault> {
     let matches = command(alloc)?.try_get_matches_from(words)?;
     match task_of_matches(alloc, &matches)? {
         Some(task) => Ok(task),
@@ -176,7 +176,7 @@ pub fn parsed_task(alloc: Global, words: &[String]) -> Result<Task, WordFault> {
 /// # Errors
 ///
 /// `Usage` with the text for the user if the words are no job, and `OutOfMemory` if an allocation fails.
-pub fn parsed_job(alloc: Global, words: &[String]) -> Result<Job, WordFault> {
+pub(crate) fn parsed_job(alloc: Global, words: &[String]) -> Result<Job, WordFault> {
     match parsed_task(alloc, words)? {
         Task::Whole(job) => Ok(job),
         Task::RunWithoutNotes { .. } | Task::Step { .. } | Task::CheckAndShow { .. } => no_job(

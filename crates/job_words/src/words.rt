@@ -152,7 +152,7 @@ fn are_plain(words: &[String]) -> bool
 /// # Errors
 ///
 /// `AllocError` if the allocation fails.
-pub fn copy_word(alloc: Global, word: &str) -> Result<Word, AllocError>
+pub(crate) fn copy_word(alloc: Global, word: &str) -> Result<Word, AllocError>
     ensures { IfOk result (λ copy. copy ≡ word.now) }
 {
     Ok(Word::new(String::from_str(alloc, word)?))
@@ -163,7 +163,7 @@ pub fn copy_word(alloc: Global, word: &str) -> Result<Word, AllocError>
 /// # Errors
 ///
 /// `AllocError` if an allocation fails.
-pub fn copy_words<S: AsStr>(alloc: Global, words: &[S]) -> Result<Words, AllocError>
+pub(crate) fn copy_words<S: AsStr>(alloc: Global, words: &[S]) -> Result<Words, AllocError>
     ensures { IfOk result (λ copy. copy ≡ map S.text words.now) }
 {
     let mut copies = Vec::new(alloc);

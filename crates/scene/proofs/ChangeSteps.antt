@@ -1,32 +1,12 @@
 -- The steps among the changes that undo or redo performs, and the room left for them.
-use Rattle.std.proofs.Common.{◌≡◌, ℕ, suc, ◌+◌, ◌-◌, ◌^◌, ◌<◌, ◌≤◌, Bool, List, ◌∷◌, length, drop, refl, ap, sym, ◌∙◌, subst, arith, drop-cons}
-use Rattle.std.specs.Prelude.{slice_range, slice_get, Option, Some, IsSomeAnd}
-use Rattle.std.proofs.lemmas.List.{length-drop, length-take}
-use Rattle.std.proofs.lemmas.Option.{slice_get_within, get_or_from_slice_get}
-use Rattle.ed_model.specs.declared.plan.LineEndTypes.{LineEndTypes}
+use Rattle.scene.proofs.Names.{◌≡◌, ℕ, suc, ◌+◌, ◌-◌, ◌^◌, ◌<◌, ◌≤◌, Bool, List, ◌∷◌, length, drop, refl, ap, sym, ◌∙◌, subst, arith, drop-cons, slice_range, slice_get, Option, Some, IsSomeAnd, length-drop, length-take, slice_get_within, get_or_from_slice_get, LineEndTypes, Step, place_of, step_bytes, edited, CellsFollowBytes, Change, ContainerStep, end_of, Document, View, text_of, AreStepsOf, text_steps, Scene, document_after, change_performed, length_slice, DocumentRoom, step_in, IsStepOn, TakesRoom, no_room, outline_of, room_of_change, movement_of, count_of, IsSmallStep, hearers, note_room, bytes_of_change, notes_of_change, free_behind, freed_by, outline_kinds, outline_movement, performed_kinds, room_beside, ChangeFits}
 use Rattle.ed_model.specs.Steps as model
-use Rattle.ed_model.specs.Steps.{Step, place_of, step_bytes, edited}
-use Rattle.ed_model.specs.StepLaws.{CellsFollowBytes}
-use Rattle.ed_model.specs.History.{Change, TextStep as Text, ContainerStep}
+use Rattle.ed_model.specs.History.{TextStep as Text}
 use Rattle.ed_model.specs.InverseLaws.{Fits}
-use Rattle.ed_model.specs.MergeLaws.{end_of}
-use Rattle.ed_model.specs.Session.{Document, View, text_of}
-use Rattle.ed_model.specs.SoundLaws.{AreStepsOf}
-use Rattle.ed_model.specs.UndoPlans.{text_steps}
-use Rattle.ed_model.specs.Performing.{Scene, document_after, change_performed}
-use Rattle.ed_model.specs.proved.Lists.{length_slice}
 use Rattle.document.specs.declared.text_step.TextStep.{TextStep}
 use Rattle.document.specs.declared.text_step.TextStep.TheVariants.{Insert, Delete}
-use Rattle.document.specs.declared.room.DocumentRoom.{DocumentRoom}
-use Rattle.document.specs.TextSteps.{step_in, IsStepOn}
-use Rattle.document.specs.Kept.{TakesRoom, no_room}
-use Rattle.document.specs.Undoing.{outline_of, room_of_step, room_of_change}
-use Rattle.selection.specs.Positions.{movement_of, count_of}
-use Rattle.scene.specs.StepNotes.{IsSmallStep}
-use Rattle.scene.specs.Hearing.{hearers}
-use Rattle.scene.specs.Needs.{note_room}
-use Rattle.scene.specs.Undoing.{both_rooms, bytes_of_change, notes_of_change, free_behind, freed_by, outline_kinds, outline_movement, performed_kinds, room_beside}
-use Rattle.scene.specs.Turns.{ChangeFits}
+use Rattle.document.specs.Undoing.{room_of_step}
+use Rattle.scene.specs.Undoing.{both_rooms}
 
 -- A step of a change.
 

@@ -1,24 +1,7 @@
 -- What the steps of a conversion need: the same for each that inserts a byte, and the same for each that deletes one.
-use Rattle.std.proofs.Common.{suc, ◌≡◌, ℕ, ◌+◌, ◌-◌, ◌*◌, ◌^◌, ◌==◌, min, Bool, true, false, cond, List, [], ◌∷◌, ◌++◌, length, refl, ap, sym, ◌∙◌, arith}
-use Rattle.std.specs.Prelude.{nat_lt, if◌then◌else◌}
+use Rattle.scene.proofs.Names.{suc, ◌≡◌, ℕ, ◌+◌, ◌-◌, ◌*◌, ◌^◌, ◌==◌, min, Bool, true, false, cond, List, [], ◌∷◌, ◌++◌, length, refl, ap, sym, ◌∙◌, arith, nat_lt, if◌then◌else◌, lt-ltb, LineEnd, LineEndTypes, Default, Unicode, Step, Insert, Delete, lacks_return, lacks_feed, missing_at, missing_from, is_unwanted, unwanted_at, place_after, unwanted_from, TextStep, View, watching, Scene, completed, lines_for_insertion, DocumentRoom, document_room, amount_sum, room_sum, NoteRoom, note_room, leaving_count, notes_of_step, bytes_of_step, notes_of_steps, bytes_of_steps, both_rooms, bytes_for, capped_room, deletions_of, notes_for, room_of_many, room_of_step, room_of_steps, rooms_added, room_of_steps_beside, same_room}
 use Rattle.std.proofs.Math.Nat.{mul-suc}
-use Rattle.std.proofs.lemmas.Bool.{lt-ltb}
-use Rattle.ed_model.specs.declared.plan.LineEnd.{LineEnd}
-use Rattle.ed_model.specs.declared.plan.LineEndTypes.{LineEndTypes}
-use Rattle.ed_model.specs.declared.plan.LineEndTypes.TheVariants.{Default, Unicode}
-use Rattle.ed_model.specs.Steps.{Step, Insert, Delete}
-use Rattle.ed_model.specs.LineEnds.{lacks_return, lacks_feed, missing_at, missing_from, is_unwanted, unwanted_at, place_after, unwanted_from}
-use Rattle.ed_model.specs.History.{TextStep}
-use Rattle.ed_model.specs.Session.{View, watching}
-use Rattle.ed_model.specs.Performing.{Scene}
-use Rattle.line_ends.specs.Conversion.{completed}
-use Rattle.line_index.specs.RoomLaws.{lines_for_insertion}
-use Rattle.document.specs.declared.room.DocumentRoom.{DocumentRoom}
-use Rattle.document.specs.Kept.{document_room, amount_sum, room_sum}
-use Rattle.scene.specs.declared.need.NoteRoom.{NoteRoom}
-use Rattle.scene.specs.Needs.{note_room, leaving_count, notes_of_step, bytes_of_step, notes_of_steps, bytes_of_steps}
-use Rattle.scene.specs.Conversion.{both_rooms, free_behind, bytes_for, capped, capped_notes, capped_room, deletions_of, notes_for, room_of_many, room_of_step, room_of_steps, rooms_added, room_of_steps_beside}
-use Rattle.scene.specs.proved.Rooms.{same_room}
+use Rattle.scene.specs.Conversion.{free_behind, capped, capped_notes}
 
 -- this step of a conversion needs what that one needs
 pub record NeedsAs (types : LineEndTypes) (views : List View) (one step : Step) : Type 0 where

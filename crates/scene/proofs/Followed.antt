@@ -1,17 +1,5 @@
 -- The views that followed a step, and those that are still to follow, while one follows after the other.
-use Rattle.std.proofs.Common.{◌≡◌, ℕ, ◌+◌, ◌<◌, ◌≤◌, arith, Bool, true, false, cond, List, [], ◌∷◌, map, refl, ap, sym, ◌∙◌, subst}
-use Rattle.std.specs.Prelude.{◌==◌, Some, None, find, option_map}
-use Rattle.std.proofs.lemmas.Bool.{eqb-true, eqb-false, eq-eqb, ne_eqb}
-use Rattle.line_index.specs.declared.edit.LineEdit.{LineEdit}
-use Rattle.selection.specs.declared.movements.Movement.{Movement}
-use Rattle.ed_model.specs.Session.{View, view_at, with_view}
-use Rattle.ed_model.specs.SoundLaws.{Rise}
-use Rattle.ed_model.specs.proved.Finding.{view_id}
-use Rattle.id_table.specs.Entries.{Entry, Entries, entry, id_of, value_at, value_of, with_value_at}
-use Rattle.ed_view.specs.Kept.{KeptView, fold_rooms}
-use Rattle.ed_view.specs.Moving.{view_moved}
-use Rattle.scene.specs.Scenes.{views_of, fold_room_in_all, AreNamed}
-use Rattle.scene.specs.Following.{with_followed, followed_at, CanFollow, CanFollowInTurn}
+use Rattle.scene.proofs.Names.{◌≡◌, ℕ, ◌+◌, ◌<◌, ◌≤◌, arith, Bool, true, false, cond, List, [], ◌∷◌, map, refl, ap, sym, ◌∙◌, subst, ◌==◌, Some, None, find, option_map, eqb-true, eqb-false, eq-eqb, ne_eqb, LineEdit, Movement, View, view_at, with_view, Rise, view_id, Entry, Entries, entry, id_of, value_at, value_of, with_value_at, KeptView, fold_rooms, view_moved, views_of, fold_room_in_all, AreNamed, with_followed, followed_at, CanFollow, CanFollowInTurn}
 use Rattle.scene.proofs.Pending.{named_some, named_none}
 
 -- Replacing the value at an id.

@@ -1,22 +1,8 @@
 -- Kinds of notes, and the views that hear them.
-use Rattle.std.proofs.Common.{◌≡◌, ℕ, ◌+◌, ◌<◌, ◌≤◌, Bool, true, false, cond, List, [], ◌∷◌, length, refl, ap, sym, ◌∙◌, subst, arith}
-use Rattle.std.specs.Prelude.{◌==◌, ◌||◌, not, filter, bit_and, bit_or, ℤ}
+use Rattle.scene.proofs.Names.{◌≡◌, ℕ, ◌+◌, ◌<◌, ◌≤◌, Bool, true, false, cond, List, [], ◌∷◌, length, refl, ap, sym, ◌∙◌, subst, arith, ◌==◌, ◌||◌, not, filter, bit_and, bit_or, ℤ, eqb-true, eq-eqb, Notice, Note, meets, Step, Insert, Delete, step_bytes, told, heard, before_note, after_note, insert_text, delete_text, step_in, IsStepOn, Gathered, View, Hearers, NoteText, audience_of, with_note_text, hearers, masks_from, masks_of, before_kind, after_kind, step_kinds, CanTellMade}
 use Rattle.std.specs.Int.Bits.{and_zero_l}
 use Rattle.std.proofs.lemmas.Nat.{and_assoc, and_comm, and_or_self, and_or_apart, or_comm}
-use Rattle.std.proofs.lemmas.Bool.{eqb-true, eq-eqb}
-use Rattle.ed_types.specs.Notices.{Notice}
-use Rattle.ed_types.specs.declared.reply.Note.{Note}
-use Rattle.ed_model.specs.Numbers.{meets}
-use Rattle.ed_model.specs.Steps.{Step, Insert, Delete, step_bytes}
-use Rattle.ed_model.specs.Notes.{told, heard, before_note, after_note, insert_text, delete_text}
 use Rattle.document.specs.declared.text_step.TextStep.{TextStep}
-use Rattle.document.specs.TextSteps.{step_in, IsStepOn}
-use Rattle.notify.specs.Gathered.{Gathered}
-use Rattle.ed_model.specs.Session.{View}
-use Rattle.scene.specs.declared.telling.Audience.TheVariants.{Hearers}
-use Rattle.scene.specs.declared.telling.NoteText.{NoteText}
-use Rattle.scene.specs.Hearing.{audience_of, with_note_text, hearers, masks_from, masks_of, before_kind, after_kind, step_kinds}
-use Rattle.scene.specs.StepNotes.{CanTellMade}
 use Rattle.scene.proofs.ToldSoFar.{length_told}
 
 -- a mask that has no bit of two kinds together has none of one of them

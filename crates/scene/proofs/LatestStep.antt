@@ -1,16 +1,8 @@
 -- The caret after the latest step of the text among the first changes.
-use Rattle.std.proofs.Common.{◌≡◌, ℕ, ◌+◌, ◌^◌, ◌<◌, ◌≤◌, List, [], ◌∷◌, length, take, reverse, get_or, refl, ap, sym, ◌∙◌, arith}
-use Rattle.std.specs.Prelude.{slice_get, ℤ, Option, Some}
-use Rattle.std.proofs.lemmas.List.{take_more, take_all, reverse-append}
-use Rattle.std.proofs.lemmas.Option.{slice_get_within, get_or_from_slice_get}
-use Rattle.ed_model.specs.declared.plan.LineEndTypes.{LineEndTypes}
+use Rattle.scene.proofs.Names.{◌≡◌, ℕ, ◌+◌, ◌^◌, ◌<◌, ◌≤◌, List, [], ◌∷◌, length, take, reverse, get_or, refl, ap, sym, ◌∙◌, arith, slice_get, ℤ, Option, Some, take_more, take_all, reverse-append, slice_get_within, get_or_from_slice_get, LineEndTypes, Change, TextStep, ContainerStep, latest_text_step, outline_of, room_of_change, ChangeFits, place_behind_any, place_by}
 use Rattle.ed_model.specs.Steps as model
-use Rattle.ed_model.specs.History.{Change, TextStep, ContainerStep, latest_text_step}
 use Rattle.document.specs.declared.undoing.ChangeOutline.{ChangeOutline}
 use Rattle.document.specs.declared.undoing.ChangeOutline.TheVariants.{Insert, Delete, Container}
-use Rattle.document.specs.Undoing.{outline_of, room_of_change}
-use Rattle.scene.specs.Turns.{ChangeFits}
-use Rattle.scene.specs.Undoing.{place_behind_any, place_by}
 
 -- the place of the caret after the first n changes
 abbrev pub behind_first : List Change → ℕ → Option ℕ

@@ -1,3 +1,4 @@
+pub mod Names
 pub mod Pending
 pub mod ToldSoFar
 pub mod Followed

@@ -1,19 +1,7 @@
 -- The notes of steps are at most as many as the need says.
-use Rattle.std.proofs.Common.{◌≡◌, ℕ, suc, ◌+◌, ◌<◌, ◌≤◌, Bool, true, false, cond, List, [], ◌∷◌, map, length, refl, ap, ◌∙◌, arith}
-use Rattle.std.specs.Prelude.{◌==◌, ◌&&◌, not, nat_lt, ℤ, Option, Some, None, filter, filter_map, option_map}
-use Rattle.std.specs.List.{cons_option}
-use Rattle.std.proofs.lemmas.Bool.{ltb-true, lt-ltb}
-use Rattle.ed_model.specs.Numbers.{meets, growth, is_number}
-use Rattle.ed_model.specs.Steps.{Step, Insert, Delete, step_bytes}
-use Rattle.ed_model.specs.History.{History, Change, Transaction, TextStep, at_save_point, appended, begins_transaction, joins, joins_last, with_change, reachable, sealed_outside_groups, with_last_sealed}
+use Rattle.scene.proofs.Names.{◌≡◌, ℕ, suc, ◌+◌, ◌<◌, ◌≤◌, Bool, true, false, cond, List, [], ◌∷◌, map, length, refl, ap, ◌∙◌, arith, ◌==◌, ◌&&◌, not, nat_lt, ℤ, Option, Some, None, filter, filter_map, option_map, cons_option, ltb-true, lt-ltb, meets, growth, is_number, Step, Insert, Delete, step_bytes, History, Change, Transaction, TextStep, at_save_point, appended, begins_transaction, joins, joins_last, with_change, reachable, sealed_outside_groups, with_last_sealed, told, heard, before_note, after_note, performed_user, View, Document, view_at, watching, lines_in, document_after, moved_view, view_after, leaving, step_made, view_after_id, hearers, before_kind, after_kind, step_kinds, user_bits, bytes_shared, user_kinds, leaving_count, notes_of_steps, bytes_of_steps, NotesAreEnough, BytesAreEnough, SealingNeedsTheSame}
 use Rattle.ed_model.specs.Notes as notes
-use Rattle.ed_model.specs.Notes.{told, heard, before_note, after_note, performed_user}
-use Rattle.ed_model.specs.Session.{View, Document, view_at, watching, lines_in}
-use Rattle.ed_model.specs.Performing.{document_after, moved_view, view_after, leaving, step_made}
-use Rattle.ed_model.specs.proved.Changes.{view_after_id}
 use Rattle.ed_model.specs.proved.Histories.{lower_save_point, other_save_point, sealed_length}
-use Rattle.scene.specs.Hearing.{hearers, before_kind, after_kind, step_kinds, user_bits, bytes_shared}
-use Rattle.scene.specs.Needs.{user_kinds, leaving_count, notes_of_steps, bytes_of_steps, NotesAreEnough, BytesAreEnough, SealingNeedsTheSame}
 use Rattle.scene.proofs.ToldSoFar.{length_told, length_parts}
 use Rattle.scene.proofs.KindLemmas.{meets_left, meets_right, hearers_more, before_kind_is, after_kind_is}
 

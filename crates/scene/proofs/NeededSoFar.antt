@@ -1,18 +1,7 @@
 -- What the changes so far need in undo or redo, and what the remaining ones need.
-use Rattle.std.proofs.Common.{◌≡◌, ℕ, ◌+◌, ◌^◌, ◌<◌, List, [], ◌∷◌, length, ap, ◌∙◌, subst, arith}
-use Rattle.std.specs.Prelude.{slice_get, Some}
-use Rattle.std.proofs.lemmas.Option.{get_or_from_slice_get}
-use Rattle.ed_model.specs.declared.plan.LineEndTypes.{LineEndTypes}
-use Rattle.ed_model.specs.History.{Change}
-use Rattle.ed_model.specs.Session.{View}
-use Rattle.document.specs.declared.room.DocumentRoom.{DocumentRoom}
-use Rattle.document.specs.Undoing.{room_of_change}
-use Rattle.document.specs.Kept.{no_room, amount_sum, room_sum}
-use Rattle.scene.specs.declared.need.NoteRoom.{NoteRoom}
+use Rattle.scene.proofs.Names.{◌≡◌, ℕ, ◌+◌, ◌^◌, ◌<◌, List, [], ◌∷◌, length, ap, ◌∙◌, subst, arith, slice_get, Some, get_or_from_slice_get, LineEndTypes, Change, View, DocumentRoom, room_of_change, no_room, amount_sum, room_sum, NoteRoom, note_room, notes_of_change, bytes_of_change, notes_of_changes, bytes_of_changes, free_behind, room_beside, room_of_changes, rooms_beside, capped, capped_notes, same_room}
 use Rattle.scene.specs.declared.need.SceneNeed.{SceneNeed}
-use Rattle.scene.specs.Needs.{note_room}
-use Rattle.scene.specs.Undoing.{notes_of_change, bytes_of_change, notes_of_changes, bytes_of_changes, free_behind, room_beside, room_of_changes, rooms_beside, capped, capped_room, capped_notes}
-use Rattle.scene.specs.proved.Rooms.{same_room}
+use Rattle.scene.specs.Undoing.{capped_room}
 
 -- the amount so far and the remaining amount add up to the whole
 abbrev pub IsSum : ℕ → ℕ → ℕ → Type 0

@@ -1,18 +1,8 @@
 -- The notes of a step are those of the model's step.
-use Rattle.std.proofs.Common.{◌≡◌, ℕ, ◌+◌, List, [], length, ap, sym, ◌∙◌, subst}
-use Rattle.std.specs.Prelude.{slice_range, ℤ}
-use Rattle.ed_types.specs.declared.reply.Note.{Note}
-use Rattle.ed_types.specs.Heard.{with_text}
-use Rattle.ed_types.specs.Notices.{Notice}
+use Rattle.scene.proofs.Names.{◌≡◌, ℕ, ◌+◌, List, [], length, ap, sym, ◌∙◌, subst, slice_range, ℤ, Note, with_text, Notice, step_bytes, range_note, before_note, after_note, length_slice, step_in, IsStepOn, before_kind, after_kind, place_in, count_in, text_before}
 use Rattle.ed_model.specs.Steps as model
-use Rattle.ed_model.specs.Steps.{step_bytes}
-use Rattle.ed_model.specs.Notes.{range_note, before_note, after_note}
-use Rattle.ed_model.specs.proved.Lists.{length_slice}
 use Rattle.document.specs.declared.text_step.TextStep.{TextStep}
 use Rattle.document.specs.declared.text_step.TextStep.TheVariants.{Insert, Delete}
-use Rattle.document.specs.TextSteps.{step_in, IsStepOn}
-use Rattle.scene.specs.Hearing.{before_kind, after_kind}
-use Rattle.scene.specs.StepNotes.{place_in, count_in, text_before}
 
 -- a note of a range of bytes, with any text
 abbrev pub TellsRange : Note → ℕ → ℕ → ℕ → Type 0

@@ -1,14 +1,6 @@
 -- Of the views that watch, those that are still to be notified.
-use Rattle.std.proofs.Common.{◌≡◌, ℕ, ◌+◌, ◌<◌, ◌≤◌, Bool, true, false, cond, suc, List, [], ◌∷◌, refl, ap, sym, ◌∙◌, subst, length, get_or, drop, arith, drop-cons}
-use Rattle.std.proofs.lemmas.List.{drop_all}
-use Rattle.std.specs.Prelude.{◌==◌, Some, None, find, filter_map, option_map}
-use Rattle.ed_model.specs.Session.{View, view_at}
-use Rattle.id_table.specs.Entries.{Entry, value_at, value_of}
-use Rattle.ed_view.specs.Kept.{KeptView, view_in}
+use Rattle.scene.proofs.Names.{◌≡◌, ℕ, ◌+◌, ◌<◌, ◌≤◌, Bool, true, false, cond, suc, List, [], ◌∷◌, refl, ap, sym, ◌∙◌, subst, length, get_or, drop, arith, drop-cons, drop_all, ◌==◌, Some, None, find, filter_map, option_map, View, view_at, Entry, value_at, value_of, KeptView, view_in, Everyone, Hearers, views_of, AreNamed, audience_of, belongs}
 use Rattle.scene.specs.declared.telling.Audience.{Audience}
-use Rattle.scene.specs.declared.telling.Audience.TheVariants.{Everyone, Hearers}
-use Rattle.scene.specs.Scenes.{views_of, AreNamed}
-use Rattle.scene.specs.Hearing.{audience_of, belongs}
 
 -- a view found by the id of its entry is found by its own id
 pub named_view : (entries : List (Entry KeptView)) (id : ℕ) → AreNamed entries → option_map view_in (value_at entries id) ≡ view_at (views_of entries) id

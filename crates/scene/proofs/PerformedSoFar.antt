@@ -1,28 +1,7 @@
 -- The changes of undo or redo that were performed, and those that are still to be performed.
-use Rattle.std.proofs.Common.{◌≡◌, ℕ, ◌+◌, ◌-◌, ◌<◌, ◌≤◌, Bool, true, false, List, [], ◌∷◌, map, length, drop, get_or, refl, ap, sym, ◌∙◌, subst, arith, inl, inr}
-use Rattle.std.specs.Prelude.{◌==◌, ◌&&◌, ◌||◌, bit_and, not, nat_lt, slice_get, Some}
-use Rattle.std.proofs.lemmas.List.{length-drop}
-use Rattle.std.proofs.lemmas.Bool.{and_parts, eq-eqb, ne_eqb, eqb-true, or_cases}
-use Rattle.std.proofs.lemmas.Option.{slice_get-get_or}
-use Rattle.ed_model.specs.Notes.{bit_if, multi_step, told, blank, save_point_reached, save_point_left}
-use Rattle.ed_model.specs.StepLaws.{CellsFollowBytes}
-use Rattle.ed_model.specs.History.{Change, TextStep, ContainerStep}
-use Rattle.ed_model.specs.Session.{Document, View, text_of, watching}
-use Rattle.ed_model.specs.SoundLaws.{AreStepsOf}
-use Rattle.ed_model.specs.UndoPlans.{text_steps}
-use Rattle.ed_model.specs.Performing.{Scene, is_last, change_performed, changes_performed, save_point_change}
-use Rattle.id_table.specs.Entries.{Entries, id_of}
-use Rattle.notify.specs.Gathered.{Gathered}
-use Rattle.ed_view.specs.Kept.{KeptView}
-use Rattle.document.specs.declared.undoing.Direction.{Direction}
-use Rattle.document.specs.declared.room.DocumentRoom.{DocumentRoom}
-use Rattle.document.specs.Kept.{Kept, ChangeRoom, HasTextRoom, TakesRoom, IsAtMost, no_room, with_freed, marker_room_in_all}
-use Rattle.document.specs.Undoing.{changes_of, room_of_change, save_point_told}
+use Rattle.scene.proofs.Names.{◌≡◌, ℕ, ◌+◌, ◌-◌, ◌<◌, ◌≤◌, Bool, true, false, List, [], ◌∷◌, map, length, drop, get_or, refl, ap, sym, ◌∙◌, subst, arith, inl, inr, ◌==◌, ◌&&◌, ◌||◌, bit_and, not, nat_lt, slice_get, Some, length-drop, and_parts, eq-eqb, ne_eqb, eqb-true, or_cases, slice_get-get_or, bit_if, multi_step, told, blank, save_point_reached, save_point_left, CellsFollowBytes, Change, TextStep, ContainerStep, Document, View, text_of, watching, AreStepsOf, text_steps, Scene, is_last, change_performed, changes_performed, save_point_change, Entries, id_of, Gathered, KeptView, Direction, DocumentRoom, Kept, ChangeRoom, HasTextRoom, TakesRoom, IsAtMost, no_room, with_freed, marker_room_in_all, changes_of, room_of_change, save_point_told, scene_in, watchers, fold_room_in_all, IsWatched, hearers, masks_of, bits_of, every_kind, notes_of_changes, notes_of_change, bytes_of_changes, free_behind, freed_by, fill_behind, fill_behind_all, SpareLeft, room_of_changes, rooms_beside, save_point_notes, several_bits, CanPerform, IsPerformed}
 use Rattle.scene.specs.declared.performing.Turn.{Turn}
-use Rattle.scene.specs.Scenes.{scene_in, watchers, fold_room_in_all, IsWatched}
-use Rattle.scene.specs.Hearing.{hearers, masks_of}
-use Rattle.scene.specs.Undoing.{bits_of, every_kind, notes_of_changes, notes_of_change, bytes_of_changes, free_behind, freed_by, freed_by_all, fill_behind, fill_behind_all, SpareLeft, room_of_changes, rooms_beside, save_point_notes}
-use Rattle.scene.specs.Turns.{several_bits, CanPerform, IsPerformed}
+use Rattle.scene.specs.Undoing.{freed_by_all}
 use Rattle.scene.specs.Performed.{CanPerformAll, AreAllPerformed}
 use Rattle.scene.proofs.KindLemmas.{none_by_masks}
 use Rattle.scene.proofs.ChangeNotes.{HearAlike, hear_alike_still, notes_alike, bytes_alike, none_of_all, performed_few, still_none}

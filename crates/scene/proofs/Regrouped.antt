@@ -1,35 +1,15 @@
 -- The flags of views follow the lines of their document when other line ends count.
-use Rattle.std.proofs.Common.{◌≡◌, ℕ, zero, suc, ◌+◌, ◌-◌, ◌^◌, ◌<◌, Bool, true, false, cond, List, [], ◌∷◌, ◌++◌, map, length, take, drop, refl, ap, sym, ◌∙◌, subst, arith}
-use Rattle.std.specs.Prelude.{◌==◌, nat_le, slice_range, Some}
-use Rattle.std.specs.List.{AllByRecursion}
-use Rattle.std.proofs.lemmas.Bool.{eqb-true, eqb-false}
-use Rattle.line_index.specs.declared.edit.LineEdit.{LineEdit}
+use Rattle.scene.proofs.Names.{◌≡◌, ℕ, zero, suc, ◌+◌, ◌-◌, ◌^◌, ◌<◌, Bool, true, false, cond, List, [], ◌∷◌, ◌++◌, map, length, take, drop, refl, ap, sym, ◌∙◌, subst, arith, ◌==◌, nat_le, slice_range, Some, AllByRecursion, eqb-true, eqb-false, LineEdit, after_edit, after_edits, fresh_lines, Movement, LineEndTypes, Default, Unicode, JoinsRows, View, Document, view_at, text_of, lines_in, is_large, Rise, StandsOn, IsViewOn, ids_of, length_text, all_two, map_where, Entries, AreFewLines, KeptView, FitsWidth, views_of, AreNamed, StandsIfOn, IsWatched, followed_at, CanFollow, CanFollowInTurn}
 use Rattle.line_index.specs.declared.edit.LineEdit.TheVariants.{Come, Join, Restart}
-use Rattle.line_index.specs.Edits.{after_edit, after_edits, fresh_lines}
 use Rattle.line_index.specs.Settings.{edits_of_setting, inside_edits, all_inside_edits, line_past, lines_inside, SettingsBringFewLines, SettingsCarryRows, SettingsFitLines}
-use Rattle.selection.specs.declared.movements.Movement.{Movement}
 use Rattle.selection.specs.declared.movements.Movement.TheVariants.{Inserted}
-use Rattle.ed_model.specs.declared.plan.LineEndTypes.{LineEndTypes}
-use Rattle.ed_model.specs.declared.plan.LineEndTypes.TheVariants.{Default, Unicode}
 use Rattle.ed_model.specs.declared.plan.DocumentChange.TheVariants as change
 use Rattle.ed_model.specs.Carry.{regrouped}
 use Rattle.ed_model.specs.CarryLaws.{RegroupingLeavesARowForEachLine}
 use Rattle.ed_model.specs.Changes.{changed_lines}
 use Rattle.ed_model.specs.Folding.{is_visible}
 use Rattle.ed_model.specs.Lines.{line_starts}
-use Rattle.ed_model.specs.MergeLaws.{JoinsRows}
 use Rattle.ed_model.specs.Rows.{Row, Flags, flags_together}
-use Rattle.ed_model.specs.Session.{View, Document, view_at, text_of, lines_in, is_large}
-use Rattle.ed_model.specs.SoundLaws.{Rise, StandsOn, IsViewOn}
-use Rattle.ed_model.specs.proved.Finding.{ids_of}
-use Rattle.ed_model.specs.proved.Changes.{length_text}
-use Rattle.ed_model.specs.proved.Elements.{all_two, map_where}
-use Rattle.id_table.specs.Entries.{Entries}
-use Rattle.ed_view.specs.Flags.{AreFewLines}
-use Rattle.ed_view.specs.Kept.{KeptView}
-use Rattle.document.specs.Kept.{FitsWidth}
-use Rattle.scene.specs.Scenes.{views_of, AreNamed, StandsIfOn, IsWatched}
-use Rattle.scene.specs.Following.{followed_at, CanFollow, CanFollowInTurn}
 use Rattle.scene.proofs.Watching.{through, followed_through, through_none, through_once, each_found, not_listed}
 use Rattle.scene.proofs.StepScenes.{few_enough, watched_can}
 

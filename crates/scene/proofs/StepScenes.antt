@@ -1,43 +1,12 @@
 -- A scene under a step: each view on the document can follow, all follow as the model says, and their positions are in the new text.
-use Rattle.std.proofs.Common.{◌≡◌, ℕ, ◌+◌, ◌^◌, ◌<◌, ◌≤◌, Bool, true, false, cond, List, [], ◌∷◌, map, length, refl, ap, sym, ◌∙◌, subst, arith}
-use Rattle.std.specs.Prelude.{◌==◌, ◌&&◌, Some}
-use Rattle.std.specs.List.{AllByRecursion}
-use Rattle.std.proofs.lemmas.Bool.{eqb-true, eqb-false}
-use Rattle.ed_types.specs.Notices.{Notice}
-use Rattle.line_index.specs.declared.edit.LineEdit.{LineEdit}
-use Rattle.line_index.specs.Edits.{fresh_lines}
-use Rattle.line_index.specs.RoomLaws.{lines_for_step}
-use Rattle.line_index.specs.StepEdits.{EditsBringFewLines}
-use Rattle.selection.specs.declared.movements.Movement.{Movement}
-use Rattle.selection.specs.Positions.{movement_of, count_of}
-use Rattle.ed_model.specs.declared.plan.LineEndTypes.{LineEndTypes}
+use Rattle.scene.proofs.Names.{◌≡◌, ℕ, ◌+◌, ◌^◌, ◌<◌, ◌≤◌, Bool, true, false, cond, List, [], ◌∷◌, map, length, refl, ap, sym, ◌∙◌, subst, arith, ◌==◌, ◌&&◌, Some, AllByRecursion, eqb-true, eqb-false, Notice, LineEdit, fresh_lines, lines_for_step, EditsBringFewLines, Movement, movement_of, count_of, LineEndTypes, Step, end_of, History, appended, begins_transaction, at_save_point, told, blank, save_point_left, performed_user, View, Document, view_at, text_of, is_large, watching, Scene, document_after, moved_view, view_after, leaving, step_heard, step_made, Rise, StandsOn, IsViewOn, occurrences, view_id, ids_of, same_ids, length_text, view_after_id, view_after_document, all_two, map_where, length_slice, Entry, Entries, AreFewLines, KeptView, step_edits, MovesAreThoseOfSteps, StepsFitViews, bound_of, FitsWidth, step_in, IsStepOn, need_of, views_of, scene_in, AreNamed, StandsIfOn, IsWatched, left_note, user_bits, followed_at, CanFollow, CanFollowInTurn, IsSmallStep, count_in}
 use Rattle.ed_model.specs.Steps as model
-use Rattle.ed_model.specs.Steps.{Step}
-use Rattle.ed_model.specs.MergeLaws.{end_of}
-use Rattle.ed_model.specs.History.{History, TextStep as Text, appended, begins_transaction, at_save_point}
-use Rattle.ed_model.specs.Notes.{told, blank, save_point_left, performed_user}
-use Rattle.ed_model.specs.Session.{View, Document, view_at, text_of, lines_in, is_large, watching}
-use Rattle.ed_model.specs.Performing.{Scene, document_after, moved_view, view_after, leaving, step_heard, step_made}
-use Rattle.ed_model.specs.SoundLaws.{Rise, StandsOn, IsViewOn, occurrences}
+use Rattle.ed_model.specs.History.{TextStep as Text}
 use Rattle.ed_model.specs.StandingLaws.{StepsKeepViewsStanding}
-use Rattle.ed_model.specs.proved.Finding.{view_id, ids_of, same_ids}
-use Rattle.ed_model.specs.proved.Changes.{length_text, view_after_id, view_after_document}
-use Rattle.ed_model.specs.proved.Elements.{all_two, map_where}
 use Rattle.ed_model.specs.proved.Lines.{few_lines}
-use Rattle.ed_model.specs.proved.Lists.{length_slice}
-use Rattle.id_table.specs.Entries.{Entry, Entries}
-use Rattle.ed_view.specs.Flags.{AreFewLines}
-use Rattle.ed_view.specs.Kept.{KeptView}
-use Rattle.ed_view.specs.Moving.{step_edits, MovesAreThoseOfSteps, StepsFitViews}
 use Rattle.document.specs.declared.text_step.TextStep.{TextStep}
 use Rattle.document.specs.declared.text_step.TextStep.TheVariants.{Insert, Delete}
-use Rattle.document.specs.Kept.{bound_of, FitsWidth}
-use Rattle.document.specs.TextSteps.{step_in, IsStepOn, need_of}
 use Rattle.document.specs.Undoing.{room_of_step}
-use Rattle.scene.specs.Scenes.{views_of, scene_in, AreNamed, StandsIfOn, IsWatched}
-use Rattle.scene.specs.Hearing.{left_note, user_bits}
-use Rattle.scene.specs.Following.{followed_at, CanFollow, CanFollowInTurn}
-use Rattle.scene.specs.StepNotes.{IsSmallStep, count_in}
 use Rattle.scene.proofs.Watching.{through, followed_through, through_none, through_once, can_in_turn, Ready, each_found, found_has, not_listed}
 
 abbrev pub scene_with : Document → List View → List Notice → Scene

@@ -1,30 +1,8 @@
 -- Steps in turn, from the room that was reserved for all of them.
-use Rattle.std.proofs.Common.{zero, suc, ◌≡◌, ℕ, ◌+◌, ◌<◌, ◌≤◌, Bool, true, false, List, [], ◌∷◌, ◌++◌, length, map, take, drop, refl, ap, sym, ◌∙◌, subst, arith, slice_range}
-use Rattle.std.specs.Prelude.{None}
-use Rattle.std.proofs.lemmas.List.{length-append, length-take, length-drop}
-use Rattle.ed_model.specs.declared.plan.LineEnd.{LineEnd}
-use Rattle.ed_model.specs.Steps.{Step, Insert, Delete, step_bytes, edited}
-use Rattle.ed_model.specs.LineEnds.{after_steps, conversion_steps, unwanted_from}
-use Rattle.ed_model.specs.History.{TextStep}
-use Rattle.ed_model.specs.Session.{Document, text_of, watching}
-use Rattle.ed_model.specs.Performing.{Scene, step_made, steps_made}
-use Rattle.ed_model.specs.proved.Steps.{bytes_of_edited_cells, length_of_range}
-use Rattle.ed_model.specs.proved.Changes.{length_text}
-use Rattle.document.specs.declared.room.DocumentRoom.{DocumentRoom}
+use Rattle.scene.proofs.Names.{zero, suc, ◌≡◌, ℕ, ◌+◌, ◌<◌, ◌≤◌, Bool, true, false, List, [], ◌∷◌, ◌++◌, length, map, take, drop, refl, ap, sym, ◌∙◌, subst, arith, slice_range, None, length-take, length-drop, LineEnd, Step, Insert, Delete, step_bytes, edited, after_steps, conversion_steps, unwanted_from, TextStep, Document, text_of, watching, Scene, step_made, steps_made, bytes_of_edited_cells, length_of_range, length_text, DocumentRoom, Kept, ChangeRoom, HasRoom, TakesRoom, no_room, AddsNoRoomBut, marker_room_in_all, bytes_out, need_of, Entries, KeptView, Gathered, IsNextMissing, IsNextUnwanted, completed, missing_in, unwanted_in, views_of, scene_in, fold_room_in_all, IsWatched, bytes_shared, made_kinds, notes_needed, bytes_needed, NotesAreEnough, BytesAreEnough, next_notes, next_bytes, appended_collects, deletion_needs, next_room, AreLeft, RoomsStay, both_rooms, changes_for, freed_by_all, bytes_for, deletions_of, notes_for, room_of_step, room_of_steps, rooms_added}
+use Rattle.std.proofs.lemmas.List.{length-append}
 use Rattle.document.specs.declared.text_step.TextStep.TheVariants as lent
-use Rattle.document.specs.Kept.{Kept, ChangeRoom, HasRoom, TakesRoom, no_room, AddsNoRoomBut, marker_room_in_all}
-use Rattle.document.specs.TextSteps.{bytes_out, need_of}
-use Rattle.id_table.specs.Entries.{Entries}
-use Rattle.ed_view.specs.Kept.{KeptView}
-use Rattle.notify.specs.Gathered.{Gathered}
-use Rattle.line_ends.specs.Conversion.{IsNextMissing, IsNextUnwanted, completed, missing_in, unwanted_in}
-use Rattle.scene.specs.Scenes.{views_of, scene_in, fold_room_in_all, IsWatched}
-use Rattle.scene.specs.Hearing.{bytes_shared, made_kinds}
-use Rattle.scene.specs.Needs.{notes_needed, bytes_needed, NotesAreEnough, BytesAreEnough}
-use Rattle.scene.specs.proved.Enough.{next_notes, next_bytes}
-use Rattle.scene.specs.proved.Rooms.{appended_collects, deletion_needs, next_room}
 use Rattle.scene.proofs.PerformedSoFar.{made_next, spare_next}
-use Rattle.scene.specs.Conversion.{AreLeft, RoomsStay, both_rooms, changes_for, freed_by_all, bytes_for, deletions_of, notes_for, room_of_step, room_of_steps, rooms_added}
 
 -- Notes, and the bytes of their texts.
 

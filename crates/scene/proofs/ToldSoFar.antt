@@ -1,15 +1,5 @@
 -- The views that were notified of a note, and those that are still to be notified, while one after the other gets its note.
-use Rattle.std.proofs.Common.{◌≡◌, ℕ, ◌+◌, ◌-◌, ◌≤◌, List, [], ◌∷◌, ◌++◌, length, refl, ap, sym, ◌∙◌, subst, arith, append_assoc, length-append}
-use Rattle.std.proofs.lemmas.List.{append-nil, length-map}
-use Rattle.ed_types.specs.Notices.{Notice}
-use Rattle.ed_types.specs.Heard.{with_text}
-use Rattle.ed_types.specs.declared.reply.Note.{Note}
-use Rattle.ed_model.specs.Notes.{told}
-use Rattle.ed_model.specs.Session.{View}
-use Rattle.notify.specs.Gathered.{Gathered, gathered}
-use Rattle.scene.specs.declared.telling.NoteText.{NoteText}
-use Rattle.scene.specs.declared.telling.NoteText.TheVariants.{Empty, Shared}
-use Rattle.scene.specs.Hearing.{with_note_text}
+use Rattle.scene.proofs.Names.{◌≡◌, ℕ, ◌+◌, ◌-◌, ◌≤◌, List, [], ◌∷◌, ◌++◌, length, refl, ap, sym, ◌∙◌, subst, arith, append_assoc, length-append, append-nil, length-map, Notice, with_text, Note, told, View, Gathered, gathered, NoteText, Empty, Shared, with_note_text}
 
 pub record IsToldSoFar (note : Notice) (whole rest : List View) (old now : Gathered) : Type 0 where
   pub notes : now.notes ++ told rest note ≡ old.notes ++ told whole note

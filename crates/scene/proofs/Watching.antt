@@ -1,16 +1,5 @@
 -- Views under a step: if the views that the document lists follow one after the other, each view of the document follows once.
-use Rattle.std.proofs.Common.{◌≡◌, ℕ, ◌+◌, ◌<◌, ◌≤◌, Bool, true, false, cond, List, [], ◌∷◌, map, length, refl, ap, sym, ◌∙◌, subst, arith}
-use Rattle.std.specs.Prelude.{◌==◌, Option, Some, None, filter, if◌then◌else◌}
-use Rattle.std.specs.List.{AllByRecursion}
-use Rattle.std.proofs.lemmas.Bool.{eqb-true, eqb-false, eq-eqb, ne_eqb}
-use Rattle.line_index.specs.declared.edit.LineEdit.{LineEdit}
-use Rattle.selection.specs.declared.movements.Movement.{Movement}
-use Rattle.ed_model.specs.Session.{View, view_at, with_view}
-use Rattle.ed_model.specs.SoundLaws.{Rise, IsViewOn, occurrences}
-use Rattle.ed_model.specs.proved.Finding.{view_id, ids_of}
-use Rattle.ed_model.specs.proved.Elements.{all_two}
-use Rattle.ed_view.specs.Moving.{view_moved}
-use Rattle.scene.specs.Following.{with_followed, followed_at, CanFollow, CanFollowInTurn}
+use Rattle.scene.proofs.Names.{◌≡◌, ℕ, ◌+◌, ◌<◌, ◌≤◌, Bool, true, false, cond, List, [], ◌∷◌, map, length, refl, ap, sym, ◌∙◌, subst, arith, ◌==◌, Option, Some, None, filter, if◌then◌else◌, AllByRecursion, eqb-true, eqb-false, eq-eqb, ne_eqb, LineEdit, Movement, View, view_at, with_view, Rise, IsViewOn, occurrences, view_id, ids_of, all_two, view_moved, with_followed, followed_at, CanFollow, CanFollowInTurn}
 
 module _ (movement : Movement) (edits : List LineEdit) where
   -- the view follows if the id is its own

@@ -132,7 +132,7 @@ fn tell_before(
 ///
 /// The views that watch and hear the step are notified before and after it, with these bits. In between, if the save
 /// point `is_left`, each view is told so. All views that watch follow the step.
-pub fn step_heard(
+pub(crate) fn step_heard(
     document: &mut Document,
     views: &mut IdTable<View>,
     notes: &mut NoteList,

@@ -1,3 +1,4 @@
 -- Lemmas.
+pub mod Names
 pub mod TakenBytes
 pub mod Writing

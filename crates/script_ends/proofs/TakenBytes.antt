@@ -1,14 +1,6 @@
 -- Successive reads.
-use Rattle.std.proofs.Common.{◌≡◌, ℕ, ◌+◌, ◌<◌, ◌≤◌, List, [], ◌++◌, length, take, refl, sym, ◌∙◌, ap, subst, arith, append_assoc, append-nil, length-append, Option, Some, None, IfSome, Result, Ok, Err, inl, inr, false, true, Bool, ◌⊎◌, length-take}
-use Rattle.std.specs.Io.KnownBytes.{Consumes, Keeps, IsAtEnd}
-use Rattle.std.proofs.lemmas.List.{take_all, take-append-le, length-take-le}
-use Rattle.std.proofs.lemmas.Bool.{cases_lt, lt-leb}
-use Rattle.ed_types.specs.declared.script.ScriptFault.TheVariants.{TooLong, OutOfMemory}
-use Rattle.ed_types.specs.declared.script.ScriptFault.{ScriptFault}
-use Rattle.ed_types.specs.declared.script.Command.{Command}
-use Rattle.ed_model.specs.Reading.{reading}
+use Rattle.script_ends.proofs.Names.{◌≡◌, ℕ, ◌+◌, ◌<◌, ◌≤◌, List, [], ◌++◌, length, take, refl, sym, ◌∙◌, ap, subst, arith, append_assoc, append-nil, length-append, Option, Some, None, IfSome, Result, Ok, Err, inl, inr, false, true, Bool, ◌⊎◌, length-take, Consumes, Keeps, IsAtEnd, take_all, take-append-le, length-take-le, cases_lt, lt-leb, TooLong, OutOfMemory, ScriptFault, Command, reading, TakesAtMost}
 use Rattle.ed_model.specs.Listing.{script_limit, fits_script}
-use Rattle.script_ends.specs.Ends.{TakesAtMost}
 
 -- nothing has been read yet
 pub taken_none : (old : Option (List ℕ)) → Consumes old old []

@@ -1,19 +1,9 @@
 -- Successive writes.
-use Rattle.std.proofs.Common.{◌≡◌, ℕ, zero, suc, ◌+◌, ◌-◌, Bool, true, false, cond, List, length, take, drop, refl, sym, ◌∙◌, ap, subst, arith, take-add, take-append-drop, length-drop, Option, Some, None, IfSome, Result, Ok, Err, IsErr}
+use Rattle.script_ends.proofs.Names.{◌≡◌, ℕ, zero, suc, ◌+◌, ◌-◌, Bool, true, false, cond, List, length, take, drop, refl, sym, ◌∙◌, ap, subst, arith, take-add, take-append-drop, length-drop, Option, Some, None, IfSome, Result, Ok, Err, IsErr, ne_eqb, take_all, Keeps, Appends, Command, ScriptFault, OutOfMemory, reading, AppendsFront, WritesAll, Answers, appends_more, front_none}
 use Rattle.std.specs.Prelude.{◌==◌, ◌&&◌, nat_lt}
-use Rattle.std.proofs.lemmas.Bool.{ne_eqb}
-use Rattle.std.proofs.lemmas.List.{take_all}
-use Rattle.std.specs.Io.KnownBytes.{Keeps, Appends}
-use Rattle.ed_types.specs.declared.script.Command.{Command}
-use Rattle.ed_types.specs.declared.script.ScriptFault.{ScriptFault}
-use Rattle.ed_types.specs.declared.script.ScriptFault.TheVariants.{OutOfMemory}
-use Rattle.ed_model.specs.Reading.{reading}
 use Rattle.script_ends.specs.declared.fault.RunFault.{RunFault}
 use Rattle.script_ends.specs.declared.fault.RunFault.TheVariants.{Script}
 use Rattle.script_ends.specs.declared.ends.WriteFailed.{WriteFailed}
-use Rattle.script_ends.specs.Ends.{AppendsFront, WritesAll}
-use Rattle.script_ends.specs.Answers.{Answers}
-use Rattle.script_ends.specs.proved.Written.{appends_more, front_none}
 
 -- a write that fails writes nothing
 pub appends_kept : (old mid new : Option (List ℕ)) (first : List ℕ) → Appends old mid first → Keeps mid new → Appends old new first

@@ -48,7 +48,7 @@ fn put_without_notes<W: Sink>(
 
 /// Puts the printed form of an outcome, with its notes or without them, into the buffer, and writes the buffer if it is
 /// full.
-pub fn put_shown<W: Sink>(
+pub(crate) fn put_shown<W: Sink>(
     sink: &mut W,
     notes: Notes,
     buffer: &mut Vec<u8>,

@@ -227,7 +227,11 @@ fn say_view(
 }
 
 /// Appends the look of each open view.
-pub fn say_views(out: &mut String, walk: &mut Walk<'_>, look: Look) -> Result<(), AllocError> {
+pub(crate) fn say_views(
+    out: &mut String,
+    walk: &mut Walk<'_>,
+    look: Look,
+) -> Result<(), AllocError> {
     let last = walk.last_view();
     for view in 1..=last {
         say_view(out, walk, view, look)?;

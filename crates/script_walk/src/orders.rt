@@ -34,7 +34,7 @@ pub enum Order {
 }
 
 /// Reads a line without its LF, and keeps its first 64 bytes. Returns whether there was one.
-pub fn read_line<S: Source>(source: &mut S, line: &mut Vec<u8>) -> Result<bool, RunFault> {
+pub(crate) fn read_line<S: Source>(source: &mut S, line: &mut Vec<u8>) -> Result<bool, RunFault> {
     line.clear();
     let mut byte = [0u8];
     let mut is_line = false;
@@ -70,7 +70,7 @@ fn number_of(digits: &[u8]) -> Option<usize> {
 }
 
 /// Returns the order on a line.
-pub fn order_of(line: &[u8]) -> Order {
+pub(crate) fn order_of(line: &[u8]) -> Order {
     match line {
         [b'n'] => Order::Next,
         [b'b'] => Order::Back,

@@ -44,7 +44,7 @@ fn say_send(out: &mut String, view: u32, message: &Message) -> Result<(), AllocE
 }
 
 /// Appends a command.
-pub fn say_command(out: &mut String, command: &Command) -> Result<(), AllocError> {
+pub(crate) fn say_command(out: &mut String, command: &Command) -> Result<(), AllocError> {
     match command {
         Command::OpenView => out.push_str("open a view"),
         Command::CloseView { view } => write!(out, "close view {view}"),
@@ -141,7 +141,7 @@ fn say_reply(out: &mut String, reply: &Reply) -> Result<(), AllocError> {
 }
 
 /// Appends the outcome of a command: one line for it, and one for each note.
-pub fn say_outcome(out: &mut String, outcome: &Outcome) -> Result<(), AllocError> {
+pub(crate) fn say_outcome(out: &mut String, outcome: &Outcome) -> Result<(), AllocError> {
     match outcome {
         Outcome::Opened(view) => write!(out, "  answer {view}, the id of the view\n"),
         Outcome::Closed => out.push_str("  answer 0\n"),
@@ -156,7 +156,7 @@ pub fn say_outcome(out: &mut String, outcome: &Outcome) -> Result<(), AllocError
 }
 
 /// Appends the changes of the text that the notes of a reply describe, each after a space.
-pub fn say_changes(out: &mut String, reply: &Reply) -> Result<(), AllocError> {
+pub(crate) fn say_changes(out: &mut String, reply: &Reply) -> Result<(), AllocError> {
     let count = reply.note_count();
     for index in 0..count {
         let (note, text) = reply.note(index);

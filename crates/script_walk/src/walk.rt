@@ -18,7 +18,7 @@ pub struct Walk<'a> {
 
 impl<'a> Walk<'a> {
     /// Returns the walk before the first command, in a new session.
-    pub fn new(alloc: Global, commands: &'a [Command], files: &'a [Bytes]) -> Self {
+    pub(crate) fn new(alloc: Global, commands: &'a [Command], files: &'a [Bytes]) -> Self {
         Walk {
             alloc,
             commands,
@@ -31,17 +31,17 @@ impl<'a> Walk<'a> {
     }
 
     /// Returns how many commands are done.
-    pub fn done(&self) -> usize {
+    pub(crate) fn done(&self) -> usize {
         self.done
     }
 
     /// Returns how many commands there are.
-    pub fn count(&self) -> usize {
+    pub(crate) fn count(&self) -> usize {
         self.commands.len()
     }
 
     /// Returns the greatest id of a view that was opened, or 0 if there was none.
-    pub fn last_view(&self) -> u32 {
+    pub(crate) fn last_view(&self) -> u32 {
         self.last_view
     }
 
@@ -55,7 +55,7 @@ impl<'a> Walk<'a> {
     }
 
     /// Performs the next command, and returns it with its outcome, or `None` if all are done.
-    pub fn go_on(&mut self) -> Result<Option<(&'a Command, Outcome)>, AllocError> {
+    pub(crate) fn go_on(&mut self) -> Result<Option<(&'a Command, Outcome)>, AllocError> {
         let done = self.done;
         let Some(command) = self.commands.get(done) else {
             return Ok(None);
@@ -72,7 +72,7 @@ impl<'a> Walk<'a> {
 
     /// Goes to where the first `count` commands are done, or all if there are fewer. Performs them again, in a new
     /// session.
-    pub fn go_to(&mut self, count: usize) -> Result<(), AllocError> {
+    pub(crate) fn go_to(&mut self, count: usize) -> Result<(), AllocError> {
         self.run = Run::new(Session::new(self.alloc));
         self.last_view = 0;
         self.was_asked = false;
@@ -86,7 +86,12 @@ impl<'a> Walk<'a> {
 
     /// Sends a message to a view, and returns its reply, or `None` if it is refused. Its changes stay until the next
     /// `go_to`.
-    pub fn ask(&mut self, view: u32, kind: Kind, w: i64) -> Result<Option<Reply>, AllocError> {
+    pub(crate) fn ask(
+        &mut self,
+        view: u32,
+        kind: Kind,
+        w: i64,
+    ) -> Result<Option<Reply>, AllocError> {
         self.was_asked = true;
         let message = Message {
             number: kind.number(),
@@ -102,7 +107,7 @@ impl<'a> Walk<'a> {
     }
 
     /// Returns the value of the reply, or 0 if the message is refused.
-    pub fn value(&mut self, view: u32, kind: Kind, w: i64) -> Result<i64, AllocError> {
+    pub(crate) fn value(&mut self, view: u32, kind: Kind, w: i64) -> Result<i64, AllocError> {
         match self.ask(view, kind, w)? {
             Some(reply) => Ok(reply.value()),
             None => Ok(0),

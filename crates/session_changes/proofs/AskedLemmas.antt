@@ -1,25 +1,6 @@
 -- The view and the document of a request, as the session keeps them.
-use Rattle.std.proofs.Common.{◌≡◌, ℕ, ◌==◌, List, map, length, refl, ap, sym, ◌∙◌, subst, true, Some, None, IsSomeAnd}
-use Rattle.std.specs.Prelude.{if◌then◌else◌}
-use Rattle.ed_model.specs.declared.plan.ViewChange.{ViewChange}
+use Rattle.session_changes.proofs.Names.{◌≡◌, ℕ, ◌==◌, List, map, length, ap, sym, ◌∙◌, subst, Some, None, IsSomeAnd, if◌then◌else◌, ViewChange, Document, View, Session, view_at, document_at, lines_in, with_view, IsSoundView, StandsOn, Request, changed_view, view_change_performed, found_once, changed_view_id, fold_need, FitChangesAreWithin, IsWithin, HasFoldRoom, KeptView, view_in, Kept, document_of, Entries, value_at, views_of, session_in, SessionState, IsKept, IsAsked, CanChangeView, HasFoldRoomAt, levels_of, changed_at, CanChange, id_of_view, id_of_document, IsKeptAs, kept_as, own_at, holds_at, one_changes}
 use Rattle.ed_model.specs.declared.plan.ViewChange.TheVariants as view_change
-use Rattle.ed_model.specs.Session.{Document, View, Session, view_at, document_at, lines_in, with_view}
-use Rattle.ed_model.specs.SoundLaws.{IsSoundView, StandsOn}
-use Rattle.ed_model.specs.Requests.{Request}
-use Rattle.ed_model.specs.Changes.{changed_view, view_change_performed}
-use Rattle.ed_model.specs.proved.Finding.{found_once}
-use Rattle.ed_model.specs.proved.Changes.{changed_view_id}
-use Rattle.ed_view.specs.Folding.{fold_need, is_setting, FitChangesAreWithin, IsWithin, HasFoldRoom}
-use Rattle.ed_view.specs.Kept.{KeptView, view_in}
-use Rattle.document.specs.Kept.{Kept, document_of}
-use Rattle.id_table.specs.Entries.{Entries, value_at}
-use Rattle.scene.specs.Scenes.{views_of}
-use Rattle.message_requests.specs.Requested.{session_in}
-use Rattle.message_requests.specs.declared.state.SessionState.{SessionState}
-use Rattle.session_changes.specs.Kept.{IsKept}
-use Rattle.session_changes.specs.Asked.{IsAsked, CanChangeView}
-use Rattle.session_changes.specs.Folding.{HasFoldRoomAt, levels_of, changed_at, CanChange}
-use Rattle.session_changes.specs.proved.Finding.{id_of_view, id_of_document, IsKeptAs, kept_as, own_at, holds_at, one_changes}
 
 module _ (s : SessionState) (document view : ℕ) (r : Request) (kept : IsKept s) (asked : IsAsked (session_in s) document view r) where
   pub view_found : view_at (session_in s).views view ≡ Some r.view

@@ -1,4 +1,5 @@
 -- Lemmas of these proofs.
+pub mod Names
 pub mod AskedLemmas
 pub mod MovingLemmas
 pub mod SessionLemmas

@@ -1,21 +1,7 @@
 -- A view is moved from one document to another.
-use Rattle.std.proofs.Common.{◌≡◌, ◌≢◌, ℕ, ◌+◌, ◌<◌, ◌==◌, Bool, true, false, cond, List, [], ◌∷◌, ◌++◌, map, refl, ap, sym, ◌∙◌, subst, arith, Option, Some, None, option_map}
-use Rattle.std.specs.Prelude.{nat_lt, not, if◌then◌else◌}
-use Rattle.std.specs.List.{AllByRecursion}
-use Rattle.std.proofs.lemmas.Bool.{eqb-true, eqb-false, lt-ltb, cond_both}
-use Rattle.std.proofs.lemmas.List.{length-append}
-use Rattle.ed_model.specs.Session.{Document, references, living, left_by}
-use Rattle.ed_model.specs.SoundLaws.{Rise}
-use Rattle.ed_model.specs.Changes.{attached_last}
-use Rattle.id_table.specs.Entries.{Rise as IdsRise, Entry, Entries, id_of, value_of, value_at, with_value_at, without_id}
-use Rattle.document.specs.Changes.{with_attached_view}
-use Rattle.document.specs.Kept.{Kept}
-use Rattle.document_table.specs.Leaving.{documents_in as entries_in, left_over_of, let_go, IsChangedAlike, LeavesTheLiving}
-use Rattle.message_requests.specs.Requested.{documents_in}
-use Rattle.session_changes.specs.Kept.{DocumentsAreNamed}
-use Rattle.session_changes.specs.Moving.{CanMove, with_last}
-use Rattle.session_changes.specs.proved.Finding.{id_of_document, still_named}
-use Rattle.session_changes.specs.proved.Names.{IsNamedDocument, named_in, named_out, id_at}
+use Rattle.session_changes.proofs.Names.{◌≡◌, ◌≢◌, ℕ, ◌+◌, ◌<◌, ◌==◌, Bool, true, false, cond, List, [], ◌∷◌, ◌++◌, map, refl, ap, sym, ◌∙◌, subst, arith, Option, Some, None, option_map, nat_lt, not, if◌then◌else◌, AllByRecursion, eqb-true, eqb-false, lt-ltb, cond_both, length-append, Document, references, living, left_by, Rise, attached_last, Entry, Entries, id_of, value_of, value_at, with_value_at, without_id, with_attached_view, Kept, left_over_of, let_go, IsChangedAlike, LeavesTheLiving, documents_in, DocumentsAreNamed, CanMove, with_last, id_of_document, still_named, IsNamedDocument, named_in, named_out, id_at}
+use Rattle.id_table.specs.Entries.{Rise as IdsRise}
+use Rattle.document_table.specs.Leaving.{documents_in as entries_in}
 
 -- The documents of a table without their room.
 

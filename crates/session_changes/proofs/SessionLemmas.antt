@@ -1,45 +1,20 @@
 -- Whole sessions, and results.
-use Rattle.std.proofs.Common.{◌≡◌, ◌≢◌, ℕ, ◌+◌, ◌-◌, ◌<◌, ◌≤◌, ◌==◌, ◌^◌, Bool, true, false, cond, List, [], ◌∷◌, ◌++◌, map, length, refl, ap, sym, ◌∙◌, subst, arith, Option, Some, None, IfSome, IsSomeAnd}
+use Rattle.session_changes.proofs.Names.{◌≡◌, ◌≢◌, ℕ, ◌+◌, ◌-◌, ◌<◌, ◌≤◌, ◌==◌, ◌^◌, Bool, true, false, cond, List, [], ◌∷◌, ◌++◌, map, length, refl, ap, sym, ◌∙◌, subst, arith, Option, Some, None, IfSome, IsSomeAnd, vec_capacity, AllByRecursion, eq-eqb, ne_eqb, length-map, map-append, ViewChange, Session, Document, View, view_at, document_at, text_of, lines_in, references, living, left_by, is_allowed, is_large, attached_to, new_document, with_view, Rise, IsSoundDocument, ListsItsViews, Request, IsFitSessionChange, session_changed, held_less, attached, attached_last, with_attached, with_new_document, rise_added, Kept, document_of, let_go, released, LeavesTheLiving, fold_need, HasFoldRoom, KeptView, HasFewLines, Entry, Entries, entry, value_at, with_value_at, views_of, session_in, documents_in, SessionState, IsKept, DocumentsAreNamed, IsAsked, CanChangeSession, HasFoldRoomAt, IsFoldRoomAtMost, IsRoomAtMostAt, changed_at, DocumentsRise, CanMove, IsReady, AwaitsView, IsHeld, HasPlacesAtMost, ArePlacesAtMost, id_of_document, own_at, holds_at, found_some, kept_as, for_replaced, value_replaced, other_replaced, without_itself, none_listed}
 use Rattle.std.specs.Global.{Vec, Box}
-use Rattle.std.specs.Prelude.{vec_capacity}
-use Rattle.std.specs.List.{AllByRecursion}
-use Rattle.std.proofs.lemmas.Bool.{eq-eqb, ne_eqb}
 use Rattle.std.proofs.lemmas.Bool.Decides.{nat_tests}
-use Rattle.std.proofs.lemmas.List.{length-map, map-append}
 use Rattle.ed_types.specs.declared.limits.Limits.{Limits}
-use Rattle.ed_model.specs.declared.plan.ViewChange.{ViewChange}
 use Rattle.ed_model.specs.declared.plan.SessionChange.{SessionChange}
 use Rattle.ed_model.specs.declared.plan.SessionChange.TheVariants as change
 use Rattle.ed_model.specs.Text.{Cell}
-use Rattle.ed_model.specs.Session.{Session, Document, View, view_at, document_at, text_of, lines_in, references, living, left_by, is_allowed, is_large, attached_to, new_document, with_view}
-use Rattle.ed_model.specs.SoundLaws.{Rise, IsSoundDocument, ListsItsViews}
-use Rattle.ed_model.specs.Requests.{Request}
-use Rattle.ed_model.specs.PlansFit.{IsFitSessionChange}
-use Rattle.ed_model.specs.Changes.{session_changed, held_less, attached, attached_last, with_attached, with_new_document}
 use Rattle.ed_model.specs.proved.Limits.{allowed_lengths}
 use Rattle.ed_model.specs.proved.Lines.{few_lines}
-use Rattle.ed_model.specs.proved.Finding.{rise_added}
 use Rattle.ed_model.specs.proved.Elements.{all_added}
-use Rattle.document.specs.Kept.{Kept, document_of}
 use Rattle.document.specs.declared.kept.Document.{Document as KeptDocument}
-use Rattle.document_table.specs.Leaving.{documents_in as entries_in, let_go, released, LeavesTheLiving}
-use Rattle.ed_view.specs.Folding.{fold_need, HasFoldRoom}
+use Rattle.document_table.specs.Leaving.{documents_in as entries_in}
 use Rattle.ed_view.specs.Flags.{AreFewLines}
-use Rattle.ed_view.specs.Kept.{KeptView, HasFewLines}
 use Rattle.ed_view.specs.declared.folding.FoldNeed.{FoldNeed}
-use Rattle.id_table.specs.Entries.{Entry, Entries, entry, value_at, with_value_at}
-use Rattle.scene.specs.Scenes.{views_of}
-use Rattle.message_requests.specs.Requested.{session_in, documents_in}
-use Rattle.message_requests.specs.declared.state.SessionState.{SessionState}
-use Rattle.session_changes.specs.Kept.{IsKept, DocumentsAreNamed}
-use Rattle.session_changes.specs.Asked.{IsAsked, CanChangeSession}
 use Rattle.session_changes.specs.Clipboard.{copied, CanCopy}
-use Rattle.session_changes.specs.Folding.{HasFoldRoomAt, IsFoldRoomAtMost, IsRoomAtMostAt, changed_at}
-use Rattle.session_changes.specs.Moving.{DocumentsRise, CanMove}
-use Rattle.session_changes.specs.Ready.{IsReady, AwaitsView, IsHeld, HasPlacesAtMost, ArePlacesAtMost}
 use Rattle.session_changes.specs.declared.ready.SessionReady.TheVariants as made
-use Rattle.session_changes.specs.proved.Finding.{id_of_document, own_at, holds_at, found_some, kept_as, for_replaced, value_replaced, other_replaced}
-use Rattle.session_changes.specs.proved.Names.{without_itself, none_listed}
 use Rattle.session_changes.proofs.AskedLemmas.{of_document, view_found, on_document, document_found, kept_view, kept_document, stands, in_its_place}
 use Rattle.session_changes.proofs.MovingLemmas.{ChangesAlike, living_left}
 

@@ -6,6 +6,7 @@ use crate::exchanges::{
 use ed_types::{Command, Kind, Limits, Outcome, Refusal};
 use editor_session::{Run, Session};
 use std::alloc::{AllocError, Global};
+use std::process::Abort;
 
 #[test]
 fn text_goes_in_and_out(rt: HostRuntime) {
@@ -51,6 +52,22 @@ fn limits_are_kept(rt: HostRuntime) {
     );
 }
 
+/// Returns a list of commands: an `expect` that is met, and a file that is not there.
+fn commands(rt: &impl Abort, alloc: Global) -> Vec<Command> {
+    let mut commands = Vec::new(alloc);
+    commands.push(Command::OpenView).expect(rt, "memory");
+    commands
+        .push(Command::Expect { value: 1 })
+        .expect(rt, "memory");
+    commands
+        .push(Command::LoadFile { view: 1, file: 1 })
+        .expect(rt, "memory");
+    commands
+        .push(Command::CloseView { view: 1 })
+        .expect(rt, "memory");
+    commands
+}
+
 /// Returns the outcomes of commands in a new session, without files.
 fn outcomes(alloc: Global, commands: &[Command]) -> Result<Vec<Outcome>, AllocError> {
     let mut run = Run::new(Session::new(alloc));
@@ -59,15 +76,7 @@ fn outcomes(alloc: Global, commands: &[Command]) -> Result<Vec<Outcome>, AllocEr
 
 #[test]
 fn commands_run(rt: HostRuntime) {
-    let mut commands = Vec::new(rt.alloc());
-    for command in [
-        Command::OpenView,
-        Command::Expect { value: 1 },
-        Command::LoadFile { view: 1, file: 1 },
-        Command::CloseView { view: 1 },
-    ] {
-        commands.push(command).expect(&rt, "memory");
-    }
+    let commands = commands(&rt, rt.alloc());
     let done = outcomes(rt.alloc(), &commands).expect(&rt, "memory");
     assert_eq!(rt; done.len(), 4);
     assert!(rt; matches!(done[0], Outcome::Opened(1)));

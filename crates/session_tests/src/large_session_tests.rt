@@ -1,4 +1,4 @@
-//! Sessions of large sizes: 16 MiB handed out, and the greatest number of open views. `tools/heap.sh` runs each of
+//! Sessions of large sizes: 16 MiB handed out, and the greatest number of open views. `tools/ci/heap.sh` runs each of
 //! these tests again with a heap limited to what the sizes justify, as its table says.
 
 ghost use Rattle.std.specs.Prelude.{◌<◌, length};

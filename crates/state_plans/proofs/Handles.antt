@@ -1,16 +1,8 @@
 -- The handle of a marker is below the next handle.
-use Rattle.std.proofs.Common.{◌≡◌, ℕ, zero, suc, Bool, true, false, cond, List, [], ◌∷◌, length, map, refl, arith}
-use Rattle.std.specs.Prelude.{ℤ, pos, negsuc, ◌==◌, ◌||◌, None, find, filter, slice_index_or}
-use Rattle.std.specs.List.{range_with_len, list_any}
-use Rattle.ed_model.specs.Numbers.{within}
-use Rattle.ed_model.specs.Rows.{Row, Marker, fresh_row}
+use Rattle.state_plans.proofs.Names.{◌≡◌, ℕ, zero, suc, Bool, true, false, cond, List, [], ◌∷◌, length, map, refl, arith, ℤ, pos, negsuc, ◌==◌, ◌||◌, None, find, filter, slice_index_or, range_with_len, list_any, within, Row, Marker, fresh_row, Request, line_total, row_at, has_handle, line_of_handle, IsSoundRequest, outside}
 use Rattle.ed_model.specs.SoundLaws.{occurrences, handles_in}
-use Rattle.ed_model.specs.Requests.{Request, line_total}
-use Rattle.ed_model.specs.LinePlans.{row_at, has_handle, line_of_handle}
-use Rattle.ed_model.specs.PlansFit.{IsSoundRequest}
 use Rattle.ed_model.specs.proved.Requests.{request_document}
 use Rattle.ed_model.specs.proved.Finding.{occurrences_append}
-use Rattle.message_requests.specs.proved.Ranges.{outside}
 
 none_found : {X : Type 0} (test : X → Bool) (xs : List X) → ((x : X) → test x ≡ false) → find test xs ≡ None
 none_found test [] fails = refl

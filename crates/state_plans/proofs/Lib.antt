@@ -1,3 +1,4 @@
+pub mod Names
 pub mod Handles
 pub mod Masks
 pub mod Ranges

@@ -1,11 +1,6 @@
 -- The markers that a mask adds, one for each of its numbers.
-use Rattle.std.proofs.Common.{◌≡◌, ℕ, ◌^◌, Bool, cond, length, sym, ap, ◌∙◌}
-use Rattle.std.specs.Prelude.{pos, Some, Err, ◌-◌}
-use Rattle.ed_types.specs.declared.refusal.Refusal.TheVariants.{TooMany}
+use Rattle.state_plans.proofs.Names.{◌≡◌, ℕ, ◌^◌, Bool, cond, length, sym, ap, ◌∙◌, pos, Some, Err, ◌-◌, TooMany, within, line_among, Request, Planned, answer, line_total, with_argument, with_line, line_argument, change_document, numbers_in, has_handles, marker_add_set}
 use Rattle.ed_model.specs.declared.plan.DocumentChange.TheVariants.{AddMarkers}
-use Rattle.ed_model.specs.Numbers.{within, line_among}
-use Rattle.ed_model.specs.Requests.{Request, Planned, answer, line_total, with_argument, with_line, line_argument, change_document}
-use Rattle.ed_model.specs.LinePlans.{numbers_in, has_handles, marker_add_set}
 
 -- the plan of MARKERADDSET, once its arguments and whether handles are left are known
 pub set_added : (r : Request) (mask line : ℕ) (has left : Bool) → within 0 (2 ^ 32 - 1) r.message.l ≡ Some mask → line_among (line_total r) r.message.w ≡ Some line

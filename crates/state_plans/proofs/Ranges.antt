@@ -1,16 +1,11 @@
 -- Lines that a search returns are lines of the document.
-use Rattle.std.proofs.Common.{◌≡◌, ℕ, zero, suc, ◌+◌, ◌-◌, ◌<◌, ◌≤◌, ◌^◌, min, Bool, true, false, cond, List, [], ◌∷◌, length, sym, arith, length-take}
-use Rattle.std.specs.Prelude.{ℤ, pos, negsuc, ◌==◌, Option, Some, None, take, slice_get, unwrap_or, IfSome}
-use Rattle.std.specs.List.{range_with_len, AllByRecursion}
+use Rattle.state_plans.proofs.Names.{◌≡◌, ℕ, zero, suc, ◌+◌, ◌-◌, ◌<◌, ◌≤◌, ◌^◌, min, Bool, true, false, cond, List, [], ◌∷◌, length, sym, arith, length-take, ℤ, pos, negsuc, ◌==◌, Option, Some, None, take, slice_get, unwrap_or, IfSome, range_with_len, AllByRecursion, Row, Flags, Request, all_range, found_in_range, found_back_in_range}
 use Rattle.std.proofs.lemmas.List.Sums.{count_by-le-length}
-use Rattle.ed_model.specs.Rows.{Row, Flags}
 use Rattle.ed_model.specs.Folding.{is_header, is_parent_of, fold_parent, fold_header, is_visible}
 use Rattle.ed_model.specs.DisplayLines.{display_line, visible_lines, line_shown}
-use Rattle.ed_model.specs.Requests.{Request}
 use Rattle.ed_model.specs.FoldingPlans.{line_shown_at}
 use Rattle.ed_model.specs.proved.Elements.{all_filter}
 use Rattle.line_rows.specs.Kept.{first_from, last_up_to}
-use Rattle.message_requests.specs.proved.Ranges.{all_range, found_in_range, found_back_in_range}
 
 pub next_bounded : (test : ℕ → Bool) (rows : List Row) (from : ℕ) (r : Option ℕ) → r ≡ first_from test rows from → length rows < 2 ^ 63 → IfSome r (λ line. line < 2 ^ 63)
 next_bounded test rows from None e h = tt

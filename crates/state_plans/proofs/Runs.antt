@@ -1,11 +1,7 @@
 -- Runs of indicators are within the text.
-use Rattle.std.proofs.Common.{◌≡◌, ℕ, zero, suc, ◌+◌, ◌<◌, ◌≤◌, ◌^◌, Bool, true, false, cond, List, [], ◌∷◌, length, map, drop, refl, ap, sym, ◌∙◌, arith, length-drop}
-use Rattle.std.specs.Prelude.{ℤ, pos, negsuc, ◌==◌, not, filter, sum, slice_index, slice_index_or}
-use Rattle.std.specs.List.{range_with_len, AllByRecursion}
-use Rattle.ed_model.specs.Requests.{Request, Planned, answer_number}
+use Rattle.state_plans.proofs.Names.{◌≡◌, ℕ, zero, suc, ◌+◌, ◌<◌, ◌≤◌, ◌^◌, Bool, true, false, cond, List, [], ◌∷◌, length, map, drop, refl, ap, sym, ◌∙◌, arith, length-drop, ℤ, pos, negsuc, ◌==◌, not, filter, sum, slice_index, slice_index_or, range_with_len, AllByRecursion, Request, Planned, answer_number, values_of, run_about, mask_of, indicators}
 use Rattle.ed_model.specs.TextPlans.{at_place}
 use Rattle.ed_model.specs.StylePlans.{run_length, run_start, run_past, indicator_all_on_for}
-use Rattle.decorations.specs.Decorated.{values_of, run_about, mask_of, indicators}
 
 length_values : (xs : List (List ℕ)) (i n : ℕ) → AllByRecursion (λ values. length values ≡ n) xs → i < length xs → length (slice_index_or xs i []) ≡ n
 length_values [] i n all h = absurd (omega arith)

@@ -1,20 +1,14 @@
 -- UNDO and REDO of a sound request never exceed the limit, so that their plans read no text.
-use Rattle.std.proofs.Common.{◌≡◌, ℕ, Bool, true, false, cond, [], refl, ap, ◌∙◌, pos}
-use Rattle.std.specs.Prelude.{not, Ok, Err, List}
+use Rattle.state_plans.proofs.Names.{◌≡◌, ℕ, Bool, true, false, cond, [], refl, ap, ◌∙◌, pos, not, Ok, Err, List, TooLong, Change, can_undo, can_redo, undo_changes, redo_changes, Request, answer, size, IsSoundRequest, act_if}
 use Rattle.ed_types.specs.declared.kind.Kind.TheVariants.{Undo, Redo}
 use Rattle.ed_types.specs.declared.message.Message.{Message}
-use Rattle.ed_types.specs.declared.refusal.Refusal.TheVariants.{TooLong}
 use Rattle.ed_model.specs.declared.plan.Plan.{Plan}
 use Rattle.ed_model.specs.declared.plan.Plan.TheVariants as plan
-use Rattle.ed_model.specs.History.{Change, can_undo, can_redo, undo_changes, redo_changes}
 use Rattle.ed_model.specs.Session.{limit_of}
-use Rattle.ed_model.specs.Requests.{Request, answer, size}
 use Rattle.ed_model.specs.Edits.{stays_within}
 use Rattle.ed_model.specs.UndoPlans.{text_steps, undo, redo}
 use Rattle.ed_model.specs.UndoMessageLaws.{UndoIsNeverTooLong, RedoIsNeverTooLong}
-use Rattle.ed_model.specs.PlansFit.{IsSoundRequest}
 use Rattle.ed_model.specs.Table.{table_from_view, table_from_document, answered, request}
-use Rattle.state_plans.specs.Acting.{act_if}
 
 -- a message with this number, without arguments
 abbrev message : (number : ℕ) → Message

@@ -19,7 +19,7 @@ use message_requests::edits::{Replacement, edit_plan, replace_and_go, replace_pl
 use message_requests::{Request, past_argument};
 
 /// Sets the anchor and the caret.
-pub fn select(anchor: usize, caret: usize) -> Planned
+pub(crate) fn select(anchor: usize, caret: usize) -> Planned
     ensures { result ≡ select anchor caret }
 {
     change_view(ViewChange::Select { anchor, caret })
@@ -149,7 +149,7 @@ pub fn get_sel_text(r: &Request) -> HandedOut
 }
 
 /// Returns how many bytes are selected.
-pub fn selected(r: &Request) -> usize
+pub(crate) fn selected(r: &Request) -> usize
     requires { IsSoundRequest r.now }
     ensures selected { result ≡ selected r.now }
     ensures within { selection_start r.now + result ≤ size r.now }

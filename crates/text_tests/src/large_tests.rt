@@ -1,4 +1,4 @@
-//! Each call that allocates, at a large size. `tools/heap.sh` runs each of these tests again with a heap limited to
+//! Each call that allocates, at a large size. `tools/ci/heap.sh` runs each of these tests again with a heap limited to
 //! what the sizes justify, as its table says. A growth that nothing needs fails there, and with it the test.
 
 use cell_buffer::Cells;

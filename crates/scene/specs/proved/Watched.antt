@@ -1,8 +1,6 @@
 -- A document with another history is watched as it was: its views stand as they stood.
-use Rattle.std.proofs.Common.{List}
-use Rattle.std.specs.List.{AllByRecursion}
 use Rattle.ed_model.specs.History.{History}
-use Rattle.ed_model.specs.Session.{Document, View}
+use Rattle.ed_model.specs.Session.{Document}
 use Rattle.ed_model.specs.proved.Elements.{all_weaker}
 use Rattle.id_table.specs.Entries.{Entries}
 use Rattle.ed_view.specs.Kept.{KeptView}

@@ -1,8 +1,4 @@
-use Rattle.std.proofs.Common.{◌+◌, slice_range, arith}
-use Rattle.ed_model.specs.Numbers.{meets}
-use Rattle.ed_model.specs.Text.{bytes_of}
-use Rattle.ed_model.specs.Steps.{Delete}
-use Rattle.ed_model.specs.proved.Steps.{length_of_range}
+use Rattle.document.proofs.Names.{◌+◌, slice_range, arith, meets, bytes_of, Delete, length_of_range}
 use Rattle.document.proofs.SteppedParts.{told_rows, parts_after, small_bound}
 use Rattle.document.proofs.making.delete.Goals as goal
 

@@ -1,7 +1,4 @@
-use Rattle.std.proofs.Common.{refl, arith}
-use Rattle.ed_model.specs.Numbers.{meets}
-use Rattle.ed_model.specs.Text.{bytes_of}
-use Rattle.ed_model.specs.Steps.{Insert}
+use Rattle.document.proofs.Names.{refl, arith, meets, bytes_of, Insert}
 use Rattle.document.proofs.CarrySteps.{few_for_step}
 use Rattle.document.proofs.SteppedParts.{told_rows, parts_after, small_bound}
 use Rattle.document.proofs.making.insert.Goals as goal

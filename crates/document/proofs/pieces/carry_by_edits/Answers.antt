@@ -1,9 +1,4 @@
-use Rattle.std.proofs.Common.{List, length, ap, sym, ◌∙◌, arith}
-use Rattle.ed_model.specs.Rows.{rows_together}
-use Rattle.line_index.specs.declared.edit.LineEdit.{LineEdit}
-use Rattle.line_index.specs.Edits.{after_edits, FitLines, fresh_lines}
-use Rattle.line_index.specs.StepEdits.{edits_of, change_of}
-use Rattle.ed_model.specs.proved.Lines.{few_lines}
+use Rattle.document.proofs.Names.{List, length, ap, sym, ◌∙◌, arith, rows_together, LineEdit, after_edits, FitLines, fresh_lines, edits_of, change_of, few_lines}
 use Rattle.document.proofs.CarrySteps.{edits_add}
 use Rattle.document.proofs.pieces.carry_by_edits.Goals as goal
 

@@ -1,8 +1,4 @@
-use Rattle.std.proofs.Common.{List, length, refl, ap, sym, ◌∙◌, arith}
-use Rattle.ed_model.specs.Rows.{rows_together}
-use Rattle.line_index.specs.declared.edit.LineEdit.{LineEdit}
-use Rattle.line_index.specs.Edits.{after_edits}
-use Rattle.line_index.specs.StepEdits.{edits_of}
+use Rattle.document.proofs.Names.{List, length, refl, ap, sym, ◌∙◌, arith, rows_together, LineEdit, after_edits, edits_of}
 use Rattle.document.proofs.pieces.carry_rows.Goals as goal
 
 pub returns-then-is_quiet : goal.returns-then-is_quiet

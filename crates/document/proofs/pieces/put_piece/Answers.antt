@@ -1,7 +1,5 @@
-use Rattle.std.proofs.Common.{length, refl, ap, ◌∙◌, arith}
-use Rattle.std.proofs.lemmas.List.{length-map, length-append}
-use Rattle.ed_model.specs.Text.{Cell, bytes_of}
-use Rattle.ed_model.specs.Steps.{Insert}
+use Rattle.document.proofs.Names.{length, refl, ap, ◌∙◌, arith, length-map, Cell, bytes_of, Insert}
+use Rattle.std.proofs.lemmas.List.{length-append}
 use Rattle.document.proofs.LineSteps.{told_of_insertion, lines_of_inserted, change_of_step}
 use Rattle.document.proofs.pieces.put_piece.Goals as goal
 

@@ -1,9 +1,4 @@
-use Rattle.std.proofs.Common.{◌≡◌, ◌+◌, arith, ap, ◌∙◌, refl, length, take, slice_range}
-use Rattle.std.proofs.lemmas.List.{take_all}
-use Rattle.ed_model.specs.Text.{bytes_of}
-use Rattle.ed_model.specs.Lines.{line_count}
-use Rattle.ed_model.specs.Steps.{Insert, edited_cells}
-use Rattle.line_index.specs.Change.{change_since}
+use Rattle.document.proofs.Names.{◌≡◌, ◌+◌, arith, ap, ◌∙◌, refl, length, take, slice_range, take_all, bytes_of, line_count, Insert, edited_cells, change_since}
 use Rattle.document.proofs.LineSteps.{change_of_step}
 use Rattle.document.proofs.PieceLemmas.{piece_behind, piece_fits}
 use Rattle.document.proofs.pieces.put_pieces.Goals as goal

@@ -1,6 +1,4 @@
-use Rattle.std.proofs.Common.{◌≡◌, ◌≤◌, ◌+◌, ◌-◌, length, take}
-use Rattle.ed_model.specs.Steps.{Insert, edited_cells}
-use Rattle.document.specs.Parts.{HasLinesOf}
+use Rattle.document.proofs.Names.{◌≡◌, ◌≤◌, ◌+◌, ◌-◌, length, take, Insert, edited_cells, HasLinesOf}
 use Rattle.document.proofs.pieces.put_pieces.Given as goal
 
 abbrev pub invariant-putting : goal.invariant-putting

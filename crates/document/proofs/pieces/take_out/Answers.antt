@@ -1,6 +1,4 @@
-use Rattle.std.proofs.Common.{length, refl, ap, ◌∙◌, arith, length-append}
-use Rattle.std.proofs.lemmas.List.{length-map}
-use Rattle.ed_model.specs.Text.{Cell, bytes_of}
+use Rattle.document.proofs.Names.{length, refl, ap, ◌∙◌, arith, length-append, length-map, Cell, bytes_of}
 use Rattle.document.proofs.LineSteps.{told_of_deletion, lines_of_deleted, deleted_cells, change_of_deletion}
 use Rattle.document.proofs.pieces.take_out.Goals as goal
 

@@ -1,7 +1,4 @@
-use Rattle.std.proofs.Common.{◌+◌, ◌<◌, length, ap, sym, subst, ◌∙◌, arith}
-use Rattle.std.proofs.lemmas.List.{length-set}
-use Rattle.line_rows.specs.Kept.{KeptRows}
-use Rattle.document.specs.Changes.{with_more_markers}
+use Rattle.document.proofs.Names.{◌+◌, ◌<◌, length, ap, sym, subst, ◌∙◌, arith, length-set, KeptRows, with_more_markers}
 use Rattle.document.proofs.MarkerNumbers.{from_the_first, next_is_in, next_is_out, none_from_the_end, one_more, none_more, numbers_from}
 use Rattle.document.proofs.row_changes.add_markers.Goals.{then-mask-number-eq1, else-mask-number-eq1}
 use Rattle.document.proofs.row_changes.add_markers.Goals as goal

@@ -1,5 +1,4 @@
-use Rattle.std.proofs.Common.{◌≡◌, ◌≤◌, ◌<◌, ◌+◌, ◌^◌, length}
-use Rattle.document.specs.Changes.{numbers_of, with_more_markers}
+use Rattle.document.proofs.Names.{◌≡◌, ◌≤◌, ◌<◌, ◌+◌, ◌^◌, length, numbers_of, with_more_markers}
 use Rattle.document.proofs.MarkerNumbers.{numbers_from}
 use Rattle.document.proofs.row_changes.add_markers.Given as goal
 

@@ -1,7 +1,4 @@
-use Rattle.std.proofs.Common.{length, refl, ap, arith, length-append}
-use Rattle.ed_model.specs.Session.{new_view}
-use Rattle.ed_model.specs.Changes.{change_told}
-use Rattle.scene.specs.Scenes.{watchers}
+use Rattle.document_changes.proofs.Names.{length, refl, ap, arith, length-append, new_view, change_told, watchers}
 use Rattle.document_changes.proofs.change.change_document.Goals as goal
 
 pub returns-clause-notes : goal.returns-clause-notes

@@ -1,9 +1,5 @@
-use Rattle.std.proofs.Common.{rules, subst, w64}
-use Rattle.std.proofs.lemmas.Int.{to_z-of_z}
-use mir.Val.{SFits}
-use Rattle.std.specs.Prelude.{ℤ}
+use Rattle.document_changes.proofs.Names.{rules, subst, w64, to_z-of_z, SFits, ℤ, IsChanged}
 use Rattle.ed_model.specs.declared.plan.DocumentChange.TheVariants as change
-use Rattle.document_changes.specs.Changed.{IsChanged}
 use Rattle.document_changes.proofs.change.perform.Goals as goal
 
 pub returns-in-SetReadOnly-clause-changed : goal.returns-in-SetReadOnly-clause-changed

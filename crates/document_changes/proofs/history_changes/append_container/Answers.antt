@@ -1,14 +1,6 @@
-use Rattle.std.proofs.Common.{List, [], refl, sym, ap, ◌∙◌, subst, w64}
-use Rattle.std.specs.Prelude.{◌&&◌, ℤ}
-use Rattle.std.proofs.lemmas.Bool.{cond-true, cond-false}
-use Rattle.std.proofs.lemmas.Int.{to_z-of_z}
-use Rattle.ed_types.specs.Notices.{Notice}
+use Rattle.document_changes.proofs.Names.{List, [], refl, sym, ap, ◌∙◌, subst, w64, ◌&&◌, ℤ, cond-true, cond-false, to_z-of_z, Notice, told, blank, save_point_left, changed_document, watchers, AreTold}
 use Rattle.ed_model.specs.declared.plan.DocumentChange.TheVariants as change
 use Rattle.ed_model.specs.History.{at_save_point}
-use Rattle.ed_model.specs.Notes.{told, blank, save_point_left}
-use Rattle.ed_model.specs.Changes.{changed_document}
-use Rattle.scene.specs.Scenes.{watchers}
-use Rattle.document_changes.specs.Changed.{AreTold}
 use Rattle.document_changes.proofs.Told.{told_nothing}
 use Rattle.document_changes.proofs.Unmoved.{is_changed}
 use Rattle.document_changes.proofs.history_changes.append_container.Goals as goal

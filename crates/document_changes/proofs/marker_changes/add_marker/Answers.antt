@@ -1,9 +1,5 @@
-use Rattle.std.proofs.Common.{◌<◌, List, [], ◌∷◌, length, refl, sym, subst, arith}
-use Rattle.ed_types.specs.Notices.{Notice}
+use Rattle.document_changes.proofs.Names.{◌<◌, List, [], ◌∷◌, length, refl, sym, subst, arith, Notice, with_new_markers, watchers, AreTold}
 use Rattle.ed_model.specs.declared.plan.DocumentChange.TheVariants as change
-use Rattle.ed_model.specs.Changes.{with_new_markers}
-use Rattle.scene.specs.Scenes.{watchers}
-use Rattle.document_changes.specs.Changed.{AreTold}
 use Rattle.document_changes.proofs.Counts.{marker_told, some_added}
 use Rattle.document_changes.proofs.Unmoved.{is_changed}
 use Rattle.document_changes.proofs.marker_changes.add_marker.Goals as goal

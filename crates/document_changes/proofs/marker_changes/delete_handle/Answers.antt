@@ -1,11 +1,5 @@
-use Rattle.std.proofs.Common.{List, [], refl, sym, ap, ◌∙◌, subst, arith}
-use Rattle.ed_types.specs.Notices.{Notice}
+use Rattle.document_changes.proofs.Names.{List, [], refl, sym, ap, ◌∙◌, subst, arith, Notice, changed_document, line_with_handle, heard, watchers, AreTold, marker_notice}
 use Rattle.ed_model.specs.declared.plan.DocumentChange.TheVariants as change
-use Rattle.ed_model.specs.Changes.{changed_document, line_with_handle}
-use Rattle.ed_model.specs.Notes.{heard}
-use Rattle.scene.specs.Scenes.{watchers}
-use Rattle.document_changes.specs.Changed.{AreTold}
-use Rattle.document_changes.specs.Lines.{marker_notice}
 use Rattle.document_changes.proofs.Counts.{marker_told, marker_untold, left_within, left_line, left_none}
 use Rattle.document_changes.proofs.Told.{told_nothing}
 use Rattle.document_changes.proofs.Unmoved.{is_changed}

@@ -1,10 +1,5 @@
-use Rattle.std.proofs.Common.{List, [], refl, sym, ◌∙◌, subst}
-use Rattle.ed_types.specs.Notices.{Notice}
+use Rattle.document_changes.proofs.Names.{List, [], refl, sym, ◌∙◌, subst, Notice, changed_document, not-true, not-false, watchers, AreTold}
 use Rattle.ed_model.specs.declared.plan.DocumentChange.TheVariants as change
-use Rattle.ed_model.specs.Changes.{changed_document}
-use Rattle.std.proofs.lemmas.Bool.{not-true, not-false}
-use Rattle.scene.specs.Scenes.{watchers}
-use Rattle.document_changes.specs.Changed.{AreTold}
 use Rattle.document_changes.proofs.Counts.{marker_told, marker_untold}
 use Rattle.document_changes.proofs.Told.{told_nothing}
 use Rattle.document_changes.proofs.Unmoved.{is_changed}

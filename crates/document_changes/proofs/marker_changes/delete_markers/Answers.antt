@@ -1,13 +1,5 @@
-use Rattle.std.proofs.Common.{◌≡◌, List, [], refl, sym, ap, ◌∙◌, subst}
-use Rattle.std.specs.Prelude.{◌==◌, negsuc}
-use Rattle.std.proofs.lemmas.Bool.{cond-true, cond-false, not-true, not-false}
-use Rattle.ed_types.specs.Notices.{Notice}
-use Rattle.ed_types.specs.Heard.{with_text}
+use Rattle.document_changes.proofs.Names.{◌≡◌, List, [], refl, sym, ap, ◌∙◌, subst, ◌==◌, negsuc, cond-true, cond-false, not-true, not-false, Notice, with_text, changed_document, marker_count, heard, change_note, change_marker, watchers, AreTold}
 use Rattle.ed_model.specs.declared.plan.DocumentChange.TheVariants as change
-use Rattle.ed_model.specs.Changes.{changed_document, marker_count}
-use Rattle.ed_model.specs.Notes.{heard, change_note, change_marker}
-use Rattle.scene.specs.Scenes.{watchers}
-use Rattle.document_changes.specs.Changed.{AreTold}
 use Rattle.document_changes.proofs.Told.{told_nothing}
 use Rattle.document_changes.proofs.Unmoved.{is_changed}
 use Rattle.document_changes.proofs.marker_changes.delete_markers.Goals as goal

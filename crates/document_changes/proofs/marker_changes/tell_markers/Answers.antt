@@ -1,6 +1,4 @@
-use Rattle.std.proofs.Common.{sym, ◌∙◌}
-use Rattle.scene.specs.Scenes.{watchers}
-use Rattle.document_changes.specs.Lines.{marker_notice}
+use Rattle.document_changes.proofs.Names.{sym, ◌∙◌, watchers, marker_notice}
 use Rattle.document_changes.proofs.Told.{told_nobody}
 use Rattle.document_changes.proofs.marker_changes.tell_markers.Goals as goal
 

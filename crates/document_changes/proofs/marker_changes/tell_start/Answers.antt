@@ -1,15 +1,4 @@
-use Rattle.std.proofs.Common.{◌≡◌, [], ap, ◌∙◌, subst, arith, w64}
-use Rattle.std.proofs.lemmas.Int.{ints}
-use mir.Val.{to_z}
-use Rattle.std.specs.Prelude.{pos, ℤ}
-use Rattle.ed_types.specs.Notices.{Notice}
-use Rattle.ed_types.specs.Heard.{with_text}
-use Rattle.ed_model.specs.Lines.{start_of_line}
-use Rattle.ed_model.specs.Notes.{heard}
-use Rattle.ed_model.specs.Session.{text_of}
-use Rattle.scene.specs.Scenes.{watchers}
-use Rattle.document_changes.specs.Changed.{AreTold}
-use Rattle.document_changes.specs.Lines.{marker_notice}
+use Rattle.document_changes.proofs.Names.{◌≡◌, [], ap, ◌∙◌, subst, arith, w64, ints, to_z, pos, ℤ, Notice, with_text, start_of_line, heard, text_of, watchers, AreTold, marker_notice}
 use Rattle.document_changes.proofs.marker_changes.tell_start.Goals as goal
 
 pub returns : goal.returns

@@ -1,14 +1,5 @@
-use Rattle.std.proofs.Common.{List, [], refl, sym, ap, ◌∙◌, subst}
-use Rattle.std.proofs.lemmas.Bool.{eq-eqb, ne_eqb, cond-true, cond-false}
-use Rattle.std.specs.Prelude.{◌==◌}
-use Rattle.ed_types.specs.Notices.{Notice}
+use Rattle.document_changes.proofs.Names.{List, [], refl, sym, ap, ◌∙◌, subst, eq-eqb, ne_eqb, cond-true, cond-false, ◌==◌, Notice, document_row, heard, Kept, watchers, AreTold, level_notice}
 use Rattle.ed_model.specs.declared.plan.DocumentChange.TheVariants as change
-use Rattle.ed_model.specs.Changes.{document_row}
-use Rattle.ed_model.specs.Notes.{heard}
-use Rattle.document.specs.Kept.{Kept}
-use Rattle.scene.specs.Scenes.{watchers}
-use Rattle.document_changes.specs.Changed.{AreTold}
-use Rattle.document_changes.specs.Lines.{level_notice}
 use Rattle.document_changes.proofs.Told.{told_nothing, told_nobody}
 use Rattle.document_changes.proofs.Unmoved.{is_changed}
 use Rattle.document_changes.proofs.row_changes.set_level.Goals as goal

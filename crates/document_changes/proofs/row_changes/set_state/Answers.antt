@@ -1,15 +1,5 @@
-use Rattle.std.proofs.Common.{List, [], refl, sym, ap, ◌∙◌, subst, w32, w64}
-use Rattle.std.proofs.lemmas.Int.{to_z-of_z}
-use mir.Val.{to_z, of_z}
-use Rattle.std.specs.Prelude.{ℤ}
-use Rattle.std.proofs.lemmas.Bool.{cond-true, cond-false}
-use Rattle.ed_types.specs.Notices.{Notice}
+use Rattle.document_changes.proofs.Names.{List, [], refl, sym, ap, ◌∙◌, subst, w32, w64, to_z-of_z, to_z, of_z, ℤ, cond-true, cond-false, Notice, changed_document, document_row, line_note, is_same, heard, change_line_state, Kept, watchers, AreTold}
 use Rattle.ed_model.specs.declared.plan.DocumentChange.TheVariants as change
-use Rattle.ed_model.specs.Changes.{changed_document, document_row, line_note, is_same}
-use Rattle.ed_model.specs.Notes.{heard, change_line_state}
-use Rattle.document.specs.Kept.{Kept}
-use Rattle.scene.specs.Scenes.{watchers}
-use Rattle.document_changes.specs.Changed.{AreTold}
 use Rattle.document_changes.proofs.States.{same_state, other_state}
 use Rattle.document_changes.proofs.Told.{told_nothing, told_nobody}
 use Rattle.document_changes.proofs.Unmoved.{is_changed}

@@ -1,13 +1,4 @@
-use Rattle.std.proofs.Common.{◌≡◌, [], ap, ◌∙◌, subst, arith, w64}
-use Rattle.std.proofs.lemmas.Int.{ints}
-use mir.Val.{to_z}
-use Rattle.std.specs.Prelude.{pos, ℤ}
-use Rattle.ed_types.specs.Heard.{with_text}
-use Rattle.ed_types.specs.Notices.{Notice}
-use Rattle.ed_model.specs.Notes.{heard}
-use Rattle.scene.specs.Scenes.{watchers}
-use Rattle.document_changes.specs.Changed.{AreTold}
-use Rattle.document_changes.specs.Lines.{level_notice}
+use Rattle.document_changes.proofs.Names.{◌≡◌, [], ap, ◌∙◌, subst, arith, w64, ints, to_z, pos, ℤ, with_text, Notice, heard, watchers, AreTold, level_notice}
 use Rattle.document_changes.proofs.row_changes.tell_level.Goals as goal
 
 pub returns : goal.returns

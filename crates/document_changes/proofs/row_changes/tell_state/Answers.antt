@@ -1,8 +1,4 @@
-use Rattle.std.proofs.Common.{[], subst}
-use Rattle.ed_types.specs.Notices.{Notice}
-use Rattle.ed_model.specs.Notes.{heard}
-use Rattle.scene.specs.Scenes.{watchers}
-use Rattle.document_changes.specs.Changed.{AreTold}
+use Rattle.document_changes.proofs.Names.{[], subst, Notice, heard, watchers, AreTold}
 use Rattle.document_changes.proofs.row_changes.tell_state.Goals as goal
 
 pub returns : goal.returns

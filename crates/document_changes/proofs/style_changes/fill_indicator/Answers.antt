@@ -1,10 +1,5 @@
-use Rattle.std.proofs.Common.{[], length, refl, subst, arith}
-use Rattle.std.specs.Prelude.{Option, slice_index_or}
+use Rattle.document_changes.proofs.Names.{[], length, refl, subst, arith, Option, slice_index_or, range_notes, change_indicator, watchers, AreTold}
 use Rattle.ed_model.specs.declared.plan.DocumentChange.TheVariants as change
-use Rattle.ed_model.specs.Changes.{range_notes}
-use Rattle.ed_model.specs.Notes.{change_indicator}
-use Rattle.scene.specs.Scenes.{watchers}
-use Rattle.document_changes.specs.Changed.{AreTold}
 use Rattle.document_changes.proofs.Ranges.{range_small, values_length}
 use Rattle.document_changes.proofs.Unmoved.{is_changed}
 use Rattle.document_changes.proofs.style_changes.fill_indicator.Goals as goal

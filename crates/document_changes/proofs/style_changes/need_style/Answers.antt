@@ -1,6 +1,5 @@
-use Rattle.std.proofs.Common.{min, refl, ap, ◌∙◌}
+use Rattle.document_changes.proofs.Names.{min, refl, ap, ◌∙◌, Kept}
 use Rattle.ed_model.specs.declared.plan.DocumentChange.TheVariants as change
-use Rattle.document.specs.Kept.{Kept}
 use Rattle.document_changes.proofs.Unmoved.{is_changed}
 use Rattle.document_changes.proofs.style_changes.need_style.Goals as goal
 

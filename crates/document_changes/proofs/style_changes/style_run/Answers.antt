@@ -1,13 +1,5 @@
-use Rattle.std.proofs.Common.{refl, ap, subst, arith}
-use Rattle.std.proofs.lemmas.List.{length-map}
-use Rattle.std.specs.Prelude.{Option}
+use Rattle.document_changes.proofs.Names.{refl, ap, subst, arith, length-map, Option, range_notes, change_style, Cell, styles_of, Kept, watchers, AreTold}
 use Rattle.ed_model.specs.declared.plan.DocumentChange.TheVariants as change
-use Rattle.ed_model.specs.Changes.{range_notes}
-use Rattle.ed_model.specs.Notes.{change_style}
-use Rattle.ed_model.specs.Text.{Cell, styles_of}
-use Rattle.document.specs.Kept.{Kept}
-use Rattle.scene.specs.Scenes.{watchers}
-use Rattle.document_changes.specs.Changed.{AreTold}
 use Rattle.document_changes.proofs.Ranges.{range_small}
 use Rattle.document_changes.proofs.Unmoved.{is_changed}
 use Rattle.document_changes.proofs.style_changes.style_run.Goals as goal

@@ -1,8 +1,4 @@
-use Rattle.std.proofs.Common.{List, [], ap, ◌∙◌, subst}
-use Rattle.ed_types.specs.Notices.{Notice}
-use Rattle.ed_model.specs.Notes.{heard, range_note}
-use Rattle.scene.specs.Scenes.{watchers}
-use Rattle.document_changes.specs.Changed.{AreTold}
+use Rattle.document_changes.proofs.Names.{List, [], ap, ◌∙◌, subst, Notice, heard, range_note, watchers, AreTold}
 use Rattle.document_changes.proofs.style_changes.tell_changed.Goals as goal
 
 pub returns-in-Some : goal.returns-in-Some

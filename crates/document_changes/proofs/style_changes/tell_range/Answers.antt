@@ -1,6 +1,4 @@
-use Rattle.std.proofs.Common.{◌≤◌, ℕ, sym, ◌∙◌, subst}
-use Rattle.scene.specs.Hearing.{hearers}
-use Rattle.scene.specs.Scenes.{watchers}
+use Rattle.document_changes.proofs.Names.{◌≤◌, ℕ, sym, ◌∙◌, subst, hearers, watchers}
 use Rattle.document_changes.proofs.Told.{told_no_range}
 use Rattle.document_changes.proofs.style_changes.tell_range.Goals as goal
 

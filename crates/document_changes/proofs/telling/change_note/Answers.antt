@@ -1,5 +1,4 @@
-use Rattle.std.proofs.Common.{ap}
-use Rattle.ed_types.specs.Notices.{Notice}
+use Rattle.document_changes.proofs.Names.{ap, Notice}
 use Rattle.document_changes.proofs.telling.change_note.Goals as goal
 
 pub returns-clause-note : goal.returns-clause-note

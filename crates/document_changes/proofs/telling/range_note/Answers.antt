@@ -1,9 +1,4 @@
-use Rattle.std.proofs.Common.{◌≡◌, ap, ◌∙◌, arith, w64}
-use Rattle.std.proofs.lemmas.Int.{ints}
-use mir.Val.{to_z}
-use Rattle.std.specs.Prelude.{pos, ℤ}
-use Rattle.ed_types.specs.Notices.{Notice}
-use Rattle.ed_types.specs.Heard.{with_text}
+use Rattle.document_changes.proofs.Names.{◌≡◌, ap, ◌∙◌, arith, w64, ints, to_z, pos, ℤ, Notice, with_text}
 use Rattle.document_changes.proofs.telling.range_note.Goals as goal
 
 pub returns-clause-note : goal.returns-clause-note

@@ -1,7 +1,4 @@
-use Rattle.std.proofs.Common.{[]}
-use Rattle.ed_types.specs.Heard.{with_text}
-use Rattle.ed_model.specs.Notes.{blank}
-use Rattle.scene.specs.Scenes.{watchers}
+use Rattle.document_changes.proofs.Names.{[], with_text, blank, watchers}
 use Rattle.document_changes.proofs.Told.{told_as}
 use Rattle.document_changes.proofs.telling.tell_all.Goals as goal
 

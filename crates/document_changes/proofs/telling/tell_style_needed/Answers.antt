@@ -1,10 +1,4 @@
-use Rattle.std.proofs.Common.{◌≡◌, ap, ◌∙◌, sym, arith, w64, ℕ, []}
-use Rattle.std.proofs.lemmas.Int.{ints}
-use mir.Val.{to_z}
-use Rattle.std.specs.Prelude.{pos, ℤ}
-use Rattle.ed_types.specs.Notices.{Notice}
-use Rattle.ed_types.specs.Heard.{with_text}
-use Rattle.ed_model.specs.Notes.{blank, style_needed}
+use Rattle.document_changes.proofs.Names.{◌≡◌, ap, ◌∙◌, sym, arith, w64, ℕ, [], ints, to_z, pos, ℤ, Notice, with_text, blank, style_needed}
 use Rattle.document_changes.proofs.Told.{told_one}
 use Rattle.document_changes.proofs.telling.tell_style_needed.Goals as goal
 

@@ -1,6 +1,5 @@
 use Rattle.ed_model.specs.Carry.{regrouped}
-use Rattle.ed_model.specs.Rows.{rows_together}
-use Rattle.ed_model.specs.Session.{text_of}
+use Rattle.document_changes.proofs.Names.{rows_together, text_of}
 use Rattle.document_changes.proofs.Told.{told_nothing}
 use Rattle.document_changes.proofs.type_changes.set_line_end_types.Goals as goal
 

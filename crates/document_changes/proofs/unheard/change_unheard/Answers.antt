@@ -1,7 +1,5 @@
-use Rattle.std.proofs.Common.{◌≡◌, refl, sym, ◌∙◌, arith}
+use Rattle.document_changes.proofs.Names.{◌≡◌, refl, sym, ◌∙◌, arith, watchers, notes_of_change}
 use Rattle.ed_model.specs.declared.plan.DocumentChange.TheVariants as change
-use Rattle.scene.specs.Scenes.{watchers}
-use Rattle.document_changes.specs.Needs.{notes_of_change}
 use Rattle.document_changes.proofs.Told.{changed_unheard}
 use Rattle.document_changes.proofs.unheard.change_unheard.Goals as goal
 

@@ -1,10 +1,5 @@
-use Rattle.std.proofs.Common.{◌≡◌, ap, ◌∙◌, rules}
-use Rattle.ed_model.specs.Session.{Document, text_of}
+use Rattle.document_edits.proofs.Names.{◌≡◌, ap, ◌∙◌, rules, Document, text_of, Scene, edit_made, edit_made_id, scene_in, room_of_steps}
 use Rattle.ed_model.specs.LineEnds.{conversion_steps}
-use Rattle.ed_model.specs.Performing.{Scene, edit_made}
-use Rattle.ed_model.specs.proved.Scenes.{edit_made_id}
-use Rattle.scene.specs.Scenes.{scene_in}
-use Rattle.scene.specs.Conversion.{room_of_steps}
 use Rattle.document_edits.proofs.Widths.{capped_fits}
 use Rattle.document_edits.proofs.converting.convert_with_room.Goals as goal
 

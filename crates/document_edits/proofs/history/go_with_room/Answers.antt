@@ -1,9 +1,5 @@
-use Rattle.std.proofs.Common.{◌≡◌, ap, ◌∙◌, rules}
-use Rattle.ed_model.specs.Session.{Document}
-use Rattle.ed_model.specs.Performing.{Scene}
+use Rattle.document_edits.proofs.Names.{◌≡◌, ap, ◌∙◌, rules, Document, Scene, scene_in, bits_of, room_of_changes}
 use Rattle.document.specs.Undoing.{changes_of, history_behind}
-use Rattle.scene.specs.Scenes.{scene_in}
-use Rattle.scene.specs.Undoing.{bits_of, room_of_changes}
 use Rattle.document_edits.proofs.Going.{transaction_keeps_id, none_told}
 use Rattle.document_edits.proofs.Widths.{capped_fits}
 use Rattle.document_edits.proofs.history.go_with_room.Goals as goal

@@ -1,17 +1,5 @@
-use Rattle.std.proofs.Common.{◌≡◌, ap, sym, ◌∙◌, [], ◌∷◌, length, subst, ◌+◌, arith, slice_range}
-use Rattle.std.proofs.lemmas.Bool.{eqb-false}
-use Rattle.ed_model.specs.Session.{text_of, watching}
-use Rattle.ed_model.specs.Steps.{Insert, Delete, replacement}
-use Rattle.ed_model.specs.proved.Steps.{length_of_range}
-use Rattle.document.specs.TextSteps.{need_of}
+use Rattle.document_edits.proofs.Names.{◌≡◌, ap, sym, ◌∙◌, [], ◌∷◌, length, subst, ◌+◌, arith, slice_range, eqb-false, text_of, watching, Insert, Delete, replacement, length_of_range, need_of, views_of, scene_in, capped_room, room_of_steps, note_room, notes_of_step, bytes_of_step, deletion_needs, SceneNeed, NeedsSteps}
 use Rattle.document.specs.declared.text_step.TextStep.TheVariants as lent
-use Rattle.scene.specs.Scenes.{views_of, scene_in}
-use Rattle.scene.specs.Undoing.{capped_room}
-use Rattle.scene.specs.Conversion.{room_of_steps}
-use Rattle.scene.specs.Needs.{note_room, notes_of_step, bytes_of_step}
-use Rattle.scene.specs.proved.Rooms.{deletion_needs}
-use Rattle.scene.specs.declared.need.SceneNeed.{SceneNeed}
-use Rattle.document_edits.specs.Needs.{NeedsSteps}
 use Rattle.document_edits.proofs.Stepping.{deletes_some, inserts_some, inserts_alone, deletes_alone, positive}
 use Rattle.document_edits.proofs.Needing.{one_step_summed, one_step_room, two_steps, two_steps_room, frees_all}
 use Rattle.document_edits.proofs.need.replacement_need.Goals as goal

@@ -1,10 +1,4 @@
-use Rattle.std.proofs.Common.{ap, sym, ◌∙◌, false, [], subst, ◌+◌, ◌≤◌, slice_range}
-use Rattle.ed_model.specs.Session.{text_of}
-use Rattle.ed_model.specs.Performing.{edit_made}
-use Rattle.ed_model.specs.Steps.{Insert, Delete}
-use Rattle.scene.specs.Scenes.{scene_in}
-use Rattle.scene.specs.Conversion.{notes_for, bytes_for}
-use Rattle.scene.specs.proved.Enough.{first_notes, first_bytes}
+use Rattle.document_edits.proofs.Names.{ap, sym, ◌∙◌, false, [], subst, ◌+◌, ◌≤◌, slice_range, text_of, edit_made, Insert, Delete, scene_in, notes_for, bytes_for, first_notes, first_bytes}
 use Rattle.document_edits.proofs.Stepping.{inserts_alone, deletes_alone}
 use Rattle.document_edits.proofs.replacing.replace_bytes.Goals as goal
 

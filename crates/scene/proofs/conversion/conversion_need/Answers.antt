@@ -1,12 +1,4 @@
-use Rattle.std.proofs.Common.{[], ap, sym, ◌∙◌, false}
-use Rattle.ed_model.specs.LineEnds.{missing_from}
-use Rattle.ed_model.specs.Session.{text_of}
-use Rattle.document.specs.declared.room.DocumentRoom.{DocumentRoom}
-use Rattle.document.specs.Kept.{amount_sum, room_sum}
-use Rattle.scene.specs.declared.need.NoteRoom.{NoteRoom}
-use Rattle.scene.specs.Scenes.{scene_in}
-use Rattle.scene.specs.Needs.{note_room}
-use Rattle.scene.specs.Conversion.{capped_room, deletions_of, rooms_added}
+use Rattle.scene.proofs.Names.{[], ap, sym, ◌∙◌, false, missing_from, text_of, DocumentRoom, amount_sum, room_sum, NoteRoom, scene_in, note_room, capped_room, deletions_of, rooms_added}
 use Rattle.scene.proofs.ConversionNeeds.{both_needs, both_notes, conversion_beside}
 use Rattle.scene.proofs.conversion.conversion_need.Goals as goal
 

@@ -1,7 +1,4 @@
-use Rattle.ed_model.specs.LineEnds.{conversion_steps}
-use Rattle.ed_model.specs.Session.{text_of}
-use Rattle.document.specs.Kept.{with_freed}
-use Rattle.scene.specs.Conversion.{changes_for, conversion_room, freed_by_all}
+use Rattle.scene.proofs.Names.{conversion_steps, text_of, with_freed, changes_for, conversion_room, freed_by_all}
 use Rattle.scene.proofs.PerformedSoFar.{made_all}
 use Rattle.scene.proofs.StepsInTurn.{left_all, rooms_of_all}
 use Rattle.scene.proofs.conversion.make_all.Goals as goal

@@ -1,9 +1,4 @@
-use Rattle.std.proofs.Common.{◌+◌, ap, sym, ◌∙◌, length, slice_range}
-use Rattle.ed_model.specs.Session.{text_of}
-use Rattle.ed_model.specs.proved.Steps.{length_of_range}
-use Rattle.scene.specs.Scenes.{watchers}
-use Rattle.scene.specs.Conversion.{capped_room, deletions_of, room_of_many}
-use Rattle.scene.specs.proved.Rooms.{deletion_needs}
+use Rattle.scene.proofs.Names.{◌+◌, ap, sym, ◌∙◌, length, slice_range, text_of, length_of_range, watchers, capped_room, deletions_of, room_of_many, deletion_needs}
 use Rattle.scene.proofs.StepsInTurn.{some_cells}
 use Rattle.scene.proofs.ConversionNeeds.{takes_notes, takes_room}
 use Rattle.scene.proofs.conversion.need_of_deletions.Goals as goal

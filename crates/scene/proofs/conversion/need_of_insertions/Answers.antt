@@ -1,7 +1,4 @@
-use Rattle.std.proofs.Common.{ap, ◌∙◌, length, false}
-use Rattle.ed_model.specs.LineEnds.{missing_from}
-use Rattle.ed_model.specs.Session.{text_of}
-use Rattle.scene.specs.Scenes.{watchers}
+use Rattle.scene.proofs.Names.{ap, ◌∙◌, length, false, missing_from, text_of, watchers}
 use Rattle.scene.proofs.ConversionNeeds.{puts_notes, puts_room}
 use Rattle.scene.proofs.conversion.need_of_insertions.Goals as goal
 

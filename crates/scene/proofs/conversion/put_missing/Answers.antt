@@ -1,6 +1,4 @@
-use Rattle.ed_model.specs.Session.{text_of}
-use Rattle.scene.specs.Scenes.{scene_in}
-use Rattle.scene.specs.proved.Enough.{first_notes, first_bytes}
+use Rattle.scene.proofs.Names.{text_of, scene_in, first_notes, first_bytes}
 use Rattle.scene.proofs.StepsInTurn.{text_after, put_of, puts_behind, put_next, put_made, fewer_puts}
 use Rattle.scene.proofs.conversion.put_missing.Goals as goal
 

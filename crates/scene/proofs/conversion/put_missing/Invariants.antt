@@ -1,6 +1,4 @@
-use Rattle.std.proofs.Common.{length}
-use Rattle.ed_model.specs.Session.{text_of}
-use Rattle.line_ends.specs.Conversion.{missing_in}
+use Rattle.scene.proofs.Names.{length, text_of, missing_in}
 use Rattle.scene.proofs.StepsInTurn.{PutsLeft}
 use Rattle.scene.proofs.conversion.put_missing.Given as goal
 

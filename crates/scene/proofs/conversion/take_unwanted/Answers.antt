@@ -1,8 +1,4 @@
-use Rattle.ed_model.specs.Session.{text_of}
-use Rattle.ed_model.specs.Steps.{edited}
-use Rattle.line_ends.specs.Conversion.{unwanted_in}
-use Rattle.scene.specs.Scenes.{scene_in}
-use Rattle.scene.specs.proved.Enough.{first_notes, first_bytes}
+use Rattle.scene.proofs.Names.{text_of, edited, unwanted_in, scene_in, first_notes, first_bytes}
 use Rattle.scene.proofs.StepsInTurn.{text_after, take_of, take_next, take_made, fewer_takes}
 use Rattle.scene.proofs.conversion.take_unwanted.Goals as goal
 

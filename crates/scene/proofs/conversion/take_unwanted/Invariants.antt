@@ -1,6 +1,4 @@
-use Rattle.std.proofs.Common.{length}
-use Rattle.ed_model.specs.Session.{text_of}
-use Rattle.line_ends.specs.Conversion.{unwanted_in}
+use Rattle.scene.proofs.Names.{length, text_of, unwanted_in}
 use Rattle.scene.proofs.StepsInTurn.{TakesLeft}
 use Rattle.scene.proofs.conversion.take_unwanted.Given as goal
 

@@ -1,5 +1,4 @@
-use Rattle.std.proofs.Common.{sym, ap, ◌∙◌, get_or}
-use Rattle.std.proofs.lemmas.List.{drop_all}
+use Rattle.scene.proofs.Names.{sym, ap, ◌∙◌, get_or, drop_all}
 use Rattle.std.specs.Option.{option_copied_mut}
 use Rattle.scene.proofs.Pending.{drop_next}
 use Rattle.scene.proofs.Followed.{follow_none, next_can, follow_one, follow_missing, follow_all}

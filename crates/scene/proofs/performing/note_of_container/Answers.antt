@@ -1,8 +1,4 @@
-use Rattle.std.proofs.Common.{◌≡◌, [], ap, ◌∙◌, arith, w64, to_z, of_z}
-use Rattle.std.proofs.lemmas.Int.{ints}
-use Rattle.std.specs.Prelude.{ℤ, bit_or}
-use Rattle.ed_types.specs.Notices.{Notice}
-use Rattle.ed_types.specs.Heard.{with_text}
+use Rattle.scene.proofs.Names.{◌≡◌, [], ap, ◌∙◌, arith, w64, to_z, of_z, ints, ℤ, bit_or, Notice, with_text}
 use Rattle.scene.proofs.performing.note_of_container.Goals as goal
 
 pub returns : goal.returns

@@ -1,14 +1,4 @@
-use Rattle.std.proofs.Common.{◌≡◌, length, sym, ap, ◌∙◌, arith, refl, length-append, w64, to_z, of_z}
-use Rattle.std.proofs.lemmas.Int.{ints}
-use Rattle.ed_types.specs.Notices.{Notice}
-use Rattle.ed_model.specs.Notes.{heard}
-use Rattle.ed_model.specs.Performing.{container_note}
-use Rattle.scene.specs.declared.telling.Audience.TheVariants.{Hearers}
-use Rattle.scene.specs.declared.telling.NoteText.TheVariants.{Empty}
-use Rattle.scene.specs.Scenes.{watchers}
-use Rattle.scene.specs.Hearing.{audience_of, with_note_text}
-use Rattle.scene.specs.Undoing.{bits_of}
-use Rattle.scene.specs.Turns.{bits_behind}
+use Rattle.scene.proofs.Names.{◌≡◌, length, sym, ap, ◌∙◌, arith, refl, length-append, w64, to_z, of_z, ints, Notice, heard, container_note, Hearers, Empty, watchers, audience_of, with_note_text, bits_of, bits_behind}
 use Rattle.scene.proofs.ToldSoFar.{length_told}
 use Rattle.scene.proofs.KindLemmas.{told_as_heard}
 use Rattle.scene.proofs.ChangeNotes.{container_few, bits_more}

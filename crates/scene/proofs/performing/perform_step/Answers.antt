@@ -1,24 +1,10 @@
-use Rattle.std.proofs.Common.{◌≡◌, ◌++◌, ◌∙◌, sym, ap, arith, subst, []}
-use Rattle.std.proofs.lemmas.List.{append-nil}
-use Rattle.line_index.specs.StepEdits.{edits_of}
-use Rattle.selection.specs.Positions.{movement_of}
-use Rattle.ed_model.specs.Numbers.{growth}
-use Rattle.ed_model.specs.History.{TextStep}
-use Rattle.ed_model.specs.Session.{Document, text_of, lines_in}
-use Rattle.ed_model.specs.Notes.{heard, before_note, after_note}
-use Rattle.ed_model.specs.Performing.{document_after}
-use Rattle.ed_model.specs.SoundLaws.{Rise}
-use Rattle.ed_model.specs.proved.Changes.{length_text}
-use Rattle.ed_view.specs.Moving.{step_edits}
-use Rattle.scene.specs.Scenes.{watchers, scene_in, IsWatched}
-use Rattle.scene.specs.Undoing.{bits_of, all_bits, outline_movement}
-use Rattle.scene.specs.Turns.{bits_behind, CanTellAfter, IsPerformed}
+use Rattle.scene.proofs.Names.{◌≡◌, ◌++◌, ◌∙◌, sym, ap, arith, subst, [], append-nil, edits_of, movement_of, growth, TextStep, Document, text_of, lines_in, heard, before_note, after_note, document_after, Rise, length_text, step_edits, watchers, scene_in, IsWatched, bits_of, all_bits, outline_movement, bits_behind, CanTellAfter, IsPerformed}
 use Rattle.scene.proofs.Followed.{named_ids}
 use Rattle.scene.proofs.ToldSoFar.{heard_last, length_parts}
 use Rattle.scene.proofs.KindLemmas.{unheard_after}
 use Rattle.scene.proofs.StepScenes.{same_scene, few_for_step, watched_can, stands_can, watched_after, watched_again}
 use Rattle.scene.proofs.ChangeNotes.{bits_more, performed_few}
-use Rattle.scene.proofs.ChangeSteps.{some_has, step_same, small_fits, small_count, ends_in_text, lines_of_room, outline_movement_is}
+use Rattle.scene.proofs.ChangeSteps.{some_has, step_same, small_fits, small_count, ends_in_text, outline_movement_is}
 use Rattle.scene.proofs.performing.perform_step.Goals as goal
 
 pub tell_after_change-requires-clause-can : goal.tell_after_change-requires-clause-can

@@ -1,13 +1,4 @@
-use Rattle.std.proofs.Common.{◌≡◌, ◌*◌, ℕ, List, false, ap, sym, ◌∙◌, arith, subst}
-use Rattle.std.proofs.lemmas.List.{append-nil}
-use Rattle.ed_model.specs.Steps.{Step}
-use Rattle.ed_model.specs.History.{TextStep}
-use Rattle.ed_model.specs.Session.{View}
-use Rattle.notify.specs.Gathered.{Gathered}
-use Rattle.scene.specs.Scenes.{watchers}
-use Rattle.scene.specs.Hearing.{hearers}
-use Rattle.scene.specs.Undoing.{bits_of, all_bits, outline_kinds, performed_kinds}
-use Rattle.scene.specs.Turns.{IsToldBefore}
+use Rattle.scene.proofs.Names.{◌≡◌, ◌*◌, ℕ, List, false, ap, sym, ◌∙◌, arith, subst, append-nil, Step, TextStep, View, Gathered, watchers, hearers, bits_of, all_bits, outline_kinds, performed_kinds, IsToldBefore}
 use Rattle.scene.proofs.KindLemmas.{unheard_before}
 use Rattle.scene.proofs.ChangeSteps.{some_has, step_same, outline_kinds_are}
 use Rattle.scene.proofs.performing.tell_before_change.Goals as goal

@@ -1,13 +1,4 @@
-use Rattle.std.proofs.Common.{◌≡◌, true, refl, ap, ◌∙◌, arith, subst}
-use Rattle.std.specs.Prelude.{nat_lt}
-use Rattle.std.proofs.lemmas.Bool.{lt-ltb}
-use Rattle.std.proofs.lemmas.List.{append-nil}
-use Rattle.ed_model.specs.History.{TextStep}
-use Rattle.ed_model.specs.Session.{text_of}
-use Rattle.scene.specs.Scenes.{watchers}
-use Rattle.scene.specs.Hearing.{hearers}
-use Rattle.scene.specs.Undoing.{bits_of, performed_kinds}
-use Rattle.scene.specs.Turns.{IsToldBefore}
+use Rattle.scene.proofs.Names.{◌≡◌, true, refl, ap, ◌∙◌, arith, subst, nat_lt, lt-ltb, append-nil, TextStep, text_of, watchers, hearers, bits_of, performed_kinds, IsToldBefore}
 use Rattle.scene.proofs.ChangeNotes.{before_few}
 use Rattle.scene.proofs.ChangeSteps.{some_has, step_same}
 use Rattle.scene.proofs.performing.tell_heard_change.Goals as goal

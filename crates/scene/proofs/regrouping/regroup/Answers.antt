@@ -1,5 +1,4 @@
-use Rattle.std.proofs.Common.{◌∙◌, sym, subst, length, arith}
-use Rattle.ed_model.specs.SoundLaws.{Rise}
+use Rattle.scene.proofs.Names.{◌∙◌, sym, subst, length, arith, Rise}
 use Rattle.scene.proofs.Followed.{named_ids}
 use Rattle.scene.proofs.Regrouped.{regrouped_can_all, regrouped_views, regrouped_watched}
 use Rattle.scene.proofs.StepScenes.{narrower}

@@ -1,10 +1,4 @@
-use Rattle.std.proofs.Common.{ap, ◌∙◌, arith}
-use Rattle.std.proofs.lemmas.Int.{ints}
-use Rattle.std.specs.Prelude.{ℤ}
-use Rattle.ed_types.specs.Heard.{with_text}
-use Rattle.ed_model.specs.Numbers.{growth}
-use Rattle.ed_model.specs.Steps.{step_bytes}
-use Rattle.document.specs.TextSteps.{step_in}
+use Rattle.scene.proofs.Names.{ap, ◌∙◌, arith, ints, ℤ, with_text, growth, step_bytes, step_in}
 use Rattle.scene.proofs.NotesOfSteps.{note_after}
 use Rattle.scene.proofs.step_notes.after_note.Goals as goal
 

@@ -1,9 +1,5 @@
-use Rattle.std.proofs.Common.{◌≡◌, ap, ◌∙◌, arith, w64}
-use Rattle.std.proofs.lemmas.Int.{ints}
+use Rattle.scene.proofs.Names.{◌≡◌, ap, ◌∙◌, arith, w64, ints, pos, ℤ, Notice, with_text}
 use mir.Val.{to_z}
-use Rattle.std.specs.Prelude.{pos, ℤ}
-use Rattle.ed_types.specs.Notices.{Notice}
-use Rattle.ed_types.specs.Heard.{with_text}
 use Rattle.scene.proofs.step_notes.range_note.Goals as goal
 
 pub returns : goal.returns

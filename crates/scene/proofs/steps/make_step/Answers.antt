@@ -1,9 +1,5 @@
-use Rattle.std.proofs.Common.{◌+◌, ◌≤◌, ◌∙◌, length, sym, subst}
-use Rattle.ed_model.specs.History.{TextStep, appended}
-use Rattle.ed_model.specs.Session.{text_of}
-use Rattle.ed_model.specs.Performing.{Scene}
+use Rattle.scene.proofs.Names.{◌+◌, ◌≤◌, ◌∙◌, length, sym, subst, TextStep, appended, text_of, Scene, step_in}
 use Rattle.scene.specs.proved.Watched.{watched_with_history}
-use Rattle.document.specs.TextSteps.{step_in}
 use Rattle.scene.proofs.StepScenes.{made_as_heard}
 use Rattle.scene.proofs.steps.make_step.Goals as goal
 

@@ -1,15 +1,4 @@
-use Rattle.std.proofs.Common.{◌≡◌, ◌∙◌, length, sym, ap, arith, subst}
-use Rattle.line_index.specs.StepEdits.{edits_of}
-use Rattle.selection.specs.Positions.{movement_of}
-use Rattle.ed_model.specs.Numbers.{growth}
-use Rattle.ed_model.specs.Session.{Document, text_of, lines_in}
-use Rattle.ed_model.specs.Notes.{heard, before_note, after_note}
-use Rattle.ed_model.specs.Performing.{document_after}
-use Rattle.ed_model.specs.SoundLaws.{Rise}
-use Rattle.document.specs.TextSteps.{step_in}
-use Rattle.ed_view.specs.Moving.{step_edits}
-use Rattle.scene.specs.Scenes.{watchers, IsWatched}
-use Rattle.scene.specs.Hearing.{left_note}
+use Rattle.scene.proofs.Names.{◌≡◌, ◌∙◌, length, sym, ap, arith, subst, edits_of, movement_of, growth, Document, text_of, lines_in, heard, before_note, after_note, document_after, Rise, step_in, step_edits, watchers, IsWatched, left_note}
 use Rattle.scene.proofs.Followed.{named_ids}
 use Rattle.scene.proofs.ToldSoFar.{heard_last, length_parts}
 use Rattle.scene.proofs.KindLemmas.{can_tell, none_by_notes}

@@ -1,9 +1,4 @@
-use Rattle.std.proofs.Common.{◌∙◌, ap, arith}
-use Rattle.ed_model.specs.Session.{text_of}
-use Rattle.ed_model.specs.Notes.{heard, before_note}
-use Rattle.document.specs.TextSteps.{step_in}
-use Rattle.scene.specs.Scenes.{watchers}
-use Rattle.scene.specs.Hearing.{left_note}
+use Rattle.scene.proofs.Names.{◌∙◌, ap, arith, text_of, heard, before_note, step_in, watchers, left_note}
 use Rattle.scene.proofs.ToldSoFar.{heard_in_order}
 use Rattle.scene.proofs.KindLemmas.{unheard_before}
 use Rattle.scene.proofs.steps.tell_before.Goals as goal

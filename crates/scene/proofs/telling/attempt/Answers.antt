@@ -1,6 +1,4 @@
-use Rattle.std.proofs.Common.{◌-◌, [], length}
-use Rattle.ed_model.specs.Notes.{blank, modify_attempt}
-use Rattle.scene.specs.Scenes.{watchers}
+use Rattle.scene.proofs.Names.{◌-◌, [], length, blank, modify_attempt, watchers}
 use Rattle.scene.proofs.ToldSoFar.{told_as}
 use Rattle.scene.proofs.telling.attempt.Goals as goal
 

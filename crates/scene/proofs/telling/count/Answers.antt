@@ -1,5 +1,4 @@
-use Rattle.std.proofs.Common.{sym, ap, ◌∙◌, length, arith}
-use Rattle.std.specs.Prelude.{option_copied}
+use Rattle.scene.proofs.Names.{sym, ap, ◌∙◌, length, arith, option_copied}
 use Rattle.scene.proofs.Pending.{next_told, next_passed, next_missing, nothing_pending}
 use Rattle.scene.proofs.telling.count.Goals as goal
 use Rattle.scene.proofs.telling.count.Goals.{in-Some+then-is_told, in-Some+else-is_told, in_default}

@@ -1,6 +1,4 @@
-use Rattle.std.proofs.Common.{sym, ap, ◌∙◌, length, refl, arith}
-use Rattle.std.specs.Prelude.{option_copied}
-use Rattle.scene.specs.declared.telling.Audience.TheVariants.{Everyone}
+use Rattle.scene.proofs.Names.{sym, ap, ◌∙◌, length, refl, arith, option_copied, Everyone}
 use Rattle.scene.proofs.Pending.{next_told, next_missing, nothing_pending}
 use Rattle.scene.proofs.telling.survey.Goals as goal
 use Rattle.scene.proofs.telling.survey.Goals.{in-Some, in_default}

@@ -1,7 +1,5 @@
 -- the views counted and joined, and the views still to be, are all views
-use Rattle.std.proofs.Common.{◌≡◌, ◌≤◌, ◌+◌, length, drop}
-use Rattle.scene.specs.declared.telling.Audience.TheVariants.{Everyone}
-use Rattle.scene.specs.Hearing.{masks_from, masks_of}
+use Rattle.scene.proofs.Names.{◌≡◌, ◌≤◌, ◌+◌, length, drop, Everyone, masks_from, masks_of}
 use Rattle.scene.proofs.Pending.{pending}
 use Rattle.scene.proofs.telling.survey.Given as goal
 

@@ -1,7 +1,4 @@
-use Rattle.std.proofs.Common.{sym, ap, ◌∙◌}
-use Rattle.std.specs.Prelude.{option_copied}
-use Rattle.std.proofs.lemmas.Bool.{eqb-true}
-use Rattle.scene.specs.Hearing.{with_note_text}
+use Rattle.scene.proofs.Names.{sym, ap, ◌∙◌, option_copied, eqb-true, with_note_text}
 use Rattle.scene.proofs.Pending.{next_told, next_passed, next_missing, nothing_pending}
 use Rattle.scene.proofs.ToldSoFar.{told_nobody, told_none, told_one, told_same, told_all, room_for_one, note_for_text}
 use Rattle.scene.proofs.telling.tell.Goals as goal

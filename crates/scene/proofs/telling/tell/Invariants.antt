@@ -1,6 +1,5 @@
 -- the views notified and the views still to be notified are all views
-use Rattle.std.proofs.Common.{drop}
-use Rattle.scene.specs.Hearing.{with_note_text}
+use Rattle.scene.proofs.Names.{drop, with_note_text}
 use Rattle.scene.proofs.Pending.{pending}
 use Rattle.scene.proofs.ToldSoFar.{IsToldSoFar}
 use Rattle.scene.proofs.telling.tell.Given as goal

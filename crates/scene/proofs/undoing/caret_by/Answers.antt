@@ -1,6 +1,4 @@
-use Rattle.std.proofs.Common.{◌∙◌, sym, arith}
-use Rattle.ed_model.specs.Session.{text_of}
-use Rattle.ed_model.specs.proved.Changes.{length_text}
+use Rattle.scene.proofs.Names.{◌∙◌, sym, arith, text_of, length_text}
 use Rattle.scene.proofs.LatestStep.{ends_small}
 use Rattle.scene.proofs.undoing.caret_by.Goals as goal
 

@@ -1,8 +1,4 @@
-use Rattle.std.proofs.Common.{◌≡◌, sym, ap, ◌∙◌, bit_and}
-use Rattle.document.specs.Undoing.{outline_of}
-use Rattle.scene.specs.Scenes.{watchers}
-use Rattle.scene.specs.Hearing.{masks_of}
-use Rattle.scene.specs.Undoing.{bits_of, outline_kinds}
+use Rattle.scene.proofs.Names.{◌≡◌, sym, ap, ◌∙◌, bit_and, outline_of, watchers, masks_of, bits_of, outline_kinds}
 use Rattle.scene.proofs.KindLemmas.{none_by_masks}
 use Rattle.scene.proofs.ChangeSteps.{needs_no_note}
 use Rattle.scene.proofs.undoing.change_note_need.Goals as goal

@@ -1,8 +1,4 @@
-use Rattle.std.proofs.Common.{◌+◌, drop, length, arith}
-use Rattle.std.proofs.lemmas.List.{drop_all}
-use Rattle.document.specs.Undoing.{changes_of, save_point_told}
-use Rattle.scene.specs.Scenes.{watchers}
-use Rattle.scene.specs.Undoing.{bits_of, save_point_notes}
+use Rattle.scene.proofs.Names.{◌+◌, drop, length, arith, drop_all, changes_of, save_point_told, watchers, bits_of, save_point_notes}
 use Rattle.scene.proofs.ChangeSteps.{drop_some, some_has}
 use Rattle.scene.proofs.PerformedSoFar.{there}
 use Rattle.scene.proofs.NeededSoFar.{needed_next, needed_notes, needed_room}

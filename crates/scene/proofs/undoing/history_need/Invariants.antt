@@ -1,7 +1,4 @@
-use Rattle.std.proofs.Common.{drop, length}
-use Rattle.document.specs.Undoing.{changes_of, save_point_told}
-use Rattle.scene.specs.Scenes.{watchers}
-use Rattle.scene.specs.Undoing.{bits_of, save_point_notes}
+use Rattle.scene.proofs.Names.{drop, length, changes_of, save_point_told, watchers, bits_of, save_point_notes}
 use Rattle.scene.proofs.NeededSoFar.{IsNeededSoFar}
 use Rattle.scene.proofs.undoing.history_need.Given as goal
 

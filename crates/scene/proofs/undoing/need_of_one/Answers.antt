@@ -1,7 +1,4 @@
-use Rattle.std.proofs.Common.{length, arith}
-use Rattle.document.specs.Undoing.{changes_of, save_point_told}
-use Rattle.scene.specs.Scenes.{watchers}
-use Rattle.scene.specs.Undoing.{bits_of, save_point_notes}
+use Rattle.scene.proofs.Names.{length, arith, changes_of, save_point_told, watchers, bits_of, save_point_notes}
 use Rattle.scene.proofs.ChangeSteps.{some_has}
 use Rattle.scene.proofs.PerformedSoFar.{there}
 use Rattle.scene.proofs.NeededSoFar.{one_change, notes_of_one, room_of_one}

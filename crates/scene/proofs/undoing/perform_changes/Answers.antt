@@ -1,8 +1,4 @@
-use Rattle.std.proofs.Common.{◌+◌, ◌<◌, drop, length, refl, sym, ap, ◌∙◌, subst, arith}
-use Rattle.std.specs.Prelude.{nat_lt, ◌==◌}
-use Rattle.std.proofs.lemmas.List.{drop_all}
-use Rattle.document.specs.Undoing.{changes_of}
-use Rattle.scene.specs.Turns.{turn_of}
+use Rattle.scene.proofs.Names.{◌+◌, ◌<◌, drop, length, refl, sym, ap, ◌∙◌, subst, arith, nat_lt, ◌==◌, drop_all, changes_of, turn_of}
 use Rattle.scene.proofs.ChangeSteps.{drop_some, some_has}
 use Rattle.scene.proofs.LatestStep.{behind_all, caret_next}
 use Rattle.scene.proofs.PerformedSoFar.{performed_none, quiet_notes, still_quiet, there, last_is, next_can, performed_next, performed_all}

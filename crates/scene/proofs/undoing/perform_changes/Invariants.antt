@@ -1,5 +1,4 @@
-use Rattle.std.proofs.Common.{◌≡◌, drop}
-use Rattle.document.specs.Undoing.{changes_of}
+use Rattle.scene.proofs.Names.{◌≡◌, drop, changes_of}
 use Rattle.scene.proofs.LatestStep.{behind_first}
 use Rattle.scene.proofs.PerformedSoFar.{IsPerformedSoFar}
 use Rattle.scene.proofs.undoing.perform_changes.Given as goal

@@ -1,6 +1,4 @@
-use Rattle.std.proofs.Common.{◌++◌, ◌∙◌, sym, ap, []}
-use Rattle.ed_model.specs.Notes.{told}
-use Rattle.scene.specs.Scenes.{watchers}
+use Rattle.scene.proofs.Names.{◌++◌, ◌∙◌, sym, ap, [], told, watchers}
 use Rattle.scene.proofs.PerformedSoFar.{reached, left}
 use Rattle.scene.proofs.undoing.put_save_point.Goals as goal
 use Rattle.scene.proofs.undoing.put_save_point.Goals.{then-is_there, else-is_there}

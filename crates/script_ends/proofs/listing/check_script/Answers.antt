@@ -1,7 +1,5 @@
-use Rattle.std.proofs.Common.{ap, ◌∙◌, Err}
+use Rattle.script_ends.proofs.Names.{ap, ◌∙◌, Err, checked, none, unread}
 use Rattle.std.proofs.lemmas.Result.{err_from_is_err_and}
-use Rattle.script_ends.specs.Answers.{checked, none}
-use Rattle.script_ends.specs.proved.Written.{unread}
 use Rattle.script_ends.proofs.Writing.{no_memory}
 use Rattle.script_ends.proofs.listing.check_script.Goals as goal
 

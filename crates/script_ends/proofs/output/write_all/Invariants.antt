@@ -1,5 +1,4 @@
-use Rattle.std.proofs.Common.{◌≡◌, ◌≤◌, ◌-◌, length, take, false}
-use Rattle.std.specs.Io.KnownBytes.{Appends}
+use Rattle.script_ends.proofs.Names.{◌≡◌, ◌≤◌, ◌-◌, length, take, false, Appends}
 use Rattle.script_ends.proofs.output.write_all.Given as goal
 
 abbrev pub invariant-loop-at : goal.invariant-loop-at

@@ -1,5 +1,4 @@
-use Rattle.std.proofs.Common.{◌<◌, ◌≤◌, ◌+◌, ℕ, arith, length, sym, ap, subst, length-take, rules}
-use Rattle.std.specs.Io.KnownBytes.{Consumes}
+use Rattle.script_ends.proofs.Names.{◌<◌, ◌≤◌, ◌+◌, ℕ, arith, length, sym, ap, subst, length-take, rules, Consumes}
 use Rattle.script_ends.proofs.TakenBytes.{taken_none, taken_more, taken_kept, text_then_end, text_when_full, takes, takes_more, few_more}
 use Rattle.script_ends.proofs.reading.fill.Goals as goal
 

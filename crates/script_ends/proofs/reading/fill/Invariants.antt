@@ -1,5 +1,4 @@
-use Rattle.std.proofs.Common.{◌≡◌, ◌≤◌, ◌+◌, ◌-◌, length, false}
-use Rattle.std.specs.Io.KnownBytes.{Consumes}
+use Rattle.script_ends.proofs.Names.{◌≡◌, ◌≤◌, ◌+◌, ◌-◌, length, false, Consumes}
 use Rattle.script_ends.proofs.reading.fill.Given as goal
 
 abbrev pub invariant-loop-text : goal.invariant-loop-text

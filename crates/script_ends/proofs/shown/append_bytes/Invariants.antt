@@ -1,5 +1,4 @@
-use Rattle.std.proofs.Common.{◌≡◌, ◌++◌, drop, string_bytes}
-use Rattle.script_ends.specs.Shown.{shown_bytes}
+use Rattle.script_ends.proofs.Names.{◌≡◌, ◌++◌, drop, string_bytes, shown_bytes}
 use Rattle.script_ends.proofs.shown.append_bytes.Given as goal
 
 abbrev pub invariant-loop-byte : goal.invariant-loop-byte

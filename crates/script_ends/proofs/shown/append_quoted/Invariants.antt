@@ -1,5 +1,4 @@
-use Rattle.std.proofs.Common.{◌≡◌, ◌++◌, ◌∷◌, [], drop, string_bytes, flat_map}
-use Rattle.script_ends.specs.Shown.{escaped, quoted}
+use Rattle.script_ends.proofs.Names.{◌≡◌, ◌++◌, ◌∷◌, [], drop, string_bytes, flat_map, escaped, quoted}
 use Rattle.script_ends.proofs.shown.append_quoted.Given as goal
 
 abbrev pub invariant-loop-byte : goal.invariant-loop-byte

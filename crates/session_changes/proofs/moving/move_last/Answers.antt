@@ -1,8 +1,4 @@
-use Rattle.std.proofs.Common.{sym, ap, ◌∙◌}
-use Rattle.std.specs.Option.{option_copied_mut}
-use Rattle.document.specs.Kept.{document_of}
-use Rattle.session_changes.specs.proved.Finding.{id_of_document, changed, named_with}
-use Rattle.document.specs.Changes.{with_attached_view}
+use Rattle.session_changes.proofs.Names.{sym, ap, ◌∙◌, option_copied_mut, document_of, id_of_document, changed, named_with, with_attached_view}
 use Rattle.session_changes.proofs.MovingLemmas.{moved_last, moved_last_so}
 use Rattle.session_changes.proofs.moving.move_last.Goals as goal
 

@@ -1,5 +1,4 @@
-use Rattle.std.proofs.Common.{refl}
-use Rattle.ed_model.specs.Session.{left_by}
+use Rattle.session_changes.proofs.Names.{refl, left_by}
 use Rattle.session_changes.proofs.MovingLemmas.{passed_on, still_named_left}
 use Rattle.session_changes.proofs.moving.pass_on.Goals as goal
 

@@ -1,8 +1,4 @@
-use Rattle.std.proofs.Common.{sym, ap, ◌∙◌}
-use Rattle.std.specs.Option.{option_copied_mut}
-use Rattle.ed_model.specs.Session.{attached_to}
-use Rattle.ed_view.specs.Kept.{fold_rooms, view_in}
-use Rattle.session_changes.specs.proved.Finding.{id_of_view, changed, keeping, named_with}
+use Rattle.session_changes.proofs.Names.{sym, ap, ◌∙◌, option_copied_mut, attached_to, fold_rooms, view_in, id_of_view, changed, keeping, named_with}
 use Rattle.session_changes.proofs.moving.stand_on.Goals as goal
 
 pub returns-clause-views : goal.returns-clause-views

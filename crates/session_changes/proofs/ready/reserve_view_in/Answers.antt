@@ -1,8 +1,4 @@
-use Rattle.std.proofs.Common.{sym, ap, ◌∙◌, ◌<◌}
-use Rattle.std.specs.Option.{option_copied_mut}
-use Rattle.std.proofs.lemmas.Result.{on_ok_weaker}
-use Rattle.document.specs.Kept.{Kept, document_of}
-use Rattle.session_changes.specs.proved.Finding.{id_of_document, unchanged, named_with, value_replaced}
+use Rattle.session_changes.proofs.Names.{sym, ap, ◌∙◌, ◌<◌, option_copied_mut, on_ok_weaker, Kept, document_of, id_of_document, unchanged, named_with, value_replaced}
 use Rattle.session_changes.proofs.SessionLemmas.{for_some, of_some, places_most}
 use Rattle.session_changes.proofs.ready.reserve_view_in.Goals as goal
 

@@ -1,12 +1,4 @@
-use Rattle.std.proofs.Common.{◌≡◌, sym, ap, ◌∙◌, subst, refl, map, IfSome}
-use Rattle.ed_model.specs.Session.{Document, living, attached_to}
-use Rattle.ed_model.specs.Changes.{session_changed, attached_last}
-use Rattle.id_table.specs.Entries.{value_at}
-use Rattle.scene.specs.Scenes.{views_of}
-use Rattle.message_requests.specs.Requested.{documents_in}
-use Rattle.session_changes.specs.Folding.{changed_at}
-use Rattle.session_changes.specs.Moving.{CanMove}
-use Rattle.session_changes.specs.Ready.{IsReady, AwaitsView, IsHeld}
+use Rattle.session_changes.proofs.Names.{◌≡◌, sym, ap, ◌∙◌, subst, refl, map, IfSome, Document, living, attached_to, session_changed, attached_last, value_at, views_of, documents_in, changed_at, CanMove, IsReady, AwaitsView, IsHeld}
 use Rattle.session_changes.specs.declared.ready.SessionReady.TheVariants as made
 use Rattle.session_changes.proofs.SessionLemmas.{can_attach_new, few_flags, attached_new_so, created_so, all_named, is_creation}
 use Rattle.session_changes.proofs.sessions.add_document.Goals as goal

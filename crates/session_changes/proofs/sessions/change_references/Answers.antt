@@ -1,9 +1,4 @@
-use Rattle.std.proofs.Common.{sym, ap, ◌∙◌, ◌<◌, subst}
-use Rattle.ed_model.specs.PlansFit.{IsFitSessionChange}
-use Rattle.ed_model.specs.Changes.{session_changed}
-use Rattle.id_table.specs.Entries.{value_at}
-use Rattle.document.specs.Kept.{Kept}
-use Rattle.session_changes.specs.Ready.{IsReady}
+use Rattle.session_changes.proofs.Names.{sym, ap, ◌∙◌, ◌<◌, subst, IsFitSessionChange, session_changed, value_at, Kept, IsReady}
 use Rattle.session_changes.specs.declared.ready.SessionReady.TheVariants as made
 use Rattle.session_changes.proofs.SessionLemmas.{can_attach, few_flags, references_few, attached_old_so, some_of}
 use Rattle.session_changes.proofs.sessions.change_references.Goals as goal

@@ -1,7 +1,4 @@
-use Rattle.std.proofs.Common.{sym, ap, ◌∙◌}
-use Rattle.std.specs.Option.{option_copied_mut}
-use Rattle.document.specs.Kept.{Kept, document_of}
-use Rattle.session_changes.specs.proved.Finding.{id_of_document, changed, named_with}
+use Rattle.session_changes.proofs.Names.{sym, ap, ◌∙◌, option_copied_mut, Kept, document_of, id_of_document, changed, named_with}
 use Rattle.session_changes.proofs.SessionLemmas.{given_more}
 use Rattle.session_changes.proofs.sessions.hold.Goals as goal
 

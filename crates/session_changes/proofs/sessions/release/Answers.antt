@@ -1,5 +1,4 @@
-use Rattle.std.proofs.Common.{refl}
-use Rattle.document_table.specs.Leaving.{released}
+use Rattle.session_changes.proofs.Names.{refl, released}
 use Rattle.session_changes.proofs.MovingLemmas.{still_named_left}
 use Rattle.session_changes.proofs.SessionLemmas.{released_so}
 use Rattle.session_changes.proofs.sessions.release.Goals as goal

@@ -1,5 +1,4 @@
-use Rattle.std.proofs.Common.{sym, ap, ◌∙◌}
-use Rattle.std.specs.Option.{option_copied}
+use Rattle.session_changes.proofs.Names.{sym, ap, ◌∙◌, option_copied}
 use Rattle.session_changes.proofs.AskedLemmas.{can_change, document_is_there, view_changed_so}
 use Rattle.session_changes.proofs.views.change_by_levels.Goals as goal
 

@@ -1,6 +1,4 @@
-use Rattle.std.proofs.Common.{refl, sym, subst}
-use Rattle.std.specs.Prelude.{IsSome}
-use Rattle.session_changes.specs.Folding.{levels_of}
+use Rattle.session_changes.proofs.Names.{refl, sym, subst, IsSome, levels_of}
 use Rattle.session_changes.proofs.AskedLemmas.{kept_document, kept_view, view_changed_so}
 use Rattle.session_changes.proofs.views.change_view.Goals as goal
 

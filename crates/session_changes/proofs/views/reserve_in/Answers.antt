@@ -1,8 +1,4 @@
-use Rattle.std.proofs.Common.{sym, ap, ◌∙◌}
-use Rattle.std.specs.Option.{option_copied_mut}
-use Rattle.std.proofs.lemmas.Result.{on_ok_weaker}
-use Rattle.ed_view.specs.Kept.{view_in}
-use Rattle.session_changes.specs.proved.Finding.{id_of_view, staying, unchanged, named_with, other_replaced}
+use Rattle.session_changes.proofs.Names.{sym, ap, ◌∙◌, option_copied_mut, on_ok_weaker, view_in, id_of_view, staying, unchanged, named_with, other_replaced}
 use Rattle.session_changes.proofs.SessionLemmas.{fold_room_is_there, fold_room_there, fold_room_most}
 use Rattle.session_changes.proofs.views.reserve_in.Goals as goal
 

@@ -1,9 +1,4 @@
-use Rattle.std.proofs.Common.{sym, ap, ◌∙◌, []}
-use Rattle.std.specs.Option.{option_copied_mut}
-use Rattle.ed_model.specs.Changes.{changed_view}
-use Rattle.ed_model.specs.proved.Changes.{changed_view_id}
-use Rattle.ed_view.specs.Kept.{KeptView, fold_rooms, view_in}
-use Rattle.session_changes.specs.proved.Finding.{id_of_view, changed, keeping, named_with}
+use Rattle.session_changes.proofs.Names.{sym, ap, ◌∙◌, [], option_copied_mut, changed_view, changed_view_id, KeptView, fold_rooms, view_in, id_of_view, changed, keeping, named_with}
 use Rattle.session_changes.proofs.views.set_in.Goals as goal
 
 pub returns-clause-views : goal.returns-clause-views

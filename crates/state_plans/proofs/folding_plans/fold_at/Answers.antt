@@ -1,5 +1,4 @@
-use Rattle.std.proofs.Common.{◌<◌, arith}
-use Rattle.ed_model.specs.Requests.{line_total}
+use Rattle.state_plans.proofs.Names.{◌<◌, arith, line_total}
 use Rattle.state_plans.proofs.Ranges.{header_within}
 use Rattle.state_plans.proofs.folding_plans.fold_at.Goals as goal
 

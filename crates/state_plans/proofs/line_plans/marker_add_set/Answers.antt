@@ -1,7 +1,4 @@
-use Rattle.std.proofs.Common.{◌≡◌, ◌∙◌, rules, true, false}
-use Rattle.std.specs.Prelude.{Some}
-use Rattle.ed_model.specs.Numbers.{within, line_among}
-use Rattle.ed_model.specs.Requests.{line_total}
+use Rattle.state_plans.proofs.Names.{◌≡◌, ◌∙◌, rules, true, false, Some, within, line_among, line_total}
 use Rattle.state_plans.proofs.Masks.{set_added}
 use Rattle.state_plans.proofs.line_plans.marker_add_set.Goals as goal
 

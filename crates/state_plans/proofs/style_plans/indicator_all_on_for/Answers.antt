@@ -1,6 +1,4 @@
-use Rattle.std.proofs.Common.{◌≡◌, ◌∙◌, ap, rules, pos, nat_abs, to_z, of_z, w64}
-use Rattle.ed_model.specs.Requests.{answer}
-use Rattle.decorations.specs.Decorated.{mask_of}
+use Rattle.state_plans.proofs.Names.{◌≡◌, ◌∙◌, ap, rules, pos, nat_abs, to_z, of_z, w64, answer, mask_of}
 use Rattle.state_plans.proofs.Runs.{all_on}
 use Rattle.state_plans.proofs.style_plans.indicator_all_on_for.Goals as goal
 

@@ -1,7 +1,5 @@
-use Rattle.std.proofs.Common.{◌≡◌, ◌∙◌, ap, rules}
+use Rattle.state_plans.proofs.Names.{◌≡◌, ◌∙◌, ap, rules, can_redo, act_if}
 use Rattle.ed_model.specs.declared.plan.Plan.TheVariants.{Redo}
-use Rattle.ed_model.specs.History.{can_redo}
-use Rattle.state_plans.specs.Acting.{act_if}
 use Rattle.state_plans.proofs.Undoing.{redo_planned}
 use Rattle.state_plans.proofs.undo_plans.redo.Goals as goal
 

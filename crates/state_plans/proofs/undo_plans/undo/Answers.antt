@@ -1,7 +1,5 @@
-use Rattle.std.proofs.Common.{◌≡◌, ◌∙◌, ap, rules}
+use Rattle.state_plans.proofs.Names.{◌≡◌, ◌∙◌, ap, rules, can_undo, act_if}
 use Rattle.ed_model.specs.declared.plan.Plan.TheVariants.{Undo}
-use Rattle.ed_model.specs.History.{can_undo}
-use Rattle.state_plans.specs.Acting.{act_if}
 use Rattle.state_plans.proofs.Undoing.{undo_planned}
 use Rattle.state_plans.proofs.undo_plans.undo.Goals as goal
 

@@ -1,9 +1,5 @@
-use Rattle.std.proofs.Common.{◌≡◌, ◌≤◌, ◌<◌, ◌+◌, ◌^◌, [], length, sym, subst}
+use Rattle.document.proofs.Names.{◌≡◌, ◌≤◌, ◌<◌, ◌+◌, ◌^◌, [], length, sym, subst, changed_document, numbers_in, Kept, document_in, spare_in}
 use Rattle.ed_model.specs.declared.plan.DocumentChange.TheVariants.{AddMarkers}
-use Rattle.ed_model.specs.Changes.{changed_document}
-use Rattle.ed_model.specs.LinePlans.{numbers_in}
-use Rattle.document.specs.Kept.{Kept}
-use Rattle.document.specs.Parts.{document_in, spare_in}
 use Rattle.document.proofs.MarkerNumbers.{document_with_markers, less_room, numbers_are, spare_with_markers}
 use Rattle.document.proofs.kept.Document.add_markers_reserved.Goals as goal
 

@@ -1,10 +1,4 @@
-use Rattle.std.proofs.Common.{◌≡◌, ◌<◌, ◌≤◌, ◌+◌, length, ap, arith, ◌∙◌}
-use Rattle.ed_model.specs.Numbers.{meets}
-use Rattle.ed_model.specs.Session.{is_large}
-use Rattle.ed_model.specs.Text.{bytes_of}
-use Rattle.document.specs.Kept.{Kept, bound_of}
-use Rattle.ed_model.specs.proved.Lines.{few_lines}
-use Rattle.ed_model.specs.proved.Steps.{length_of_bytes}
+use Rattle.document.proofs.Names.{◌≡◌, ◌<◌, ◌≤◌, ◌+◌, length, ap, arith, ◌∙◌, meets, is_large, bytes_of, Kept, bound_of, few_lines, length_of_bytes}
 use Rattle.document.proofs.SteppedParts.{narrow_lines}
 use Rattle.document.proofs.kept.Document.line_count.Goals as goal
 

@@ -1,7 +1,5 @@
 -- The end of a line lies in the text.
-use Rattle.std.proofs.Common.{length, ap, arith}
-use Rattle.document.specs.Kept.{Kept}
-use Rattle.ed_model.specs.Numbers.{meets}
+use Rattle.document.proofs.Names.{length, ap, arith, Kept, meets}
 use Rattle.document.proofs.LineSteps.{end_in_cells}
 use Rattle.document.proofs.SteppedParts.{small_bound}
 use Rattle.document.proofs.kept.Document.line_end.Goals as goal

@@ -1,9 +1,5 @@
 -- A text has at most as many lines as bytes, and one.
-use Rattle.std.proofs.Common.{length, ap, arith}
-use Rattle.ed_model.specs.Numbers.{meets}
-use Rattle.ed_model.specs.Text.{bytes_of}
-use Rattle.ed_model.specs.proved.Lines.{few_lines}
-use Rattle.ed_model.specs.proved.Steps.{length_of_bytes}
+use Rattle.document.proofs.Names.{length, ap, arith, meets, bytes_of, few_lines, length_of_bytes}
 use Rattle.document.proofs.SteppedParts.{small_bound}
 use Rattle.document.proofs.kept.Document.line_of.Goals as goal
 

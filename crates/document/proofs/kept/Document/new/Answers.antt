@@ -1,7 +1,4 @@
-use Rattle.std.proofs.Common.{◌<◌, Bool, true, false, length, refl, ap, sym, ◌∙◌, arith}
-use Rattle.ed_model.specs.Numbers.{meets}
-use Rattle.line_rows.specs.Kept.{KeptRows}
-use Rattle.document.specs.Kept.{bound_of}
+use Rattle.document.proofs.Names.{◌<◌, Bool, true, false, length, refl, ap, sym, ◌∙◌, arith, meets, KeptRows, bound_of}
 use Rattle.document.proofs.kept.Document.new.Goals as goal
 
 some_bound : (is_large : Bool) → 0 < bound_of is_large

@@ -1,9 +1,4 @@
-use Rattle.std.proofs.Common.{◌≡◌, ap, subst, sym, ◌∙◌}
-use Rattle.ed_model.specs.Text.{bytes_of}
-use Rattle.line_index.specs.Index.{IsIndexOf}
-use Rattle.line_index.specs.Settings.{edits_of_setting}
-use Rattle.document.specs.Kept.{Kept}
-use Rattle.ed_model.specs.Session.{text_of}
+use Rattle.document.proofs.Names.{◌≡◌, ap, subst, sym, ◌∙◌, bytes_of, IsIndexOf, edits_of_setting, Kept, text_of}
 use Rattle.document.proofs.TypeSettings.{rows_of_lines, rows_regrouped, parts_retyped}
 use Rattle.document.proofs.kept.Document.set_line_end_types.Goals as goal
 

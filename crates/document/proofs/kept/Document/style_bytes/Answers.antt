@@ -1,8 +1,4 @@
-use Rattle.std.proofs.Common.{ap, sym, ◌∙◌}
-use Rattle.cell_buffer.specs.Buffer.{Buffer}
-use Rattle.ed_model.specs.Text.{bytes_of, styles_of}
-use Rattle.ed_model.specs.proved.Steps.{bytes_behind_restyled}
-use Rattle.ed_model.specs.proved.Indicators.{nothing_changed}
+use Rattle.document.proofs.Names.{ap, sym, ◌∙◌, Buffer, bytes_of, styles_of, bytes_behind_restyled, nothing_changed}
 use Rattle.document.proofs.StyledCells.{parts_restyled}
 use Rattle.document.proofs.kept.Document.style_bytes.Goals as goal
 
