@@ -1,4 +1,3 @@
-pub mod HandNames
 pub mod AsBox
 pub mod Refusing
 pub mod ReadTexts

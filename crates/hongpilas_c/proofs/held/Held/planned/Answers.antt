@@ -1,8 +1,7 @@
-use Rattle.std.proofs.Common.{rules, ◌≡◌, [], true, Ok, Err, IfErr, ap, sym, subst, ◌∙◌, to_z, of_z, w64}
+use Rattle.std.proofs.Common.{rules, ◌≡◌, [], true, Err, IfErr, ap, sym, subst, ◌∙◌, to_z, of_z, w64}
 use Rattle.ed_types.specs.declared.message.Message.{Message}
 use Rattle.ed_model.specs.Session.{Session}
 use Rattle.ed_model.specs.Table.{table}
-use Rattle.ed_model.specs.TableLaws.{LeavesSession}
 use Rattle.editor_session.specs.Answers.{message_with, AnswersBy}
 use Rattle.hongpilas_c.specs.Asked.{is_query}
 use Rattle.hongpilas_c.proofs.QueryAnswers.{question_leaves, asked_same, asked_done, asked_query, asked_refused}
