@@ -71,6 +71,7 @@ programs: examples out/memory out/growths out/notify out/door out/door_examples 
 # These stand between the library and the C library's heap.
 out/memory out/growths out/notify out/door: WRAPPED := -Wl,--wrap=malloc,--wrap=calloc,--wrap=realloc,--wrap=free
 out/threads: WRAPPED := -pthread
+out/notify: WRAPPED += -pthread
 
 # By hand: the library under load, beside Scintilla's where its library is named (docs/TESTING.md).
 load: out/load out/load_huge
