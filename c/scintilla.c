@@ -307,7 +307,7 @@ static void note_refusal(scintilla_view *view, hongpilas_answer answer) {
   view->status = answer == HONGPILAS_OUT_OF_MEMORY ? SC_STATUS_BADALLOC : SC_STATUS_FAILURE;
 }
 
-/* What a question answers that is never refused. No reply is replaced. */
+/* What a query answers that is never refused. No reply is replaced. */
 static int64_t ask(scintilla_view *view, unsigned int message, int64_t w) {
   int64_t value = 0;
   return hongpilas_ask_unchecked(view->of->session, view->id, message, w, 0, &value) == HONGPILAS_DONE ? value : 0;
@@ -402,7 +402,7 @@ static hongpilas_answer lend_span(scintilla_view *view, sptr_t start, sptr_t cou
 
 /* ---- The call ---- */
 
-/* Sends a message with a text, or with l where there is none. A question replaces no reply; before all others the queue is kept. */
+/* Sends a message with a text, or with l where there is none. A query replaces no reply; before all others the queue is kept. */
 static hongpilas_answer send_text(scintilla_view *view, unsigned int message, uptr_t w, sptr_t l, const char *text, size_t length, int64_t *value) {
   hongpilas_scintilla *it = view->of;
   bool is_queued = it->next != (size_t)-1 && (it->is_pinned || has_undelivered(it));
@@ -459,18 +459,18 @@ static void refuse_edit(scintilla_view *view) {
 }
 
 static bool is_marked(const manner *way, uint32_t mark) { return (hongpilas_message_marks(way->message) & mark) != 0; }
-static bool is_question(const manner *way) { return way->taken == LENT || is_marked(way, HONGPILAS_MARK_Q); }
+static bool is_query(const manner *way) { return way->taken == LENT || is_marked(way, HONGPILAS_MARK_Q); }
 
-/* Whether a message that is no question is sent from inside a notify function. It is made sure where it matters before the message is done. */
+/* Whether a message that is no query is sent from inside a notify function. It is made sure where it matters before the message is done. */
 static bool is_sent_inside(hongpilas_scintilla *it, const manner *way) {
-  if (it->running == NULL || is_question(way)) return false;
+  if (it->running == NULL || is_query(way)) return false;
   return is_marked(way, HONGPILAS_MARK_E) || it->is_pinned ? is_surely_inside(it) : is_inside(it);
 }
 
-/* Delivers what stands in the queue behind a message, unless that is a question, or a notify function runs. */
+/* Delivers what stands in the queue behind a message, unless that is a query, or a notify function runs. */
 static void deliver_behind(hongpilas_scintilla *it, const manner *way) {
   if (it->first == NULL && (it->next == (size_t)-1 || !has_undelivered(it))) return;
-  if (is_question(way) || (it->running != NULL && is_surely_inside(it))) return;
+  if (is_query(way) || (it->running != NULL && is_surely_inside(it))) return;
   deliver(it);
 }
 
