@@ -54,7 +54,7 @@ out/libhongpilas.a: $(PROVED) $(HEAP) out/checked.o out/names.o
 out/libhongpilas.so: out/libhongpilas.a c/hongpilas.map
 	$(CC) -shared -nostartfiles -Wl,-z,relro,-z,now -Wl,-soname,libhongpilas.so.$(MAJOR) -Wl,--version-script=c/hongpilas.map -Wl,--whole-archive out/libhongpilas.a -Wl,--no-whole-archive -o $@
 
-# The Scintilla-compatible interface stands beside the libraries: who does not want it links none of it. An exception may pass through it.
+# The Scintilla-compatible interface stands beside the libraries: a program that does not use it links none of it. An exception may pass through it.
 out/libhongpilas_scintilla.a: c/scintilla.c c/scintilla_manners.h include/hongpilas_scintilla.h include/hongpilas.h
 	mkdir -p out
 	rm -f $@
