@@ -7,7 +7,7 @@
 #   ldconfig                      then the loader knows the shared object
 #   make deb                      out/deb: packages for Debian, with the program sci_console, which it proves and builds; make deb-libraries has
 #                                 the library's alone; make dist a tarball with the wrappers for C++, Rust and Python
-#   make programs                 the examples, and out/checked_test, out/threads, out/memory, out/growths, out/door and out/door_examples
+#   make programs                 the examples, and out/checked_test, out/threads, out/memory, out/growths, out/scintilla and out/scintilla_examples
 #   make load                     out/load and out/load_huge, which put the library under load (docs/TESTING.md)
 # The crate's own archive is made by `rt lib` in crates/hongpilas_c, which proves it first.
 PREFIX ?= /usr/local
@@ -54,7 +54,7 @@ out/libhongpilas.a: $(PROVED) $(HEAP) out/checked.o out/names.o
 out/libhongpilas.so: out/libhongpilas.a c/hongpilas.map
 	$(CC) -shared -nostartfiles -Wl,-z,relro,-z,now -Wl,-soname,libhongpilas.so.$(MAJOR) -Wl,--version-script=c/hongpilas.map -Wl,--whole-archive out/libhongpilas.a -Wl,--no-whole-archive -o $@
 
-# The Scintilla-compatible interface stands beside the libraries: who does not want it links none of it. An exception may pass through it.
+# The Scintilla-compatible interface stands beside the libraries: a program that does not use it links none of it. An exception may pass through it.
 out/libhongpilas_scintilla.a: c/scintilla.c c/scintilla_manners.h include/hongpilas_scintilla.h include/hongpilas.h
 	mkdir -p out
 	rm -f $@
@@ -66,11 +66,12 @@ STEPS := $(addprefix out/step,1 2 3 4 5 6)
 
 examples: out/hello out/notes out/lexer out/margin out/edit out/edit_scintilla $(STEPS)
 
-programs: examples out/memory out/growths out/notify out/door out/door_examples out/checked_test out/threads
+programs: examples out/memory out/growths out/notify out/scintilla out/scintilla_examples out/checked_test out/threads
 
 # These stand between the library and the C library's heap.
-out/memory out/growths out/notify out/door: WRAPPED := -Wl,--wrap=malloc,--wrap=calloc,--wrap=realloc,--wrap=free
+out/memory out/growths out/notify out/scintilla: WRAPPED := -Wl,--wrap=malloc,--wrap=calloc,--wrap=realloc,--wrap=free
 out/threads: WRAPPED := -pthread
+out/notify: WRAPPED += -pthread
 
 # By hand: the library under load, beside Scintilla's where its library is named (docs/TESTING.md).
 load: out/load out/load_huge
@@ -88,10 +89,10 @@ out/load_huge: tests/load/load_huge.cpp tests/random.h out/libhongpilas.a includ
 vpath %.c examples/c examples/c/tutorial tests/c
 
 out/%: %.c out/libhongpilas.a include/hongpilas.h
-	$(CC) -std=c99 -O2 -Iinclude $< $(DOOR) out/libhongpilas.a $(WRAPPED) -o $@
+	$(CC) -std=c99 -O2 -Iinclude $< $(COMPATIBLE) out/libhongpilas.a $(WRAPPED) -o $@
 
-out/door out/door_examples out/notify out/lexer out/margin out/edit_scintilla: DOOR := out/libhongpilas_scintilla.a
-out/door out/door_examples out/notify out/lexer out/margin out/edit_scintilla: out/libhongpilas_scintilla.a
+out/scintilla out/scintilla_examples out/notify out/lexer out/margin out/edit_scintilla: COMPATIBLE := out/libhongpilas_scintilla.a
+out/scintilla out/scintilla_examples out/notify out/lexer out/margin out/edit_scintilla: out/libhongpilas_scintilla.a
 
 # The editor over the Scintilla-compatible interface: edit.c, but for a few lines.
 out/edit_scintilla.c: examples/c/edit.c examples/c/edit_scintilla.diff
@@ -101,7 +102,7 @@ out/edit_scintilla.c: examples/c/edit.c examples/c/edit_scintilla.diff
 out/edit out/edit_scintilla: examples/c/terminal.h
 
 out/edit_scintilla: out/edit_scintilla.c
-	$(CC) -std=c99 -O2 -Iinclude -Iexamples/c $< $(DOOR) out/libhongpilas.a -o $@
+	$(CC) -std=c99 -O2 -Iinclude -Iexamples/c $< $(COMPATIBLE) out/libhongpilas.a -o $@
 
 out/hongpilas.pc:
 	mkdir -p out
