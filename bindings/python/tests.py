@@ -247,6 +247,43 @@ class Texts(unittest.TestCase):
                     self.assertRaises(TypeError, call, wrong)
             self.assertEqual((view.get_length(), view.can_undo()), (0, False))
 
+    def test_a_text_that_another_thread_writes_to(self):
+        lines, words = b"\n" * (1 << 18), b"x" * (1 << 18)
+        text, ended = bytearray(words), threading.Event()
+
+        def flip():
+            while not ended.is_set():
+                text[:] = lines
+                text[:] = words
+
+        thread = threading.Thread(target=flip)
+        thread.start()
+        try:
+            with Session() as session:
+                view = session.new_view()
+                for _ in range(20):
+                    view.clear_all()
+                    for sent in (text, memoryview(text).toreadonly()):
+                        view.insert_text(0, sent)
+                        read = view.get_text()[: len(text)]
+                        self.assertTrue(read in (lines, words), "one text or the other")
+                    self.assertEqual(view.get_line_count(), view.get_text().count(b"\n") + 1)
+        finally:
+            ended.set()
+            thread.join()
+
+    def test_a_text_of_another_length_than_it_says(self):
+        class Long(bytes):
+            def __len__(self):
+                return 1 << 20
+
+        with Session() as session:
+            view = session.new_view()
+            for text in (Long(b"ab"), memoryview(Long(b"ab"))):
+                view.set_text(text)
+                view.append_text(text)
+                self.assertEqual(view.get_text(), b"abab")
+
     def test_buffers_are_sent_as_they_are(self):
         with Session() as session, tempfile.TemporaryFile() as file:
             view = session.new_view()
@@ -266,7 +303,7 @@ class Texts(unittest.TestCase):
     def test_a_text_is_copied_once(self):
         size = 64 << 20
         library = 3.4 * size  # the text, the history and the notification
-        for text, copies in ((b"x" * size, 0), (bytearray(size), 0), ("x" * size, 1)):
+        for text, copies in ((b"x" * size, 0), (memoryview(b"x" * size), 0), (bytearray(size), 1), ("x" * size, 1)):
             with Session() as session:
                 view = session.new_view()
                 self.assertLess(peak_of(lambda: view.append_text(text)), library + copies * size, type(text))

@@ -11,7 +11,7 @@ from types import TracebackType
 from typing import Any, Iterator, NoReturn
 
 from . import constants
-from ._library import LIB, LimitsInC, NoteInC, Refusal, address_of, as_int64, as_uint32, as_uint64, name_of
+from ._library import LIB, LimitsInC, NoteInC, Refusal, as_int64, as_uint32, as_uint64, name_of
 from ._messages import Messages, Text, as_bytes
 
 
@@ -241,10 +241,9 @@ class Session:
 
     def _send(self, view: int, number: int, w: int, l: int, text: Text) -> int:
         value, sent = ctypes.c_int64(), as_bytes(text)
-        where, length = address_of(sent), len(sent)
         view, number, w, l = as_uint32(view), as_uint32(number), as_int64(w), as_int64(l)
         with self._turn:
-            check(LIB.hongpilas_send(self._open(), view, number, w, l, where, length, value))
+            check(LIB.hongpilas_send(self._open(), view, number, w, l, sent, len(sent), value))
         return value.value
 
     def _ask(self, view: int, number: int, w: int, l: int) -> int:
