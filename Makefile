@@ -1,6 +1,6 @@
 # Builds the library for C programs, tests it, measures it and installs it. Run it at the top of the repository.
 #   make                          out/libhongpilas.a and .so; out/libhongpilas_scintilla.a and .so, the Scintilla-compatible interface
-#   make examples                 out/hello, out/notes, out/lexer, out/margin, and the editor twice: out/edit, out/edit_scintilla
+#   make examples                 out/hello, out/notes, out/lexer, out/margin, the editor twice: out/edit, out/edit_scintilla, and out/step1 to out/step6
 #   make test, make check         tests/check: all that is tested of the library for C, its wrappers and packages
 #   make bench                    bench/messages: what messages take, beside Scintilla where its library is found
 #   make install PREFIX=/usr/local; LIBDIR=.. where the libraries have another place than $PREFIX/lib; both are named from / on
@@ -39,7 +39,7 @@ INSTALLED_MAN := $(INSTALLED)/share/man/man3
 HEADERS := hongpilas.h hongpilas.hpp hongpilas_scintilla.h
 LIBRARIES := libhongpilas libhongpilas_scintilla
 # What the header says to read, and what that refers to.
-DOCS := LICENSE $(addprefix docs/,MESSAGES.md BEHAVIOUR.md PROFILE.md SCRIPTS.md)
+DOCS := LICENSE $(addprefix docs/,MESSAGES.md BEHAVIOUR.md PROFILE.md SCRIPTS.md TUTORIAL.md FROM_SCINTILLA.md scintilla_left_out.txt)
 # What these link to, at the place that it has here.
 EXAMPLES := $(shell find $(addprefix examples/,c messages rust steps) -type f)
 # For pkg-config and for CMake.
@@ -78,7 +78,10 @@ out/libhongpilas_scintilla.a: c/scintilla.c c/scintilla_manners.h include/hongpi
 	$(COMPILE) -fPIC -fexceptions -c $< -o out/scintilla.o
 	$(AR) rcs $@ out/scintilla.o
 
-examples: out/hello out/notes out/lexer out/margin out/edit out/edit_scintilla
+# The programs of docs/TUTORIAL.md.
+STEPS := $(addprefix out/step,1 2 3 4 5 6)
+
+examples: out/hello out/notes out/lexer out/margin out/edit out/edit_scintilla $(STEPS)
 
 programs: examples out/memory out/growths out/notify out/door out/door_examples out/checked_test out/threads
 
@@ -98,8 +101,8 @@ out/load: tests/load/load.cpp tests/load/blocks.hpp tests/random.h out/load.a in
 out/load_huge: tests/load/load_huge.cpp tests/random.h out/libhongpilas.a include/hongpilas.h
 	$(CXX) -std=c++17 -g -Wall -Wextra -Iinclude $(CPPFLAGS) $(CXXFLAGS) $(LDFLAGS) $< out/libhongpilas.a -o $@
 
-# A program is in examples/c or in tests/c.
-vpath %.c examples/c tests/c
+# A program is in examples/c, in its tutorial, or in tests/c.
+vpath %.c examples/c examples/c/tutorial tests/c
 
 out/%: %.c out/libhongpilas.a include/hongpilas.h
 	$(COMPILE) $(LDFLAGS) $< $(DOOR) out/libhongpilas.a $(WRAPPED) -o $@

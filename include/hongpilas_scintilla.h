@@ -19,7 +19,7 @@
  *     }
  *     hongpilas_scintilla_free(component);
  *
- * docs/MESSAGES.md has the messages. It and docs/PROFILE.md state where Scintilla differs.
+ * docs/MESSAGES.md has the messages. It, docs/FROM_SCINTILLA.md and docs/PROFILE.md state where Scintilla differs.
  * hongpilas_message_name tells whether the profile has a message.
  * A null component and the view 0 are harmless in every call below, which says what it does with them. The duties of the
  * caller in hongpilas.h hold here, too: one call at a time, and none from a signal handler; a component may be handed from

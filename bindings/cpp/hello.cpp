@@ -1,20 +1,22 @@
-/* Two views of one document, in C++: a text goes in and out, each view is told, what is refused is thrown or returned,
- * and a macro is replayed. c++ -std=c++17 -I../../include hello.cpp ../../out/libhongpilas.a -o hello */
+/* Two views of one document, in C++: a text goes in and out, each view is notified, a word is replaced everywhere as one undo step, refusals
+ * are thrown or returned, and a macro is replayed. c++ -std=c++17 -I../../include hello.cpp ../../out/libhongpilas.a -o hello */
 #include <hongpilas.hpp>
 
 #include <iostream>
+#include <string_view>
 #include <utility>
 
+using hongpilas::LentNote;
 using hongpilas::Note;
 using hongpilas::Session;
 using hongpilas::View;
 
-/* Says what the views were told of an insertion. notes() are copies: a loop over them may send messages. */
-static void tell(const Session &session) {
-  for (const Note &note : session.notes())
+/* Prints the notifications of an insertion. The questions of the loop leave them as they are. */
+static void print_notes(const Session &session) {
+  for (const LentNote &note : session.lent_notes())
     if (note.code == SCN_MODIFIED && (note.kind & SC_MOD_INSERTTEXT) != 0)
       std::cout << "view " << note.view << ", " << hongpilas::note_name(note.code) << ": " << note.text.size() << " bytes at " << note.position << ", "
-                << note.lines << " lines more\n";
+                << note.lines << " lines more, now " << session.view(note.view).GetLineCount() << "\n";
 }
 
 /* A view that is const answers questions alone. */
@@ -24,15 +26,26 @@ static void show(const View &view) {
   std::cout << "lent: \"" << view.lend_range(0, 5) << "\", \"" << view.GetTextRangeView(3, 5) << "\"\n";
 }
 
-/* Puts a text in by one view, and reads it by another. */
+/* Replaces a word everywhere, as one undo step. */
+static void replace_all(View view, std::string_view word, std::string_view other) {
+  const auto group = view.undo_group();
+  view.SetSearchFlags(SCFIND_MATCHCASE | SCFIND_WHOLEWORD);
+  view.TargetWholeDocument();
+  while (view.SearchInTarget(word) >= 0) {
+    view.ReplaceTarget(other);
+    view.SetTargetRange(view.GetTargetEnd(), view.GetLength());
+  }
+}
+
+/* Inserts a text by one view, and reads it by another. */
 static void edit(Session &session) {
   View writer = session.new_view(), reader = session.new_view();
   reader.SetDocPointer(writer.GetDocPointer());
-  writer.InsertText(0, "hello,\nworld");
-  tell(session);
+  writer.InsertText(0, "hello,\nworld, hello");
+  print_notes(session);
   show(reader);
-  reader.SetTargetRange(0, reader.GetLength());
-  std::cout << "found at " << reader.SearchInTarget("wor") << " to " << reader.GetTargetEnd() << "\n";
+  replace_all(writer, "hello", "good morning");
+  std::cout << "replaced: \"" << reader.GetText() << "\"\n";
   reader.Undo();
   std::cout << "undone: \"" << writer.GetText() << "\", redo: " << std::boolalpha << writer.CanRedo() << "\n";
 }
@@ -50,7 +63,7 @@ static void replay(Session &session) {
 /* What is refused, thrown by a View and returned by a ResultView. */
 static void try_refusals(View view) {
   try {
-    view.GetTextRange(5, 99);
+    static_cast<void>(view.GetTextRange(5, 99));
   } catch (const hongpilas::Refused &refused) {
     std::cout << "thrown: " << refused.what() << "\n";
   }

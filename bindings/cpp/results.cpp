@@ -8,6 +8,7 @@
 using hongpilas::Result;
 using hongpilas::ResultView;
 using hongpilas::Session;
+using hongpilas::UndoGroup;
 
 /* Says what was answered; a refusal by its name. */
 static void say(const char *what, const Result<std::int64_t> &result) {
@@ -34,6 +35,13 @@ int main() {
   Result<ResultView> view = session->open_view();
   if (!view) return 1;
 
+  {
+    const Result<UndoGroup> group = view->undo_group();
+    if (!group) return 1;
+    say("two lines", insert(*view, "one\n").and_then([&](std::int64_t) { return insert(*view, "two"); }));
+  }
+  const Result<void> undone = view->Undo();
+  say("undone at once", undone ? view->GetLength() : Result<std::int64_t>(undone.error()));
   say("two lines", insert(*view, "one\ntwo"));
   say("too long a text", insert(*view, " and more"));
   say("a search", view->SearchInTarget("x"));

@@ -1,14 +1,16 @@
 """Two views of one document: a text goes in and out, each view is told, what is refused says why, and a macro is replayed."""
+from typing import Callable
+
 from hongpilas import Limits, Refused, Session, constants, note_name
 
 
-def tell(session):
+def tell(session: Session) -> None:
     """Says what the views were told."""
     for note in session.notes():
-        print(f"view {note.view}: {note_name(note.code)}, kind {note.kind:#x}, position {note.position}, lines {note.lines}, {note.text}")
+        print(f"view {note.view}: {note_name(note.code)}, kind {note.kind:#x}, position {note.position}, lines {note.lines}, {note.text!r}")
 
 
-def edit(session):
+def edit(session: Session) -> None:
     """Puts a text in by one view, and reads it by another."""
     writer, reader = session.new_view(), session.new_view()
     reader.set_doc_pointer(writer.get_doc_pointer())
@@ -22,7 +24,7 @@ def edit(session):
     print("undone:", writer.get_text(), "redo:", writer.can_redo())
 
 
-def replay(session):
+def replay(session: Session) -> None:
     """Records what is typed in a view, and sends it to another."""
     origin, copy = session.new_view(), session.new_view()
     origin.start_record()
@@ -33,7 +35,7 @@ def replay(session):
     print("replayed:", copy.get_text().decode())
 
 
-def attempt(what, call):
+def attempt(what: str, call: Callable[[], object]) -> None:
     """Says what a call raises."""
     try:
         call()
@@ -41,7 +43,7 @@ def attempt(what, call):
         print(f"{what}: {type(fault).__name__}, {fault}")
 
 
-def main():
+def main() -> None:
     with Session() as session:
         edit(session)
         replay(session)
@@ -50,7 +52,7 @@ def main():
         attempt("no such message", lambda: view.send(9999))
         attempt("a number that is too great", lambda: view.goto_pos(1 << 63))
         attempt("a range before the text", lambda: view.read_range(-1, 2))
-        attempt("a number as a text", lambda: view.append_text(3))
+        attempt("a number as a text", lambda: view.append_text(3))  # type: ignore[arg-type]
         closed.close()
         attempt("a view that was closed", closed.get_length)
     attempt("a session that was closed", view.get_length)

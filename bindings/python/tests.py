@@ -1,51 +1,124 @@
 """What the examples do not show of the package: threads, ends of sessions, texts of each kind, arguments out of range, and what is said where
 something is not there."""
 import array
+import copy
+import gc
 import inspect
+import mmap
 import os
+import pickle
 import re
 import subprocess
 import sys
 import tempfile
 import threading
 import unittest
+import warnings
+from concurrent.futures import ProcessPoolExecutor, ThreadPoolExecutor
 
-from hongpilas import Limits, Messages, Refusal, Refused, Session, View, constants, note_name
+import hongpilas
+from hongpilas import Find, Limits, Messages, Modification, Note, Notification, Refusal, Refused, Session, View, constants, note_name
 from hongpilas.scripts import ScriptFault, assemble
 
 
-def raised_on_a_thread(call):
-    """What a call raises on a thread of its own."""
-    faults = []
-
-    def body():
-        try:
-            call()
-        except Exception as fault:
-            faults.append(fault)
-
-    thread = threading.Thread(target=body)
-    thread.start()
-    thread.join()
-    return faults[0] if faults else None
+def send_unknown(number):
+    """What a process of its own refuses."""
+    with Session() as session:
+        return session.new_view().send(number)
 
 
 class Sessions(unittest.TestCase):
-    def test_a_session_is_used_on_its_thread_alone(self):
+    def test_a_session_is_handed_from_thread_to_thread(self):
         with Session() as session:
             view = session.new_view()
-            self.assertIsInstance(raised_on_a_thread(view.get_length), RuntimeError)
-            self.assertIsInstance(raised_on_a_thread(session.close), RuntimeError)
-            self.assertEqual(view.get_length(), 0)
+            for _ in range(20):
+                thread = threading.Thread(target=view.append_text, args=("line\n",))
+                thread.start()
+                thread.join()
+            self.assertEqual((view.get_length(), view.get_line_count()), (100, 21))
 
-    def test_a_session_is_given_back_once(self):
+    def test_threads_share_a_session_one_call_at_a_time(self):
+        with Session() as session, ThreadPoolExecutor(4) as pool:
+            view = session.new_view()
+            view.set_text("x" * 10_000)
+
+            def work(_):
+                view.append_text("y")
+                return len(view.get_text()) > 10_000 and len(view.read_range(0, 10_000)) == 10_000 and isinstance(session.notes(), list)
+
+            self.assertTrue(all(pool.map(work, range(400))))
+            self.assertEqual(view.get_length(), 10_400)
+
+    def test_a_session_is_closed_by_another_thread(self):
+        session = Session()
+        thread = threading.Thread(target=session.close)
+        thread.start()
+        thread.join()
+        self.assertTrue(session.closed)
+
+    def test_a_session_is_closed_once(self):
         session = Session()
         view = session.new_view()
         session.close()
         session.close()
         self.assertTrue(session.closed)
-        for call in (view.get_text, session.notes, session.new_view, session.text, session.value):
+        for call in (view.get_text, session.notes, session.new_view, session.text, session.value, session.__enter__):
             self.assertRaises(ValueError, call)
+
+    def test_with_of_a_closed_session_raises(self):
+        session = Session()
+        session.close()
+        with self.assertRaises(ValueError):
+            with session:
+                self.fail("the session is closed")
+
+    def test_a_dropped_session_is_freed_with_a_warning(self):
+        before = resident()
+        for _ in range(10):
+            with warnings.catch_warnings(record=True) as caught:
+                warnings.simplefilter("always")
+                session = Session()
+                session.new_view().set_text(b"x" * 10_000_000)
+                del session
+                gc.collect()
+            self.assertEqual([warning.category for warning in caught], [ResourceWarning])
+        self.assertLess(resident() - before, 100_000_000)
+
+    def test_a_closed_session_is_dropped_without_a_warning(self):
+        with warnings.catch_warnings(record=True) as caught:
+            warnings.simplefilter("always")
+            with Session() as session:
+                session.new_view()
+            del session
+            gc.collect()
+        self.assertEqual(caught, [])
+
+    def test_a_session_is_not_copied(self):
+        with Session() as session:
+            view = session.new_view()
+            for call in (copy.copy, copy.deepcopy, pickle.dumps):
+                self.assertRaises(TypeError, call, session)
+            self.assertRaises(TypeError, copy.deepcopy, view)
+            self.assertEqual(copy.copy(view), view)
+
+    def test_a_call_amid_a_call_of_the_same_thread_raises(self):
+        with Session() as session:
+            view = session.new_view()
+            with session._turn:
+                self.assertRaises(RuntimeError, view.get_length)
+                self.assertRaises(RuntimeError, session.close)
+            self.assertEqual(view.get_length(), 0)
+
+    def test_an_argument_that_closes_its_session(self):
+        session = Session()
+        view = session.new_view()
+
+        class Closing:
+            def __index__(self):
+                session.close()
+                return 0
+
+        self.assertRaises(ValueError, view.send, 2025, Closing())
 
     def test_views_by_their_ids(self):
         with Session() as session:
@@ -69,8 +142,46 @@ class Sessions(unittest.TestCase):
             self.assertEqual(first.notes() + second.notes(), sorted(session.notes(), key=lambda note: note.view))
             self.assertEqual([note_name(note.code) for note in first.notes()], ["SCN_MODIFIED", "SCN_SAVEPOINTLEFT", "SCN_MODIFIED"])
             kept = first.notes()
-            second.get_length()
+            second.set_sel(0, 1)
             self.assertEqual((first.notes(), len(kept), kept[2].text), ([], 3, b"ab"))
+
+    def test_questions_keep_the_reply(self):
+        with Session() as session:
+            view = session.new_view()
+            view.insert_text(0, "one\ntwo")
+            notes = session.notes()
+            self.assertEqual((view.get_length(), view.get_line(1), view.can_undo(), list(view.lines())), (7, b"two", True, [b"one\n", b"two"]))
+            self.assertEqual((session.notes(), session.text()), (notes, b""))
+            self.assertEqual(view.send(constants.SCI_GETLINE, 1), 3)
+            self.assertEqual((session.notes(), session.text(), view.value()), ([], b"two", 3))
+            with self.assertRaises(Refused) as caught:
+                view.ask(constants.SCI_UNDO)
+            self.assertEqual(caught.exception.refusal, Refusal.UNKNOWN_MESSAGE)
+
+    def test_kinds_and_codes_are_enumerations(self):
+        with Session() as session:
+            view = session.new_view()
+            view.add_text("ab")
+            note = session.notes()[-1]
+            self.assertIs(note.code, Notification.MODIFIED)
+            self.assertEqual(note.kind, Modification.INSERTTEXT | Modification.PERFORMED_USER | Modification.STARTACTION)
+            self.assertTrue(note.kind & constants.SC_MOD_INSERTTEXT and not note.kind & Modification.DELETETEXT)
+            self.assertEqual((note.code, note.kind), (2008, 0x2011))
+            view.set_search_flags(Find.MATCHCASE | Find.WHOLEWORD)
+            self.assertEqual(view.get_search_flags(), constants.SCFIND_MATCHCASE | constants.SCFIND_WHOLEWORD)
+            self.assertEqual((Notification(9999), constants.EndOfLine(2)), (9999, constants.SC_EOL_LF))
+            self.assertIsInstance(note, Note)
+            self.assertRaises(AttributeError, setattr, note, "code", 0)
+
+    def test_undo_groups(self):
+        with Session() as session:
+            view = session.new_view()
+            with self.assertRaises(Refused), view.undo_group():
+                view.insert_text(0, "one ")
+                view.insert_text(99, "two ")
+            view.append_text("three")
+            view.undo()
+            self.assertEqual(view.get_text(), b"one ")
 
     def test_names_of_notes(self):
         self.assertEqual((note_name(2008), note_name(2000), note_name(1)), ("SCN_MODIFIED", "SCN_STYLENEEDED", None))
@@ -83,6 +194,39 @@ class Sessions(unittest.TestCase):
             self.assertEqual(caught.exception.refusal, Refusal.TOO_MANY)
         self.assertRaises(Refused, Session, Limits(views=0))
         self.assertRaises(OverflowError, Session, Limits(views=-1))
+        self.assertEqual(Limits(depth=2), Limits(depth=2))
+
+
+class Refusals(unittest.TestCase):
+    def test_a_refusal_is_pickled(self):
+        for refusal in (*Refusal, Refusal(77)):
+            found = pickle.loads(pickle.dumps(Refused(refusal)))
+            self.assertEqual((type(found), found.refusal, str(found)), (Refused, refusal, str(Refused(refusal))))
+        self.assertEqual((str(Refused(Refusal.TOO_LONG)), str(Refused(Refusal(77)))), ("text too long", "unknown refusal"))
+        self.assertRaises(ValueError, Refusal, 0)
+
+    def test_a_refusal_comes_back_from_another_process(self):
+        with ProcessPoolExecutor(1) as pool:
+            with self.assertRaises(Refused) as caught:
+                pool.submit(send_unknown, 9999).result()
+            self.assertEqual(caught.exception.refusal, Refusal.UNKNOWN_MESSAGE)
+            self.assertEqual(pool.submit(send_unknown, constants.SCI_GETLENGTH).result(), 0)
+
+
+def resident():
+    """The bytes of memory that the process has."""
+    with open("/proc/self/statm", encoding="ascii") as file:
+        return int(file.read().split()[1]) * mmap.PAGESIZE
+
+
+def peak_of(call):
+    """By how much a call raises the peak of the process's memory."""
+    with open("/proc/self/clear_refs", "w", encoding="ascii") as file:
+        file.write("5")
+    before = resident()
+    call()
+    with open("/proc/self/status", encoding="ascii") as file:
+        return int(next(line for line in file if line.startswith("VmHWM:")).split()[1]) * 1024 - before
 
 
 class Texts(unittest.TestCase):
@@ -103,11 +247,42 @@ class Texts(unittest.TestCase):
                     self.assertRaises(TypeError, call, wrong)
             self.assertEqual((view.get_length(), view.can_undo()), (0, False))
 
+    def test_buffers_are_sent_as_they_are(self):
+        with Session() as session, tempfile.TemporaryFile() as file:
+            view = session.new_view()
+            file.write(b"a\0b")
+            file.flush()
+            mapped = mmap.mmap(file.fileno(), 3, access=mmap.ACCESS_READ)
+            square, part = memoryview(bytearray(b"abcd")).cast("B", (2, 2)), memoryview(b"abcd")[1:3]
+            for text in (mapped, memoryview(mapped), array.array("i", [1, 2]), square, part, b"", bytearray()):
+                view.set_text(text)
+                self.assertEqual(view.get_text(), bytes(text))
+                self.assertEqual(view.read_range(0, view.get_length()), bytes(text))
+                view.clear_all()
+                view.append_text(text)
+                self.assertEqual(view.get_text(), bytes(text))
+            mapped.close()
+
+    def test_a_text_is_copied_once(self):
+        size = 64 << 20
+        library = 3.4 * size  # the text, the history and the notification
+        for text, copies in ((b"x" * size, 0), (bytearray(size), 0), ("x" * size, 1)):
+            with Session() as session:
+                view = session.new_view()
+                self.assertLess(peak_of(lambda: view.append_text(text)), library + copies * size, type(text))
+                view.empty_undo_buffer()
+                self.assertLess(peak_of(lambda: view.read_range(0, size)), 1.4 * size)
+                self.assertLess(peak_of(view.get_text), 2.4 * size)  # the library's, which it lends, and the copy
+
+    def test_a_lone_surrogate_is_no_text(self):
+        with Session() as session:
+            self.assertRaises(UnicodeEncodeError, session.new_view().set_text, "\udc80")
+
     def test_a_range_is_copied(self):
         with Session() as session:
             view = session.new_view()
             view.set_text("hello, world")
-            view.get_line(0)
+            view.send(constants.SCI_GETLINE, 0)
             self.assertEqual((view.read_range(7, 5), session.value()), (b"world", 12))
             for start, count in ((5, -3), (-1, 2), (7, 6), (13, 0), (1 << 64, 0), (0, 1 << 64)):
                 with self.assertRaises(Refused) as caught:
@@ -127,16 +302,16 @@ class Texts(unittest.TestCase):
             view = session.new_view()
             view.insert_text(0, "one\ntwo")
             self.assertEqual(len(session.notes()), 3)
-            self.assertEqual(view.get_cur_line(), b"one\n")
             view.goto_pos(6)
-            self.assertEqual((view.get_cur_line(), session.value(), session.text()), (b"two", 2, b"two"))
+            self.assertEqual((view.send(constants.SCI_GETCURLINE), session.value(), session.text()), (2, 2, b"two"))
             self.assertRaises(Refused, view.get_text_range, 3, 2)
+            self.assertEqual(view.get_line(0), b"one\n")
             self.assertEqual((view.value(), view.text()), (2, b"two"))
 
 
 class Methods(unittest.TestCase):
     def test_each_message_has_a_method_that_names_it(self):
-        told = [name for method in vars(Messages).values() for name in re.findall(r"Message:\s+`(SCI_\w+)`", method.__doc__ or "")]
+        told = [name for method in vars(Messages).values() for name in re.findall(r"Message:\s`(\w+)`\.$", inspect.getdoc(method) or "")]
         sent = {name for name in vars(constants) if name.startswith("SCI_")}
         self.assertEqual((set(told), len(told)), (sent, len(sent)))
 
@@ -167,6 +342,9 @@ class Program(unittest.TestCase):
             self.assertEqual((status, printed, said[: len(usage)]), (2, "", usage), words)
         self.assertEqual(self.said("--help")[1][: len(usage)], usage)
         self.assertEqual(self.said()[2], f"{usage}python -m hongpilas: error: the following arguments are required: run, SCRIPT\n")
+
+    def test_the_version(self):
+        self.assertRegex(hongpilas.__version__, r"^2\.\d+\.\d+$")
 
     def test_another_library(self):
         here = os.path.join(os.path.dirname(inspect.getfile(Session)), "libhongpilas.so")

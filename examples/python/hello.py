@@ -1,8 +1,11 @@
 #!/usr/bin/env python3
 """Hongpilas in Python, by ctypes over the shared object: out/libhongpilas.so at the top of the repository, or the one that HONGPILAS names."""
+from __future__ import annotations
+
 import ctypes
 import os
 import re
+from typing import Any, Callable, Union
 
 TOP = os.path.dirname(os.path.dirname(os.path.dirname(os.path.abspath(__file__))))
 
@@ -18,37 +21,43 @@ class Note(ctypes.Structure):
     ]
 
     text = b""
+    code: int
+    kind: int
+    position: int
+    lines: int
+    bytes: int
+    byte_count: int
 
 
 class Refused(Exception):
     """A call was refused, and has changed nothing."""
 
 
-def lent(address, length):
+def lent(address: int | None, length: int) -> bytes:
     """A copy of bytes that were lent."""
-    return ctypes.string_at(address, length) if length else b""
+    return ctypes.string_at(address, length) if length and address else b""
 
 
-def whole(kind, number):
+def whole(kind: Any, number: int) -> int:
     """The number, which a call takes as this kind. Raises OverflowError where ctypes would cut it."""
     if kind(number).value != number:
         raise OverflowError(f"{number} is out of range")
     return number
 
 
-def constants():
+def constants() -> dict[str, int]:
     """Scintilla's names and numbers, as the header has them."""
     with open(os.path.join(TOP, "include", "hongpilas.h"), encoding="utf-8") as header:
         found = re.findall(r"^#define ((?:SC|UNDO)\w+) +(0x[0-9A-F]+|\d+)\b", header.read(), re.M)
     return {name: int(number, 0) for name, number in found}
 
 
-def library():
+def library() -> Any:
     """The shared object, with the types of its calls."""
     lib = ctypes.CDLL(os.environ.get("HONGPILAS", os.path.join(TOP, "out", "libhongpilas.so")))
     word, size, number = ctypes.c_void_p, ctypes.c_size_t, ctypes.c_int64
     address, view, length = ctypes.POINTER(ctypes.c_void_p), ctypes.c_uint32, ctypes.POINTER(ctypes.c_size_t)
-    types = {
+    types: dict[str, tuple[Any, list[Any]]] = {
         "new": (view, [address]),
         "free": (None, [word]),
         "new_view": (view, [word, ctypes.POINTER(view)]),
@@ -77,7 +86,7 @@ class Session:
     numbers = {name[4:].lower(): number for name, number in constants().items() if name.startswith("SCI_")}
     hands_out = {"getline", "getcurline", "gettext", "gettextrange", "getseltext", "getstyledtext", "gettargettext"}
 
-    def __init__(self):
+    def __init__(self) -> None:
         self.handle, self.view = ctypes.c_void_p(), ctypes.c_uint32()
         self.check(self.lib.hongpilas_new(self.handle))
         try:
@@ -86,72 +95,73 @@ class Session:
             self.close()
             raise
 
-    def __enter__(self):
+    def __enter__(self) -> Session:
         return self
 
-    def __exit__(self, *_):
+    def __exit__(self, *_: object) -> None:
         self.close()
 
-    def close(self):
+    def close(self) -> None:
         """Gives the session back, once. It has no handle then, so that what uses it later raises AttributeError."""
         if "handle" in self.__dict__:
             self.lib.hongpilas_free(self.__dict__.pop("handle"))
 
-    def check(self, answer):
+    def check(self, answer: int) -> None:
         """Raises what a refusal's number stands for."""
         if answer:
             raise Refused(self.lib.hongpilas_answer_name(answer).decode())
 
-    def send(self, number, w=0, l=0, text=b""):
+    def send(self, number: int, w: int = 0, l: int = 0, text: bytes = b"") -> int:
         """Sends a message, and answers its value."""
         value = ctypes.c_int64()
         number, w, l = whole(ctypes.c_uint32, number), whole(ctypes.c_int64, w), whole(ctypes.c_int64, l)
         self.check(self.lib.hongpilas_send(self.handle, self.view, number, w, l, text, len(text), value))
         return value.value
 
-    def text(self):
+    def text(self) -> bytes:
         """The text that the last message handed out."""
         where, length = ctypes.c_void_p(), ctypes.c_size_t()
         self.check(self.lib.hongpilas_text(self.handle, where, length))
         return lent(where.value, length.value)
 
-    def notes(self):
+    def notes(self) -> list[Note]:
         """The notes of the last message."""
-        told, note = [], Note()
+        told: list[Note] = []
+        note = Note()
         while not self.lib.hongpilas_note(self.handle, len(told), note, ctypes.sizeof(note)):
             note.text = lent(note.bytes, note.byte_count)
             told.append(note)
             note = Note()
         return told
 
-    def bytes(self, start, end):
+    def byte_range(self, start: int, end: int) -> bytes:
         """Bytes of the document, without a message."""
         where = ctypes.c_void_p()
         start, count = whole(ctypes.c_size_t, start), whole(ctypes.c_size_t, end - start)
         self.check(self.lib.hongpilas_lend_range(self.handle, self.view, start, count, where))
         return lent(where.value, count)
 
-    def __getattr__(self, name):
+    def __getattr__(self, name: str) -> Callable[..., Any]:
         if name not in self.numbers:
             raise AttributeError(name)
 
-        def message(*arguments):
+        def message(*arguments: Union[int, bytes, str]) -> int | bytes:
             texts = [argument.encode() if isinstance(argument, str) else argument for argument in arguments]
-            numbers = [argument for argument in texts if not isinstance(argument, bytes)]
+            w, l = ([argument for argument in texts if isinstance(argument, int)] + [0, 0])[:2]
             text = b"".join(argument for argument in texts if isinstance(argument, bytes))
-            value = self.send(self.numbers[name], *numbers, text=text)
+            value = self.send(self.numbers[name], w, l, text)
             return self.text() if name in self.hands_out else value
 
         return message
 
 
-def main():
+def main() -> None:
     with Session() as session:
         session.inserttext(0, "hello,\nworld\n")
         for note in session.notes():
-            print(f"{session.lib.hongpilas_note_name(note.code).decode()}: kind {note.kind:#x}, position {note.position}, lines {note.lines}, {note.text}")
+            print(f"{session.lib.hongpilas_note_name(note.code).decode()}: kind {note.kind:#x}, position {note.position}, lines {note.lines}, {note.text!r}")
         print(session.getlength(), "bytes,", session.getlinecount(), "lines")
-        print(session.getline(1), session.gettextrange(3, 8), session.bytes(0, 5))
+        print(session.getline(1), session.gettextrange(3, 8), session.byte_range(0, 5))
         session.appendtext(8, "größer")
         print("appended:", session.gettext().decode(errors="replace"))
         session.undo()
@@ -159,16 +169,17 @@ def main():
         session.redo()
         session.settargetrange(0, session.getlength())
         print("found at", session.searchintarget(3, "wor"), "to", session.gettargetend())
-        for refused in (lambda: session.gettextrange(5, 99), lambda: session.send(9999), lambda: session.bytes(0, 99)):
+        faults: list[Callable[[], object]] = [
+            lambda: session.gettextrange(5, 99), lambda: session.send(9999), lambda: session.byte_range(0, 99),
+            lambda: session.gotopos(1 << 63), lambda: session.send(2006 + (1 << 32)), lambda: session.byte_range(-1, 2),
+        ]  # fmt: skip
+        for fault in faults:
             try:
-                refused()
-            except Refused as refusal:
-                print("refused:", refusal)
-        for cut in (lambda: session.gotopos(1 << 63), lambda: session.send(2006 + (1 << 32)), lambda: session.bytes(-1, 2)):
-            try:
-                cut()
-            except OverflowError as fault:
-                print("not sent:", fault)
+                fault()
+            except Refused as refused:
+                print("refused:", refused)
+            except OverflowError as overflow:
+                print("not sent:", overflow)
         session.close()
     session.close()
     try:

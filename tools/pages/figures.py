@@ -1,8 +1,8 @@
 #!/usr/bin/env python3
-"""Writes the tables of measured figures in README.md and docs/FIGURES.md, from tools/data/figures.txt.
+"""Writes the tables of measured figures in README.md, docs/FIGURES.md and docs/TUTORIAL.md, from tools/data/figures.txt.
 
 tools/data/figures.txt has a head (`== commit, date, machine`), and a line for each row (its name, a colon, and its values, each behind its word
-and with its unit). `bench/messages --record` measures anew and hands what it prints to this tool, which replaces the file:
+and with its unit). `bench/messages --record` measures anew and hands what it prints to this tool, which replaces the file. The README's line on memory has the numbers of docs/FIGURES.md, *Memory*:
 
     tools/pages/figures.py              writes the tables
     tools/pages/figures.py --record     replaces the file by what is read from standard input, and writes the tables
@@ -14,24 +14,38 @@ import os
 import re
 import subprocess
 import sys
+import textwrap
 from datetime import datetime, timezone
 
 TOP = os.path.dirname(os.path.dirname(os.path.dirname(os.path.abspath(__file__))))
-FILE, README, FIGURES = "tools/data/figures.txt", "README.md", "docs/FIGURES.md"
+FILE, README, FIGURES, TUTORIAL = "tools/data/figures.txt", "README.md", "docs/FIGURES.md", "docs/TUTORIAL.md"
 BENCH = "bench/messages"
-HEAD = f"""# What was measured last, at one commit and on one machine. Written by `{BENCH} --record`; tools/pages/figures.py writes the tables of README.md and
-# docs/FIGURES.md from it.
+HEAD = f"""# What was measured last, at one commit and on one machine. Written by `{BENCH} --record`; tools/pages/figures.py writes the tables of README.md,
+# docs/FIGURES.md and docs/TUTORIAL.md from it.
 """
 SIZES = ("1 MiB", "16 MiB")
-# The rows of the README: what it calls them, and what `bench/messages` does.
+# The six rows of the README: what it calls them, and what `bench/messages` does, in a document of CITED_SIZE.
+CITED_SIZE = "16 MiB"
 CITED = {
-    "typing": "typing, a line end each 40",
-    "loading a text": "INSERTTEXT of all",
-    "undoing what was typed": "undo of typing, a byte",
+    "typing a byte": "typing, a line end each 40",
+    "inserting at a random place": "8 bytes in at random",
+    "loading it": "INSERTTEXT of all",
+    "undoing a typed byte": "undo of typing, a byte",
     "reading a byte": "GETCHARAT",
-    "searching forwards": "SEARCHINTARGET, all of it",
-    "the display line of a line, among folds": "VISIBLEFROMDOCLINE",
+    "searching it forwards": "SEARCHINTARGET, all of it",
 }
+# The rows of the tutorial, for a key and for a row of a window: what it asks, how often, and what `bench/messages` does.
+ASKED_BY_KEY = {"a typed byte": "typing, a line end each 40", "the caret's line: SCI_LINEFROMPOSITION": "LINEFROMPOSITION"}
+ASKED_BY_ROW = {
+    "a row's line: SCI_DOCLINEFROMVISIBLE": (1, "DOCLINEFROMVISIBLE"),
+    "where it starts, or ends: SCI_POSITIONFROMLINE": (2, "POSITIONFROMLINE"),
+    "its bytes: `hongpilas_lend_range`": (1, "a line lent (GETRANGEPOINTER)"),
+    "its bookmarks: SCI_MARKERGET": (1, "MARKERGET"),
+}
+WINDOW = 50
+# What docs/FIGURES.md says of memory.
+LOADED = re.compile(r"a text of (?P<size>\d+ MiB) was loaded, the heap held (?P<times>[\d.]+) times the bytes of its text and line starts", re.S)
+WORKED_ON = re.compile(r"^\| 64 MiB \|.*\| (?P<alive>[\d.]+) MiB \| (?P<held>[\d.]+) MiB \| [\d.]+ MiB \|$", re.M)
 # How the rows of the benchmark are named whose view listens. The README counts the others alone.
 NOTIFIED = ", notified"
 # The rows that it prints; times are followed by their medians.
@@ -89,6 +103,14 @@ def readable(nanoseconds):
     return f"{nanoseconds:,.0f}" if nanoseconds < 100_000 else f"{nanoseconds / 1000:,.0f} µs"
 
 
+def short(nanoseconds):
+    """A time with its unit, as the README has it."""
+    for unit, size in (("ms", 1e6), ("µs", 1e3), ("ns", 1)):
+        if nanoseconds >= size:
+            return f"{nanoseconds / size:.3g} {unit}"
+    return f"{nanoseconds:.2g} ns"
+
+
 def table(titles, rows):
     lines = ["".join(f"| {cell} " if cell else "| " for cell in line) + "|" for line in (titles, *rows)]
     return "\n".join([lines[0], "|---" * len(titles) + "|", *lines[1:]]) + "\n"
@@ -101,20 +123,48 @@ def beside_scintilla():
     return table(titles, [[name, *(cell for size in SIZES for cell in cells(sizes.get(size)))] for name, sizes in times().items()])
 
 
+def filled(text):
+    return textwrap.fill(text, 160, break_long_words=False, break_on_hyphens=False)
+
+
+def of_tutorial():
+    """The tutorial's table, and what a window costs."""
+    found = times()
+    named = {**ASKED_BY_KEY, **{name: work for name, (_, work) in ASKED_BY_ROW.items()}}
+    rows = [[name, *(readable(found[work].get(size, found[work][SIZES[0]])[0]) for size in SIZES)] for name, work in named.items()]
+    sums = [sum(count * found[work][size][0] for count, work in ASKED_BY_ROW.values()) * WINDOW / 1000 for size in SIZES]
+    window = " and ".join(f"{it:.0f} µs in {size}" for it, size in zip(sums, SIZES))
+    return table(["What is asked", *SIZES], rows) + f"\nSo the queries for a window of {WINDOW} rows take {window}.\n"
+
+
+def on_memory():
+    page = " ".join(read(FIGURES).split())
+    loaded, worked_on = LOADED.search(page), WORKED_ON.search(read(FIGURES))
+    if not loaded or not worked_on:
+        sys.exit(f"{FIGURES}: no sentence on a loaded text, or no row of 64 MiB, under *Memory*")
+    return (f"**Memory.** Loading {loaded['size']} took {loaded['times']} times the bytes of text and line starts. After minutes of random edits, styles "
+            f"and undo, a text of 64 MiB held {float(worked_on['held']):.0f} MiB, {float(worked_on['alive']):.0f} MiB of it in use.")
+
+
 def of_readme():
     """The README's section on figures."""
     all_times, head = {name: sizes for name, sizes in times().items() if not name.endswith(NOTIFIED)}, recorded()[0]
-    pairs = [pair for sizes in all_times.values() for pair in sizes.values()]
-    mean = math.exp(sum(math.log(ours / theirs) for ours, theirs in pairs) / len(pairs))
-    quick = sum(float(ratio(pair)) <= 1 for pair in pairs)
-    greatest = max(pairs, key=lambda pair: pair[0] / pair[1])
-    rows = [[name, *(ratio(all_times[work][size]) for size in SIZES)] for name, work in CITED.items()]
+    pairs = {(name, size): pair for name, sizes in all_times.items() for size, pair in sizes.items()}
+    mean = math.exp(sum(math.log(ours / theirs) for ours, theirs in pairs.values()) / len(pairs))
+    quick = sum(float(ratio(pair)) <= 1 for pair in pairs.values())
+    (name, size), greatest = max(pairs.items(), key=lambda row: row[1][0] / row[1][1])
+    on_all = (f"Of {len(pairs)} ratios (less is better) {quick} are at most 1; the geometric mean is {mean:.2f}, the greatest {ratio(greatest)} ({name}). "
+              f"By `{BENCH}`, commit {commit_of(head)} ([`FIGURES`]({FIGURES})).")
+    cited = [(name, all_times[work][CITED_SIZE]) for name, work in CITED.items()]
+    rows = [[name, short(ours), short(theirs), ratio((ours, theirs))] for name, (ours, theirs) in cited]
     return f"""## Figures
 
-Time as a part of what Scintilla 5.3.3 takes for the same work, notifications off; below 1 Hongpilas is faster. By `{BENCH}`, at commit {commit_of(head)}:
+| In a text of {CITED_SIZE} | Hongpilas | Scintilla 5.3.3 | ratio |
+|---|---|---|---|
+{"".join("| " + " | ".join(row) + " |" + chr(10) for row in rows)}
+{filled(on_all)}
 
-{table(["Work in a document of", *SIZES], rows)}
-Of all {len(pairs)} such figures the geometric mean is {mean:.2f} and the greatest {ratio(greatest)}; {quick} are at or below 1 (`docs/FIGURES.md`).
+{filled(on_memory())}
 
 """
 
@@ -133,7 +183,8 @@ def replaced(page, title, pattern, new):
 def pages():
     """What the pages are to be."""
     figures = replaced(read(FIGURES), "Beside Scintilla", r"(^\|[^\n]*\n)+", beside_scintilla())
-    return {README: replaced(read(README), "Figures", r"\A.*\Z", of_readme()), FIGURES: figures}
+    tutorial = replaced(read(TUTORIAL), "What a frame costs", r"(^\|[^\n]*\n)+(\nSo the queries [^\n]*\n)?", of_tutorial())
+    return {README: replaced(read(README), "Figures", r"\A.*\Z", of_readme()), FIGURES: figures, TUTORIAL: tutorial}
 
 
 def faults():
@@ -141,9 +192,10 @@ def faults():
         if read(path) != wanted:
             yield f"{path}: the figures are not those of {FILE}: run tools/pages/figures.py"
     commit = commit_of(recorded()[0])
-    section = re.search(r"^## Beside Scintilla\n(.*?)^\|", read(FIGURES), re.M | re.S)
-    if commit not in section[1]:
-        yield f"{FIGURES}: the text of *Beside Scintilla* does not name the commit of its table, {commit}"
+    for path, title in ((FIGURES, "Beside Scintilla"), (TUTORIAL, "What a frame costs")):
+        section = re.search(rf"^## {title}\n(.*?)^\|", read(path), re.M | re.S)
+        if commit not in section[1]:
+            yield f"{path}: the text of *{title}* does not name the commit of its table, {commit}"
 
 
 # ---- Recording ----
@@ -201,7 +253,7 @@ def main():
         record()
     elif words == ["--check"]:
         wrong = list(faults())
-        print("\n".join(wrong) or f"the figures of {README} and {FIGURES} are those of {FILE}")
+        print("\n".join(wrong) or f"the figures of {README}, {FIGURES} and {TUTORIAL} are those of {FILE}")
         sys.exit(bool(wrong))
     for path, wanted in pages().items():
         write(path, wanted)

@@ -1,5 +1,5 @@
 #!/usr/bin/env python3
-"""Writes the methods of all messages, the constants, the names of notes, Rust's declarations of the calls and the version into the wrappers for C++, Rust and Python,
+"""Writes the methods of all messages, the constants, Rust's declarations of the calls and the version into the wrappers for C++, Rust and Python,
 what tests of the library for C go through (the questions, and what is drawn of each message beside Scintilla, by drawn.py), and the list of numeric queries
 into the definitions (message_plans).
 
@@ -21,7 +21,6 @@ BEGIN = "Written by tools/pages/wrappers.py: begin"
 END = "Written by tools/pages/wrappers.py: end"
 CPP = "include/hongpilas.hpp"
 RUST = "bindings/rust/hongpilas/src/messages.rs"
-RUST_NOTES = "bindings/rust/hongpilas/src/notes.rs"
 RUST_CONSTANTS = "bindings/rust/hongpilas-sys/src/constants.rs"
 RUST_CALLS = "bindings/rust/hongpilas-sys/src/calls.rs"
 PYTHON = "bindings/python/src/hongpilas/_messages.py"
@@ -35,8 +34,10 @@ SPELLED = {
     "Rust": (lambda name: f"[`Refusal::{name}`]", "false", "Refused with"),
     "Python": (lambda name: f"`Refusal.{in_capitals(name)}`", "False", "Raises `Refused` with"),
 }
-# How entries spell the types of flags and of texts.
-FLAG, WITH_TEXT = "bool", "position, text"
+# How entries spell the types of flags, of documents' ids and of texts.
+FLAG, DOCUMENT, WITH_TEXT = "bool", "document", "position, text"
+# What the value is called among the places of documents' ids, and the message that also takes none.
+VALUE, TAKES_NO_DOCUMENT = "value", "SETDOCPOINTER"
 
 
 def in_capitals(name):
@@ -60,6 +61,7 @@ class Message:
     edits: bool  # whether it edits the text: the mark E
     arguments: list  # (place, name): w, l or T, and what it is called, in snake_case
     flags: set  # the places of flags
+    documents: set  # the places of documents' ids, with VALUE among them
     answers: str  # "nothing", "number", "flag" or "text"
     rule: str  # as the page has it
     takes_length: bool  # whether w is the length of the text, which no method takes
@@ -93,8 +95,9 @@ def message(entry, name):
     taken = {place: spelled for place, spelled in entry.parameters.items() if not (takes_length and place == "w")}
     arguments = [(place, in_snake_case(called)) for place, (_, called) in taken.items()]
     flags = {place for place, (kind, _) in taken.items() if kind == FLAG}
+    documents = {place for place, kind in ((VALUE, entry.answer), *((place, kind) for place, (kind, _) in taken.items())) if kind == DOCUMENT}
     marks = entry.marks.split()
-    return Message(name, entry.name, entry.number, "Q" not in marks, "E" in marks, arguments, flags, answer(entry), entry.rule, takes_length,
+    return Message(name, entry.name, entry.number, "Q" not in marks, "E" in marks, arguments, flags, documents, answer(entry), entry.rule, takes_length,
                    entry.is_numeric_query)
 
 
@@ -110,6 +113,10 @@ def messages():
         found.append(message(entry, name.replace("Eol", "EOL")))
     if kinds:
         sys.exit(f"no entry in {message_page.PAGE}: {', '.join(kinds)}")
+    for it in found:
+        # A question is asked by a call that takes no text and replaces no reply; only such a call lends a text.
+        if it.changes and it.answers in ("flag", "text") or not it.changes and (it.answers == "nothing" or it.place("T")):
+            sys.exit(f"{it.spelled}: no wrapper has a method for such a message")
     return sorted(found, key=lambda it: it.number)
 
 
@@ -122,8 +129,10 @@ def sentences(message, methods, language):
     if language != "C++":
         text = re.sub(r"`([a-z]+[A-Z]\w*)`", lambda name: f"`{in_snake_case(name[1])}`", text)
     text = re.sub(r"\b[A-Z]{3,}\b", lambda word: f"`{methods[word[0]]}`" if word[0] in methods else word[0], text)
+    if language == "Rust" and message.spelled == TAKES_NO_DOCUMENT:
+        text = text.replace("if that is 0", "if that is `None`")
     text = re.sub(r"\b(?:BadArgument|NoSuchDocument|TooMany)\b", lambda name: refusal(name[0]), text)
-    return re.sub(r"\bfalse\b", no, text).replace("Refused with", refused).replace("the value is", "the reply's value is")
+    return re.sub(r"\bfalse\b", no, text).replace("Refused with", refused).replace("the value is", "the value, which `ask` returns, is")
 
 
 def told(message, methods, language, width, before):
@@ -137,8 +146,13 @@ def methods_in(found, language):
     return {it.spelled: it.method(language) for it in found}
 
 
-CPP_TYPES = {"number": "std::int64_t", "flag": "bool", "text": "std::string_view"}
-CPP_ANSWERS = {"nothing": ("void", "as_done"), "number": ("std::int64_t", "as_number"), "flag": ("bool", "as_flag"), "text": ("std::string", "as_copy")}
+CPP_TYPES = {"number": "std::int64_t", "flag": "bool", "text": "Text"}
+# What a method answers, and the call that sends an edit and the one that asks a question.
+CPP_ANSWERS = {
+    "nothing": ("void", "as_done", None), "number": ("std::int64_t", "as_number", "ask_number"), "flag": ("bool", None, "ask_flag"),
+    "text": ("std::string", None, "read_copy"),
+}
+CPP_COLUMNS = 160
 
 
 def camel(name):
@@ -152,9 +166,9 @@ def cpp_method(message, name, kind, call, comment):
     text = message.place("T")
     w = f"length_of({text})" if message.takes_length else camel(message.place("w") or "0")
     passed = [f"SCI_{message.spelled}", w, camel(message.place("l") or "0"), *([text] if text else [])]
-    const = "" if message.changes else " const"
-    head, body = f"  Answer<{kind}> {name}({taken}){const} {{", f"return {call}({', '.join(passed)});"
-    lines = [f"{head} {body} }}"] if len(head) + len(body) <= 157 else [head, f"    {body}", "  }"]
+    marks, const = ("", "") if message.changes else ("[[nodiscard]] ", " const")
+    head, body = f"  {marks}Answer<{kind}> {name}({taken}){const} noexcept(nothrow) {{", f"return {call}({', '.join(passed)});"
+    lines = [f"{head} {body} }}"] if len(head) + len(body) + 3 <= CPP_COLUMNS else [head, f"    {body}", "  }"]
     return [*comment, *lines]
 
 
@@ -162,43 +176,74 @@ def cpp(found):
     """The methods of BasicView."""
     lines, methods = [], methods_in(found, "C++")
     for message in found:
-        kind, call = CPP_ANSWERS[message.answers]
+        kind, sent, asked = CPP_ANSWERS[message.answers]
         comment = told(message, methods, "C++", 118, "  /// ")
-        lines += cpp_method(message, message.name, kind, call, comment)
+        lines += cpp_method(message, message.name, kind, sent if message.changes else asked, comment)
         if message.answers == "text":
-            again = [f"  /// Like {message.name}, but lent, not copied: the text is valid until the next message that is done."]
-            lines += cpp_method(message, message.name + "View", "std::string_view", "as_lent", again)
+            again = [f"  /// Like {message.name}, but lent, not copied: the text is valid until the next question that returns a text."]
+            lines += cpp_method(message, message.name + "View", "std::string_view", "read_lent", again)
     return "".join(f"{line}\n" for line in lines)
 
 
-RUST_TYPES = {"number": "i64", "flag": "bool", "text": "impl AsRef<[u8]>"}
-RUST_ANSWERS = {"nothing": ("()", "as_done"), "number": ("i64", "as_number"), "flag": ("bool", "as_flag"), "text": ("&[u8]", "as_lent")}
+RUST_TYPES = {"number": "i64", "flag": "bool", "text": "impl AsRef<[u8]>", "document": "DocumentId"}
+# What a method answers, and the call that sends an edit and the one that asks a question.
+RUST_ANSWERS = {
+    "nothing": ("()", "as_done", None), "number": ("i64", "send", "ask"), "document": ("DocumentId", "as_document", "ask_document"),
+    "flag": ("bool", None, "ask_flag"), "text": ("Vec<u8>", None, "read"),
+}
 
 
-def rust_method(message, methods):
-    taken = "".join(f", {called}: {RUST_TYPES[message.kind(place)]}" for place, called in message.arguments)
-    kind, call = RUST_ANSWERS[message.answers]
+def rust_kind(message, place):
+    """The type of an argument."""
+    if place not in message.documents:
+        return RUST_TYPES[message.kind(place)]
+    return "impl Into<Option<DocumentId>>" if message.spelled == TAKES_NO_DOCUMENT else RUST_TYPES[DOCUMENT]
+
+
+def rust_number(message, place):
+    """What is passed for w or l."""
+    name = message.place(place)
+    if place in message.documents:
+        return f"{name}.into().map_or(0, i64::from)" if message.spelled == TAKES_NO_DOCUMENT else f"{name}.into()"
+    return f"i64::from({name})" if place in message.flags else name or "0"
+
+
+def rust_function(message, name, borrows, kind, call, comment):
+    """A method with its comment."""
+    taken = "".join(f", {called}: {rust_kind(message, place)}" for place, called in message.arguments)
     text = message.place("T")
-    w, l = (f"i64::from({message.place(place)})" if place in message.flags else message.place(place) or "0" for place in "wl")
     body = [f"let {text} = {text}.as_ref();"] if message.takes_length else []
-    passed = [f"sys::SCI_{message.spelled}", f"length_of({text})" if message.takes_length else w, l,
-              text if message.takes_length else f"{text}.as_ref()" if text else "&[]"]
+    passed = [f"sys::SCI_{message.spelled}", f"length_of({text})" if message.takes_length else rust_number(message, "w"), rust_number(message, "l")]
+    if message.changes:
+        passed.append(text if message.takes_length else f"{text}.as_ref()" if text else "&[]")
     body += [f"self.{call}({', '.join(passed)})"]
-    # A question that lends nothing may stand among the arguments of another message.
-    lender = "&mut self" if message.changes or message.answers == "text" else "&self"
-    head = f"    pub fn {message.snake}({lender}{taken}) -> Result<{kind}, Refusal> {{"
-    return [*told(message, methods, "Rust", 96, "    /// "), head, *(f"        {line}" for line in body), "    }", ""]
+    head = f"    pub fn {name}({borrows}{taken}) -> Result<{kind}, Refusal> {{"
+    return [*comment, head, *(f"        {line}" for line in body), "    }", ""]
 
 
-def rust(found):
-    """The methods of View."""
+def rust_methods(message, methods):
+    """The methods of a message: a question is asked of a View, all else is sent by a ViewMut, which lends texts, too."""
+    answered = DOCUMENT if VALUE in message.documents else message.answers
+    kind, sent, asked = RUST_ANSWERS[answered]
+    comment = told(message, methods, "Rust", 96, "    /// ")
+    yield message.changes, rust_function(message, message.snake, "&mut self" if message.changes else "&self", kind, sent if message.changes else asked, comment)
+    if answered == "text":
+        name = re.sub("^get_", "lend_", message.snake)
+        again = [f"    /// Like [`{message.snake}`](View::{message.snake}), but lent, not copied: the text is valid until the next call."]
+        yield True, rust_function(message, name, "&mut self", "&[u8]", "lend", again)
+
+
+def rust(found, changes):
+    """The methods of ViewMut or of View."""
     methods = methods_in(found, "Rust")
-    lines = [line for message in found for line in rust_method(message, methods)]
+    lines = [line for message in found for is_of_mut, method in rust_methods(message, methods) if is_of_mut == changes for line in method]
     return "".join(f"{line}\n" for line in lines[:-1])
 
 
 # How Rust spells the types of the header.
-IN_RUST = {"uint8_t": "u8", "uint32_t": "u32", "uint64_t": "u64", "int64_t": "i64", "size_t": "usize", "bool": "bool", "void": "c_void"}
+IN_RUST = {
+    "uint8_t": "u8", "uint32_t": "u32", "uint64_t": "u64", "int64_t": "i64", "size_t": "usize", "bool": "bool", "void": "c_void", "char": "c_char",
+}
 
 
 def in_rust(place):
@@ -210,43 +255,47 @@ def in_rust(place):
     return f"{name}: {kind}"
 
 
-def rust_call(answer, name, taken):
+def rust_call(marks, answer, name, taken):
     """A call of the header as Rust declares it, on a line of its own where that fits."""
     places = [in_rust(place) for place in re.split(r",\s+", taken) if place != "void"]
-    answered = "" if answer == "void" else f" -> {IN_RUST.get(answer, answer)}"
+    answered = "" if answer == "void " else f" -> {in_rust(answer + '_')[3:]}"
     line = f"    pub fn {name}({', '.join(places)}){answered};\n"
-    if len(line) <= 121:
-        return line
-    return f"    pub fn {name}(\n" + "".join(f"        {place},\n" for place in places) + f"    ){answered};\n"
+    if len(line) > 121:
+        line = f"    pub fn {name}(\n" + "".join(f"        {place},\n" for place in places) + f"    ){answered};\n"
+    return "    #[must_use]\n" * bool(marks) + line
 
 
 def rust_struct(name, body):
     """A struct of the header, with the comments of its fields."""
     fields = re.findall(r"(?:(\w[\w ]*?) (\**)(\w+));(?: +/\* (.*?) \*/)?", body)
     lines = [f"    /// {comment[:1].upper()}{comment[1:]}.\n" * bool(comment) + f"    pub {in_rust(f'{kind} {stars}{field}')},\n" for kind, stars, field, comment in fields]
-    return f"#[repr(C)]\n#[derive(Clone, Copy, Debug)]\npub struct {name} {{\n{''.join(lines)}}}\n"
+    return f"#[repr(C)]\n#[derive(Clone, Copy, Debug, PartialEq, Eq, Hash)]\npub struct {name} {{\n{''.join(lines)}}}\n"
 
 
 def rust_calls():
-    """What the header declares: answers, structs and calls. The struct of a session is written by hand: it is not copied."""
+    """What the header declares: answers, marks, structs and calls. The type of a session is written by hand: nothing is known of it."""
     text = header.read(header.HEADER)
     answers = re.findall(r"^  HONGPILAS_(\w+) = (\d+),? *(?:/\* (.*?) \*/)?$", text, re.M)
     lines = [f"pub const HONGPILAS_VERSION: u32 = {re.search(r'^#define HONGPILAS_VERSION (.*)$', text, re.M)[1]};\n\n"]
     for name, number, comment in answers:
         lines.append(f"/// {comment[:1].upper()}{comment[1:]}.\n" * bool(comment) + f"pub const HONGPILAS_{name}: hongpilas_answer = {number};\n")
+    lines.append("\n")
+    for name, number, comment in re.findall(r"^#define (HONGPILAS_MARK_\w) (\d)u /\* (.*?) \*/$", text, re.M):
+        lines.append(f"/// The mark {name[-1]} of a message: {comment}.\npub const {name}: u32 = {number};\n")
     structs = re.findall(r"^typedef struct \w+ \{\n(.*?)^\} (\w+);", text, re.M | re.S)
-    lines += ["\n" + rust_struct(name, body) for body, name in structs if name != "hongpilas"]
+    lines += ["\n" + rust_struct(name, body) for body, name in structs]
     limits = dict((name, body) for body, name in structs)["hongpilas_limits"]
     greatest = re.search(r"^#define HONGPILAS_GREATEST_LIMITS \{(.*)\}$", text, re.M)[1].split(", ")
     named = zip(re.findall(r"^  \w+ (\w+);", limits, re.M), greatest)
     lines.append("\n/// All limits at their greatest.\npub const HONGPILAS_GREATEST_LIMITS: hongpilas_limits = hongpilas_limits {\n")
     lines += [f"    {name}: {number},\n" for name, number in named]
-    calls = re.findall(r"^(\w+) (hongpilas_\w+)\(([^()]*)\);", re.sub(r"/\*.*?\*/", "", text, flags=re.S), re.M)
+    bare = re.sub(r"/\*.*?\*/", "", text, flags=re.S)
+    calls = re.findall(r"^(HONGPILAS_MUST_USE )?((?:const )?\w+ \*?)(hongpilas_\w+)\(([^()]*)\);", bare, re.M)
     return "".join([*lines, "};\n\nextern \"C\" {\n", *(rust_call(*it) for it in calls), "}\n"])
 
 
 PYTHON_TYPES = {"number": "int", "flag": "bool", "text": "Text"}
-PYTHON_ANSWERS = {"nothing": ("None", "{}"), "number": ("int", "return {}"), "flag": ("bool", "return {} != 0"), "text": ("bytes", None)}
+PYTHON_ANSWERS = {"nothing": ("None", "{}"), "number": ("int", "return {}"), "flag": ("bool", "return {} != 0"), "text": ("bytes", "return {}")}
 
 
 def python_method(message, methods):
@@ -257,9 +306,9 @@ def python_method(message, methods):
     passed = [f"constants.SCI_{message.spelled}", f"len({text})" if message.takes_length else w, l, *([text] if text else [])]
     while len(passed) > 1 and passed[-1] == "0":
         passed.pop()
-    call = f"self.send({', '.join(passed)})"
+    sent = "send" if message.changes else "read" if message.answers == "text" else "ask"
     body = [f"{text} = as_bytes({text})"] if message.takes_length else []
-    body += [call, "return self.text()"] if answered is None else [answered.format(call)]
+    body += [answered.format(f"self.{sent}({', '.join(passed)})")]
     comment = "\n".join(told(message, methods, "Python", 112, "        ")).lstrip()
     comment = f'"""{comment}"""' if "\n" not in comment else f'"""{comment}\n        """'
     return [f"    def {message.snake}(self{taken}) -> {kind}:", *f"        {comment}".split("\n"), *(f"        {line}" for line in body), ""]
@@ -291,8 +340,41 @@ def rust_constant(name, title, number):
     return f"pub const {name}: {kind} = {number};\n"
 
 
+# The enumerations of Python: a name, its base, what it is, and the constants that it has, with a group that is the member's name.
+PYTHON_ENUMS = (
+    ("Notification", "OpenEnum", "The code of a notification.", r"SCN_(\w+)"),
+    ("Modification", "enum.IntFlag", "The kind of a notification SCN_MODIFIED, and masks of such kinds.",
+     r"SC_(?:MOD_)?((?:BEFORE|CHANGE|INSERT|DELETE|MULTI|LASTSTEP|PERFORMED_|STARTACTION|CONTAINER)\w*)"),
+    ("EndOfLine", "OpenEnum", "A mode of line ends.", r"SC_EOL_(\w+)"),
+    ("LineEndType", "enum.IntFlag", "Types of line ends beside CR, LF and CRLF.", r"SC_LINE_END_TYPE_(\w+)"),
+    ("Find", "enum.IntFlag", "Flags of a search.", r"SCFIND_(\w+)"),
+    ("FoldLevel", "enum.IntFlag", "Parts of a fold level.", r"SC_FOLDLEVEL(\w+)"),
+    ("FoldAction", "OpenEnum", "What becomes of a fold.", r"SC_FOLDACTION_(\w+)"),
+    ("DocumentOption", "enum.IntFlag", "Options of a new document.", r"SC_DOCUMENTOPTION_(\w+)"),
+    ("UndoFlag", "enum.IntFlag", "Flags of a container's own undo step.", r"UNDO_(\w+)"),
+)
+
+
+def python_member(name):
+    """The enumeration and the member that a constant is, or None."""
+    found = ((of, re.fullmatch(pattern, name)) for of, _, _, pattern in PYTHON_ENUMS)
+    return next(((of, match[1]) for of, match in found if match), None)
+
+
+def python_enums():
+    """The enumerations, with their members by their numbers, those of flags in hexadecimal digits."""
+    members = sorted((number, *python_member(name)) for name, number in [*header.notes(), *header.constants()] if python_member(name))
+    blocks = []
+    for of, base, doc, _ in PYTHON_ENUMS:
+        form = "0x{:X}" if base == "enum.IntFlag" else "{}"
+        lines = "".join(f"    {name} = {form.format(number)}\n" for number, enumeration, name in members if enumeration == of)
+        blocks.append(f'class {of}({base}):\n    """{doc}"""\n\n{lines}')
+    return "\n\n".join(blocks) + "\n\n"
+
+
 def python_constant(name, title, number):
-    return f"# {title}.\n" if title else f"{name} = {number}\n"
+    member = None if title else python_member(name)
+    return f"# {title}.\n" if title else f"{name} = {'.'.join(member) if member else number}\n"
 
 
 # What a trial passes: a number in each place, and a text.
@@ -316,35 +398,38 @@ def questions(found):
     return "\n".join(lists)
 
 
-def call(message, name, on):
-    """A method's call in a trial, where a flag is on."""
-    passed = [on if place in message.flags else PASSED[place] for place, _ in message.arguments]
+def call(message, name, on, document="{}"):
+    """A method's call in a trial, where a flag is on, with a document's id as it is spelled."""
+    passed = [on if place in message.flags else (document if place in message.documents else "{}").format(PASSED[place]) for place, _ in message.arguments]
     return f"{name}({', '.join(passed)})"
 
 
 def expected():
-    """What a trial of all methods sends, from the entries of the page alone, by their numbers."""
+    """What a trial of all methods sends, from the entries of the page alone, by their numbers: a question is asked, or read if it returns a text."""
     for entry in sorted(message_page.entries(), key=lambda it: it.number):
         kinds = {place: kind for place, (kind, _) in entry.parameters.items()}
         w, l = ("0" if place not in kinds else "1" if kinds[place] == FLAG else PASSED[place] for place in "wl")
         w = "2" if "T" in kinds and entry.parameters.get("w") == ("position", "length") else w
-        yield f"""1: {entry.number} {w} {l} {PASSED["T"] if "T" in kinds else '""'}"""
+        if "Q" in entry.marks.split():
+            yield f"1: {'read' if entry.answer == WITH_TEXT else 'ask'} {entry.number} {w} {l}"
+        else:
+            yield f"""1: send {entry.number} {w} {l} {PASSED["T"] if "T" in kinds else '""'}"""
     yield "given back"
 
 
 def files(found):
     """What stands between the marks of each file, by their titles."""
-    yield CPP, {"": cpp(found), " names": "".join(f'    case {name}: return "{name}";\n' for name, _ in header.notes())}
-    yield RUST, {"": rust(found)}
-    yield RUST_NOTES, {"": "".join(f'        sys::{name} => Some("{name}"),\n' for name, _ in header.notes())}
+    yield CPP, {"": cpp(found)}
+    yield RUST, {" questions": rust(found, False), " messages": rust(found, True)}
     yield RUST_CONSTANTS, {"": constants(rust_constant)}
     yield RUST_CALLS, {"": rust_calls()}
     yield PYTHON, {"": python(found)}
-    yield PYTHON_CONSTANTS, {"": constants(python_constant)}
+    yield PYTHON_CONSTANTS, {" enumerations": python_enums(), "": constants(python_constant)}
     yield QUESTIONS, {"": questions(found)}
     yield BESIDE, {"": drawn.rows(found)}
-    yield "bindings/cpp/calls.cpp", {"": "".join(f"  view.{call(it, it.name, 'true')};\n" for it in found)}
-    yield "bindings/rust/hongpilas/examples/calls.rs", {"": "".join(f"    view.{call(it, it.snake, 'true')}?;\n" for it in found)}
+    # What a question returns is to be used.
+    yield "bindings/cpp/calls.cpp", {"": "".join(f"  {'' if it.changes else 'ignore = '}view.{call(it, it.name, 'true')};\n" for it in found)}
+    yield "bindings/rust/hongpilas/examples/calls.rs", {"": "".join(f"    view.{call(it, it.snake, 'true', 'DocumentId::from({})')}?;\n" for it in found)}
     yield "bindings/python/calls.py", {"": "".join(f"    view.{call(it, it.snake, 'True')}\n" for it in found)}
 
 
@@ -360,9 +445,14 @@ def written(path, texts):
 def versions():
     """The files that name a version, with that of the header: its number is the major one times 1000, and the minor one."""
     major, minor = divmod(int(re.search(r"^#define HONGPILAS_VERSION (\d+)$", header.read("include/hongpilas.h"), re.M)[1]), 1000)
-    for path, version in (("bindings/python/pyproject.toml", f"{major}.{minor}"), ("bindings/rust/Cargo.toml", f"{major}.{minor}.0"),
-                          ("bindings/rust/Cargo.lock", f"{major}.{minor}.0")):
-        yield path, re.sub(r'^version = "[\d.]+"$', f'version = "{version}"', header.read(path), flags=re.M)
+    full = f"{major}.{minor}.0"
+    for path, line, version in (
+        ("bindings/python/pyproject.toml", 'version = "%s"', full), ("bindings/python/src/hongpilas/__init__.py", '__version__ = "%s"', full),
+        ("bindings/python/src/hongpilas/_library.py", "MAJOR = %s", major), ("bindings/rust/Cargo.toml", 'version = "%s"', full),
+        ("bindings/rust/Cargo.lock", 'version = "%s"', full), ("bindings/rust/hongpilas/Cargo.toml", 'hongpilas-sys = { path = "../hongpilas-sys", version = "%s"', major),
+    ):
+        before, after = map(re.escape, line.split("%s"))
+        yield path, re.sub(rf"^{before}[\d.]+{after}", line % version, header.read(path), flags=re.M)
 
 
 def definitions(found):
@@ -378,7 +468,7 @@ def definitions(found):
 def faults():
     """Where a hand-written part is not that of the crates: refusals without a place in a wrapper."""
     named = re.findall(r"^    (\w+) = (\d+),", header.read("crates/ed_types/src/refusal.rt"), re.M)
-    for path, form in ((CPP, "  {name} = HONGPILAS_{capitals}"), ("bindings/rust/hongpilas/src/refusal.rs", "    {name} = {number},"),
+    for path, form in ((CPP, "  {name} = HONGPILAS_{capitals}"), ("bindings/rust/hongpilas/src/refusal.rs", "    {name} => HONGPILAS_{capitals},"),
                        ("bindings/python/src/hongpilas/_library.py", "    {capitals} = {number}\n")):
         text = header.read(path)
         for name, number in named:

@@ -1,42 +1,84 @@
-//! Finds the library for C, and has it linked. It is looked for in the folder that HONGPILAS_LIB_DIR names, by its whole path: cargo does
-//! not tell from which folder it was called. Without that variable it is looked for where `make` builds it, where the tarball
-//! has it, and where systems install it.
+//! Finds the library for C, and has it linked.
 use std::env;
 use std::path::{Path, PathBuf};
+use std::process::{exit, Command};
 
-const PLACES: [&str; 5] =
-    ["../../../out", "../../../lib", "/usr/local/lib", "/usr/lib/x86_64-linux-gnu", "/usr/lib"];
+/// Where `make` builds the library, where the tarball has it, and where systems install it.
+const PLACES: [&str; 5] = ["../../../out", "../../../lib", "/usr/local/lib", "/usr/lib/x86_64-linux-gnu", "/usr/lib"];
 
-fn places() -> Vec<PathBuf> {
-    let here = PathBuf::from(env::var_os("CARGO_MANIFEST_DIR").unwrap_or_default());
-    match env::var_os("HONGPILAS_LIB_DIR") {
-        Some(named) => vec![PathBuf::from(named)],
-        None => PLACES.iter().map(|place| here.join(place)).collect(),
+/// Ends the build, and says why.
+fn fail(why: &str) -> ! {
+    eprintln!("{why}");
+    exit(1)
+}
+
+/// Whether cargo builds with a feature, by the name of its variable.
+fn has_feature(name: &str) -> bool {
+    env::var_os(format!("CARGO_FEATURE_{name}")).is_some()
+}
+
+/// The folder that HONGPILAS_LIB_DIR names. Cargo does not tell from which folder it was called, so the name begins with a slash.
+fn named() -> Option<PathBuf> {
+    let named = PathBuf::from(env::var_os("HONGPILAS_LIB_DIR")?);
+    if named.is_relative() {
+        fail(&format!("HONGPILAS_LIB_DIR={} is relative: name the folder from / on", named.display()));
+    }
+    Some(named)
+}
+
+/// The folder that pkg-config says.
+fn by_pkg_config() -> PathBuf {
+    let major = env::var("CARGO_PKG_VERSION_MAJOR").unwrap_or_default();
+    let asked = Command::new(env::var_os("PKG_CONFIG").unwrap_or("pkg-config".into()))
+        .args(["--variable=libdir", &format!("hongpilas >= {major}")])
+        .output();
+    match asked {
+        Ok(told) if told.status.success() => PathBuf::from(String::from_utf8_lossy(&told.stdout).trim()),
+        Ok(told) => fail(&String::from_utf8_lossy(&told.stderr)),
+        Err(fault) => fail(&format!("pkg-config does not run: {fault}")),
     }
 }
 
-fn is_there(place: &Path) -> bool {
-    place.join("libhongpilas.a").is_file()
+fn places() -> Vec<PathBuf> {
+    if let Some(named) = named() {
+        return vec![named];
+    }
+    if has_feature("PKG_CONFIG") {
+        return vec![by_pkg_config()];
+    }
+    let here = PathBuf::from(env::var_os("CARGO_MANIFEST_DIR").unwrap_or_default());
+    PLACES.iter().map(|place| here.join(place)).collect()
+}
+
+/// Prints where the headers are, for the build scripts of crates that use this one: DEP_HONGPILAS_INCLUDE.
+fn tell_include(place: &Path) {
+    let include = place.join("../include");
+    if include.join("hongpilas.h").is_file() {
+        println!("cargo:include={}", include.display());
+    }
 }
 
 fn main() {
-    println!("cargo:rerun-if-env-changed=HONGPILAS_LIB_DIR");
-    if let Some(named) = env::var_os("HONGPILAS_LIB_DIR").filter(|named| Path::new(named).is_relative()) {
-        eprintln!("HONGPILAS_LIB_DIR={} is relative: name the folder from / on", named.to_string_lossy());
-        std::process::exit(1);
+    for name in ["HONGPILAS_LIB_DIR", "PKG_CONFIG", "PKG_CONFIG_PATH"] {
+        println!("cargo:rerun-if-env-changed={name}");
     }
-    let looked_in = places();
-    let Some(place) = looked_in.iter().find(|place| is_there(place)) else {
-        let list: Vec<String> = looked_in.iter().map(|place| place.display().to_string()).collect();
-        println!(
-            "cargo:warning=libhongpilas.a is not in {}; `make` builds it, and HONGPILAS_LIB_DIR names another folder",
-            list.join(", ")
-        );
-        // What only checks, as `cargo check` and `cargo doc`, wants no library. What links says that it is not there.
-        println!("cargo:rustc-link-lib=static=hongpilas");
+    let (kind, file) = if has_feature("DYNAMIC") { ("dylib", "libhongpilas.so") } else { ("static", "libhongpilas.a") };
+    println!("cargo:rustc-link-lib={kind}=hongpilas");
+    let places = places();
+    if let Some(place) = places.iter().find(|place| place.join(file).is_file()) {
+        println!("cargo:rerun-if-changed={}", place.join(file).display());
+        println!("cargo:rustc-link-search=native={}", place.display());
+        tell_include(place);
         return;
-    };
-    println!("cargo:rerun-if-changed={}", place.join("libhongpilas.a").display());
-    println!("cargo:rustc-link-search=native={}", place.display());
-    println!("cargo:rustc-link-lib=static=hongpilas");
+    }
+    // What only checks, such as `cargo check` and `cargo doc`, needs no library; what links says that it is not there. Once it is in one of these
+    // places, this runs again.
+    for place in &places {
+        println!("cargo:rerun-if-changed={}", place.join(file).display());
+    }
+    let list: Vec<String> = places.iter().map(|place| place.display().to_string()).collect();
+    println!(
+        "cargo:warning={file} is not in {}: build the library with `make`, or name the folder that has it in HONGPILAS_LIB_DIR",
+        list.join(", ")
+    );
 }

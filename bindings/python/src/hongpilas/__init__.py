@@ -14,5 +14,10 @@ from . import constants
 from ._library import Refusal
 from ._messages import Messages, Text
 from ._session import Limits, Note, Refused, Session, View, note_name
+from .constants import DocumentOption, EndOfLine, Find, FoldAction, FoldLevel, LineEndType, Modification, Notification, UndoFlag
 
-__all__ = ["Limits", "Messages", "Note", "Refusal", "Refused", "Session", "Text", "View", "constants", "note_name"]
+__version__ = "2.0.0"
+__all__ = [
+    "DocumentOption", "EndOfLine", "Find", "FoldAction", "FoldLevel", "Limits", "LineEndType", "Messages", "Modification", "Note", "Notification",
+    "Refusal", "Refused", "Session", "Text", "UndoFlag", "View", "constants", "note_name",
+]  # fmt: skip

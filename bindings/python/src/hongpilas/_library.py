@@ -1,18 +1,22 @@
-"""The calls of the library for C, by ctypes over the shared object that the package has, or the one that HONGPILAS names."""
+"""The calls of the library for C, by ctypes over its shared object."""
 from __future__ import annotations
 
 import ctypes
 import enum
+import operator
 import os
-from typing import Any
+from typing import Any, Union
 
 #: The major version of the interface.
-MAJOR = 1
+MAJOR = 2
 HERE = os.path.dirname(os.path.abspath(__file__))
+#: Where the shared object is: in the package; or, of a package that is used where it lies, where `make` builds it or where the tarball has it.
+PLACES = (HERE, os.path.join(HERE, "../../../../out"), os.path.join(HERE, "../../../../lib"))
+FILE = "libhongpilas.so"
 
 
 class Refusal(enum.IntEnum):
-    """Why a call is refused."""
+    """Why a call is refused. A number of a later library is one, too, without a name of its own."""
 
     OUT_OF_MEMORY = 1
     NO_SUCH_VIEW = 2
@@ -22,11 +26,13 @@ class Refusal(enum.IntEnum):
     BAD_ARGUMENT = 6
     TOO_MANY = 7
 
-
-class Handle(ctypes.Structure):
-    """A session: one word, which means nothing to the caller."""
-
-    _fields_ = [("at", ctypes.c_void_p)]
+    @classmethod
+    def _missing_(cls, value: object) -> Refusal:
+        if not isinstance(value, int) or value < 1:
+            raise ValueError(f"{value!r} is no refusal")
+        member = int.__new__(cls, value)
+        member._name_, member._value_ = f"REFUSAL_{value}", value
+        return member
 
 
 class LimitsInC(ctypes.Structure):
@@ -36,7 +42,7 @@ class LimitsInC(ctypes.Structure):
 
 
 class NoteInC(ctypes.Structure):
-    """What a view is told; hongpilas_note_data of the header."""
+    """A notification; hongpilas_note_data of the header."""
 
     _fields_ = [
         *((name, ctypes.c_uint32) for name in ("view", "code", "kind", "message")),
@@ -46,51 +52,84 @@ class NoteInC(ctypes.Structure):
     ]
 
 
-def lent(address: int | None, length: int) -> bytes:
-    """A copy of bytes that were lent."""
-    return ctypes.string_at(address, length) if length and address is not None else b""
-
-
-def whole(kind: Any, number: int) -> int:
-    """The number, which a call takes as this kind. Raises OverflowError where ctypes would cut it."""
-    if kind(number).value != number:
+def whole(number: int, least: int, most: int) -> int:
+    """The number, which a call takes if it is in a range. Raises OverflowError where ctypes would cut it, and TypeError of no whole number."""
+    number = operator.index(number)
+    if not least <= number <= most:
         raise OverflowError(f"{number} is out of range")
     return number
 
 
+def as_int64(number: int) -> int:
+    return whole(number, -0x8000000000000000, 0x7FFFFFFFFFFFFFFF)
+
+
+def as_uint32(number: int) -> int:
+    return whole(number, 0, 0xFFFFFFFF)
+
+
+def as_uint64(number: int) -> int:
+    return whole(number, 0, 0xFFFFFFFFFFFFFFFF)
+
+
+#: What a call takes as an address: that of a bytes object, or of an array.
+Address = Union[bytes, "ctypes.Array[ctypes.c_char]"]
+
+
+def address_of(text: bytes | memoryview) -> Address:
+    """What a call reads a text from: the object itself if that can be, else a copy."""
+    if isinstance(text, bytes):
+        return text
+    if not text.readonly:
+        return (ctypes.c_char * text.nbytes).from_buffer(text)
+    return text.obj if isinstance(text.obj, bytes) and len(text.obj) == text.nbytes else text.tobytes()
+
+
 def library() -> str:
-    """The path of the shared object. HONGPILAS names it from the caller's folder."""
+    """The path of the shared object: the one that HONGPILAS names from the caller's folder, or else the first that is there."""
     named = os.environ.get("HONGPILAS")
-    path = os.path.abspath(named) if named else os.path.join(HERE, "libhongpilas.so")
-    if named and not os.path.isfile(path):
-        raise ImportError(f"HONGPILAS names the shared object itself, as /usr/local/lib/libhongpilas.so: no file is at {path}")
-    return path
+    if named:
+        path = os.path.abspath(named)
+        if not os.path.isfile(path):
+            raise ImportError(f"HONGPILAS names the shared object itself, as /usr/local/lib/{FILE}: no file is at {path}")
+        return path
+    for place in PLACES:
+        path = os.path.abspath(os.path.join(place, FILE))
+        if os.path.isfile(path):
+            return path
+    raise ImportError(f"{FILE} is not in the package: build it with `make` at the top of the repository, or name one in HONGPILAS")
 
 
 def load() -> Any:
     """The shared object, with the types of its calls."""
     lib = ctypes.CDLL(library())
-    word, size, number = ctypes.POINTER(Handle), ctypes.c_size_t, ctypes.c_int64
-    address, view = ctypes.POINTER(ctypes.c_void_p), ctypes.c_uint32
+    session, size, number, view = ctypes.c_void_p, ctypes.c_size_t, ctypes.c_int64, ctypes.c_uint32
+    address, to_size, to_number = ctypes.POINTER(ctypes.c_void_p), ctypes.POINTER(size), ctypes.POINTER(number)
     types: dict[str, tuple[Any, list[Any]]] = {
         "version": (view, []),
-        "new_with_limits": (view, [word, ctypes.POINTER(LimitsInC)]),
-        "free": (None, [Handle]),
-        "new_view": (view, [word, ctypes.POINTER(view)]),
-        "close_view": (view, [word, view]),
-        "send": (view, [word, view, view, number, number, ctypes.c_char_p, size, ctypes.POINTER(number)]),
-        "value": (number, [word]),
-        "text": (size, [word, address]),
-        "note_count": (size, [word]),
-        "note": (ctypes.c_bool, [word, size, ctypes.POINTER(NoteInC)]),
-        "lend_range": (view, [word, view, size, size, address]),
-        "refusal_name": (size, [view, address]),
+        "new_with_limits": (view, [address, ctypes.POINTER(LimitsInC), size]),
+        "free": (None, [session]),
+        "new_view": (view, [session, ctypes.POINTER(view)]),
+        "close_view": (view, [session, view]),
+        "send": (view, [session, view, view, number, number, ctypes.c_void_p, size, to_number]),
+        "ask": (view, [session, view, view, number, number, to_number]),
+        "read": (view, [session, view, view, number, number, address, to_size, to_number]),
+        "value": (view, [session, to_number]),
+        "text": (view, [session, address, to_size]),
+        "note_count": (view, [session, to_size]),
+        "note": (view, [session, size, ctypes.POINTER(NoteInC), size]),
+        "lend_range": (view, [session, view, size, size, address]),
+        "answer_name": (ctypes.c_char_p, [view]),
+        "note_name": (ctypes.c_char_p, [view]),
     }
     for name, (result, arguments) in types.items():
-        function = getattr(lib, "hongpilas_" + name)
+        # A library of another major version may lack a call, and is named as what it is.
+        function = getattr(lib, "hongpilas_" + name, None)
+        if function is None:
+            continue
         function.restype, function.argtypes = result, arguments
     if lib.hongpilas_version() // 1000 != MAJOR:
-        raise ImportError(f"the shared object has version {lib.hongpilas_version()} of the interface, and this package wants {MAJOR}000 and later ones")
+        raise ImportError(f"the shared object has version {lib.hongpilas_version()} of the interface, and this package needs {MAJOR}000 to {MAJOR}999")
     return lib
 
 
@@ -98,7 +137,6 @@ LIB = load()
 
 
 def name_of(answer: int) -> str:
-    """The name of a refusal, as `no such view`."""
-    name = ctypes.c_void_p()
-    length = LIB.hongpilas_refusal_name(answer, name)
-    return lent(name.value, length).decode()
+    """The name of a refusal, such as `no such view`."""
+    name: bytes = LIB.hongpilas_answer_name(answer)
+    return name.decode()

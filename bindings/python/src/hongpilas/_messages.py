@@ -9,14 +9,19 @@ from . import constants
 Text = Union[bytes, bytearray, memoryview, str]
 
 
-def as_bytes(text: Text) -> bytes:
-    """The bytes of a text that is sent. Raises TypeError where it is no text: bytes() would make NULs of a number, and bytes of a list."""
+def as_bytes(text: Text) -> bytes | memoryview:
+    """The bytes of a text that is sent, without a copy if it is bytes-like and contiguous. Raises TypeError if it is no text: bytes() would make NULs of
+    a number, and bytes of a list.
+    """
+    if isinstance(text, bytes):
+        return text
     if isinstance(text, str):
         return text.encode()
     try:
-        return memoryview(text).tobytes()
+        view = memoryview(text)
     except TypeError:
         raise TypeError(f"a text is a str or a bytes-like object, and not {type(text).__name__}") from None
+    return view.cast("B") if view.nbytes and view.c_contiguous else view.tobytes()
 
 
 class Messages:
@@ -26,11 +31,15 @@ class Messages:
     """
 
     def send(self, number: int, w: int = 0, l: int = 0, text: Text = b"") -> int:
-        """Sends any message, and returns its value. The message table says what w, l and the text stand for."""
+        """Sends any message, and returns its value. The message table says what w, l and the text mean."""
         raise NotImplementedError
 
-    def text(self) -> bytes:
-        """The text that the last message handed out."""
+    def ask(self, number: int, w: int = 0, l: int = 0) -> int:
+        """Asks any question, and returns its value."""
+        raise NotImplementedError
+
+    def read(self, number: int, w: int = 0, l: int = 0) -> bytes:
+        """Asks any question that returns a text, and returns that."""
         raise NotImplementedError
 
     # Written by tools/pages/wrappers.py: begin
@@ -53,23 +62,23 @@ class Messages:
 
     def get_length(self) -> int:
         """Returns the length of the text. Message: `SCI_GETLENGTH`."""
-        return self.send(constants.SCI_GETLENGTH)
+        return self.ask(constants.SCI_GETLENGTH)
 
     def get_char_at(self, position: int) -> int:
         """Returns the byte at `position`, 0 to 255, or 0 if there is none. Message: `SCI_GETCHARAT`."""
-        return self.send(constants.SCI_GETCHARAT, position)
+        return self.ask(constants.SCI_GETCHARAT, position)
 
     def get_current_pos(self) -> int:
         """Returns the position of the caret. Message: `SCI_GETCURRENTPOS`."""
-        return self.send(constants.SCI_GETCURRENTPOS)
+        return self.ask(constants.SCI_GETCURRENTPOS)
 
     def get_anchor(self) -> int:
         """Returns the position of the anchor. Message: `SCI_GETANCHOR`."""
-        return self.send(constants.SCI_GETANCHOR)
+        return self.ask(constants.SCI_GETANCHOR)
 
     def get_style_at(self, position: int) -> int:
         """Returns the style of the byte at `position`, or 0 if there is none. Message: `SCI_GETSTYLEAT`."""
-        return self.send(constants.SCI_GETSTYLEAT, position)
+        return self.ask(constants.SCI_GETSTYLEAT, position)
 
     def redo(self) -> None:
         """Performs again the transaction that was undone last. Does nothing inside a group, or if there is no
@@ -95,24 +104,23 @@ class Messages:
         self.send(constants.SCI_SETSAVEPOINT)
 
     def get_styled_text(self, start: int, end: int) -> bytes:
-        """Returns each byte from `start` to `end`, followed by its style; the reply's value is the number of bytes
-        returned. Raises `Refused` with `Refusal.BAD_ARGUMENT` unless `start` and `end` are a range of the text;
-        an `end` of -1 is its end. Message: `SCI_GETSTYLEDTEXT`.
+        """Returns each byte from `start` to `end`, followed by its style; the value, which `ask` returns, is the
+        number of bytes returned. Raises `Refused` with `Refusal.BAD_ARGUMENT` unless `start` and `end` are a
+        range of the text; an `end` of -1 is its end. Message: `SCI_GETSTYLEDTEXT`.
         """
-        self.send(constants.SCI_GETSTYLEDTEXT, start, end)
-        return self.text()
+        return self.read(constants.SCI_GETSTYLEDTEXT, start, end)
 
     def can_redo(self) -> bool:
         """Returns whether `redo` would change something: no group is open, the document is not read-only, and
         there is a transaction to redo. Message: `SCI_CANREDO`.
         """
-        return self.send(constants.SCI_CANREDO) != 0
+        return self.ask(constants.SCI_CANREDO) != 0
 
     def marker_line_from_handle(self, handle: int) -> int:
         """Returns the line of the marker with `handle`, or -1 if there is none. Message:
         `SCI_MARKERLINEFROMHANDLE`.
         """
-        return self.send(constants.SCI_MARKERLINEFROMHANDLE, handle)
+        return self.ask(constants.SCI_MARKERLINEFROMHANDLE, handle)
 
     def marker_delete_handle(self, handle: int) -> None:
         """Removes the marker with `handle`. If there is one, sends SCN_MODIFIED (`SC_MOD_CHANGEMARKER`). Message:
@@ -122,7 +130,7 @@ class Messages:
 
     def get_undo_collection(self) -> bool:
         """Returns whether undo is collected. Message: `SCI_GETUNDOCOLLECTION`."""
-        return self.send(constants.SCI_GETUNDOCOLLECTION) != 0
+        return self.ask(constants.SCI_GETUNDOCOLLECTION) != 0
 
     def goto_line(self, line: int) -> None:
         """Moves anchor and caret to the start of line `line`; a negative number stands for the first line, one
@@ -139,15 +147,14 @@ class Messages:
         self.send(constants.SCI_SETANCHOR, position)
 
     def get_cur_line(self) -> bytes:
-        """Returns the caret's line with its line end; the reply's value is the caret's distance from the line's
-        start, in bytes. Message: `SCI_GETCURLINE`.
+        """Returns the caret's line with its line end; the value, which `ask` returns, is the caret's distance from
+        the line's start, in bytes. Message: `SCI_GETCURLINE`.
         """
-        self.send(constants.SCI_GETCURLINE)
-        return self.text()
+        return self.read(constants.SCI_GETCURLINE)
 
     def get_end_styled(self) -> int:
         """Returns end styled: the position up to which the document is styled. Message: `SCI_GETENDSTYLED`."""
-        return self.send(constants.SCI_GETENDSTYLED)
+        return self.ask(constants.SCI_GETENDSTYLED)
 
     def convert_eols(self, mode: int) -> None:
         """Turns each CRLF, CR and LF of the text into one line end: `SC_EOL_CRLF` 0, `SC_EOL_CR` 1 or `SC_EOL_LF`
@@ -158,7 +165,7 @@ class Messages:
 
     def get_eol_mode(self) -> int:
         """Returns the document's line end: `SC_EOL_CRLF`, `SC_EOL_CR` or `SC_EOL_LF`. Message: `SCI_GETEOLMODE`."""
-        return self.send(constants.SCI_GETEOLMODE)
+        return self.ask(constants.SCI_GETEOLMODE)
 
     def set_eol_mode(self, mode: int) -> None:
         """Sets the document's line end: `SC_EOL_CRLF` 0, `SC_EOL_CR` 1 or `SC_EOL_LF` 2. Raises `Refused` with
@@ -206,19 +213,19 @@ class Messages:
         """Returns the mask of the markers of line `line`: bit k is set if it has one with number k; 0 if there is
         no such line. Message: `SCI_MARKERGET`.
         """
-        return self.send(constants.SCI_MARKERGET, line)
+        return self.ask(constants.SCI_MARKERGET, line)
 
     def marker_next(self, line: int, mask: int) -> int:
         """Returns the first line from `line` on that has a marker whose bit is set in the low 32 bits of `mask`,
         or -1. Message: `SCI_MARKERNEXT`.
         """
-        return self.send(constants.SCI_MARKERNEXT, line, mask)
+        return self.ask(constants.SCI_MARKERNEXT, line, mask)
 
     def marker_previous(self, line: int, mask: int) -> int:
         """Returns the last line up to `line` that has a marker whose bit is set in the low 32 bits of `mask`, or
         -1. Message: `SCI_MARKERPREVIOUS`.
         """
-        return self.send(constants.SCI_MARKERPREVIOUS, line, mask)
+        return self.ask(constants.SCI_MARKERPREVIOUS, line, mask)
 
     def set_styling_ex(self, styles: Text) -> None:
         """Gives each byte from end styled on the style that `styles` has for it, and moves end styled after the
@@ -248,17 +255,17 @@ class Messages:
 
     def get_line_state(self, line: int) -> int:
         """Returns the state of line `line`, or 0 if there is no such line. Message: `SCI_GETLINESTATE`."""
-        return self.send(constants.SCI_GETLINESTATE, line)
+        return self.ask(constants.SCI_GETLINESTATE, line)
 
     def get_line_end_position(self, line: int) -> int:
         """Returns where the line end of line `line` begins; the text's length from the last line on; -1 if `line`
         is negative. Message: `SCI_GETLINEENDPOSITION`.
         """
-        return self.send(constants.SCI_GETLINEENDPOSITION, line)
+        return self.ask(constants.SCI_GETLINEENDPOSITION, line)
 
     def get_read_only(self) -> bool:
         """Returns whether the document is read-only. Message: `SCI_GETREADONLY`."""
-        return self.send(constants.SCI_GETREADONLY) != 0
+        return self.ask(constants.SCI_GETREADONLY) != 0
 
     def set_current_pos(self, position: int) -> None:
         """Moves the caret to `position` (clamped to the text); the anchor stays. Message: `SCI_SETCURRENTPOS`."""
@@ -272,7 +279,7 @@ class Messages:
 
     def get_selection_start(self) -> int:
         """Returns the selection's start: the lesser of anchor and caret. Message: `SCI_GETSELECTIONSTART`."""
-        return self.send(constants.SCI_GETSELECTIONSTART)
+        return self.ask(constants.SCI_GETSELECTIONSTART)
 
     def set_selection_end(self, position: int) -> None:
         """Moves the caret to `position` (clamped to the text); if the anchor is after it, moves the anchor there
@@ -282,22 +289,21 @@ class Messages:
 
     def get_selection_end(self) -> int:
         """Returns the selection's end: the greater of anchor and caret. Message: `SCI_GETSELECTIONEND`."""
-        return self.send(constants.SCI_GETSELECTIONEND)
+        return self.ask(constants.SCI_GETSELECTIONEND)
 
     def get_line(self, line: int) -> bytes:
-        """Returns line `line` with its line end; the reply's value is its length. If there is no such line, the
-        text is empty and the value 0. Message: `SCI_GETLINE`.
+        """Returns line `line` with its line end; the value, which `ask` returns, is its length. If there is no
+        such line, the text is empty and the value 0. Message: `SCI_GETLINE`.
         """
-        self.send(constants.SCI_GETLINE, line)
-        return self.text()
+        return self.read(constants.SCI_GETLINE, line)
 
     def get_line_count(self) -> int:
         """Returns the number of lines, which is at least 1. Message: `SCI_GETLINECOUNT`."""
-        return self.send(constants.SCI_GETLINECOUNT)
+        return self.ask(constants.SCI_GETLINECOUNT)
 
     def get_modify(self) -> bool:
         """Returns whether the document is modified, that is, not at its save point. Message: `SCI_GETMODIFY`."""
-        return self.send(constants.SCI_GETMODIFY) != 0
+        return self.ask(constants.SCI_GETMODIFY) != 0
 
     def set_sel(self, anchor: int, caret: int) -> None:
         """Moves the anchor to `anchor` and the caret to `caret` (both clamped to the text). A negative `caret`
@@ -307,27 +313,25 @@ class Messages:
         self.send(constants.SCI_SETSEL, anchor, caret)
 
     def get_sel_text(self) -> bytes:
-        """Returns the selected text; the reply's value is its length. Message: `SCI_GETSELTEXT`."""
-        self.send(constants.SCI_GETSELTEXT)
-        return self.text()
+        """Returns the selected text; the value, which `ask` returns, is its length. Message: `SCI_GETSELTEXT`."""
+        return self.read(constants.SCI_GETSELTEXT)
 
     def get_text_range(self, start: int, end: int) -> bytes:
-        """Returns the text from `start` to `end`; the reply's value is its length. Raises `Refused` with
-        `Refusal.BAD_ARGUMENT` unless `start` and `end` are a range of the text; an `end` of -1 is its end.
+        """Returns the text from `start` to `end`; the value, which `ask` returns, is its length. Raises `Refused`
+        with `Refusal.BAD_ARGUMENT` unless `start` and `end` are a range of the text; an `end` of -1 is its end.
         Message: `SCI_GETTEXTRANGE`.
         """
-        self.send(constants.SCI_GETTEXTRANGE, start, end)
-        return self.text()
+        return self.read(constants.SCI_GETTEXTRANGE, start, end)
 
     def line_from_position(self, position: int) -> int:
         """Returns the line that contains `position` (clamped to the text). Message: `SCI_LINEFROMPOSITION`."""
-        return self.send(constants.SCI_LINEFROMPOSITION, position)
+        return self.ask(constants.SCI_LINEFROMPOSITION, position)
 
     def position_from_line(self, line: int) -> int:
         """Returns the start of line `line`. A negative number stands for the line of the selection's start; the
         number of lines gives the text's length, and a greater number -1. Message: `SCI_POSITIONFROMLINE`.
         """
-        return self.send(constants.SCI_POSITIONFROMLINE, line)
+        return self.ask(constants.SCI_POSITIONFROMLINE, line)
 
     def replace_sel(self, text: Text) -> None:
         """Replaces the selection by `text`, and moves anchor and caret to the end of the inserted text. Message:
@@ -341,13 +345,13 @@ class Messages:
 
     def can_paste(self) -> bool:
         """Returns whether text can be pasted: whether the document is not read-only. Message: `SCI_CANPASTE`."""
-        return self.send(constants.SCI_CANPASTE) != 0
+        return self.ask(constants.SCI_CANPASTE) != 0
 
     def can_undo(self) -> bool:
         """Returns whether `undo` would change something: no group is open, the document is not read-only, and
         there is a transaction to undo. Message: `SCI_CANUNDO`.
         """
-        return self.send(constants.SCI_CANUNDO) != 0
+        return self.ask(constants.SCI_CANUNDO) != 0
 
     def empty_undo_buffer(self) -> None:
         """Forgets the history, closes all groups, and makes the current state the save point. No view is notified.
@@ -389,13 +393,12 @@ class Messages:
         self.send(constants.SCI_SETTEXT, 0, 0, text)
 
     def get_text(self) -> bytes:
-        """Returns the whole text; the reply's value is its length. Message: `SCI_GETTEXT`."""
-        self.send(constants.SCI_GETTEXT)
-        return self.text()
+        """Returns the whole text; the value, which `ask` returns, is its length. Message: `SCI_GETTEXT`."""
+        return self.read(constants.SCI_GETTEXT)
 
     def get_text_length(self) -> int:
         """Returns the length of the text. Message: `SCI_GETTEXTLENGTH`."""
-        return self.send(constants.SCI_GETTEXTLENGTH)
+        return self.ask(constants.SCI_GETTEXTLENGTH)
 
     def set_target_start(self, position: int) -> None:
         """Sets the target's start to `position` (clamped to the text). Message: `SCI_SETTARGETSTART`."""
@@ -403,7 +406,7 @@ class Messages:
 
     def get_target_start(self) -> int:
         """Returns the target's start. Message: `SCI_GETTARGETSTART`."""
-        return self.send(constants.SCI_GETTARGETSTART)
+        return self.ask(constants.SCI_GETTARGETSTART)
 
     def set_target_end(self, position: int) -> None:
         """Sets the target's end to `position` (clamped to the text). Message: `SCI_SETTARGETEND`."""
@@ -411,7 +414,7 @@ class Messages:
 
     def get_target_end(self) -> int:
         """Returns the target's end. Message: `SCI_GETTARGETEND`."""
-        return self.send(constants.SCI_GETTARGETEND)
+        return self.ask(constants.SCI_GETTARGETEND)
 
     def replace_target(self, text: Text) -> int:
         """Replaces the text between the target's ends by `text`, makes the inserted text the target, and returns
@@ -437,19 +440,19 @@ class Messages:
 
     def get_search_flags(self) -> int:
         """Returns the view's search flags. Message: `SCI_GETSEARCHFLAGS`."""
-        return self.send(constants.SCI_GETSEARCHFLAGS)
+        return self.ask(constants.SCI_GETSEARCHFLAGS)
 
     def visible_from_doc_line(self, line: int) -> int:
         """Returns the display line of line `line`; for a hidden line that of the last visible line before it; -1
         if there is no such line. Message: `SCI_VISIBLEFROMDOCLINE`.
         """
-        return self.send(constants.SCI_VISIBLEFROMDOCLINE, line)
+        return self.ask(constants.SCI_VISIBLEFROMDOCLINE, line)
 
     def doc_line_from_visible(self, display_line: int) -> int:
         """Returns the line at display line `display_line`; 0 if that is negative, and the number of lines if it is
         past the last. Message: `SCI_DOCLINEFROMVISIBLE`.
         """
-        return self.send(constants.SCI_DOCLINEFROMVISIBLE, display_line)
+        return self.ask(constants.SCI_DOCLINEFROMVISIBLE, display_line)
 
     def set_fold_level(self, line: int, level: int) -> None:
         """Sets the fold level of line `line`, if there is such a line. If the level changed, sends SCN_MODIFIED
@@ -462,7 +465,7 @@ class Messages:
         """Returns the fold level of line `line`, or 1024 (`SC_FOLDLEVELBASE`) if there is no such line. Message:
         `SCI_GETFOLDLEVEL`.
         """
-        return self.send(constants.SCI_GETFOLDLEVEL, line)
+        return self.ask(constants.SCI_GETFOLDLEVEL, line)
 
     def get_last_child(self, line: int, level: int) -> int:
         """Returns the last child of line `line`: the line before the next one whose level number is at most that
@@ -470,13 +473,13 @@ class Messages:
         document; -1 if line `line` does not exist. Raises `Refused` with `Refusal.BAD_ARGUMENT` unless `level`
         is -1 to 2^31-1. Message: `SCI_GETLASTCHILD`.
         """
-        return self.send(constants.SCI_GETLASTCHILD, line, level)
+        return self.ask(constants.SCI_GETLASTCHILD, line, level)
 
     def get_fold_parent(self, line: int) -> int:
         """Returns the fold parent of line `line`: the nearest earlier header with a smaller level number; -1 if
         there is none, or no such line. Message: `SCI_GETFOLDPARENT`.
         """
-        return self.send(constants.SCI_GETFOLDPARENT, line)
+        return self.ask(constants.SCI_GETFOLDPARENT, line)
 
     def show_lines(self, first: int, last: int) -> None:
         """Makes the lines from `first` to `last` visible, as far as they exist. Message: `SCI_SHOWLINES`."""
@@ -488,7 +491,7 @@ class Messages:
 
     def get_line_visible(self, line: int) -> bool:
         """Returns whether line `line` is visible; False if there is no such line. Message: `SCI_GETLINEVISIBLE`."""
-        return self.send(constants.SCI_GETLINEVISIBLE, line) != 0
+        return self.ask(constants.SCI_GETLINEVISIBLE, line) != 0
 
     def set_fold_expanded(self, line: int, on: bool) -> None:
         """Sets whether line `line` is expanded, if there is such a line; shows and hides nothing. Message:
@@ -498,7 +501,7 @@ class Messages:
 
     def get_fold_expanded(self, line: int) -> bool:
         """Returns whether line `line` is expanded; False if there is no such line. Message: `SCI_GETFOLDEXPANDED`."""
-        return self.send(constants.SCI_GETFOLDEXPANDED, line) != 0
+        return self.ask(constants.SCI_GETFOLDEXPANDED, line) != 0
 
     def toggle_fold(self, line: int) -> None:
         """Contracts line `line` if it is an expanded header, and expands it if it is a contracted one; if it is no
@@ -515,7 +518,7 @@ class Messages:
 
     def get_all_lines_visible(self) -> bool:
         """Returns whether all lines are visible. Message: `SCI_GETALLLINESVISIBLE`."""
-        return self.send(constants.SCI_GETALLLINESVISIBLE) != 0
+        return self.ask(constants.SCI_GETALLLINESVISIBLE) != 0
 
     def fold_line(self, line: int, action: int) -> None:
         """Contracts, expands or toggles line `line` if it is a header, else its fold parent; does nothing without
@@ -605,11 +608,11 @@ class Messages:
         """Returns the length of line `line` with its line end, or 0 if there is no such line. Message:
         `SCI_LINELENGTH`.
         """
-        return self.send(constants.SCI_LINELENGTH, line)
+        return self.ask(constants.SCI_LINELENGTH, line)
 
     def get_doc_pointer(self) -> int:
         """Returns the id of the view's document. Message: `SCI_GETDOCPOINTER`."""
-        return self.send(constants.SCI_GETDOCPOINTER)
+        return self.ask(constants.SCI_GETDOCPOINTER)
 
     def set_doc_pointer(self, document: int) -> None:
         """Attaches the view to `document`, or to a new document if that is 0. That document gains a reference, and
@@ -653,25 +656,25 @@ class Messages:
         """Returns the view's mask: the kinds of SCN_MODIFIED that it is subscribed to. Message:
         `SCI_GETMODEVENTMASK`.
         """
-        return self.send(constants.SCI_GETMODEVENTMASK)
+        return self.ask(constants.SCI_GETMODEVENTMASK)
 
     def get_document_options(self) -> int:
         """Returns the options of the view's document: 0, or made of `SC_DOCUMENTOPTION_STYLES_NONE` and
         `SC_DOCUMENTOPTION_TEXT_LARGE`. Message: `SCI_GETDOCUMENTOPTIONS`.
         """
-        return self.send(constants.SCI_GETDOCUMENTOPTIONS)
+        return self.ask(constants.SCI_GETDOCUMENTOPTIONS)
 
     def position_before(self, position: int) -> int:
         """Returns the last character boundary before `position` (clamped to the text), or 0. Message:
         `SCI_POSITIONBEFORE`.
         """
-        return self.send(constants.SCI_POSITIONBEFORE, position)
+        return self.ask(constants.SCI_POSITIONBEFORE, position)
 
     def position_after(self, position: int) -> int:
         """Returns the first character boundary after `position` (clamped to the text), or the text's length.
         Message: `SCI_POSITIONAFTER`.
         """
-        return self.send(constants.SCI_POSITIONAFTER, position)
+        return self.ask(constants.SCI_POSITIONAFTER, position)
 
     def copy_range(self, start: int, end: int) -> None:
         """Makes the text from `start` to `end` the clipboard, even if that is empty. Raises `Refused` with
@@ -699,7 +702,7 @@ class Messages:
 
     def get_paste_convert_endings(self) -> bool:
         """Returns whether this view converts line ends in what it pastes. Message: `SCI_GETPASTECONVERTENDINGS`."""
-        return self.send(constants.SCI_GETPASTECONVERTENDINGS) != 0
+        return self.ask(constants.SCI_GETPASTECONVERTENDINGS) != 0
 
     def set_indicator_current(self, number: int) -> None:
         """Sets the view's current indicator. Raises `Refused` with `Refusal.BAD_ARGUMENT` unless `number` is 0 to
@@ -709,7 +712,7 @@ class Messages:
 
     def get_indicator_current(self) -> int:
         """Returns the view's current indicator. Message: `SCI_GETINDICATORCURRENT`."""
-        return self.send(constants.SCI_GETINDICATORCURRENT)
+        return self.ask(constants.SCI_GETINDICATORCURRENT)
 
     def set_indicator_value(self, value: int) -> None:
         """Sets the value that this view fills in; 0 stands for 1. Raises `Refused` with `Refusal.BAD_ARGUMENT`
@@ -719,7 +722,7 @@ class Messages:
 
     def get_indicator_value(self) -> int:
         """Returns the value that this view fills in. Message: `SCI_GETINDICATORVALUE`."""
-        return self.send(constants.SCI_GETINDICATORVALUE)
+        return self.ask(constants.SCI_GETINDICATORVALUE)
 
     def indicator_fill_range(self, start: int, length: int) -> None:
         """Gives the view's current indicator the view's value over the `length` bytes from `start` on. If a value
@@ -739,27 +742,27 @@ class Messages:
         """Returns a mask in which bit k is set if indicator k is not 0 at the byte at `position`; 0 if there is no
         such byte. Message: `SCI_INDICATORALLONFOR`.
         """
-        return self.send(constants.SCI_INDICATORALLONFOR, position)
+        return self.ask(constants.SCI_INDICATORALLONFOR, position)
 
     def indicator_value_at(self, number: int, position: int) -> int:
         """Returns the value of indicator `number` at the byte at `position`, or 0 if there is no such byte. Raises
         `Refused` with `Refusal.BAD_ARGUMENT` unless `number` is 0 to 31. Message: `SCI_INDICATORVALUEAT`.
         """
-        return self.send(constants.SCI_INDICATORVALUEAT, number, position)
+        return self.ask(constants.SCI_INDICATORVALUEAT, number, position)
 
     def indicator_start(self, number: int, position: int) -> int:
         """Returns the start of the longest run of one value of indicator `number` around the byte at `position`; 0
         if there is no such byte. Raises `Refused` with `Refusal.BAD_ARGUMENT` unless `number` is 0 to 31.
         Message: `SCI_INDICATORSTART`.
         """
-        return self.send(constants.SCI_INDICATORSTART, number, position)
+        return self.ask(constants.SCI_INDICATORSTART, number, position)
 
     def indicator_end(self, number: int, position: int) -> int:
         """Returns the end of the longest run of one value of indicator `number` around the byte at `position`: the
         place after its last byte; 0 if there is no such byte. Raises `Refused` with `Refusal.BAD_ARGUMENT`
         unless `number` is 0 to 31. Message: `SCI_INDICATOREND`.
         """
-        return self.send(constants.SCI_INDICATOREND, number, position)
+        return self.ask(constants.SCI_INDICATOREND, number, position)
 
     def set_empty_selection(self, position: int) -> None:
         """Moves anchor and caret to `position` (clamped to the text). Message: `SCI_SETEMPTYSELECTION`."""
@@ -781,7 +784,7 @@ class Messages:
 
     def get_selection_empty(self) -> bool:
         """Returns whether the selection is empty. Message: `SCI_GETSELECTIONEMPTY`."""
-        return self.send(constants.SCI_GETSELECTIONEMPTY) != 0
+        return self.ask(constants.SCI_GETSELECTIONEMPTY) != 0
 
     def set_line_end_types_allowed(self, types: int) -> None:
         """Sets which line ends the document allows, also if it is read-only: `SC_LINE_END_TYPE_DEFAULT` 0, or
@@ -795,13 +798,13 @@ class Messages:
         """Returns which line ends the document allows: `SC_LINE_END_TYPE_DEFAULT` or `SC_LINE_END_TYPE_UNICODE`.
         Message: `SCI_GETLINEENDTYPESALLOWED`.
         """
-        return self.send(constants.SCI_GETLINEENDTYPESALLOWED)
+        return self.ask(constants.SCI_GETLINEENDTYPESALLOWED)
 
     def get_line_end_types_active(self) -> int:
         """Returns which line ends divide the text: those that the document allows, `SC_LINE_END_TYPE_DEFAULT` or
         `SC_LINE_END_TYPE_UNICODE`. Message: `SCI_GETLINEENDTYPESACTIVE`.
         """
-        return self.send(constants.SCI_GETLINEENDTYPESACTIVE)
+        return self.ask(constants.SCI_GETLINEENDTYPESACTIVE)
 
     def set_target_range(self, start: int, end: int) -> None:
         """Sets the target's start to `start` and its end to `end` (both clamped to the text). Message:
@@ -810,11 +813,10 @@ class Messages:
         self.send(constants.SCI_SETTARGETRANGE, start, end)
 
     def get_target_text(self) -> bytes:
-        """Returns the text between the target's ends, whichever is the lesser; the reply's value is its length.
-        Message: `SCI_GETTARGETTEXT`.
+        """Returns the text between the target's ends, whichever is the lesser; the value, which `ask` returns, is
+        its length. Message: `SCI_GETTARGETTEXT`.
         """
-        self.send(constants.SCI_GETTARGETTEXT)
-        return self.text()
+        return self.read(constants.SCI_GETTARGETTEXT)
 
     def target_whole_document(self) -> None:
         """Sets the target's start to 0 and its end to the end of the text. Message: `SCI_TARGETWHOLEDOCUMENT`."""

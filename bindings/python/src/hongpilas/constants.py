@@ -1,4 +1,110 @@
-"""Scintilla's names and numbers, as far as the profile has them."""
+"""Scintilla's names and numbers, as far as the profile has them: as constants by Scintilla's names, and of those that belong together as enumerations."""
+from __future__ import annotations
+
+import enum
+
+
+class OpenEnum(enum.IntEnum):
+    """An enumeration that a later library may have more of: a number without a name is one, too."""
+
+    @classmethod
+    def _missing_(cls, value: object) -> OpenEnum:
+        if not isinstance(value, int):
+            raise ValueError(f"{value!r} is no {cls.__name__}")
+        member = int.__new__(cls, value)
+        member._name_, member._value_ = f"{cls.__name__.upper()}_{value}", value
+        return member
+
+
+# Written by tools/pages/wrappers.py: begin enumerations
+class Notification(OpenEnum):
+    """The code of a notification."""
+
+    STYLENEEDED = 2000
+    SAVEPOINTREACHED = 2002
+    SAVEPOINTLEFT = 2003
+    MODIFYATTEMPTRO = 2004
+    MODIFIED = 2008
+    MACRORECORD = 2009
+
+
+class Modification(enum.IntFlag):
+    """The kind of a notification SCN_MODIFIED, and masks of such kinds."""
+
+    INSERTTEXT = 0x1
+    DELETETEXT = 0x2
+    CHANGESTYLE = 0x4
+    CHANGEFOLD = 0x8
+    PERFORMED_USER = 0x10
+    PERFORMED_UNDO = 0x20
+    PERFORMED_REDO = 0x40
+    MULTISTEPUNDOREDO = 0x80
+    LASTSTEPINUNDOREDO = 0x100
+    CHANGEMARKER = 0x200
+    BEFOREINSERT = 0x400
+    BEFOREDELETE = 0x800
+    MULTILINEUNDOREDO = 0x1000
+    STARTACTION = 0x2000
+    CHANGEINDICATOR = 0x4000
+    CHANGELINESTATE = 0x8000
+    CONTAINER = 0x40000
+
+
+class EndOfLine(OpenEnum):
+    """A mode of line ends."""
+
+    CRLF = 0
+    CR = 1
+    LF = 2
+
+
+class LineEndType(enum.IntFlag):
+    """Types of line ends beside CR, LF and CRLF."""
+
+    DEFAULT = 0x0
+    UNICODE = 0x1
+
+
+class Find(enum.IntFlag):
+    """Flags of a search."""
+
+    WHOLEWORD = 0x2
+    MATCHCASE = 0x4
+    WORDSTART = 0x100000
+
+
+class FoldLevel(enum.IntFlag):
+    """Parts of a fold level."""
+
+    BASE = 0x400
+    NUMBERMASK = 0xFFF
+    WHITEFLAG = 0x1000
+    HEADERFLAG = 0x2000
+
+
+class FoldAction(OpenEnum):
+    """What becomes of a fold."""
+
+    CONTRACT = 0
+    EXPAND = 1
+    TOGGLE = 2
+
+
+class DocumentOption(enum.IntFlag):
+    """Options of a new document."""
+
+    STYLES_NONE = 0x1
+    TEXT_LARGE = 0x100
+
+
+class UndoFlag(enum.IntFlag):
+    """Flags of a container's own undo step."""
+
+    NONE = 0x0
+    MAY_COALESCE = 0x1
+
+
+# Written by tools/pages/wrappers.py: end enumerations
 
 # Written by tools/pages/wrappers.py: begin
 # Messages.
@@ -148,49 +254,49 @@ SCI_STOPRECORD = 3002
 SCI_COLOURISE = 4003
 
 # Notes.
-SCN_STYLENEEDED = 2000
-SCN_SAVEPOINTREACHED = 2002
-SCN_SAVEPOINTLEFT = 2003
-SCN_MODIFYATTEMPTRO = 2004
-SCN_MODIFIED = 2008
-SCN_MACRORECORD = 2009
+SCN_STYLENEEDED = Notification.STYLENEEDED
+SCN_SAVEPOINTREACHED = Notification.SAVEPOINTREACHED
+SCN_SAVEPOINTLEFT = Notification.SAVEPOINTLEFT
+SCN_MODIFYATTEMPTRO = Notification.MODIFYATTEMPTRO
+SCN_MODIFIED = Notification.MODIFIED
+SCN_MACRORECORD = Notification.MACRORECORD
 
 # Constants.
-SCFIND_MATCHCASE = 4
-SCFIND_WHOLEWORD = 2
-SCFIND_WORDSTART = 0x100000
-SC_DOCUMENTOPTION_STYLES_NONE = 1
-SC_DOCUMENTOPTION_TEXT_LARGE = 0x100
-SC_EOL_CR = 1
-SC_EOL_CRLF = 0
-SC_EOL_LF = 2
-SC_FOLDACTION_CONTRACT = 0
-SC_FOLDACTION_EXPAND = 1
-SC_FOLDACTION_TOGGLE = 2
-SC_FOLDLEVELBASE = 0x400
-SC_FOLDLEVELHEADERFLAG = 0x2000
-SC_FOLDLEVELNUMBERMASK = 4095
-SC_FOLDLEVELWHITEFLAG = 4096
-SC_LASTSTEPINUNDOREDO = 0x100
-SC_LINE_END_TYPE_DEFAULT = 0
-SC_LINE_END_TYPE_UNICODE = 1
+SCFIND_MATCHCASE = Find.MATCHCASE
+SCFIND_WHOLEWORD = Find.WHOLEWORD
+SCFIND_WORDSTART = Find.WORDSTART
+SC_DOCUMENTOPTION_STYLES_NONE = DocumentOption.STYLES_NONE
+SC_DOCUMENTOPTION_TEXT_LARGE = DocumentOption.TEXT_LARGE
+SC_EOL_CR = EndOfLine.CR
+SC_EOL_CRLF = EndOfLine.CRLF
+SC_EOL_LF = EndOfLine.LF
+SC_FOLDACTION_CONTRACT = FoldAction.CONTRACT
+SC_FOLDACTION_EXPAND = FoldAction.EXPAND
+SC_FOLDACTION_TOGGLE = FoldAction.TOGGLE
+SC_FOLDLEVELBASE = FoldLevel.BASE
+SC_FOLDLEVELHEADERFLAG = FoldLevel.HEADERFLAG
+SC_FOLDLEVELNUMBERMASK = FoldLevel.NUMBERMASK
+SC_FOLDLEVELWHITEFLAG = FoldLevel.WHITEFLAG
+SC_LASTSTEPINUNDOREDO = Modification.LASTSTEPINUNDOREDO
+SC_LINE_END_TYPE_DEFAULT = LineEndType.DEFAULT
+SC_LINE_END_TYPE_UNICODE = LineEndType.UNICODE
 SC_MODEVENTMASKALL = 0x7FFFFF
-SC_MOD_BEFOREDELETE = 2048
-SC_MOD_BEFOREINSERT = 0x400
-SC_MOD_CHANGEFOLD = 8
-SC_MOD_CHANGEINDICATOR = 0x4000
-SC_MOD_CHANGELINESTATE = 0x8000
-SC_MOD_CHANGEMARKER = 0x200
-SC_MOD_CHANGESTYLE = 4
-SC_MOD_CONTAINER = 0x40000
-SC_MOD_DELETETEXT = 2
-SC_MOD_INSERTTEXT = 1
-SC_MULTILINEUNDOREDO = 4096
-SC_MULTISTEPUNDOREDO = 0x80
-SC_PERFORMED_REDO = 0x40
-SC_PERFORMED_UNDO = 0x20
-SC_PERFORMED_USER = 0x10
-SC_STARTACTION = 0x2000
-UNDO_MAY_COALESCE = 1
-UNDO_NONE = 0
+SC_MOD_BEFOREDELETE = Modification.BEFOREDELETE
+SC_MOD_BEFOREINSERT = Modification.BEFOREINSERT
+SC_MOD_CHANGEFOLD = Modification.CHANGEFOLD
+SC_MOD_CHANGEINDICATOR = Modification.CHANGEINDICATOR
+SC_MOD_CHANGELINESTATE = Modification.CHANGELINESTATE
+SC_MOD_CHANGEMARKER = Modification.CHANGEMARKER
+SC_MOD_CHANGESTYLE = Modification.CHANGESTYLE
+SC_MOD_CONTAINER = Modification.CONTAINER
+SC_MOD_DELETETEXT = Modification.DELETETEXT
+SC_MOD_INSERTTEXT = Modification.INSERTTEXT
+SC_MULTILINEUNDOREDO = Modification.MULTILINEUNDOREDO
+SC_MULTISTEPUNDOREDO = Modification.MULTISTEPUNDOREDO
+SC_PERFORMED_REDO = Modification.PERFORMED_REDO
+SC_PERFORMED_UNDO = Modification.PERFORMED_UNDO
+SC_PERFORMED_USER = Modification.PERFORMED_USER
+SC_STARTACTION = Modification.STARTACTION
+UNDO_MAY_COALESCE = UndoFlag.MAY_COALESCE
+UNDO_NONE = UndoFlag.NONE
 # Written by tools/pages/wrappers.py: end

@@ -137,7 +137,7 @@ def spelled(text: bytes) -> str:
 def printed_note(note: Note) -> str:
     first = (note.view, note.code, note.kind, note.position, note.length, note.lines, note.line)
     rest = (note.now, note.prev, note.token, note.message, note.w, note.l)
-    return f"@ {' '.join(map(str, first + rest))} {spelled(note.text)}"
+    return f"@ {' '.join(str(int(number)) for number in first + rest)} {spelled(note.text)}"
 
 
 class Runner:

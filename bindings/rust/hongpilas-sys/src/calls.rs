@@ -1,6 +1,7 @@
 //! The calls, structs and answers of `hongpilas.h`.
 
-use crate::{hongpilas, hongpilas_answer};
+use crate::{hongpilas_answer, hongpilas_session};
+use core::ffi::{c_char, c_void};
 
 // Written by tools/pages/wrappers.py: begin
 pub const HONGPILAS_VERSION: u32 = 2000;
@@ -21,8 +22,17 @@ pub const HONGPILAS_BAD_ARGUMENT: hongpilas_answer = 6;
 /// Handles, ids, references, the depth of groups or open views are used up.
 pub const HONGPILAS_TOO_MANY: hongpilas_answer = 7;
 
+/// The mark Q of a message: a question: it changes nothing.
+pub const HONGPILAS_MARK_Q: u32 = 1;
+/// The mark N of a message: it allocates no memory, unless it is recorded.
+pub const HONGPILAS_MARK_N: u32 = 2;
+/// The mark E of a message: it edits the text.
+pub const HONGPILAS_MARK_E: u32 = 4;
+/// The mark R of a message: a view that records is notified of it.
+pub const HONGPILAS_MARK_R: u32 = 8;
+
 #[repr(C)]
-#[derive(Clone, Copy, Debug)]
+#[derive(Clone, Copy, Debug, PartialEq, Eq, Hash)]
 pub struct hongpilas_limits {
     /// Bytes of a document: 0x7FFFFFFF.
     pub doc_bytes: u64,
@@ -41,7 +51,7 @@ pub struct hongpilas_limits {
 }
 
 #[repr(C)]
-#[derive(Clone, Copy, Debug)]
+#[derive(Clone, Copy, Debug, PartialEq, Eq, Hash)]
 pub struct hongpilas_note_data {
     /// The view that is notified.
     pub view: u32,
@@ -87,8 +97,139 @@ pub const HONGPILAS_GREATEST_LIMITS: hongpilas_limits = hongpilas_limits {
 
 extern "C" {
     pub fn hongpilas_version() -> u32;
+    pub fn hongpilas_answer_name(answer: hongpilas_answer) -> *const c_char;
+    pub fn hongpilas_message_name(number: u32) -> *const c_char;
+    pub fn hongpilas_note_name(code: u32) -> *const c_char;
     pub fn hongpilas_message_marks(number: u32) -> u32;
+    #[must_use]
+    pub fn hongpilas_new(session: *mut *mut hongpilas_session) -> hongpilas_answer;
+    #[must_use]
+    pub fn hongpilas_new_with_limits(
+        session: *mut *mut hongpilas_session,
+        limits: *const hongpilas_limits,
+        size: usize,
+    ) -> hongpilas_answer;
     pub fn hongpilas_free(session: *mut hongpilas_session);
+    #[must_use]
+    pub fn hongpilas_new_view(session: *mut hongpilas_session, view: *mut u32) -> hongpilas_answer;
+    #[must_use]
+    pub fn hongpilas_close_view(session: *mut hongpilas_session, view: u32) -> hongpilas_answer;
+    #[must_use]
+    pub fn hongpilas_send(
+        session: *mut hongpilas_session,
+        view: u32,
+        number: u32,
+        w: i64,
+        l: i64,
+        text: *const c_void,
+        length: usize,
+        value: *mut i64,
+    ) -> hongpilas_answer;
+    #[must_use]
+    pub fn hongpilas_ask(
+        session: *const hongpilas_session,
+        view: u32,
+        number: u32,
+        w: i64,
+        l: i64,
+        value: *mut i64,
+    ) -> hongpilas_answer;
+    #[must_use]
+    pub fn hongpilas_read(
+        session: *mut hongpilas_session,
+        view: u32,
+        number: u32,
+        w: i64,
+        l: i64,
+        text: *mut *const u8,
+        length: *mut usize,
+        value: *mut i64,
+    ) -> hongpilas_answer;
+    #[must_use]
+    pub fn hongpilas_value(session: *const hongpilas_session, value: *mut i64) -> hongpilas_answer;
+    #[must_use]
+    pub fn hongpilas_text(
+        session: *const hongpilas_session,
+        text: *mut *const u8,
+        length: *mut usize,
+    ) -> hongpilas_answer;
+    #[must_use]
+    pub fn hongpilas_copy_text(
+        session: *const hongpilas_session,
+        start: usize,
+        into: *mut c_void,
+        room: usize,
+        count: *mut usize,
+    ) -> hongpilas_answer;
+    #[must_use]
+    pub fn hongpilas_note_count(session: *const hongpilas_session, count: *mut usize) -> hongpilas_answer;
+    #[must_use]
+    pub fn hongpilas_note(
+        session: *const hongpilas_session,
+        index: usize,
+        note: *mut hongpilas_note_data,
+        size: usize,
+    ) -> hongpilas_answer;
+    #[must_use]
+    pub fn hongpilas_copy_note_text(
+        session: *const hongpilas_session,
+        index: usize,
+        start: usize,
+        into: *mut c_void,
+        room: usize,
+        count: *mut usize,
+    ) -> hongpilas_answer;
+    #[must_use]
+    pub fn hongpilas_lend_range(
+        session: *mut hongpilas_session,
+        view: u32,
+        start: usize,
+        count: usize,
+        bytes: *mut *const u8,
+    ) -> hongpilas_answer;
+    #[must_use]
+    pub fn hongpilas_copy_range(
+        session: *mut hongpilas_session,
+        view: u32,
+        start: usize,
+        into: *mut c_void,
+        count: usize,
+    ) -> hongpilas_answer;
+    #[must_use]
+    pub fn hongpilas_new_view_unchecked(session: *mut hongpilas_session, view: *mut u32) -> hongpilas_answer;
+    #[must_use]
+    pub fn hongpilas_close_view_unchecked(session: *mut hongpilas_session, view: u32) -> hongpilas_answer;
+    #[must_use]
+    pub fn hongpilas_send_unchecked(
+        session: *mut hongpilas_session,
+        view: u32,
+        number: u32,
+        w: i64,
+        l: i64,
+        text: *const u8,
+        length: usize,
+        value: *mut i64,
+    ) -> hongpilas_answer;
+    #[must_use]
+    pub fn hongpilas_ask_unchecked(
+        session: *const hongpilas_session,
+        view: u32,
+        number: u32,
+        w: i64,
+        l: i64,
+        value: *mut i64,
+    ) -> hongpilas_answer;
+    #[must_use]
+    pub fn hongpilas_read_unchecked(
+        session: *mut hongpilas_session,
+        view: u32,
+        number: u32,
+        w: i64,
+        l: i64,
+        text: *mut *const u8,
+        length: *mut usize,
+        value: *mut i64,
+    ) -> hongpilas_answer;
     pub fn hongpilas_value_unchecked(session: *const hongpilas_session) -> i64;
     pub fn hongpilas_text_unchecked(session: *const hongpilas_session, text: *mut *const u8) -> usize;
     pub fn hongpilas_copy_text_unchecked(
@@ -110,5 +251,21 @@ extern "C" {
         into: *mut u8,
         room: usize,
     ) -> usize;
+    #[must_use]
+    pub fn hongpilas_lend_range_unchecked(
+        session: *mut hongpilas_session,
+        view: u32,
+        start: usize,
+        count: usize,
+        bytes: *mut *const u8,
+    ) -> hongpilas_answer;
+    #[must_use]
+    pub fn hongpilas_copy_range_unchecked(
+        session: *mut hongpilas_session,
+        view: u32,
+        start: usize,
+        into: *mut u8,
+        count: usize,
+    ) -> hongpilas_answer;
 }
 // Written by tools/pages/wrappers.py: end

@@ -1,5 +1,4 @@
-//! The calls of Hongpilas, as its header `hongpilas.h` has them, which says what each does and what the caller owes. The crate `hongpilas`
-//! stands on them; it has sessions, views and methods for messages, and keeps what the caller owes by its types.
+#![doc = include_str!("../README.md")]
 #![no_std]
 #![allow(non_camel_case_types)]
 
@@ -9,13 +8,15 @@ pub mod constants;
 pub use calls::*;
 pub use constants::*;
 
-use core::ffi::c_void;
+use core::marker::{PhantomData, PhantomPinned};
 
-/// A session. One word, which means nothing to the caller. It is no `Copy`: a session has one owner.
+/// A session, of which a program has only the address.
 #[repr(C)]
 #[derive(Debug)]
-pub struct hongpilas {
-    pub at: *mut c_void,
+pub struct hongpilas_session {
+    nothing: [u8; 0],
+    // It moves by no value, and no thread is promised anything.
+    marker: PhantomData<(*mut u8, PhantomPinned)>,
 }
 
 /// What a call answers: [`HONGPILAS_DONE`], or the number of a refusal.

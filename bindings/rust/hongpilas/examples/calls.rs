@@ -1,9 +1,10 @@
 //! Calls each method once. `bindings/check` has it linked with a library that prints what it is sent.
-use hongpilas::{Refusal, Session};
+use hongpilas::{DocumentId, Refusal, Session};
 
 fn main() -> Result<(), Refusal> {
     let mut session = Session::new()?;
-    let mut view = session.new_view()?;
+    let view = session.new_view()?;
+    let mut view = session.view_mut(view);
     // Written by tools/pages/wrappers.py: begin
     view.add_text("ab")?;
     view.insert_text(11, "ab")?;
@@ -112,11 +113,11 @@ fn main() -> Result<(), Refusal> {
     view.new_line()?;
     view.line_length(11)?;
     view.get_doc_pointer()?;
-    view.set_doc_pointer(12)?;
+    view.set_doc_pointer(DocumentId::from(12))?;
     view.set_mod_event_mask(11)?;
     view.create_document(11, 12)?;
-    view.add_ref_document(12)?;
-    view.release_document(12)?;
+    view.add_ref_document(DocumentId::from(12))?;
+    view.release_document(DocumentId::from(12))?;
     view.get_mod_event_mask()?;
     view.get_document_options()?;
     view.position_before(11)?;

@@ -1,6 +1,6 @@
 //! The messages of the profile, as methods of a view.
 
-use crate::{Refusal, View};
+use crate::{DocumentId, Refusal, View, ViewMut};
 use hongpilas_sys as sys;
 
 /// The length of a text, as an argument. No text is longer than `i64::MAX`.
@@ -8,10 +8,365 @@ fn length_of(text: &[u8]) -> i64 {
     text.len() as i64
 }
 
-/// Messages. Positions, lengths and lines are in bytes and lines, and count from 0. An argument outside the range that a sentence
+/// Questions, which change nothing. Positions, lengths and lines are in bytes and lines, and count from 0. An argument outside the range that a sentence
 /// states is refused as [`Refusal::BadArgument`].
 impl View<'_> {
-    // Written by tools/pages/wrappers.py: begin
+    // Written by tools/pages/wrappers.py: begin questions
+    /// Returns the length of the text. Message: `SCI_GETLENGTH`.
+    pub fn get_length(&self) -> Result<i64, Refusal> {
+        self.ask(sys::SCI_GETLENGTH, 0, 0)
+    }
+
+    /// Returns the byte at `position`, 0 to 255, or 0 if there is none. Message:
+    /// `SCI_GETCHARAT`.
+    pub fn get_char_at(&self, position: i64) -> Result<i64, Refusal> {
+        self.ask(sys::SCI_GETCHARAT, position, 0)
+    }
+
+    /// Returns the position of the caret. Message: `SCI_GETCURRENTPOS`.
+    pub fn get_current_pos(&self) -> Result<i64, Refusal> {
+        self.ask(sys::SCI_GETCURRENTPOS, 0, 0)
+    }
+
+    /// Returns the position of the anchor. Message: `SCI_GETANCHOR`.
+    pub fn get_anchor(&self) -> Result<i64, Refusal> {
+        self.ask(sys::SCI_GETANCHOR, 0, 0)
+    }
+
+    /// Returns the style of the byte at `position`, or 0 if there is none. Message:
+    /// `SCI_GETSTYLEAT`.
+    pub fn get_style_at(&self, position: i64) -> Result<i64, Refusal> {
+        self.ask(sys::SCI_GETSTYLEAT, position, 0)
+    }
+
+    /// Returns each byte from `start` to `end`, followed by its style; the value, which `ask`
+    /// returns, is the number of bytes returned. Refused with [`Refusal::BadArgument`] unless
+    /// `start` and `end` are a range of the text; an `end` of -1 is its end. Message:
+    /// `SCI_GETSTYLEDTEXT`.
+    pub fn get_styled_text(&self, start: i64, end: i64) -> Result<Vec<u8>, Refusal> {
+        self.read(sys::SCI_GETSTYLEDTEXT, start, end)
+    }
+
+    /// Returns whether `redo` would change something: no group is open, the document is not
+    /// read-only, and there is a transaction to redo. Message: `SCI_CANREDO`.
+    pub fn can_redo(&self) -> Result<bool, Refusal> {
+        self.ask_flag(sys::SCI_CANREDO, 0, 0)
+    }
+
+    /// Returns the line of the marker with `handle`, or -1 if there is none. Message:
+    /// `SCI_MARKERLINEFROMHANDLE`.
+    pub fn marker_line_from_handle(&self, handle: i64) -> Result<i64, Refusal> {
+        self.ask(sys::SCI_MARKERLINEFROMHANDLE, handle, 0)
+    }
+
+    /// Returns whether undo is collected. Message: `SCI_GETUNDOCOLLECTION`.
+    pub fn get_undo_collection(&self) -> Result<bool, Refusal> {
+        self.ask_flag(sys::SCI_GETUNDOCOLLECTION, 0, 0)
+    }
+
+    /// Returns the caret's line with its line end; the value, which `ask` returns, is the
+    /// caret's distance from the line's start, in bytes. Message: `SCI_GETCURLINE`.
+    pub fn get_cur_line(&self) -> Result<Vec<u8>, Refusal> {
+        self.read(sys::SCI_GETCURLINE, 0, 0)
+    }
+
+    /// Returns end styled: the position up to which the document is styled. Message:
+    /// `SCI_GETENDSTYLED`.
+    pub fn get_end_styled(&self) -> Result<i64, Refusal> {
+        self.ask(sys::SCI_GETENDSTYLED, 0, 0)
+    }
+
+    /// Returns the document's line end: `SC_EOL_CRLF`, `SC_EOL_CR` or `SC_EOL_LF`. Message:
+    /// `SCI_GETEOLMODE`.
+    pub fn get_eol_mode(&self) -> Result<i64, Refusal> {
+        self.ask(sys::SCI_GETEOLMODE, 0, 0)
+    }
+
+    /// Returns the mask of the markers of line `line`: bit k is set if it has one with number
+    /// k; 0 if there is no such line. Message: `SCI_MARKERGET`.
+    pub fn marker_get(&self, line: i64) -> Result<i64, Refusal> {
+        self.ask(sys::SCI_MARKERGET, line, 0)
+    }
+
+    /// Returns the first line from `line` on that has a marker whose bit is set in the low 32
+    /// bits of `mask`, or -1. Message: `SCI_MARKERNEXT`.
+    pub fn marker_next(&self, line: i64, mask: i64) -> Result<i64, Refusal> {
+        self.ask(sys::SCI_MARKERNEXT, line, mask)
+    }
+
+    /// Returns the last line up to `line` that has a marker whose bit is set in the low 32 bits
+    /// of `mask`, or -1. Message: `SCI_MARKERPREVIOUS`.
+    pub fn marker_previous(&self, line: i64, mask: i64) -> Result<i64, Refusal> {
+        self.ask(sys::SCI_MARKERPREVIOUS, line, mask)
+    }
+
+    /// Returns the state of line `line`, or 0 if there is no such line. Message:
+    /// `SCI_GETLINESTATE`.
+    pub fn get_line_state(&self, line: i64) -> Result<i64, Refusal> {
+        self.ask(sys::SCI_GETLINESTATE, line, 0)
+    }
+
+    /// Returns where the line end of line `line` begins; the text's length from the last line
+    /// on; -1 if `line` is negative. Message: `SCI_GETLINEENDPOSITION`.
+    pub fn get_line_end_position(&self, line: i64) -> Result<i64, Refusal> {
+        self.ask(sys::SCI_GETLINEENDPOSITION, line, 0)
+    }
+
+    /// Returns whether the document is read-only. Message: `SCI_GETREADONLY`.
+    pub fn get_read_only(&self) -> Result<bool, Refusal> {
+        self.ask_flag(sys::SCI_GETREADONLY, 0, 0)
+    }
+
+    /// Returns the selection's start: the lesser of anchor and caret. Message:
+    /// `SCI_GETSELECTIONSTART`.
+    pub fn get_selection_start(&self) -> Result<i64, Refusal> {
+        self.ask(sys::SCI_GETSELECTIONSTART, 0, 0)
+    }
+
+    /// Returns the selection's end: the greater of anchor and caret. Message:
+    /// `SCI_GETSELECTIONEND`.
+    pub fn get_selection_end(&self) -> Result<i64, Refusal> {
+        self.ask(sys::SCI_GETSELECTIONEND, 0, 0)
+    }
+
+    /// Returns line `line` with its line end; the value, which `ask` returns, is its length. If
+    /// there is no such line, the text is empty and the value 0. Message: `SCI_GETLINE`.
+    pub fn get_line(&self, line: i64) -> Result<Vec<u8>, Refusal> {
+        self.read(sys::SCI_GETLINE, line, 0)
+    }
+
+    /// Returns the number of lines, which is at least 1. Message: `SCI_GETLINECOUNT`.
+    pub fn get_line_count(&self) -> Result<i64, Refusal> {
+        self.ask(sys::SCI_GETLINECOUNT, 0, 0)
+    }
+
+    /// Returns whether the document is modified, that is, not at its save point. Message:
+    /// `SCI_GETMODIFY`.
+    pub fn get_modify(&self) -> Result<bool, Refusal> {
+        self.ask_flag(sys::SCI_GETMODIFY, 0, 0)
+    }
+
+    /// Returns the selected text; the value, which `ask` returns, is its length. Message:
+    /// `SCI_GETSELTEXT`.
+    pub fn get_sel_text(&self) -> Result<Vec<u8>, Refusal> {
+        self.read(sys::SCI_GETSELTEXT, 0, 0)
+    }
+
+    /// Returns the text from `start` to `end`; the value, which `ask` returns, is its length.
+    /// Refused with [`Refusal::BadArgument`] unless `start` and `end` are a range of the text;
+    /// an `end` of -1 is its end. Message: `SCI_GETTEXTRANGE`.
+    pub fn get_text_range(&self, start: i64, end: i64) -> Result<Vec<u8>, Refusal> {
+        self.read(sys::SCI_GETTEXTRANGE, start, end)
+    }
+
+    /// Returns the line that contains `position` (clamped to the text). Message:
+    /// `SCI_LINEFROMPOSITION`.
+    pub fn line_from_position(&self, position: i64) -> Result<i64, Refusal> {
+        self.ask(sys::SCI_LINEFROMPOSITION, position, 0)
+    }
+
+    /// Returns the start of line `line`. A negative number stands for the line of the
+    /// selection's start; the number of lines gives the text's length, and a greater number -1.
+    /// Message: `SCI_POSITIONFROMLINE`.
+    pub fn position_from_line(&self, line: i64) -> Result<i64, Refusal> {
+        self.ask(sys::SCI_POSITIONFROMLINE, line, 0)
+    }
+
+    /// Returns whether text can be pasted: whether the document is not read-only. Message:
+    /// `SCI_CANPASTE`.
+    pub fn can_paste(&self) -> Result<bool, Refusal> {
+        self.ask_flag(sys::SCI_CANPASTE, 0, 0)
+    }
+
+    /// Returns whether `undo` would change something: no group is open, the document is not
+    /// read-only, and there is a transaction to undo. Message: `SCI_CANUNDO`.
+    pub fn can_undo(&self) -> Result<bool, Refusal> {
+        self.ask_flag(sys::SCI_CANUNDO, 0, 0)
+    }
+
+    /// Returns the whole text; the value, which `ask` returns, is its length. Message:
+    /// `SCI_GETTEXT`.
+    pub fn get_text(&self) -> Result<Vec<u8>, Refusal> {
+        self.read(sys::SCI_GETTEXT, 0, 0)
+    }
+
+    /// Returns the length of the text. Message: `SCI_GETTEXTLENGTH`.
+    pub fn get_text_length(&self) -> Result<i64, Refusal> {
+        self.ask(sys::SCI_GETTEXTLENGTH, 0, 0)
+    }
+
+    /// Returns the target's start. Message: `SCI_GETTARGETSTART`.
+    pub fn get_target_start(&self) -> Result<i64, Refusal> {
+        self.ask(sys::SCI_GETTARGETSTART, 0, 0)
+    }
+
+    /// Returns the target's end. Message: `SCI_GETTARGETEND`.
+    pub fn get_target_end(&self) -> Result<i64, Refusal> {
+        self.ask(sys::SCI_GETTARGETEND, 0, 0)
+    }
+
+    /// Returns the view's search flags. Message: `SCI_GETSEARCHFLAGS`.
+    pub fn get_search_flags(&self) -> Result<i64, Refusal> {
+        self.ask(sys::SCI_GETSEARCHFLAGS, 0, 0)
+    }
+
+    /// Returns the display line of line `line`; for a hidden line that of the last visible line
+    /// before it; -1 if there is no such line. Message: `SCI_VISIBLEFROMDOCLINE`.
+    pub fn visible_from_doc_line(&self, line: i64) -> Result<i64, Refusal> {
+        self.ask(sys::SCI_VISIBLEFROMDOCLINE, line, 0)
+    }
+
+    /// Returns the line at display line `display_line`; 0 if that is negative, and the number
+    /// of lines if it is past the last. Message: `SCI_DOCLINEFROMVISIBLE`.
+    pub fn doc_line_from_visible(&self, display_line: i64) -> Result<i64, Refusal> {
+        self.ask(sys::SCI_DOCLINEFROMVISIBLE, display_line, 0)
+    }
+
+    /// Returns the fold level of line `line`, or 1024 (`SC_FOLDLEVELBASE`) if there is no such
+    /// line. Message: `SCI_GETFOLDLEVEL`.
+    pub fn get_fold_level(&self, line: i64) -> Result<i64, Refusal> {
+        self.ask(sys::SCI_GETFOLDLEVEL, line, 0)
+    }
+
+    /// Returns the last child of line `line`: the line before the next one whose level number
+    /// is at most that of `level`, or that of line `line` if `level` is -1; without such a next
+    /// line, the last line of the document; -1 if line `line` does not exist. Refused with
+    /// [`Refusal::BadArgument`] unless `level` is -1 to 2^31-1. Message: `SCI_GETLASTCHILD`.
+    pub fn get_last_child(&self, line: i64, level: i64) -> Result<i64, Refusal> {
+        self.ask(sys::SCI_GETLASTCHILD, line, level)
+    }
+
+    /// Returns the fold parent of line `line`: the nearest earlier header with a smaller level
+    /// number; -1 if there is none, or no such line. Message: `SCI_GETFOLDPARENT`.
+    pub fn get_fold_parent(&self, line: i64) -> Result<i64, Refusal> {
+        self.ask(sys::SCI_GETFOLDPARENT, line, 0)
+    }
+
+    /// Returns whether line `line` is visible; false if there is no such line. Message:
+    /// `SCI_GETLINEVISIBLE`.
+    pub fn get_line_visible(&self, line: i64) -> Result<bool, Refusal> {
+        self.ask_flag(sys::SCI_GETLINEVISIBLE, line, 0)
+    }
+
+    /// Returns whether line `line` is expanded; false if there is no such line. Message:
+    /// `SCI_GETFOLDEXPANDED`.
+    pub fn get_fold_expanded(&self, line: i64) -> Result<bool, Refusal> {
+        self.ask_flag(sys::SCI_GETFOLDEXPANDED, line, 0)
+    }
+
+    /// Returns whether all lines are visible. Message: `SCI_GETALLLINESVISIBLE`.
+    pub fn get_all_lines_visible(&self) -> Result<bool, Refusal> {
+        self.ask_flag(sys::SCI_GETALLLINESVISIBLE, 0, 0)
+    }
+
+    /// Returns the length of line `line` with its line end, or 0 if there is no such line.
+    /// Message: `SCI_LINELENGTH`.
+    pub fn line_length(&self, line: i64) -> Result<i64, Refusal> {
+        self.ask(sys::SCI_LINELENGTH, line, 0)
+    }
+
+    /// Returns the id of the view's document. Message: `SCI_GETDOCPOINTER`.
+    pub fn get_doc_pointer(&self) -> Result<DocumentId, Refusal> {
+        self.ask_document(sys::SCI_GETDOCPOINTER, 0, 0)
+    }
+
+    /// Returns the view's mask: the kinds of SCN_MODIFIED that it is subscribed to. Message:
+    /// `SCI_GETMODEVENTMASK`.
+    pub fn get_mod_event_mask(&self) -> Result<i64, Refusal> {
+        self.ask(sys::SCI_GETMODEVENTMASK, 0, 0)
+    }
+
+    /// Returns the options of the view's document: 0, or made of
+    /// `SC_DOCUMENTOPTION_STYLES_NONE` and `SC_DOCUMENTOPTION_TEXT_LARGE`. Message:
+    /// `SCI_GETDOCUMENTOPTIONS`.
+    pub fn get_document_options(&self) -> Result<i64, Refusal> {
+        self.ask(sys::SCI_GETDOCUMENTOPTIONS, 0, 0)
+    }
+
+    /// Returns the last character boundary before `position` (clamped to the text), or 0.
+    /// Message: `SCI_POSITIONBEFORE`.
+    pub fn position_before(&self, position: i64) -> Result<i64, Refusal> {
+        self.ask(sys::SCI_POSITIONBEFORE, position, 0)
+    }
+
+    /// Returns the first character boundary after `position` (clamped to the text), or the
+    /// text's length. Message: `SCI_POSITIONAFTER`.
+    pub fn position_after(&self, position: i64) -> Result<i64, Refusal> {
+        self.ask(sys::SCI_POSITIONAFTER, position, 0)
+    }
+
+    /// Returns whether this view converts line ends in what it pastes. Message:
+    /// `SCI_GETPASTECONVERTENDINGS`.
+    pub fn get_paste_convert_endings(&self) -> Result<bool, Refusal> {
+        self.ask_flag(sys::SCI_GETPASTECONVERTENDINGS, 0, 0)
+    }
+
+    /// Returns the view's current indicator. Message: `SCI_GETINDICATORCURRENT`.
+    pub fn get_indicator_current(&self) -> Result<i64, Refusal> {
+        self.ask(sys::SCI_GETINDICATORCURRENT, 0, 0)
+    }
+
+    /// Returns the value that this view fills in. Message: `SCI_GETINDICATORVALUE`.
+    pub fn get_indicator_value(&self) -> Result<i64, Refusal> {
+        self.ask(sys::SCI_GETINDICATORVALUE, 0, 0)
+    }
+
+    /// Returns a mask in which bit k is set if indicator k is not 0 at the byte at `position`;
+    /// 0 if there is no such byte. Message: `SCI_INDICATORALLONFOR`.
+    pub fn indicator_all_on_for(&self, position: i64) -> Result<i64, Refusal> {
+        self.ask(sys::SCI_INDICATORALLONFOR, position, 0)
+    }
+
+    /// Returns the value of indicator `number` at the byte at `position`, or 0 if there is no
+    /// such byte. Refused with [`Refusal::BadArgument`] unless `number` is 0 to 31. Message:
+    /// `SCI_INDICATORVALUEAT`.
+    pub fn indicator_value_at(&self, number: i64, position: i64) -> Result<i64, Refusal> {
+        self.ask(sys::SCI_INDICATORVALUEAT, number, position)
+    }
+
+    /// Returns the start of the longest run of one value of indicator `number` around the byte
+    /// at `position`; 0 if there is no such byte. Refused with [`Refusal::BadArgument`] unless
+    /// `number` is 0 to 31. Message: `SCI_INDICATORSTART`.
+    pub fn indicator_start(&self, number: i64, position: i64) -> Result<i64, Refusal> {
+        self.ask(sys::SCI_INDICATORSTART, number, position)
+    }
+
+    /// Returns the end of the longest run of one value of indicator `number` around the byte at
+    /// `position`: the place after its last byte; 0 if there is no such byte. Refused with
+    /// [`Refusal::BadArgument`] unless `number` is 0 to 31. Message: `SCI_INDICATOREND`.
+    pub fn indicator_end(&self, number: i64, position: i64) -> Result<i64, Refusal> {
+        self.ask(sys::SCI_INDICATOREND, number, position)
+    }
+
+    /// Returns whether the selection is empty. Message: `SCI_GETSELECTIONEMPTY`.
+    pub fn get_selection_empty(&self) -> Result<bool, Refusal> {
+        self.ask_flag(sys::SCI_GETSELECTIONEMPTY, 0, 0)
+    }
+
+    /// Returns which line ends the document allows: `SC_LINE_END_TYPE_DEFAULT` or
+    /// `SC_LINE_END_TYPE_UNICODE`. Message: `SCI_GETLINEENDTYPESALLOWED`.
+    pub fn get_line_end_types_allowed(&self) -> Result<i64, Refusal> {
+        self.ask(sys::SCI_GETLINEENDTYPESALLOWED, 0, 0)
+    }
+
+    /// Returns which line ends divide the text: those that the document allows,
+    /// `SC_LINE_END_TYPE_DEFAULT` or `SC_LINE_END_TYPE_UNICODE`. Message:
+    /// `SCI_GETLINEENDTYPESACTIVE`.
+    pub fn get_line_end_types_active(&self) -> Result<i64, Refusal> {
+        self.ask(sys::SCI_GETLINEENDTYPESACTIVE, 0, 0)
+    }
+
+    /// Returns the text between the target's ends, whichever is the lesser; the value, which
+    /// `ask` returns, is its length. Message: `SCI_GETTARGETTEXT`.
+    pub fn get_target_text(&self) -> Result<Vec<u8>, Refusal> {
+        self.read(sys::SCI_GETTARGETTEXT, 0, 0)
+    }
+    // Written by tools/pages/wrappers.py: end questions
+}
+
+/// All other messages, and the texts of questions without a copy.
+impl ViewMut<'_> {
+    // Written by tools/pages/wrappers.py: begin messages
     /// Inserts `text` at the caret, and moves anchor and caret to the end of the inserted text.
     /// An empty `text` moves the anchor to the caret. Message: `SCI_ADDTEXT`.
     pub fn add_text(&mut self, text: impl AsRef<[u8]>) -> Result<(), Refusal> {
@@ -29,33 +384,6 @@ impl View<'_> {
     /// Deletes the whole text. Message: `SCI_CLEARALL`.
     pub fn clear_all(&mut self) -> Result<(), Refusal> {
         self.as_done(sys::SCI_CLEARALL, 0, 0, &[])
-    }
-
-    /// Returns the length of the text. Message: `SCI_GETLENGTH`.
-    pub fn get_length(&self) -> Result<i64, Refusal> {
-        self.as_number(sys::SCI_GETLENGTH, 0, 0, &[])
-    }
-
-    /// Returns the byte at `position`, 0 to 255, or 0 if there is none. Message:
-    /// `SCI_GETCHARAT`.
-    pub fn get_char_at(&self, position: i64) -> Result<i64, Refusal> {
-        self.as_number(sys::SCI_GETCHARAT, position, 0, &[])
-    }
-
-    /// Returns the position of the caret. Message: `SCI_GETCURRENTPOS`.
-    pub fn get_current_pos(&self) -> Result<i64, Refusal> {
-        self.as_number(sys::SCI_GETCURRENTPOS, 0, 0, &[])
-    }
-
-    /// Returns the position of the anchor. Message: `SCI_GETANCHOR`.
-    pub fn get_anchor(&self) -> Result<i64, Refusal> {
-        self.as_number(sys::SCI_GETANCHOR, 0, 0, &[])
-    }
-
-    /// Returns the style of the byte at `position`, or 0 if there is none. Message:
-    /// `SCI_GETSTYLEAT`.
-    pub fn get_style_at(&self, position: i64) -> Result<i64, Refusal> {
-        self.as_number(sys::SCI_GETSTYLEAT, position, 0, &[])
     }
 
     /// Performs again the transaction that was undone last. Does nothing inside a group, or if
@@ -82,34 +410,15 @@ impl View<'_> {
         self.as_done(sys::SCI_SETSAVEPOINT, 0, 0, &[])
     }
 
-    /// Returns each byte from `start` to `end`, followed by its style; the reply's value is the
-    /// number of bytes returned. Refused with [`Refusal::BadArgument`] unless `start` and `end`
-    /// are a range of the text; an `end` of -1 is its end. Message: `SCI_GETSTYLEDTEXT`.
-    pub fn get_styled_text(&mut self, start: i64, end: i64) -> Result<&[u8], Refusal> {
-        self.as_lent(sys::SCI_GETSTYLEDTEXT, start, end, &[])
-    }
-
-    /// Returns whether `redo` would change something: no group is open, the document is not
-    /// read-only, and there is a transaction to redo. Message: `SCI_CANREDO`.
-    pub fn can_redo(&self) -> Result<bool, Refusal> {
-        self.as_flag(sys::SCI_CANREDO, 0, 0, &[])
-    }
-
-    /// Returns the line of the marker with `handle`, or -1 if there is none. Message:
-    /// `SCI_MARKERLINEFROMHANDLE`.
-    pub fn marker_line_from_handle(&self, handle: i64) -> Result<i64, Refusal> {
-        self.as_number(sys::SCI_MARKERLINEFROMHANDLE, handle, 0, &[])
+    /// Like [`get_styled_text`](View::get_styled_text), but lent, not copied: the text is valid until the next call.
+    pub fn lend_styled_text(&mut self, start: i64, end: i64) -> Result<&[u8], Refusal> {
+        self.lend(sys::SCI_GETSTYLEDTEXT, start, end)
     }
 
     /// Removes the marker with `handle`. If there is one, sends SCN_MODIFIED
     /// (`SC_MOD_CHANGEMARKER`). Message: `SCI_MARKERDELETEHANDLE`.
     pub fn marker_delete_handle(&mut self, handle: i64) -> Result<(), Refusal> {
         self.as_done(sys::SCI_MARKERDELETEHANDLE, handle, 0, &[])
-    }
-
-    /// Returns whether undo is collected. Message: `SCI_GETUNDOCOLLECTION`.
-    pub fn get_undo_collection(&self) -> Result<bool, Refusal> {
-        self.as_flag(sys::SCI_GETUNDOCOLLECTION, 0, 0, &[])
     }
 
     /// Moves anchor and caret to the start of line `line`; a negative number stands for the
@@ -129,16 +438,9 @@ impl View<'_> {
         self.as_done(sys::SCI_SETANCHOR, position, 0, &[])
     }
 
-    /// Returns the caret's line with its line end; the reply's value is the caret's distance
-    /// from the line's start, in bytes. Message: `SCI_GETCURLINE`.
-    pub fn get_cur_line(&mut self) -> Result<&[u8], Refusal> {
-        self.as_lent(sys::SCI_GETCURLINE, 0, 0, &[])
-    }
-
-    /// Returns end styled: the position up to which the document is styled. Message:
-    /// `SCI_GETENDSTYLED`.
-    pub fn get_end_styled(&self) -> Result<i64, Refusal> {
-        self.as_number(sys::SCI_GETENDSTYLED, 0, 0, &[])
+    /// Like [`get_cur_line`](View::get_cur_line), but lent, not copied: the text is valid until the next call.
+    pub fn lend_cur_line(&mut self) -> Result<&[u8], Refusal> {
+        self.lend(sys::SCI_GETCURLINE, 0, 0)
     }
 
     /// Turns each CRLF, CR and LF of the text into one line end: `SC_EOL_CRLF` 0, `SC_EOL_CR` 1
@@ -146,12 +448,6 @@ impl View<'_> {
     /// with [`Refusal::BadArgument`] unless `mode` is 0 to 2. Message: `SCI_CONVERTEOLS`.
     pub fn convert_eols(&mut self, mode: i64) -> Result<(), Refusal> {
         self.as_done(sys::SCI_CONVERTEOLS, mode, 0, &[])
-    }
-
-    /// Returns the document's line end: `SC_EOL_CRLF`, `SC_EOL_CR` or `SC_EOL_LF`. Message:
-    /// `SCI_GETEOLMODE`.
-    pub fn get_eol_mode(&self) -> Result<i64, Refusal> {
-        self.as_number(sys::SCI_GETEOLMODE, 0, 0, &[])
     }
 
     /// Sets the document's line end: `SC_EOL_CRLF` 0, `SC_EOL_CR` 1 or `SC_EOL_LF` 2. Refused
@@ -180,7 +476,7 @@ impl View<'_> {
     /// 31, and with [`Refusal::TooMany`] if marker handles are used up. Message:
     /// `SCI_MARKERADD`.
     pub fn marker_add(&mut self, line: i64, number: i64) -> Result<i64, Refusal> {
-        self.as_number(sys::SCI_MARKERADD, line, number, &[])
+        self.send(sys::SCI_MARKERADD, line, number, &[])
     }
 
     /// Removes from line `line`, if there is such a line, the first marker with `number`, or
@@ -196,24 +492,6 @@ impl View<'_> {
     /// [`Refusal::BadArgument`] unless `number` is -1 to 31. Message: `SCI_MARKERDELETEALL`.
     pub fn marker_delete_all(&mut self, number: i64) -> Result<(), Refusal> {
         self.as_done(sys::SCI_MARKERDELETEALL, number, 0, &[])
-    }
-
-    /// Returns the mask of the markers of line `line`: bit k is set if it has one with number
-    /// k; 0 if there is no such line. Message: `SCI_MARKERGET`.
-    pub fn marker_get(&self, line: i64) -> Result<i64, Refusal> {
-        self.as_number(sys::SCI_MARKERGET, line, 0, &[])
-    }
-
-    /// Returns the first line from `line` on that has a marker whose bit is set in the low 32
-    /// bits of `mask`, or -1. Message: `SCI_MARKERNEXT`.
-    pub fn marker_next(&self, line: i64, mask: i64) -> Result<i64, Refusal> {
-        self.as_number(sys::SCI_MARKERNEXT, line, mask, &[])
-    }
-
-    /// Returns the last line up to `line` that has a marker whose bit is set in the low 32 bits
-    /// of `mask`, or -1. Message: `SCI_MARKERPREVIOUS`.
-    pub fn marker_previous(&self, line: i64, mask: i64) -> Result<i64, Refusal> {
-        self.as_number(sys::SCI_MARKERPREVIOUS, line, mask, &[])
     }
 
     /// Gives each byte from end styled on the style that `styles` has for it, and moves end
@@ -244,23 +522,6 @@ impl View<'_> {
         self.as_done(sys::SCI_SETLINESTATE, line, state, &[])
     }
 
-    /// Returns the state of line `line`, or 0 if there is no such line. Message:
-    /// `SCI_GETLINESTATE`.
-    pub fn get_line_state(&self, line: i64) -> Result<i64, Refusal> {
-        self.as_number(sys::SCI_GETLINESTATE, line, 0, &[])
-    }
-
-    /// Returns where the line end of line `line` begins; the text's length from the last line
-    /// on; -1 if `line` is negative. Message: `SCI_GETLINEENDPOSITION`.
-    pub fn get_line_end_position(&self, line: i64) -> Result<i64, Refusal> {
-        self.as_number(sys::SCI_GETLINEENDPOSITION, line, 0, &[])
-    }
-
-    /// Returns whether the document is read-only. Message: `SCI_GETREADONLY`.
-    pub fn get_read_only(&self) -> Result<bool, Refusal> {
-        self.as_flag(sys::SCI_GETREADONLY, 0, 0, &[])
-    }
-
     /// Moves the caret to `position` (clamped to the text); the anchor stays. Message:
     /// `SCI_SETCURRENTPOS`.
     pub fn set_current_pos(&mut self, position: i64) -> Result<(), Refusal> {
@@ -273,39 +534,15 @@ impl View<'_> {
         self.as_done(sys::SCI_SETSELECTIONSTART, position, 0, &[])
     }
 
-    /// Returns the selection's start: the lesser of anchor and caret. Message:
-    /// `SCI_GETSELECTIONSTART`.
-    pub fn get_selection_start(&self) -> Result<i64, Refusal> {
-        self.as_number(sys::SCI_GETSELECTIONSTART, 0, 0, &[])
-    }
-
     /// Moves the caret to `position` (clamped to the text); if the anchor is after it, moves
     /// the anchor there too. Message: `SCI_SETSELECTIONEND`.
     pub fn set_selection_end(&mut self, position: i64) -> Result<(), Refusal> {
         self.as_done(sys::SCI_SETSELECTIONEND, position, 0, &[])
     }
 
-    /// Returns the selection's end: the greater of anchor and caret. Message:
-    /// `SCI_GETSELECTIONEND`.
-    pub fn get_selection_end(&self) -> Result<i64, Refusal> {
-        self.as_number(sys::SCI_GETSELECTIONEND, 0, 0, &[])
-    }
-
-    /// Returns line `line` with its line end; the reply's value is its length. If there is no
-    /// such line, the text is empty and the value 0. Message: `SCI_GETLINE`.
-    pub fn get_line(&mut self, line: i64) -> Result<&[u8], Refusal> {
-        self.as_lent(sys::SCI_GETLINE, line, 0, &[])
-    }
-
-    /// Returns the number of lines, which is at least 1. Message: `SCI_GETLINECOUNT`.
-    pub fn get_line_count(&self) -> Result<i64, Refusal> {
-        self.as_number(sys::SCI_GETLINECOUNT, 0, 0, &[])
-    }
-
-    /// Returns whether the document is modified, that is, not at its save point. Message:
-    /// `SCI_GETMODIFY`.
-    pub fn get_modify(&self) -> Result<bool, Refusal> {
-        self.as_flag(sys::SCI_GETMODIFY, 0, 0, &[])
+    /// Like [`get_line`](View::get_line), but lent, not copied: the text is valid until the next call.
+    pub fn lend_line(&mut self, line: i64) -> Result<&[u8], Refusal> {
+        self.lend(sys::SCI_GETLINE, line, 0)
     }
 
     /// Moves the anchor to `anchor` and the caret to `caret` (both clamped to the text). A
@@ -315,29 +552,14 @@ impl View<'_> {
         self.as_done(sys::SCI_SETSEL, anchor, caret, &[])
     }
 
-    /// Returns the selected text; the reply's value is its length. Message: `SCI_GETSELTEXT`.
-    pub fn get_sel_text(&mut self) -> Result<&[u8], Refusal> {
-        self.as_lent(sys::SCI_GETSELTEXT, 0, 0, &[])
+    /// Like [`get_sel_text`](View::get_sel_text), but lent, not copied: the text is valid until the next call.
+    pub fn lend_sel_text(&mut self) -> Result<&[u8], Refusal> {
+        self.lend(sys::SCI_GETSELTEXT, 0, 0)
     }
 
-    /// Returns the text from `start` to `end`; the reply's value is its length. Refused with
-    /// [`Refusal::BadArgument`] unless `start` and `end` are a range of the text; an `end` of
-    /// -1 is its end. Message: `SCI_GETTEXTRANGE`.
-    pub fn get_text_range(&mut self, start: i64, end: i64) -> Result<&[u8], Refusal> {
-        self.as_lent(sys::SCI_GETTEXTRANGE, start, end, &[])
-    }
-
-    /// Returns the line that contains `position` (clamped to the text). Message:
-    /// `SCI_LINEFROMPOSITION`.
-    pub fn line_from_position(&self, position: i64) -> Result<i64, Refusal> {
-        self.as_number(sys::SCI_LINEFROMPOSITION, position, 0, &[])
-    }
-
-    /// Returns the start of line `line`. A negative number stands for the line of the
-    /// selection's start; the number of lines gives the text's length, and a greater number -1.
-    /// Message: `SCI_POSITIONFROMLINE`.
-    pub fn position_from_line(&self, line: i64) -> Result<i64, Refusal> {
-        self.as_number(sys::SCI_POSITIONFROMLINE, line, 0, &[])
+    /// Like [`get_text_range`](View::get_text_range), but lent, not copied: the text is valid until the next call.
+    pub fn lend_text_range(&mut self, start: i64, end: i64) -> Result<&[u8], Refusal> {
+        self.lend(sys::SCI_GETTEXTRANGE, start, end)
     }
 
     /// Replaces the selection by `text`, and moves anchor and caret to the end of the inserted
@@ -349,18 +571,6 @@ impl View<'_> {
     /// Makes the document read-only, or writable if `on` is false. Message: `SCI_SETREADONLY`.
     pub fn set_read_only(&mut self, on: bool) -> Result<(), Refusal> {
         self.as_done(sys::SCI_SETREADONLY, i64::from(on), 0, &[])
-    }
-
-    /// Returns whether text can be pasted: whether the document is not read-only. Message:
-    /// `SCI_CANPASTE`.
-    pub fn can_paste(&self) -> Result<bool, Refusal> {
-        self.as_flag(sys::SCI_CANPASTE, 0, 0, &[])
-    }
-
-    /// Returns whether `undo` would change something: no group is open, the document is not
-    /// read-only, and there is a transaction to undo. Message: `SCI_CANUNDO`.
-    pub fn can_undo(&self) -> Result<bool, Refusal> {
-        self.as_flag(sys::SCI_CANUNDO, 0, 0, &[])
     }
 
     /// Forgets the history, closes all groups, and makes the current state the save point. No
@@ -405,14 +615,9 @@ impl View<'_> {
         self.as_done(sys::SCI_SETTEXT, 0, 0, text.as_ref())
     }
 
-    /// Returns the whole text; the reply's value is its length. Message: `SCI_GETTEXT`.
-    pub fn get_text(&mut self) -> Result<&[u8], Refusal> {
-        self.as_lent(sys::SCI_GETTEXT, 0, 0, &[])
-    }
-
-    /// Returns the length of the text. Message: `SCI_GETTEXTLENGTH`.
-    pub fn get_text_length(&self) -> Result<i64, Refusal> {
-        self.as_number(sys::SCI_GETTEXTLENGTH, 0, 0, &[])
+    /// Like [`get_text`](View::get_text), but lent, not copied: the text is valid until the next call.
+    pub fn lend_text(&mut self) -> Result<&[u8], Refusal> {
+        self.lend(sys::SCI_GETTEXT, 0, 0)
     }
 
     /// Sets the target's start to `position` (clamped to the text). Message:
@@ -421,19 +626,9 @@ impl View<'_> {
         self.as_done(sys::SCI_SETTARGETSTART, position, 0, &[])
     }
 
-    /// Returns the target's start. Message: `SCI_GETTARGETSTART`.
-    pub fn get_target_start(&self) -> Result<i64, Refusal> {
-        self.as_number(sys::SCI_GETTARGETSTART, 0, 0, &[])
-    }
-
     /// Sets the target's end to `position` (clamped to the text). Message: `SCI_SETTARGETEND`.
     pub fn set_target_end(&mut self, position: i64) -> Result<(), Refusal> {
         self.as_done(sys::SCI_SETTARGETEND, position, 0, &[])
-    }
-
-    /// Returns the target's end. Message: `SCI_GETTARGETEND`.
-    pub fn get_target_end(&self) -> Result<i64, Refusal> {
-        self.as_number(sys::SCI_GETTARGETEND, 0, 0, &[])
     }
 
     /// Replaces the text between the target's ends by `text`, makes the inserted text the
@@ -441,7 +636,7 @@ impl View<'_> {
     /// stays. Message: `SCI_REPLACETARGET`.
     pub fn replace_target(&mut self, text: impl AsRef<[u8]>) -> Result<i64, Refusal> {
         let text = text.as_ref();
-        self.as_number(sys::SCI_REPLACETARGET, length_of(text), 0, text)
+        self.send(sys::SCI_REPLACETARGET, length_of(text), 0, text)
     }
 
     /// Searches the target for `text` by the view's search flags. Finds the first match, or the
@@ -450,7 +645,7 @@ impl View<'_> {
     /// target stays. Message: `SCI_SEARCHINTARGET`.
     pub fn search_in_target(&mut self, text: impl AsRef<[u8]>) -> Result<i64, Refusal> {
         let text = text.as_ref();
-        self.as_number(sys::SCI_SEARCHINTARGET, length_of(text), 0, text)
+        self.send(sys::SCI_SEARCHINTARGET, length_of(text), 0, text)
     }
 
     /// Sets the view's search flags to `flags`: 0, or made of `SCFIND_WHOLEWORD` 0x2,
@@ -460,48 +655,11 @@ impl View<'_> {
         self.as_done(sys::SCI_SETSEARCHFLAGS, flags, 0, &[])
     }
 
-    /// Returns the view's search flags. Message: `SCI_GETSEARCHFLAGS`.
-    pub fn get_search_flags(&self) -> Result<i64, Refusal> {
-        self.as_number(sys::SCI_GETSEARCHFLAGS, 0, 0, &[])
-    }
-
-    /// Returns the display line of line `line`; for a hidden line that of the last visible line
-    /// before it; -1 if there is no such line. Message: `SCI_VISIBLEFROMDOCLINE`.
-    pub fn visible_from_doc_line(&self, line: i64) -> Result<i64, Refusal> {
-        self.as_number(sys::SCI_VISIBLEFROMDOCLINE, line, 0, &[])
-    }
-
-    /// Returns the line at display line `display_line`; 0 if that is negative, and the number
-    /// of lines if it is past the last. Message: `SCI_DOCLINEFROMVISIBLE`.
-    pub fn doc_line_from_visible(&self, display_line: i64) -> Result<i64, Refusal> {
-        self.as_number(sys::SCI_DOCLINEFROMVISIBLE, display_line, 0, &[])
-    }
-
     /// Sets the fold level of line `line`, if there is such a line. If the level changed, sends
     /// SCN_MODIFIED (`SC_MOD_CHANGEFOLD`). Refused with [`Refusal::BadArgument`] unless `level`
     /// is 0 to 2^31-1. Message: `SCI_SETFOLDLEVEL`.
     pub fn set_fold_level(&mut self, line: i64, level: i64) -> Result<(), Refusal> {
         self.as_done(sys::SCI_SETFOLDLEVEL, line, level, &[])
-    }
-
-    /// Returns the fold level of line `line`, or 1024 (`SC_FOLDLEVELBASE`) if there is no such
-    /// line. Message: `SCI_GETFOLDLEVEL`.
-    pub fn get_fold_level(&self, line: i64) -> Result<i64, Refusal> {
-        self.as_number(sys::SCI_GETFOLDLEVEL, line, 0, &[])
-    }
-
-    /// Returns the last child of line `line`: the line before the next one whose level number
-    /// is at most that of `level`, or that of line `line` if `level` is -1; without such a next
-    /// line, the last line of the document; -1 if line `line` does not exist. Refused with
-    /// [`Refusal::BadArgument`] unless `level` is -1 to 2^31-1. Message: `SCI_GETLASTCHILD`.
-    pub fn get_last_child(&self, line: i64, level: i64) -> Result<i64, Refusal> {
-        self.as_number(sys::SCI_GETLASTCHILD, line, level, &[])
-    }
-
-    /// Returns the fold parent of line `line`: the nearest earlier header with a smaller level
-    /// number; -1 if there is none, or no such line. Message: `SCI_GETFOLDPARENT`.
-    pub fn get_fold_parent(&self, line: i64) -> Result<i64, Refusal> {
-        self.as_number(sys::SCI_GETFOLDPARENT, line, 0, &[])
     }
 
     /// Makes the lines from `first` to `last` visible, as far as they exist. Message:
@@ -516,22 +674,10 @@ impl View<'_> {
         self.as_done(sys::SCI_HIDELINES, first, last, &[])
     }
 
-    /// Returns whether line `line` is visible; false if there is no such line. Message:
-    /// `SCI_GETLINEVISIBLE`.
-    pub fn get_line_visible(&self, line: i64) -> Result<bool, Refusal> {
-        self.as_flag(sys::SCI_GETLINEVISIBLE, line, 0, &[])
-    }
-
     /// Sets whether line `line` is expanded, if there is such a line; shows and hides nothing.
     /// Message: `SCI_SETFOLDEXPANDED`.
     pub fn set_fold_expanded(&mut self, line: i64, on: bool) -> Result<(), Refusal> {
         self.as_done(sys::SCI_SETFOLDEXPANDED, line, i64::from(on), &[])
-    }
-
-    /// Returns whether line `line` is expanded; false if there is no such line. Message:
-    /// `SCI_GETFOLDEXPANDED`.
-    pub fn get_fold_expanded(&self, line: i64) -> Result<bool, Refusal> {
-        self.as_flag(sys::SCI_GETFOLDEXPANDED, line, 0, &[])
     }
 
     /// Contracts line `line` if it is an expanded header, and expands it if it is a contracted
@@ -546,11 +692,6 @@ impl View<'_> {
     /// line, or if there is no such line. Message: `SCI_ENSUREVISIBLE`.
     pub fn ensure_visible(&mut self, line: i64) -> Result<(), Refusal> {
         self.as_done(sys::SCI_ENSUREVISIBLE, line, 0, &[])
-    }
-
-    /// Returns whether all lines are visible. Message: `SCI_GETALLLINESVISIBLE`.
-    pub fn get_all_lines_visible(&self) -> Result<bool, Refusal> {
-        self.as_flag(sys::SCI_GETALLLINESVISIBLE, 0, 0, &[])
     }
 
     /// Contracts, expands or toggles line `line` if it is a header, else its fold parent; does
@@ -652,26 +793,15 @@ impl View<'_> {
         self.as_done(sys::SCI_NEWLINE, 0, 0, &[])
     }
 
-    /// Returns the length of line `line` with its line end, or 0 if there is no such line.
-    /// Message: `SCI_LINELENGTH`.
-    pub fn line_length(&self, line: i64) -> Result<i64, Refusal> {
-        self.as_number(sys::SCI_LINELENGTH, line, 0, &[])
-    }
-
-    /// Returns the id of the view's document. Message: `SCI_GETDOCPOINTER`.
-    pub fn get_doc_pointer(&self) -> Result<i64, Refusal> {
-        self.as_number(sys::SCI_GETDOCPOINTER, 0, 0, &[])
-    }
-
-    /// Attaches the view to `document`, or to a new document if that is 0. That document gains
-    /// a reference, and then the old one loses one; the view is attached last, with anchor,
-    /// caret and target 0, and with all lines visible and expanded. The view's other settings
-    /// stay. The same holds for the view's own document. Refused with
+    /// Attaches the view to `document`, or to a new document if that is `None`. That document
+    /// gains a reference, and then the old one loses one; the view is attached last, with
+    /// anchor, caret and target 0, and with all lines visible and expanded. The view's other
+    /// settings stay. The same holds for the view's own document. Refused with
     /// [`Refusal::NoSuchDocument`] if there is no such document; with [`Refusal::TooMany`] at
     /// the limit of its references, or if ids for a new one are used up. Message:
     /// `SCI_SETDOCPOINTER`.
-    pub fn set_doc_pointer(&mut self, document: i64) -> Result<(), Refusal> {
-        self.as_done(sys::SCI_SETDOCPOINTER, 0, document, &[])
+    pub fn set_doc_pointer(&mut self, document: impl Into<Option<DocumentId>>) -> Result<(), Refusal> {
+        self.as_done(sys::SCI_SETDOCPOINTER, 0, document.into().map_or(0, i64::from), &[])
     }
 
     /// Sets the view's mask: the kinds of SCN_MODIFIED that it is subscribed to, a bit for
@@ -686,47 +816,22 @@ impl View<'_> {
     /// `SC_DOCUMENTOPTION_TEXT_LARGE` 256. Refused with [`Refusal::BadArgument`] if `bytes` is
     /// negative or `options` has other bits, and with [`Refusal::TooMany`] if ids are used up.
     /// Message: `SCI_CREATEDOCUMENT`.
-    pub fn create_document(&mut self, bytes: i64, options: i64) -> Result<i64, Refusal> {
-        self.as_number(sys::SCI_CREATEDOCUMENT, bytes, options, &[])
+    pub fn create_document(&mut self, bytes: i64, options: i64) -> Result<DocumentId, Refusal> {
+        self.as_document(sys::SCI_CREATEDOCUMENT, bytes, options, &[])
     }
 
     /// Adds a reference to `document` that the caller holds. Refused with
     /// [`Refusal::NoSuchDocument`] if there is no such document, and with [`Refusal::TooMany`]
     /// at the limit of its references. Message: `SCI_ADDREFDOCUMENT`.
-    pub fn add_ref_document(&mut self, document: i64) -> Result<(), Refusal> {
-        self.as_done(sys::SCI_ADDREFDOCUMENT, 0, document, &[])
+    pub fn add_ref_document(&mut self, document: DocumentId) -> Result<(), Refusal> {
+        self.as_done(sys::SCI_ADDREFDOCUMENT, 0, document.into(), &[])
     }
 
     /// Gives back a reference to `document` that a caller holds. Refused with
     /// [`Refusal::NoSuchDocument`] if there is no such document, or if no caller holds it.
     /// Message: `SCI_RELEASEDOCUMENT`.
-    pub fn release_document(&mut self, document: i64) -> Result<(), Refusal> {
-        self.as_done(sys::SCI_RELEASEDOCUMENT, 0, document, &[])
-    }
-
-    /// Returns the view's mask: the kinds of SCN_MODIFIED that it is subscribed to. Message:
-    /// `SCI_GETMODEVENTMASK`.
-    pub fn get_mod_event_mask(&self) -> Result<i64, Refusal> {
-        self.as_number(sys::SCI_GETMODEVENTMASK, 0, 0, &[])
-    }
-
-    /// Returns the options of the view's document: 0, or made of
-    /// `SC_DOCUMENTOPTION_STYLES_NONE` and `SC_DOCUMENTOPTION_TEXT_LARGE`. Message:
-    /// `SCI_GETDOCUMENTOPTIONS`.
-    pub fn get_document_options(&self) -> Result<i64, Refusal> {
-        self.as_number(sys::SCI_GETDOCUMENTOPTIONS, 0, 0, &[])
-    }
-
-    /// Returns the last character boundary before `position` (clamped to the text), or 0.
-    /// Message: `SCI_POSITIONBEFORE`.
-    pub fn position_before(&self, position: i64) -> Result<i64, Refusal> {
-        self.as_number(sys::SCI_POSITIONBEFORE, position, 0, &[])
-    }
-
-    /// Returns the first character boundary after `position` (clamped to the text), or the
-    /// text's length. Message: `SCI_POSITIONAFTER`.
-    pub fn position_after(&self, position: i64) -> Result<i64, Refusal> {
-        self.as_number(sys::SCI_POSITIONAFTER, position, 0, &[])
+    pub fn release_document(&mut self, document: DocumentId) -> Result<(), Refusal> {
+        self.as_done(sys::SCI_RELEASEDOCUMENT, 0, document.into(), &[])
     }
 
     /// Makes the text from `start` to `end` the clipboard, even if that is empty. Refused with
@@ -757,21 +862,10 @@ impl View<'_> {
         self.as_done(sys::SCI_SETPASTECONVERTENDINGS, i64::from(on), 0, &[])
     }
 
-    /// Returns whether this view converts line ends in what it pastes. Message:
-    /// `SCI_GETPASTECONVERTENDINGS`.
-    pub fn get_paste_convert_endings(&self) -> Result<bool, Refusal> {
-        self.as_flag(sys::SCI_GETPASTECONVERTENDINGS, 0, 0, &[])
-    }
-
     /// Sets the view's current indicator. Refused with [`Refusal::BadArgument`] unless `number`
     /// is 0 to 31. Message: `SCI_SETINDICATORCURRENT`.
     pub fn set_indicator_current(&mut self, number: i64) -> Result<(), Refusal> {
         self.as_done(sys::SCI_SETINDICATORCURRENT, number, 0, &[])
-    }
-
-    /// Returns the view's current indicator. Message: `SCI_GETINDICATORCURRENT`.
-    pub fn get_indicator_current(&self) -> Result<i64, Refusal> {
-        self.as_number(sys::SCI_GETINDICATORCURRENT, 0, 0, &[])
     }
 
     /// Sets the value that this view fills in; 0 stands for 1. Refused with
@@ -779,11 +873,6 @@ impl View<'_> {
     /// `SCI_SETINDICATORVALUE`.
     pub fn set_indicator_value(&mut self, value: i64) -> Result<(), Refusal> {
         self.as_done(sys::SCI_SETINDICATORVALUE, value, 0, &[])
-    }
-
-    /// Returns the value that this view fills in. Message: `SCI_GETINDICATORVALUE`.
-    pub fn get_indicator_value(&self) -> Result<i64, Refusal> {
-        self.as_number(sys::SCI_GETINDICATORVALUE, 0, 0, &[])
     }
 
     /// Gives the view's current indicator the view's value over the `length` bytes from `start`
@@ -800,33 +889,6 @@ impl View<'_> {
     /// `SCI_INDICATORCLEARRANGE`.
     pub fn indicator_clear_range(&mut self, start: i64, length: i64) -> Result<(), Refusal> {
         self.as_done(sys::SCI_INDICATORCLEARRANGE, start, length, &[])
-    }
-
-    /// Returns a mask in which bit k is set if indicator k is not 0 at the byte at `position`;
-    /// 0 if there is no such byte. Message: `SCI_INDICATORALLONFOR`.
-    pub fn indicator_all_on_for(&self, position: i64) -> Result<i64, Refusal> {
-        self.as_number(sys::SCI_INDICATORALLONFOR, position, 0, &[])
-    }
-
-    /// Returns the value of indicator `number` at the byte at `position`, or 0 if there is no
-    /// such byte. Refused with [`Refusal::BadArgument`] unless `number` is 0 to 31. Message:
-    /// `SCI_INDICATORVALUEAT`.
-    pub fn indicator_value_at(&self, number: i64, position: i64) -> Result<i64, Refusal> {
-        self.as_number(sys::SCI_INDICATORVALUEAT, number, position, &[])
-    }
-
-    /// Returns the start of the longest run of one value of indicator `number` around the byte
-    /// at `position`; 0 if there is no such byte. Refused with [`Refusal::BadArgument`] unless
-    /// `number` is 0 to 31. Message: `SCI_INDICATORSTART`.
-    pub fn indicator_start(&self, number: i64, position: i64) -> Result<i64, Refusal> {
-        self.as_number(sys::SCI_INDICATORSTART, number, position, &[])
-    }
-
-    /// Returns the end of the longest run of one value of indicator `number` around the byte at
-    /// `position`: the place after its last byte; 0 if there is no such byte. Refused with
-    /// [`Refusal::BadArgument`] unless `number` is 0 to 31. Message: `SCI_INDICATOREND`.
-    pub fn indicator_end(&self, number: i64, position: i64) -> Result<i64, Refusal> {
-        self.as_number(sys::SCI_INDICATOREND, number, position, &[])
     }
 
     /// Moves anchor and caret to `position` (clamped to the text). Message:
@@ -850,11 +912,6 @@ impl View<'_> {
         self.as_done(sys::SCI_DELETERANGE, start, length, &[])
     }
 
-    /// Returns whether the selection is empty. Message: `SCI_GETSELECTIONEMPTY`.
-    pub fn get_selection_empty(&self) -> Result<bool, Refusal> {
-        self.as_flag(sys::SCI_GETSELECTIONEMPTY, 0, 0, &[])
-    }
-
     /// Sets which line ends the document allows, also if it is read-only:
     /// `SC_LINE_END_TYPE_DEFAULT` 0, or `SC_LINE_END_TYPE_UNICODE` 1 for those of Unicode too.
     /// Line data (markers, fold levels, line states) and the line flags of each view go to the
@@ -864,29 +921,15 @@ impl View<'_> {
         self.as_done(sys::SCI_SETLINEENDTYPESALLOWED, types, 0, &[])
     }
 
-    /// Returns which line ends the document allows: `SC_LINE_END_TYPE_DEFAULT` or
-    /// `SC_LINE_END_TYPE_UNICODE`. Message: `SCI_GETLINEENDTYPESALLOWED`.
-    pub fn get_line_end_types_allowed(&self) -> Result<i64, Refusal> {
-        self.as_number(sys::SCI_GETLINEENDTYPESALLOWED, 0, 0, &[])
-    }
-
-    /// Returns which line ends divide the text: those that the document allows,
-    /// `SC_LINE_END_TYPE_DEFAULT` or `SC_LINE_END_TYPE_UNICODE`. Message:
-    /// `SCI_GETLINEENDTYPESACTIVE`.
-    pub fn get_line_end_types_active(&self) -> Result<i64, Refusal> {
-        self.as_number(sys::SCI_GETLINEENDTYPESACTIVE, 0, 0, &[])
-    }
-
     /// Sets the target's start to `start` and its end to `end` (both clamped to the text).
     /// Message: `SCI_SETTARGETRANGE`.
     pub fn set_target_range(&mut self, start: i64, end: i64) -> Result<(), Refusal> {
         self.as_done(sys::SCI_SETTARGETRANGE, start, end, &[])
     }
 
-    /// Returns the text between the target's ends, whichever is the lesser; the reply's value
-    /// is its length. Message: `SCI_GETTARGETTEXT`.
-    pub fn get_target_text(&mut self) -> Result<&[u8], Refusal> {
-        self.as_lent(sys::SCI_GETTARGETTEXT, 0, 0, &[])
+    /// Like [`get_target_text`](View::get_target_text), but lent, not copied: the text is valid until the next call.
+    pub fn lend_target_text(&mut self) -> Result<&[u8], Refusal> {
+        self.lend(sys::SCI_GETTARGETTEXT, 0, 0)
     }
 
     /// Sets the target's start to 0 and its end to the end of the text. Message:
@@ -913,5 +956,5 @@ impl View<'_> {
     pub fn colourise(&mut self, start: i64, end: i64) -> Result<(), Refusal> {
         self.as_done(sys::SCI_COLOURISE, start, end, &[])
     }
-    // Written by tools/pages/wrappers.py: end
+    // Written by tools/pages/wrappers.py: end messages
 }

@@ -1,28 +1,31 @@
-//! The notes of the last reply.
+//! The notifications of the last reply.
 
-use crate::lent;
+use crate::{lent, Refusal, Session, ViewId};
 use hongpilas_sys as sys;
-use std::marker::PhantomData;
-use std::ptr;
+use std::ffi::CStr;
+use std::iter::FusedIterator;
+use std::mem::{size_of, MaybeUninit};
+use std::ops::Range;
 
-/// A note: what a view is told. Fields that its code does not name are 0.
-#[derive(Clone, Copy, Debug, PartialEq, Eq)]
+/// A notification of a view. Fields that its code does not use are 0.
+#[derive(Clone, Copy, Debug, PartialEq, Eq, Hash)]
+#[non_exhaustive]
 pub struct Note<'a> {
-    /// The id of the view that is told.
-    pub view: u32,
-    /// Which note, as [`SCN_MODIFIED`](crate::SCN_MODIFIED).
+    /// The view that is notified.
+    pub view: ViewId,
+    /// Which notification, such as [`SCN_MODIFIED`](crate::SCN_MODIFIED).
     pub code: u32,
     /// Scintilla's `modificationType`, of the type of its `SC_MOD_` constants.
     pub kind: i64,
     /// The number of a recorded message.
     pub message: u32,
-    /// A position, in bytes.
+    /// A position, in bytes, in the text just after this step.
     pub position: i64,
     /// A length, in bytes.
     pub length: i64,
     /// Scintilla's `linesAdded`.
     pub lines: i64,
-    /// A line, from 0; -1 where all lines are meant.
+    /// A line, from 0; -1 for all lines.
     pub line: i64,
     /// A fold level after a change: `foldLevelNow`.
     pub now: i64,
@@ -34,68 +37,74 @@ pub struct Note<'a> {
     pub w: i64,
     /// Its second argument.
     pub l: i64,
-    /// The note's text.
+    /// The notification's text.
     pub text: &'a [u8],
 }
 
-/// The name of a note's code: `SCN_MODIFIED` for 2008.
-///
-/// ```
-/// let mut session = hongpilas::Session::new()?;
-/// session.new_view()?.insert_text(0, "hello")?;
-/// let names: Vec<_> = session.notes().filter_map(|note| hongpilas::note_name(note.code)).collect();
-/// assert_eq!(names, ["SCN_MODIFIED", "SCN_SAVEPOINTLEFT", "SCN_MODIFIED"]);
-/// assert_eq!(hongpilas::note_name(1), None);
-/// # Ok::<(), hongpilas::Refusal>(())
-/// ```
-pub fn note_name(code: u32) -> Option<&'static str> {
-    match code {
-        // Written by tools/pages/wrappers.py: begin
-        sys::SCN_STYLENEEDED => Some("SCN_STYLENEEDED"),
-        sys::SCN_SAVEPOINTREACHED => Some("SCN_SAVEPOINTREACHED"),
-        sys::SCN_SAVEPOINTLEFT => Some("SCN_SAVEPOINTLEFT"),
-        sys::SCN_MODIFYATTEMPTRO => Some("SCN_MODIFYATTEMPTRO"),
-        sys::SCN_MODIFIED => Some("SCN_MODIFIED"),
-        sys::SCN_MACRORECORD => Some("SCN_MACRORECORD"),
-        // Written by tools/pages/wrappers.py: end
-        _ => None,
+impl Note<'_> {
+    /// The name of the notification's code, such as `SCN_MODIFIED`.
+    pub fn name(&self) -> Option<&'static str> {
+        note_name(self.code)
     }
 }
 
-/// The notes of the last reply, for all views or for one, in the order in which they were told.
+/// The name of a notification's code: `SCN_MODIFIED` for 2008.
+///
+/// ```
+/// assert_eq!(hongpilas::note_name(2008), Some("SCN_MODIFIED"));
+/// assert_eq!(hongpilas::note_name(1), None);
+/// ```
+pub fn note_name(code: u32) -> Option<&'static str> {
+    // SAFETY: a name is a string that is never freed.
+    unsafe {
+        let name = sys::hongpilas_note_name(code);
+        if name.is_null() {
+            return None;
+        }
+        CStr::from_ptr(name).to_str().ok()
+    }
+}
+
+/// The notifications of the last reply, for all views or for one, in their order. They borrow the session, and not for good: questions may be
+/// asked in a loop over them.
 #[derive(Clone, Debug)]
 pub struct Notes<'a> {
-    session: *mut sys::hongpilas,
-    view: Option<u32>,
-    next: usize,
+    session: &'a Session,
+    view: Option<ViewId>,
+    indices: Range<usize>,
     left: usize,
-    lent: PhantomData<&'a [u8]>,
 }
 
 impl<'a> Notes<'a> {
-    /// # Safety
-    /// The session is open, and no call but those that look at the last reply is made on it as long as `'a` lasts.
-    pub(crate) unsafe fn of(session: *mut sys::hongpilas, view: Option<u32>) -> Notes<'a> {
-        let count = sys::hongpilas_note_count(session);
-        let mut notes = Notes { session, view, next: 0, left: count, lent: PhantomData };
+    pub(crate) fn of(session: &'a Session, view: Option<ViewId>) -> Notes<'a> {
+        let mut count = 0;
+        // SAFETY: the session is open, and the place is this function's own.
+        let answer = unsafe { sys::hongpilas_note_count(session.as_ptr(), &mut count) };
+        debug_assert_eq!(answer, sys::HONGPILAS_DONE);
+        let mut notes = Notes { session, view, indices: 0..count, left: count };
         if view.is_some() {
-            notes.left = (0..count).filter_map(|index| notes.at(index)).count();
+            notes.left = (0..count).filter(|index| notes.at(*index).is_some()).count();
         }
         notes
     }
 
-    /// The note with this index, if there is one and it is for the view that is asked for.
+    /// The notification with this index, if it is for the view that is asked for.
     fn at(&self, index: usize) -> Option<Note<'a>> {
-        let mut note = EMPTY;
-        // SAFETY: `of` was promised that the reply stays as it is, and the place is this function's own.
-        let text = unsafe {
-            if !sys::hongpilas_note(self.session, index, &mut note) || self.view.is_some_and(|view| view != note.view) {
-                return None;
-            }
-            lent(note.text, note.text_length)
+        let mut note = MaybeUninit::<sys::hongpilas_note_data>::uninit();
+        // SAFETY: the place is this function's own. A note is written unless it is refused. Its text is valid as long as the reply, which stays as
+        // long as the session is borrowed: what replaces it borrows the session as mutable.
+        let (note, text) = unsafe {
+            let size = size_of::<sys::hongpilas_note_data>();
+            Refusal::check(sys::hongpilas_note(self.session.as_ptr(), index, note.as_mut_ptr(), size)).ok()?;
+            let note = note.assume_init();
+            (note, lent(note.text, note.text_length))
         };
+        let view = ViewId::from(note.view);
+        if self.view.is_some_and(|wanted| wanted != view) {
+            return None;
+        }
         Some(Note {
-            view: note.view,
+            view,
             code: note.code,
             kind: i64::from(note.kind),
             message: note.message,
@@ -111,21 +120,25 @@ impl<'a> Notes<'a> {
             text,
         })
     }
+
+    /// The next notification in one direction, of `left` that are there.
+    fn take(&mut self, mut step: impl FnMut(&mut Range<usize>) -> Option<usize>) -> Option<Note<'a>> {
+        while self.left > 0 {
+            let index = step(&mut self.indices)?;
+            if let Some(note) = self.at(index) {
+                self.left -= 1;
+                return Some(note);
+            }
+        }
+        None
+    }
 }
 
 impl<'a> Iterator for Notes<'a> {
     type Item = Note<'a>;
 
     fn next(&mut self) -> Option<Note<'a>> {
-        // `left` notes are behind `next`.
-        while self.left > 0 {
-            self.next += 1;
-            if let Some(note) = self.at(self.next - 1) {
-                self.left -= 1;
-                return Some(note);
-            }
-        }
-        None
+        self.take(Range::next)
     }
 
     fn size_hint(&self) -> (usize, Option<usize>) {
@@ -133,22 +146,11 @@ impl<'a> Iterator for Notes<'a> {
     }
 }
 
-impl ExactSizeIterator for Notes<'_> {}
+impl DoubleEndedIterator for Notes<'_> {
+    fn next_back(&mut self) -> Option<Self::Item> {
+        self.take(Range::next_back)
+    }
+}
 
-const EMPTY: sys::hongpilas_note_data = sys::hongpilas_note_data {
-    view: 0,
-    code: 0,
-    kind: 0,
-    message: 0,
-    position: 0,
-    length: 0,
-    lines: 0,
-    line: 0,
-    now: 0,
-    prev: 0,
-    token: 0,
-    w: 0,
-    l: 0,
-    text: ptr::null(),
-    text_length: 0,
-};
+impl ExactSizeIterator for Notes<'_> {}
+impl FusedIterator for Notes<'_> {}

@@ -1,69 +1,78 @@
 //! Why a call is refused.
 
-use crate::lent;
-use hongpilas_sys as sys;
+use hongpilas_sys::{self as sys, *};
+use std::ffi::CStr;
 use std::fmt;
-use std::ptr;
+use std::num::NonZeroU32;
 
-/// Why a call is refused. A refused call has changed nothing.
-#[derive(Clone, Copy, Debug, PartialEq, Eq, Hash)]
-#[repr(u32)]
-pub enum Refusal {
-    /// A growth was refused.
-    OutOfMemory = 1,
-    /// No view has that id now.
-    NoSuchView = 2,
+/// Declares the refusals, and how they and the library's numbers lead to each other.
+macro_rules! refusals {
+    ($($(#[doc = $doc:literal])* $name:ident => $number:ident,)*) => {
+        /// Why a call is refused. A refused call has changed nothing.
+        #[derive(Clone, Copy, Debug, PartialEq, Eq, PartialOrd, Ord, Hash)]
+        #[non_exhaustive]
+        pub enum Refusal {
+            $($(#[doc = $doc])* $name,)*
+            /// A refusal of a later library, by its number.
+            Other(NonZeroU32),
+        }
+
+        impl Refusal {
+            /// The refusal with this number; `None` for 0, which says that a call was done.
+            ///
+            /// ```
+            /// use hongpilas::Refusal;
+            ///
+            /// assert_eq!(Refusal::from_number(5), Some(Refusal::TooLong));
+            /// assert_eq!(Refusal::from_number(99).map(Refusal::number), Some(99));
+            /// assert_eq!(Refusal::from_number(0), None);
+            /// ```
+            pub fn from_number(number: u32) -> Option<Refusal> {
+                match number {
+                    $($number => Some(Refusal::$name),)*
+                    _ => NonZeroU32::new(number).map(Refusal::Other),
+                }
+            }
+
+            /// The refusal's number, as scripts print it.
+            pub fn number(self) -> u32 {
+                match self {
+                    $(Refusal::$name => $number,)*
+                    Refusal::Other(number) => number.get(),
+                }
+            }
+        }
+    };
+}
+
+refusals! {
+    /// An allocation failed.
+    OutOfMemory => HONGPILAS_OUT_OF_MEMORY,
+    /// No view has this id.
+    NoSuchView => HONGPILAS_NO_SUCH_VIEW,
     /// The profile has no such message.
-    UnknownMessage = 3,
-    /// No document has that id now, or the caller holds no reference to it.
-    NoSuchDocument = 4,
-    /// The text would pass its limit after some step.
-    TooLong = 5,
+    UnknownMessage => HONGPILAS_UNKNOWN_MESSAGE,
+    /// No document has this id, or the caller holds no reference to it.
+    NoSuchDocument => HONGPILAS_NO_SUCH_DOCUMENT,
+    /// The text would exceed its limit after some step.
+    TooLong => HONGPILAS_TOO_LONG,
     /// An argument is outside the range that the message states.
-    BadArgument = 6,
+    BadArgument => HONGPILAS_BAD_ARGUMENT,
     /// Handles, ids, references, the depth of groups or open views are used up.
-    TooMany = 7,
+    TooMany => HONGPILAS_TOO_MANY,
 }
 
 impl Refusal {
-    const ALL: [Refusal; 7] = [
-        Refusal::OutOfMemory,
-        Refusal::NoSuchView,
-        Refusal::UnknownMessage,
-        Refusal::NoSuchDocument,
-        Refusal::TooLong,
-        Refusal::BadArgument,
-        Refusal::TooMany,
-    ];
-
-    /// `Ok` where a call was done, else why it was refused.
-    ///
-    /// # Panics
-    /// Of a number that this version of the library does not answer.
+    /// `Ok` if a call was done, else why it was refused.
     pub(crate) fn check(answer: sys::hongpilas_answer) -> Result<(), Refusal> {
-        if answer == sys::HONGPILAS_DONE {
-            return Ok(());
-        }
-        match Refusal::ALL.iter().find(|refusal| refusal.number() == answer) {
-            Some(refusal) => Err(*refusal),
-            None => panic!("the library answers {answer}, which this crate does not know"),
-        }
+        Refusal::from_number(answer).map_or(Ok(()), Err)
     }
 
-    /// The refusal's number, as scripts print it.
-    pub fn number(self) -> u32 {
-        self as u32
-    }
-
-    /// The refusal's name, as `no such view`.
+    /// The refusal's name, such as `no such view`.
     pub fn name(self) -> &'static str {
-        let mut name = ptr::null();
-        // SAFETY: the place is this function's own. A name stands for good.
-        let bytes: &'static [u8] = unsafe {
-            let length = sys::hongpilas_refusal_name(self.number(), &mut name);
-            lent(name, length)
-        };
-        std::str::from_utf8(bytes).unwrap_or("refused")
+        // SAFETY: each answer has a name, a string that is never freed.
+        let name: &'static CStr = unsafe { CStr::from_ptr(sys::hongpilas_answer_name(self.number())) };
+        name.to_str().unwrap_or("unknown refusal")
     }
 }
 
