@@ -25,7 +25,7 @@ PATH = re.compile(r"`((?:\.\./)*[\w.-]+/[\w./-]*)`")
 # What a build or an installation makes.
 MADE = re.compile(r"(^|/)out(/|$)|^lib/|^PREFIX/")
 # The folders of the sources whose paths installed pages may name, as c/packaging/installed.md says.
-SOURCES = ("crates/", "tools/", "tests/")
+SOURCES = ("crates/", "tools/", "tests/", "bench/")
 
 
 def read(path):
@@ -59,7 +59,7 @@ def faults(page, installed):
 def faults_installed(folder, page):
     with open(os.path.join(folder, page), encoding="utf-8") as file:
         prose = prose_of(file.read())
-    paths = {path for path in PATH.findall(prose) if not path.startswith(SOURCES)}
+    paths = {path for path in PATH.findall(prose) if not path.startswith(SOURCES) and not MADE.search(path)}
     for name in sorted(paths | set(NAMED.findall(prose)) | set(LINKED.findall(prose))):
         if "://" not in name and not os.path.exists(os.path.join(folder, name)):
             yield f"{os.path.join(folder, page)}: {name} is not installed"
