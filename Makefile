@@ -8,7 +8,8 @@
 #   make uninstall                takes away what `make install` with the same folders has put there
 #   make deb                      out/deb: packages for Debian, with the program sci_console, which it proves and builds; make deb-libraries has
 #                                 the library's alone; make dist a tarball with the wrappers for C++, Rust and Python
-#   make packages                 makes all of these, and tries them as somebody would who has just fetched them; as root, they are also installed and removed
+#   make wheel, make crates       the packages for Python and Rust, in out
+#   make packages                 makes all of these, and tries them as somebody would who has just fetched them; as root, it installs and removes them too
 #   make programs                 the examples, and out/checked_test, out/threads, out/memory, out/growths, out/door and out/door_examples
 #   make load                     out/load and out/load_huge, which put the library under load (docs/TESTING.md)
 # CC, CFLAGS, CPPFLAGS and LDFLAGS, for C++ CXX and CXXFLAGS, are heeded.
@@ -162,7 +163,15 @@ deb-libraries: all
 dist: all
 	c/packaging/package dist $(PROGRAM)
 
-packages: all $(PROGRAM)
+wheel: all
+	cd bindings/python && python3 -B -c 'import wheel_of_hongpilas as it; print(it.build_wheel("../../out"))'
+
+# Cargo builds what it has packed.
+crates: all
+	cd bindings/rust && HONGPILAS_LIB_DIR='$(CURDIR)/out' cargo package --quiet --workspace --offline --allow-dirty --target-dir '$(CURDIR)/out/cargo'
+	cp out/cargo/package/*.crate out/
+
+packages: all $(PROGRAM) wheel $(if $(shell command -v cargo),crates)
 	bindings/check python rust deb dist
 
 test check:
@@ -174,4 +183,4 @@ bench:
 clean:
 	rm -rf out
 
-.PHONY: all examples programs load test check bench install uninstall deb deb-libraries dist packages clean $(FOUND_BY)
+.PHONY: all examples programs load test check bench install uninstall deb deb-libraries dist wheel crates packages clean $(FOUND_BY)
