@@ -67,7 +67,7 @@ out/libhongpilas.a: $(PROVED) $(HEAP) out/checked.o out/names.o
 
 # The loader fills its tables before the first call, and nothing writes to them later. A name of the map that the library has not is a fault.
 out/lib%.so: out/lib%.a c/%.map
-	$(CC) -shared -nostartfiles $(CFLAGS) $(LDFLAGS) -Wl,-z,relro,-z,now,-z,defs -Wl,-soname,lib$*.so.$(MAJOR) \
+	$(CC) -shared -nostartfiles -Wl,-z,defs $(CFLAGS) $(LDFLAGS) -Wl,-z,relro,-z,now -Wl,-soname,lib$*.so.$(MAJOR) \
 	    -Wl,--version-script=c/$*.map,--no-undefined-version -Wl,--whole-archive $< -Wl,--no-whole-archive $(filter %.so,$^) -o $@
 
 out/libhongpilas_scintilla.so: out/libhongpilas.so
