@@ -1,5 +1,8 @@
 -- The handle and the parts own what a box of the same types owns.
-use Rattle.hongpilas_c.proofs.HandNames.{impl, tnil, dnil, [], Slot, plain, Bx}
+use mir.Syntax.{impl, tnil, dnil}
+use mathlib.Core.List.{[]}
+use denote.Signature.{Slot, plain}
+use Rattle.std_alloc.proofs.BoxSteps.Form.{Bx}
 use Rattle.std_heap.specs.contracts.Global as Heap
 use Rattle.std_heap.specs.contracts.GlobalAllocator.TheImpl.{ghosts, dict}
 use Rattle.std_heap.proofs.Global.TheLaws as heap

@@ -1,4 +1,4 @@
-pub mod HandNames
 pub mod AsBox
 pub mod Refusing
 pub mod ReadTexts
+pub mod QueryAnswers

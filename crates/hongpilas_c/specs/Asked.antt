@@ -24,9 +24,12 @@ is_query number = has_mark_q (marks_at number)
 abbrev pub Answered : Type 0
 Answered = Result (Session × Response) Refusal
 
--- the number with which a question is refused, of which this is said; a message that is no question is unknown
+-- the number with which a message is refused, of which this is said, if it is a question; otherwise it is unknown
+abbrev pub refused_if : Bool → Answered → ℕ
+refused_if is_asked says = if is_asked then refused_with says else refusal_number UnknownMessage
+
 abbrev pub refused_asking : ℕ → Answered → ℕ
-refused_asking number says = if is_query number then refused_with says else refusal_number UnknownMessage
+refused_asking number says = refused_if (is_query number) says
 
 abbrev pub value_answered : Answered → Result ℤ Refusal
 value_answered (Ok done) = Ok done.1.value

@@ -29,6 +29,7 @@ impl Held {
     fn planned(&mut self, view: u32, number: u32, w: i64, l: i64) -> Result<Reply, Refusal>
         ensures done { IfOk result (λ reply. table self.old.session view (message_with number w l []) ≡ Ok (self.old.session, reply)) }
         ensures refused { IfErr result (λ refusal. refusal_number refusal ≡ refused_asking number (table self.old.session view (message_with number w l []))) }
+        ensures query { IfOk result (λ reply. is_query number ≡ true) }
         ensures same { self.new ≡ self.old }
     {
         // States that a question leaves the session unchanged.
@@ -112,7 +113,7 @@ pub extern "C" fn hongpilas_ask_unchecked(
 }
 
 /// Asks a view a question as `hongpilas_ask_unchecked` does, and lends its text: sets `text` to the address of the first
-/// byte, and `length`. The text is valid until the next such call, or the session is freed.
+/// byte, and `count` to how many there are. The text is valid until the next such call, or the session is freed.
 #[unsafe(no_mangle)]
 pub extern "C" fn hongpilas_read_unchecked(
     handle: &mut Handle,
@@ -121,24 +122,24 @@ pub extern "C" fn hongpilas_read_unchecked(
     w: i64,
     l: i64,
     text: &mut *const u8,
-    length: &mut usize,
+    count: &mut usize,
     value: &mut i64,
 ) -> u32
     requires { is_some handle.old.held ≡ true }
     ensures value { result ≡ 0 → IsAsked view (message_with number w l []) value.new handle.old.held }
     ensures text { result ≡ 0 → IsRead view (message_with number w l []) (asked_text handle.new.held) handle.old.held }
-    ensures length { result ≡ 0 → length.new ≡ length (asked_text handle.new.held) }
+    ensures count { result ≡ 0 → count.new ≡ length (asked_text handle.new.held) }
     ensures refused { result ≢ 0 → IsAskRefused view (message_with number w l []) result handle.old.held }
     ensures same { without_asked handle.new.held ≡ without_asked handle.old.held }
     ensures kept { result ≢ 0 → handle.new.held ≡ handle.old.held }
     ensures text_kept { result ≢ 0 → text.new ≡ text.old }
-    ensures length_kept { result ≢ 0 → length.new ≡ length.old }
+    ensures count_kept { result ≢ 0 → count.new ≡ count.old }
     ensures value_kept { result ≢ 0 → value.new ≡ value.old }
 {
     let held = handle.held();
     let answer = held.read_beside(view, number, w, l, value);
     if answer == DONE {
-        *length = tell_start(held.asked.as_slice(), text);
+        *count = tell_start(held.asked.as_slice(), text);
     }
     answer
 }

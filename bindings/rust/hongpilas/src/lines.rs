@@ -22,7 +22,7 @@ impl<'v> Lines<'v> {
         let start = self.view.position_from_line(line).ok()?;
         let end = self.view.position_from_line(line + 1).ok()?;
         let mut bytes = vec![0; usize::try_from(end - start).ok()?];
-        self.view.read_range(usize::try_from(start).ok()?, &mut bytes).ok()?;
+        self.view.read_range(start, &mut bytes).ok()?;
         Some(bytes)
     }
 }

@@ -6,6 +6,11 @@ use std::marker::PhantomData;
 use std::ops::{Deref, DerefMut};
 use std::ptr;
 
+/// A position or a length of a range, which is not negative.
+fn size_of_range(number: i64) -> Result<usize, Refusal> {
+    usize::try_from(number).map_err(|_| Refusal::BadArgument)
+}
+
 /// A view of a session, to ask questions of it. [`Session::view`] makes one.
 ///
 /// A question changes nothing, the last reply neither, and so it borrows the session as shared. A text that it returns is a copy.
@@ -137,8 +142,9 @@ impl<'s> View<'s> {
     /// ```
     ///
     /// # Errors
-    /// [`Refusal::BadArgument`] if the range ends past the end of the text; [`Refusal::NoSuchView`].
-    pub fn read_range(&self, start: usize, into: &mut [u8]) -> Result<(), Refusal> {
+    /// [`Refusal::BadArgument`] if the range does not lie in the text; [`Refusal::NoSuchView`].
+    pub fn read_range(&self, start: i64, into: &mut [u8]) -> Result<(), Refusal> {
+        let start = size_of_range(start)?;
         // SAFETY: the session is open. No bytes of a document are lent: what lends them borrows the session as mutable. So nobody minds that this may
         // move them.
         Refusal::check(unsafe {
@@ -242,8 +248,9 @@ impl<'s> ViewMut<'s> {
     /// ```
     ///
     /// # Errors
-    /// [`Refusal::BadArgument`] if the range ends past the end of the text; [`Refusal::NoSuchView`].
-    pub fn lend_range(&mut self, start: usize, count: usize) -> Result<&[u8], Refusal> {
+    /// [`Refusal::BadArgument`] if the range does not lie in the text; [`Refusal::NoSuchView`].
+    pub fn lend_range(&mut self, start: i64, count: i64) -> Result<&[u8], Refusal> {
+        let (start, count) = (size_of_range(start)?, size_of_range(count)?);
         let mut bytes = ptr::null();
         // SAFETY: the session is open, and is borrowed as mutable as long as the bytes are used.
         unsafe {

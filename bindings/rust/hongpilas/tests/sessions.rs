@@ -76,6 +76,9 @@ fn questions_leave_the_last_reply() -> Result<(), Refusal> {
     assert_eq!(codes, [2008, 2003, 2008]);
     assert_eq!(session.view_mut(view).lend_line(0)?, b"one\n");
     assert_eq!(session.view_mut(view).lend_range(4, 3)?, b"two");
+    for (start, count) in [(-1, 2), (5, -3), (5, 3), (8, 0)] {
+        assert_eq!(session.view_mut(view).lend_range(start, count), Err(Refusal::BadArgument));
+    }
     assert_eq!(session.view(view).ask(SCI_UNDO, 0, 0), Err(Refusal::UnknownMessage));
     assert_eq!(session.notes().len(), 3);
     Ok(())

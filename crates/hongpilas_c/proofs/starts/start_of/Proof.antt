@@ -1,8 +1,36 @@
 -- `start_of` reads the address of the bytes, and does not borrow them any longer.
-use Rattle.hongpilas_c.proofs.HandNames.{refl, ℕ, List, [], ◌∷◌, Ura, named, Val, vptr, SProp, ent, sep, emp, Lft, Share, ftrue, flft, Memory, Routine, Calls, Loops, WpFn, Tables, Logic, Fun, tables, tables_of, WpFn-mono, ‵, ◌⊛◌, raw, ◌$◌, ◌∵◌, !, qed, move, keep, split, join, group, feq_i, suffices, done, whole, sub, stop, fld, hop, from, addr, returns, enter, alloc_all, pass_all, free_all, look_at, look_in_at, sets, yes, owns, block_ptr, Bor, plain, shr_slice_of, nothing, on_entry, Meets, triple_of, entered, says, Stays, stay_dropped, walk_of, ends_at, walked, Goes-dropped, walk_Meets}
+use mathlib.Core.Path.{refl}
+use Prim.Native.Nat.{ℕ}
+use mathlib.Core.List.{List, [], ◌∷◌}
 use lib.ListN.{length}
+use seplogic.Ra.Ura.{Ura}
+use mir.Syntax.{named}
+use mir.Val.{Val, vptr}
+use base.Logic.{SProp, ent, sep, emp}
+use base.Fml.{Lft, Share, ftrue, flft}
+use prog.Memory.{Memory}
+use prog.Routine.{Routine}
+use prog.Wp.{Calls, Loops, WpFn, Tables}
+use types.Logic.{Logic}
+use contract.Monad.{Fun}
+use contract.Running.{tables, tables_of}
+use sound.WpLaws.{WpFn-mono}
+use types.Kit.{‵, ◌⊛◌, raw, ◌$◌, ◌∵◌, !, qed, move, keep, split, join, group, feq_i, suffices, done}
+use types.Part.{whole, sub}
+use types.Run.{stop, fld, hop, from, addr, returns, enter}
+use types.ByLocal.{alloc_all, pass_all, free_all, look_at, look_in_at, sets}
 use denote.Builtin.{u8}
+use denote.Exit.{yes}
+use denote.RattleType.{owns}
+use denote.RawPtr.{block_ptr}
+use denote.Ref.{Bor}
+use denote.Signature.{plain, shr_slice_of}
 use denote.Slice.{ShrSlice, Room, slice_val, shr_slice_vals, shr_slice_Tells}
+use denote.Steps.{nothing}
+use denote.Triple.Entry.{on_entry}
+use denote.Triple.Spec.{Meets, triple_of}
+use denote.Triple.Table.{entered}
+use denote.Triple.Walked.{says, Stays, stay_dropped, walk_of, ends_at, walked, Goes-dropped, walk_Meets}
 use Rattle.hongpilas_c.specs.contracts.starts.start_of as F
 use Rattle.hongpilas_c.specs.contracts.starts.start_of.Key.{name as #self}
 use Rattle.hongpilas_c.proofs.starts.start_of.Statement as stated

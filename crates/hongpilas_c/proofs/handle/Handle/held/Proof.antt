@@ -1,11 +1,44 @@
 -- `held` lends the value behind the handle, and the handle follows its changes.
-use Rattle.hongpilas_c.proofs.HandNames.{refl, false≢true, ℕ, List, [], ◌∷◌, Option, Some, None, is_some, true, Ura, named, Val, vptr, SProp, ent, sep, Lft, GName, Share, Fml, ftrue, flft, fsep, Memory, Routine, Env, Calls, Loops, WpFn, Tables, Fun, fact, tables, tables_of, Logic, sem, WpFn-mono, ‵, ◌⊛◌, some, at_ret, ◌$◌, ◌∵◌, !, qed, by, move, keep, use1, drop, split, join, pick, rewrite, fsplit, fsplit3, fjoin, suffices, frame, done, raw, later, await, group, fpack, whole, sub, look_in, stop, fld, load, of_opd, first, blocks, exec, returns, enter, addr, alloc_all, pass_all, free_all, look_at, get, through, sets, env, sets_last, RattleType, owns, opens, block_ptr, MutRef, mut_vals, mut_Tells, plain, mut_ref_to, heard, nothing, on_entry, Meets, triple_of, entered, says, Stays, stay_dropped, walk_of, ends_at, walked, walk_Meets, Goes-spent_ref, token, no, D, τ, word, handle, box_out, box_in}
-use Rattle.std.specs.Prelude.{◌≡◌}
+use mathlib.Core.Path.{refl}
+use mathlib.Core.Bool.{false≢true}
+use Prim.Native.Nat.{ℕ}
+use mathlib.Core.List.{List, [], ◌∷◌}
+use Rattle.std.specs.Prelude.{◌≡◌, Option, Some, None, is_some, true}
+use seplogic.Ra.Ura.{Ura}
 use base.Fraction.{full_share}
+use mir.Syntax.{named}
+use mir.Val.{Val, vptr}
+use base.Logic.{SProp, ent, sep}
+use base.Fml.{Lft, GName, Share, Fml, ftrue, flft, fsep}
+use prog.Memory.{Memory}
+use prog.Routine.{Routine}
+use prog.Wp.{Env, Calls, Loops, WpFn, Tables}
+use contract.Monad.{Fun, fact}
+use contract.Running.{tables, tables_of}
+use types.Logic.{Logic, sem}
+use sound.WpLaws.{WpFn-mono}
+use types.Kit.{‵, ◌⊛◌, some, at_ret, ◌$◌, ◌∵◌, !, qed, by, move, keep, use1, drop, split, join, pick, rewrite, fsplit, fsplit3, fjoin, suffices, frame, done, raw, later, await, group, fpack}
+use types.Part.{whole, sub, look_in}
+use types.Run.{stop, fld, load, of_opd, first, blocks, exec, returns, enter, addr}
+use types.ByLocal.{alloc_all, pass_all, free_all, look_at, get, through, sets, env, sets_last}
+use denote.RattleType.{RattleType, owns}
 use denote.Memory.{part_at, mem, cell_at, part_of}
+use denote.Steps.{opens}
+use denote.RawPtr.{block_ptr}
+use denote.Ref.{MutRef, mut_vals, mut_Tells}
+use denote.Signature.{plain, mut_ref_to}
+use denote.Steps.{heard, nothing}
+use denote.Triple.Entry.{on_entry}
+use denote.Triple.Spec.{Meets, triple_of}
+use denote.Triple.Table.{entered}
+use denote.Triple.Walked.{says, Stays, stay_dropped, walk_of, ends_at, walked, walk_Meets, Goes-spent_ref}
+use Rattle.core.proofs.alloc.Calls.{token}
 use mir.Raw.{raw as bare}
+use denote.Exit.{no}
 use denote.Follow.{follows, Part, lends_Part}
 use Rattle.std_alloc.proofs.VecSteps.Shapes.{after}
+use Rattle.std_alloc.proofs.BoxSteps.Form.{D, τ, word, handle}
+use Rattle.std_alloc.proofs.BoxSteps.Steps.{box_out, box_in}
 use Rattle.hongpilas_c.proofs.AsBox.{E}
 use Rattle.hongpilas_c.specs.Lends.{with_held}
 use Rattle.hongpilas_c.specs.contracts.held.Held as Held
