@@ -495,11 +495,14 @@ def main():
     found = messages()
     wrong = []
     for path, new in [*((path, written(path, texts)) for path, texts in files(found)), *versions(), *definitions(found)]:
-        if "--check" not in sys.argv[1:]:
-            with open(os.path.join(header.TOP, path), "w", encoding="utf-8") as file:
-                file.write(new)
-        elif header.read(path) != new:
+        # What is as it should be is left alone, or `make` would prove the crate with the definitions again.
+        if header.read(path) == new:
+            continue
+        if "--check" in sys.argv[1:]:
             wrong.append(f"{path}: run tools/pages/wrappers.py")
+            continue
+        with open(os.path.join(header.TOP, path), "w", encoding="utf-8") as file:
+            file.write(new)
     wrong += faults()
     print("\n".join(wrong) or f"the wrappers for C++, Rust and Python are what they should be: {len(found)} messages")
     sys.exit(bool(wrong))
