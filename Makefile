@@ -10,7 +10,7 @@
 #                                 the library's alone; make dist a tarball with the wrappers for C++, Rust and Python
 #   make wheel, make crates       the packages for Python and Rust, in out
 #   make packages                 makes all of these, and tries them as somebody would who has just fetched them; as root, it installs and removes them too
-#   make programs                 the examples, and out/checked_test, out/threads, out/memory, out/growths, out/door and out/door_examples
+#   make programs                 the examples, and out/checked_test, out/threads, out/memory, out/growths, out/scintilla and out/scintilla_examples
 #   make load                     out/load and out/load_huge, which put the library under load (docs/TESTING.md)
 # CC, CFLAGS, CPPFLAGS and LDFLAGS, for C++ CXX and CXXFLAGS, are heeded.
 # The crate's own archive is made by `rt lib` in crates/hongpilas_c, which proves it first. A target that needs only what is built needs no `rt`.
@@ -74,7 +74,7 @@ out/lib%.so: out/lib%.a c/%.map
 out/libhongpilas_scintilla.so: out/libhongpilas.so
 out/libhongpilas_scintilla.so: private BESIDE := -Wl,-rpath,'$$ORIGIN'
 
-# The Scintilla-compatible interface stands beside the libraries: who does not want it links none of it. An exception may pass through it.
+# The Scintilla-compatible interface stands beside the libraries: a program that does not use it links none of it. An exception may pass through it.
 out/libhongpilas_scintilla.a: c/scintilla.c c/scintilla_manners.h include/hongpilas_scintilla.h include/hongpilas.h
 	mkdir -p out
 	rm -f $@
@@ -86,11 +86,12 @@ STEPS := $(addprefix out/step,1 2 3 4 5 6)
 
 examples: out/hello out/notes out/lexer out/margin out/edit out/edit_scintilla $(STEPS)
 
-programs: examples out/memory out/growths out/notify out/door out/door_examples out/checked_test out/threads
+programs: examples out/memory out/growths out/notify out/scintilla out/scintilla_examples out/checked_test out/threads
 
 # These stand between the library and the C library's heap.
-out/memory out/growths out/notify out/door: WRAPPED := -Wl,--wrap=malloc,--wrap=calloc,--wrap=realloc,--wrap=free
+out/memory out/growths out/notify out/scintilla: WRAPPED := -Wl,--wrap=malloc,--wrap=calloc,--wrap=realloc,--wrap=free
 out/threads: WRAPPED := -pthread
+out/notify: WRAPPED += -pthread
 
 # By hand: the library under load, beside Scintilla's where its library is named (docs/TESTING.md).
 load: out/load out/load_huge
@@ -108,10 +109,10 @@ out/load_huge: tests/load/load_huge.cpp tests/random.h out/libhongpilas.a includ
 vpath %.c examples/c examples/c/tutorial tests/c
 
 out/%: %.c out/libhongpilas.a include/hongpilas.h
-	$(COMPILE) $(LDFLAGS) $< $(DOOR) out/libhongpilas.a $(WRAPPED) -o $@
+	$(COMPILE) $(LDFLAGS) $< $(COMPATIBLE) out/libhongpilas.a $(WRAPPED) -o $@
 
-out/door out/door_examples out/notify out/lexer out/margin out/edit_scintilla: DOOR := out/libhongpilas_scintilla.a
-out/door out/door_examples out/notify out/lexer out/margin out/edit_scintilla: out/libhongpilas_scintilla.a
+out/scintilla out/scintilla_examples out/notify out/lexer out/margin out/edit_scintilla: COMPATIBLE := out/libhongpilas_scintilla.a
+out/scintilla out/scintilla_examples out/notify out/lexer out/margin out/edit_scintilla: out/libhongpilas_scintilla.a
 
 # The editor over the Scintilla-compatible interface: edit.c, but for a few lines.
 out/edit_scintilla.c: examples/c/edit.c examples/c/edit_scintilla.diff
@@ -121,7 +122,7 @@ out/edit_scintilla.c: examples/c/edit.c examples/c/edit_scintilla.diff
 out/edit out/edit_scintilla: examples/c/terminal.h
 
 out/edit_scintilla: out/edit_scintilla.c
-	$(COMPILE) $(LDFLAGS) -Iexamples/c $< $(DOOR) out/libhongpilas.a -o $@
+	$(COMPILE) $(LDFLAGS) -Iexamples/c $< $(COMPATIBLE) out/libhongpilas.a -o $@
 
 out/hongpilas.pc:
 	mkdir -p out

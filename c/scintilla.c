@@ -1,6 +1,7 @@
 /* Hongpilas with Scintilla's own interface, over the library's calls: hongpilas_scintilla.h says what each call does. */
 #include "scintilla_manners.h"
 
+#include <errno.h>
 #include <stdlib.h>
 #include <string.h>
 
@@ -8,7 +9,8 @@ typedef struct scintilla_view scintilla_view;
 typedef struct batch batch;
 typedef struct delivery delivery;
 
-enum { SHORT_TEXT = 256 };
+/* In bytes. The place for a text that is not short stays for the next one, up to the second of these. */
+enum { SHORT_TEXT = 256, MOST_KEPT = 64 * 1024 };
 
 struct hongpilas_scintilla {
   hongpilas_session *session;
@@ -20,10 +22,11 @@ struct hongpilas_scintilla {
   size_t next;
   uptr_t w; /* of the call whose reply it is */
   sptr_t l;
-  bool is_late;      /* that call has returned: a text that l led to may be gone */
-  bool is_pinned;    /* the function that runs was given bytes of the reply, which is not to be replaced */
-  delivery *running; /* of the call that notifies; NULL if none does */
-  uint8_t *held;     /* the text of the notification that is delivered, if it is long */
+  bool is_late;       /* that call has returned: a text that l led to may be gone */
+  bool is_pinned;     /* the function that runs was given bytes of the reply, which is not to be replaced */
+  delivery *running;  /* of the call that notifies; NULL if none does */
+  const void *thread; /* in which that call was made */
+  uint8_t *held;      /* the text of the notification that is delivered, if it is long */
   size_t held_room;
   uint8_t held_short[SHORT_TEXT];
 };
@@ -132,9 +135,11 @@ static void drop_first(hongpilas_scintilla *it) {
 /* ---- Delivering ---- */
 
 /* Stands on the stack of the call that notifies. A notify function that is left by longjmp leaves it behind, and nobody says so; whether it still stands is seen
- * in two ways. First, a call from inside is made farther down the same stack, and finds all seals as they were. That takes a nanosecond, but another function may
- * have left them as they were, too, by a large local that it did not write. So where it matters the stack is walked, by the tables that compilers write for
- * exceptions: the frame in which a delivery stands is that of `deliver`. Where they end before that frame, the first way decides alone. */
+ * in two ways. First, a call from inside is made in the same thread, farther down the same stack, and finds all seals as they were. That is quick, but another
+ * function may have left them as they were, too, by a large local that it did not write. So where it matters the stack is walked, by the tables that compilers
+ * write for exceptions: the frame in which a delivery stands is that of `deliver`. Where they end before that frame, the first way decides alone.
+ * The stack of another thread may be gone, so its seals are not read. A later thread may have its errno where that thread had it; but a thread's errno stands above
+ * its stack, and so the seals, which lie between errno and the frame of the call, are in the stack of that call. */
 enum { SEALS = 4 };
 struct delivery {
   hongpilas_scintilla *of; /* NULL once that is freed */
@@ -147,7 +152,11 @@ static uintptr_t seal_of(const delivery *at, int i) { return ((uintptr_t)at ^ (u
 
 #if defined(__GNUC__) || defined(__clang__)
 #include <unwind.h>
-#define APART             __attribute__((noinline, no_sanitize_address))
+#if defined(__clang__)
+#define APART __attribute__((noinline, no_sanitize_address))
+#else
+#define APART __attribute__((noinline, noclone, no_sanitize_address))
+#endif
 #define ENDS_BY(function) __attribute__((cleanup(function)))
 #define STACK()           ((uintptr_t)__builtin_frame_address(0))
 
@@ -179,6 +188,9 @@ static bool is_in_frame_of_deliver(const delivery *at) {
 static bool is_in_frame_of_deliver(const delivery *at) { return at != NULL; }
 #endif
 
+/* Each thread has an errno of its own: where it stands tells threads apart. */
+static const void *this_thread(void) { return &errno; }
+
 /* No notify function runs any more. */
 static bool forget_delivery(hongpilas_scintilla *it) {
   it->running = NULL;
@@ -189,7 +201,7 @@ static bool forget_delivery(hongpilas_scintilla *it) {
 /* Whether this call is made from inside a notify function, as far as the seals tell. */
 static APART bool is_inside(hongpilas_scintilla *it) {
   const volatile delivery *at = it->running;
-  bool stands = at != NULL && STACK() < (uintptr_t)at && at->of == it;
+  bool stands = at != NULL && it->thread == this_thread() && STACK() < (uintptr_t)at && at->of == it;
   int i;
   for (i = 0; stands && i < SEALS; i++) stands = at->seals[i] == seal_of(it->running, i);
   return stands || forget_delivery(it);
@@ -200,9 +212,13 @@ static bool is_surely_inside(hongpilas_scintilla *it) { return is_inside(it) && 
 
 /* The end of a delivery, by return or by an exception. */
 static void end_delivery(delivery *at) {
-  if (at->of == NULL || at->of->running != at) return;
-  at->of->running = NULL;
-  at->of->is_pinned = false;
+  hongpilas_scintilla *it = at->of;
+  if (it == NULL || it->running != at) return;
+  forget_delivery(it);
+  if (it->held_room <= MOST_KEPT) return;
+  free(it->held);
+  it->held = NULL;
+  it->held_room = 0;
 }
 
 /* The text of a notification of the last reply, for as long as it is delivered: a message that is sent meanwhile replaces the reply. If there is no memory for
@@ -271,6 +287,7 @@ static APART void deliver(hongpilas_scintilla *it) {
   here.of = it;
   for (i = 0; i < SEALS; i++) here.seals[i] = seal_of(&here, i);
   it->running = &here;
+  it->thread = this_thread();
   while (take_note(it, &taken)) {
     const scintilla_view *view = view_of(it, taken.note.view);
     if (view == NULL || view->notify == NULL) continue;
@@ -290,7 +307,7 @@ static void note_refusal(scintilla_view *view, hongpilas_answer answer) {
   view->status = answer == HONGPILAS_OUT_OF_MEMORY ? SC_STATUS_BADALLOC : SC_STATUS_FAILURE;
 }
 
-/* What a question answers that is never refused. No reply is replaced. */
+/* What a query answers that is never refused. No reply is replaced. */
 static int64_t ask(scintilla_view *view, unsigned int message, int64_t w) {
   int64_t value = 0;
   return hongpilas_ask_unchecked(view->of->session, view->id, message, w, 0, &value) == HONGPILAS_DONE ? value : 0;
@@ -385,7 +402,7 @@ static hongpilas_answer lend_span(scintilla_view *view, sptr_t start, sptr_t cou
 
 /* ---- The call ---- */
 
-/* Sends a message with a text, or with l where there is none. A question replaces no reply; before all others the queue is kept. */
+/* Sends a message with a text, or with l where there is none. A query replaces no reply; before all others the queue is kept. */
 static hongpilas_answer send_text(scintilla_view *view, unsigned int message, uptr_t w, sptr_t l, const char *text, size_t length, int64_t *value) {
   hongpilas_scintilla *it = view->of;
   bool is_queued = it->next != (size_t)-1 && (it->is_pinned || has_undelivered(it));
@@ -442,18 +459,18 @@ static void refuse_edit(scintilla_view *view) {
 }
 
 static bool is_marked(const manner *way, uint32_t mark) { return (hongpilas_message_marks(way->message) & mark) != 0; }
-static bool is_question(const manner *way) { return way->taken == LENT || is_marked(way, HONGPILAS_MARK_Q); }
+static bool is_query(const manner *way) { return way->taken == LENT || is_marked(way, HONGPILAS_MARK_Q); }
 
-/* Whether a message that is no question is sent from inside a notify function. It is made sure where it matters before the message is done. */
+/* Whether a message that is no query is sent from inside a notify function. It is made sure where it matters before the message is done. */
 static bool is_sent_inside(hongpilas_scintilla *it, const manner *way) {
-  if (it->running == NULL || is_question(way)) return false;
+  if (it->running == NULL || is_query(way)) return false;
   return is_marked(way, HONGPILAS_MARK_E) || it->is_pinned ? is_surely_inside(it) : is_inside(it);
 }
 
-/* Delivers what stands in the queue behind a message, unless that is a question, or a notify function runs. */
+/* Delivers what stands in the queue behind a message, unless that is a query, or a notify function runs. */
 static void deliver_behind(hongpilas_scintilla *it, const manner *way) {
   if (it->first == NULL && (it->next == (size_t)-1 || !has_undelivered(it))) return;
-  if (is_question(way) || (it->running != NULL && is_surely_inside(it))) return;
+  if (is_query(way) || (it->running != NULL && is_surely_inside(it))) return;
   deliver(it);
 }
 

@@ -10,7 +10,7 @@
  * Two forms. hongpilas_send, for example, tests its pointers and lengths, and then makes
  * the proved call, hongpilas_send_unchecked, which tests none of them. Use the plain
  * names. The tests are written in C (c/checked.c), and are tested, not proved.
- * The unchecked forms, at the end of this header, save about two nanoseconds.
+ * The unchecked forms, at the end of this header, are a little faster.
  *
  * Threads. A session is used by one call at a time, and may be handed from thread to thread
  * by whatever orders memory, such as a lock or a channel; sessions are independent of each
@@ -25,6 +25,8 @@
  *    below; if their length is 0, the address means nothing;
  *  - a text that is sent, and a buffer that is filled, has none of the bytes that the
  *    session lent: copy them first;
+ *  - during a call nobody changes a text that it is sent, nor reads or changes a buffer that
+ *    it fills, in another thread either;
  *  - what the unchecked forms add to this is stated there.
  *
  * Lent bytes. The last reply, with its text and its notifications, is valid until the
@@ -55,8 +57,8 @@
 #include <stddef.h>
 #include <stdint.h>
 
-/* A compiler that can, warns of an answer that is dropped. Define this as nothing before the
- * header is included, and none does. */
+/* Compilers that can warn about a dropped answer do. To switch that off, define this as
+ * nothing before the header is included. */
 #ifndef HONGPILAS_MUST_USE
 #if defined(__GNUC__) || defined(__clang__)
 #define HONGPILAS_MUST_USE __attribute__((warn_unused_result))
@@ -102,7 +104,7 @@ const char *hongpilas_note_name(uint32_t code);
 
 /* The marks of a message in docs/MESSAGES.md, each a bit; 0 if the profile does not have the
  * message. */
-#define HONGPILAS_MARK_Q 1u /* a question: it changes nothing */
+#define HONGPILAS_MARK_Q 1u /* a query: it changes nothing */
 #define HONGPILAS_MARK_N 2u /* it allocates no memory, unless it is recorded */
 #define HONGPILAS_MARK_E 4u /* it edits the text */
 #define HONGPILAS_MARK_R 8u /* a view that records is notified of it */
@@ -162,13 +164,15 @@ HONGPILAS_MUST_USE hongpilas_answer hongpilas_close_view(hongpilas_session *sess
 HONGPILAS_MUST_USE hongpilas_answer hongpilas_send(hongpilas_session *session, uint32_t view, uint32_t number, int64_t w, int64_t l, const void *text,
                                                    size_t length, int64_t *value);
 
-/* Asks a view a question: a message that changes nothing, which docs/MESSAGES.md marks Q.
+/* Sends a view a query: a message that changes nothing, which docs/MESSAGES.md marks Q.
  * Sets *value to the value with which hongpilas_send would answer it. Neither the session
  * nor the last reply changes, so that a program may ask while it reads notifications.
  * hongpilas_read also lends the text with which hongpilas_send would answer: it sets *text
  * to its first byte, and *length. The text is valid until the next hongpilas_read of the
- * session, or hongpilas_free; here `value` may be null.
- * Refused: UNKNOWN_MESSAGE if the message is no question; otherwise as by hongpilas_send. */
+ * session, or hongpilas_free; here `value` may be null. A query that is answered with a text
+ * makes the whole of it in memory, for hongpilas_ask too, which then drops it.
+ * Refused: UNKNOWN_MESSAGE if the message is no query; otherwise as by hongpilas_send, so that
+ * a query with a text may be refused as OUT_OF_MEMORY. */
 HONGPILAS_MUST_USE hongpilas_answer hongpilas_ask(const hongpilas_session *session, uint32_t view, uint32_t number, int64_t w, int64_t l, int64_t *value);
 HONGPILAS_MUST_USE hongpilas_answer hongpilas_read(hongpilas_session *session, uint32_t view, uint32_t number, int64_t w, int64_t l, const uint8_t **text,
                                                    size_t *length, int64_t *value);

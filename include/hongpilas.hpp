@@ -11,14 +11,15 @@
  * lines are std::int64_t and count from 0.
  *
  * Refusals. The methods of View throw Refused; those of ResultView, which view.results() is, throw nothing and return a Result, with a value
- * or a Refusal, as std::expected has. A refused call changes nothing. Out of memory is a refusal too, also where a text is copied.
+ * or a Refusal, as std::expected has. A refused call changes nothing. Out of memory is a refusal too, also where a text is copied; but there
+ * it ends a program that is built without exceptions.
  *
- * Questions are const: they change nothing, and leave the session's last reply as it is, so that a loop over notifications may ask. All
+ * Queries are const: they change nothing, and leave the session's last reply as it is, so that a loop over notifications may send them. All
  * other messages, once done, replace the last reply: its value, its text and its notifications.
  *
  * Borrowed bytes. What GetLine and the like return is a copy, as is what notes() returns. Borrowed are
- *  - text() and lent_notes(): until the next message that is done and is no question, or the end of the session;
- *  - GetLineView and the like, and read(): until the next question that returns a text, or the end of the session;
+ *  - text() and lent_notes(): until the next message that is done and is no query, or the end of the session;
+ *  - GetLineView and the like, and read(): until the next query that returns a text, or the end of the session;
  *  - lend_range: until the next call on the session, except those that only read the last reply.
  * A text that is sent has none of these bytes: copy it first.
  *
@@ -283,7 +284,7 @@ using Note = BasicNote<std::string>;
 using LentNote = BasicNote<std::string_view>;
 
 /// The notifications of the last reply, for all views, in their order: a random access range over the session's own, without copies. They are
-/// valid until the next message that is done and is no question; questions may be asked in a loop over them.
+/// valid until the next message that is done and is no query; queries may be sent in a loop over them.
 class LentNotes {
   struct Arrow {
     LentNote note;
@@ -411,21 +412,20 @@ struct Returning {
 
 template <class Policy>
 class BasicView;
+/// A view whose methods return a Result. In a program that is built without exceptions, those that copy, such as GetText() and notes(), end it
+/// if there is no memory for the copy; GetTextView() and Session::lent_notes() copy nothing.
 using ResultView = BasicView<Returning>;
 #if HONGPILAS_THROWS
 using View = BasicView<Throwing>;
 #endif
 
 /// An open undo group: what is done while this object lives is undone at once. At its end it sends ENDUNDOACTION, which replaces the last
-/// reply, to the view that began it; read notifications before. Groups may lie in groups.
+/// reply, to the view that began it; read notifications before. It has to end before its session does. Groups may lie in groups; a group is
+/// moved, but not assigned, since the new one would begin inside the old one.
 class [[nodiscard]] UndoGroup {
  public:
   UndoGroup(UndoGroup &&other) noexcept : session_(std::exchange(other.session_, nullptr)), view_(other.view_) {}
-  UndoGroup &operator=(UndoGroup other) noexcept {
-    std::swap(session_, other.session_);
-    std::swap(view_, other.view_);
-    return *this;
-  }
+  UndoGroup &operator=(UndoGroup &&) = delete;
   ~UndoGroup() { detail::ends(hongpilas_send(session_, view_, SCI_ENDUNDOACTION, 0, 0, nullptr, 0, nullptr)); }
 
  private:
@@ -439,7 +439,7 @@ class [[nodiscard]] UndoGroup {
 };
 
 /// A document that the caller holds, whether views are attached to it or not. At its end it sends RELEASEDOCUMENT to the view that made it,
-/// which has to be open then; release() is for when that may not be.
+/// which has to be open then, as has the session; release() is for when they may not be.
 class [[nodiscard]] Document {
  public:
   Document(Document &&other) noexcept : session_(std::exchange(other.session_, nullptr)), view_(other.view_), id_(other.id_) {}
@@ -468,7 +468,7 @@ class [[nodiscard]] Document {
 };
 
 /// A view, by its id: two words that are copied freely, and do not close the view when they end. It may be used as long as its session is
-/// open, also when the Session object has moved. Questions are const, and leave the session's last reply.
+/// open, also when the Session object has moved. Queries are const, and leave the session's last reply.
 template <class Policy>
 class BasicView {
  public:
@@ -492,11 +492,11 @@ class BasicView {
   Answer<std::int64_t> send(std::uint32_t number, std::int64_t w = 0, std::int64_t l = 0, Text text = {}) noexcept(nothrow) {
     return as_number(number, w, l, text);
   }
-  /// Asks any question, and returns its value; the last reply stays. Refused: UnknownMessage if the message is no question.
+  /// Sends any query, and returns its value; the last reply stays. Refused: UnknownMessage if the message is no query.
   [[nodiscard]] Answer<std::int64_t> ask(std::uint32_t number, std::int64_t w = 0, std::int64_t l = 0) const noexcept(nothrow) {
     return ask_number(number, w, l);
   }
-  /// Asks any question, and returns its text, borrowed until the next question that returns a text; the last reply stays.
+  /// Sends any query, and returns its text, borrowed until the next query that returns a text; the last reply stays.
   [[nodiscard]] Answer<std::string_view> read(std::uint32_t number, std::int64_t w = 0, std::int64_t l = 0) const noexcept(nothrow) {
     return read_lent(number, w, l);
   }
@@ -586,7 +586,7 @@ class BasicView {
   [[nodiscard]] Answer<std::string> GetStyledText(std::int64_t start, std::int64_t end) const noexcept(nothrow) {
     return read_copy(SCI_GETSTYLEDTEXT, start, end);
   }
-  /// Like GetStyledText, but lent, not copied: the text is valid until the next question that returns a text.
+  /// Like GetStyledText, but lent, not copied: the text is valid until the next query that returns a text.
   [[nodiscard]] Answer<std::string_view> GetStyledTextView(std::int64_t start, std::int64_t end) const noexcept(nothrow) {
     return read_lent(SCI_GETSTYLEDTEXT, start, end);
   }
@@ -612,7 +612,7 @@ class BasicView {
   /// Returns the caret's line with its line end; the value, which `ask` returns, is the caret's distance from the
   /// line's start, in bytes. Message: `SCI_GETCURLINE`.
   [[nodiscard]] Answer<std::string> GetCurLine() const noexcept(nothrow) { return read_copy(SCI_GETCURLINE, 0, 0); }
-  /// Like GetCurLine, but lent, not copied: the text is valid until the next question that returns a text.
+  /// Like GetCurLine, but lent, not copied: the text is valid until the next query that returns a text.
   [[nodiscard]] Answer<std::string_view> GetCurLineView() const noexcept(nothrow) { return read_lent(SCI_GETCURLINE, 0, 0); }
   /// Returns end styled: the position up to which the document is styled. Message: `SCI_GETENDSTYLED`.
   [[nodiscard]] Answer<std::int64_t> GetEndStyled() const noexcept(nothrow) { return ask_number(SCI_GETENDSTYLED, 0, 0); }
@@ -690,7 +690,7 @@ class BasicView {
   /// Returns line `line` with its line end; the value, which `ask` returns, is its length. If there is no such line,
   /// the text is empty and the value 0. Message: `SCI_GETLINE`.
   [[nodiscard]] Answer<std::string> GetLine(std::int64_t line) const noexcept(nothrow) { return read_copy(SCI_GETLINE, line, 0); }
-  /// Like GetLine, but lent, not copied: the text is valid until the next question that returns a text.
+  /// Like GetLine, but lent, not copied: the text is valid until the next query that returns a text.
   [[nodiscard]] Answer<std::string_view> GetLineView(std::int64_t line) const noexcept(nothrow) { return read_lent(SCI_GETLINE, line, 0); }
   /// Returns the number of lines, which is at least 1. Message: `SCI_GETLINECOUNT`.
   [[nodiscard]] Answer<std::int64_t> GetLineCount() const noexcept(nothrow) { return ask_number(SCI_GETLINECOUNT, 0, 0); }
@@ -701,7 +701,7 @@ class BasicView {
   Answer<void> SetSel(std::int64_t anchor, std::int64_t caret) noexcept(nothrow) { return as_done(SCI_SETSEL, anchor, caret); }
   /// Returns the selected text; the value, which `ask` returns, is its length. Message: `SCI_GETSELTEXT`.
   [[nodiscard]] Answer<std::string> GetSelText() const noexcept(nothrow) { return read_copy(SCI_GETSELTEXT, 0, 0); }
-  /// Like GetSelText, but lent, not copied: the text is valid until the next question that returns a text.
+  /// Like GetSelText, but lent, not copied: the text is valid until the next query that returns a text.
   [[nodiscard]] Answer<std::string_view> GetSelTextView() const noexcept(nothrow) { return read_lent(SCI_GETSELTEXT, 0, 0); }
   /// Returns the text from `start` to `end`; the value, which `ask` returns, is its length. Refused with
   /// `Refusal::BadArgument` unless `start` and `end` are a range of the text; an `end` of -1 is its end. Message:
@@ -709,7 +709,7 @@ class BasicView {
   [[nodiscard]] Answer<std::string> GetTextRange(std::int64_t start, std::int64_t end) const noexcept(nothrow) {
     return read_copy(SCI_GETTEXTRANGE, start, end);
   }
-  /// Like GetTextRange, but lent, not copied: the text is valid until the next question that returns a text.
+  /// Like GetTextRange, but lent, not copied: the text is valid until the next query that returns a text.
   [[nodiscard]] Answer<std::string_view> GetTextRangeView(std::int64_t start, std::int64_t end) const noexcept(nothrow) {
     return read_lent(SCI_GETTEXTRANGE, start, end);
   }
@@ -750,7 +750,7 @@ class BasicView {
   Answer<void> SetText(Text text) noexcept(nothrow) { return as_done(SCI_SETTEXT, 0, 0, text); }
   /// Returns the whole text; the value, which `ask` returns, is its length. Message: `SCI_GETTEXT`.
   [[nodiscard]] Answer<std::string> GetText() const noexcept(nothrow) { return read_copy(SCI_GETTEXT, 0, 0); }
-  /// Like GetText, but lent, not copied: the text is valid until the next question that returns a text.
+  /// Like GetText, but lent, not copied: the text is valid until the next query that returns a text.
   [[nodiscard]] Answer<std::string_view> GetTextView() const noexcept(nothrow) { return read_lent(SCI_GETTEXT, 0, 0); }
   /// Returns the length of the text. Message: `SCI_GETTEXTLENGTH`.
   [[nodiscard]] Answer<std::int64_t> GetTextLength() const noexcept(nothrow) { return ask_number(SCI_GETTEXTLENGTH, 0, 0); }
@@ -976,7 +976,7 @@ class BasicView {
   /// Returns the text between the target's ends, whichever is the lesser; the value, which `ask` returns, is its
   /// length. Message: `SCI_GETTARGETTEXT`.
   [[nodiscard]] Answer<std::string> GetTargetText() const noexcept(nothrow) { return read_copy(SCI_GETTARGETTEXT, 0, 0); }
-  /// Like GetTargetText, but lent, not copied: the text is valid until the next question that returns a text.
+  /// Like GetTargetText, but lent, not copied: the text is valid until the next query that returns a text.
   [[nodiscard]] Answer<std::string_view> GetTargetTextView() const noexcept(nothrow) { return read_lent(SCI_GETTARGETTEXT, 0, 0); }
   /// Sets the target's start to 0 and its end to the end of the text. Message: `SCI_TARGETWHOLEDOCUMENT`.
   Answer<void> TargetWholeDocument() noexcept(nothrow) { return as_done(SCI_TARGETWHOLEDOCUMENT, 0, 0); }
@@ -1018,7 +1018,7 @@ class BasicView {
     return Policy::answer(sent(number, w, l, text));
   }
 
-  // Questions.
+  // Queries.
   Answer<std::int64_t> ask_number(std::uint32_t number, std::int64_t w, std::int64_t l) const noexcept(nothrow) { return Policy::answer(asked(number, w, l)); }
   Answer<bool> ask_flag(std::uint32_t number, std::int64_t w, std::int64_t l) const noexcept(nothrow) {
     return Policy::answer(asked(number, w, l).transform([](std::int64_t value) noexcept { return value != 0; }));
@@ -1070,7 +1070,7 @@ class Session {
   /// The view with this id, whose methods return a Result.
   ResultView result_view(std::uint32_t id) const noexcept { return ResultView(session_.get(), id); }
 
-  /// The last reply, whichever view it came from: its value, and its text, borrowed until the next message that is done and is no question.
+  /// The last reply, whichever view it came from: its value, and its text, borrowed until the next message that is done and is no query.
   std::int64_t value() const noexcept { return detail::value_of(session_.get()); }
   std::string_view text() const noexcept { return detail::text_of(session_.get()); }
   /// The last reply's notifications, for all views, borrowed as long.

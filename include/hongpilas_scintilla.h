@@ -25,7 +25,11 @@
  * caller in hongpilas.h hold here, too: one call at a time, and none from a signal handler; a component may be handed from
  * thread to thread, but not while one of its notify functions runs; a component that was freed, and a view that was closed
  * or whose component was freed, is used by no call. A text and a buffer belong to the caller: copy the text of a
- * notification before you send it. */
+ * notification before you send it. During a call nobody changes a text that it is sent, nor reads or changes a buffer that
+ * it fills, in another thread either. Two duties are added, for notify functions:
+ *  - a call from inside one is made on the stack on which it runs, and not on that of another coroutine;
+ *  - if one was left by longjmp, and ran on a stack of a coroutine, that stack stays until a message that is no query was
+ *    sent from outside, or the component was freed. The stack of a thread that ended may be gone. */
 #ifndef HONGPILAS_SCINTILLA_H
 #define HONGPILAS_SCINTILLA_H
 
@@ -120,8 +124,8 @@ extern "C" {
 typedef struct hongpilas_scintilla hongpilas_scintilla;
 
 /* Opens a session without views, with the greatest limits or with lower ones; `size` is sizeof(hongpilas_limits). Returns
- * NULL if an allocation fails, if `limits` is null, if a limit is out of its range, or if the size is none of such a struct.
- * The third call frees the session with all its views, and does nothing if the component is null. A notify function, below,
+ * NULL if an allocation fails, if `limits` is null, if a limit is out of its range, or if hongpilas_new_with_limits refuses the
+ * size. The third call frees the session with all its views, and does nothing if the component is null. A notify function, below,
  * may make it: then no further one is called, and the call from which it was notified returns as usual. */
 HONGPILAS_MUST_USE hongpilas_scintilla *hongpilas_scintilla_new(void);
 HONGPILAS_MUST_USE hongpilas_scintilla *hongpilas_scintilla_new_with_limits(const hongpilas_limits *limits, size_t size);
@@ -174,13 +178,17 @@ const char *hongpilas_refusal(sptr_t view);
  *  - It is performed at once, and its notifications join the end of the queue: they are delivered after the function has
  *    returned. If a message is recorded there, lParam of SCN_MACRORECORD is a copy of its text, which a NUL closes.
  *  - A message that edits the text is refused as "edit inside a notify function", with SC_STATUS_FAILURE.
- *  - A message that is no question is refused as "out of memory", with SC_STATUS_BADALLOC, if the rest of the queue cannot
- *    be kept for it. Nothing is lost: what stands in the queue is delivered.
+ *  - A message that is no query is refused as "out of memory", with SC_STATUS_BADALLOC, if the rest of the queue cannot be
+ *    kept for it. Nothing is lost: what stands in the queue is delivered.
  *
  * A notify function may be left by a C++ exception or by longjmp. Its message has been done, and the notification counts as
- * delivered. What stands in the queue behind it is delivered when the next message that is no question is done, from
- * outside, for any view of the component. An exception passes through the interface if it was built with -fexceptions, as
- * `make` builds it. */
+ * delivered. What stands in the queue behind it stays there until the next message from outside that is no query, to any
+ * view of the component, and is delivered when that message is done or refused. It is refused as "out of memory" as above.
+ * SCI_SETSTATUS, and a message that does nothing for its null text, deliver nothing. An exception passes through the
+ * interface if it was built with -fexceptions, as `make` builds it. Whether a function was left by longjmp is seen by the
+ * tables for exceptions that compilers write (-funwind-tables). A call behind the jump that comes through frames without them,
+ * such as those of a JIT compiler, is judged by marks on the stack alone, which may have outlived the jump: then it is taken
+ * as one from inside. */
 typedef void (*hongpilas_notify)(SCNotification *notification, void *data);
 void hongpilas_set_notify(sptr_t view, hongpilas_notify notify, void *data);
 

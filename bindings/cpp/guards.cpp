@@ -4,11 +4,16 @@
 
 #include <iostream>
 #include <stdexcept>
+#include <type_traits>
 #include <utility>
 
 using hongpilas::Document;
 using hongpilas::Session;
+using hongpilas::UndoGroup;
 using hongpilas::View;
+
+/* A group that were assigned to would end behind the beginning of the new one: both would be one. */
+static_assert(std::is_move_constructible_v<UndoGroup> && !std::is_move_assignable_v<UndoGroup>);
 
 /* Two insertions in a group, of which the second is refused. */
 static void insert_twice(View view) {

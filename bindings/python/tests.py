@@ -27,6 +27,48 @@ def send_unknown(number):
         return session.new_view().send(number)
 
 
+# A signal comes at many moments of a call. Its handler makes a call of its own, which is done or raises RuntimeError; or it raises, and then other threads
+# can use the session.
+SIGNALS = """
+import faulthandler, signal, threading
+from hongpilas import Session
+
+faulthandler.dump_traceback_later(60, exit=True)
+with Session() as session:
+    view = session.new_view()
+    seen = set()
+
+    def ask(*_):
+        try:
+            seen.add(view.get_length())
+        except RuntimeError as fault:
+            seen.add(str(fault))
+
+    signal.signal(signal.SIGALRM, ask)
+    signal.setitimer(signal.ITIMER_REAL, 0.0001, 0.0001)
+    for _ in range(100_000):
+        view.get_length()
+    signal.setitimer(signal.ITIMER_REAL, 0)
+    assert seen <= {0, "a session is used by one call at a time"}, seen
+
+    def leave(*_):
+        raise KeyboardInterrupt
+
+    signal.signal(signal.SIGALRM, leave)
+    for turn in range(1000):
+        try:
+            signal.setitimer(signal.ITIMER_REAL, 0.0001 + turn % 10 * 0.00001)
+            while True:
+                view.get_length()
+        except KeyboardInterrupt:
+            pass
+        other = threading.Thread(target=view.get_length)
+        other.start()
+        other.join()
+print("done")
+"""
+
+
 class Sessions(unittest.TestCase):
     def test_a_session_is_handed_from_thread_to_thread(self):
         with Session() as session:
@@ -104,10 +146,15 @@ class Sessions(unittest.TestCase):
     def test_a_call_amid_a_call_of_the_same_thread_raises(self):
         with Session() as session:
             view = session.new_view()
-            with session._turn:
+            with session._turn():
                 self.assertRaises(RuntimeError, view.get_length)
                 self.assertRaises(RuntimeError, session.close)
             self.assertEqual(view.get_length(), 0)
+
+    def test_signals_between_the_steps_of_a_call(self):
+        """In a process of its own, since it waited for ever once."""
+        it = subprocess.run([sys.executable, "-c", SIGNALS], capture_output=True, timeout=120, text=True)
+        self.assertEqual((it.returncode, it.stdout, it.stderr), (0, "done\n", ""))
 
     def test_an_argument_that_closes_its_session(self):
         session = Session()
@@ -183,6 +230,19 @@ class Sessions(unittest.TestCase):
             view.undo()
             self.assertEqual(view.get_text(), b"one ")
 
+    def test_what_leaves_an_undo_group_is_raised(self):
+        for close in (View.close, lambda view: view.session.close()):
+            with Session() as session:
+                view = session.new_view()
+                with self.assertRaises(ZeroDivisionError), view.undo_group():
+                    close(view)
+                    raise ZeroDivisionError
+        with Session() as session:
+            view = session.new_view()
+            with self.assertRaises(Refused) as caught, view.undo_group():
+                view.close()
+            self.assertEqual(caught.exception.refusal, Refusal.NO_SUCH_VIEW)
+
     def test_names_of_notes(self):
         self.assertEqual((note_name(2008), note_name(2000), note_name(1)), ("SCN_MODIFIED", "SCN_STYLENEEDED", None))
 
@@ -247,6 +307,43 @@ class Texts(unittest.TestCase):
                     self.assertRaises(TypeError, call, wrong)
             self.assertEqual((view.get_length(), view.can_undo()), (0, False))
 
+    def test_a_text_that_another_thread_writes_to(self):
+        lines, words = b"\n" * (1 << 18), b"x" * (1 << 18)
+        text, ended = bytearray(words), threading.Event()
+
+        def flip():
+            while not ended.is_set():
+                text[:] = lines
+                text[:] = words
+
+        thread = threading.Thread(target=flip)
+        thread.start()
+        try:
+            with Session() as session:
+                view = session.new_view()
+                for _ in range(20):
+                    view.clear_all()
+                    for sent in (text, memoryview(text).toreadonly()):
+                        view.insert_text(0, sent)
+                        read = view.get_text()[: len(text)]
+                        self.assertTrue(read in (lines, words), "one text or the other")
+                    self.assertEqual(view.get_line_count(), view.get_text().count(b"\n") + 1)
+        finally:
+            ended.set()
+            thread.join()
+
+    def test_a_text_of_another_length_than_it_says(self):
+        class Long(bytes):
+            def __len__(self):
+                return 1 << 20
+
+        with Session() as session:
+            view = session.new_view()
+            for text in (Long(b"ab"), memoryview(Long(b"ab"))):
+                view.set_text(text)
+                view.append_text(text)
+                self.assertEqual(view.get_text(), b"abab")
+
     def test_buffers_are_sent_as_they_are(self):
         with Session() as session, tempfile.TemporaryFile() as file:
             view = session.new_view()
@@ -266,7 +363,7 @@ class Texts(unittest.TestCase):
     def test_a_text_is_copied_once(self):
         size = 64 << 20
         library = 3.4 * size  # the text, the history and the notification
-        for text, copies in ((b"x" * size, 0), (bytearray(size), 0), ("x" * size, 1)):
+        for text, copies in ((b"x" * size, 0), (memoryview(b"x" * size), 0), (bytearray(size), 1), ("x" * size, 1)):
             with Session() as session:
                 view = session.new_view()
                 self.assertLess(peak_of(lambda: view.append_text(text)), library + copies * size, type(text))

@@ -14,7 +14,7 @@ static void send(uint32_t view, const char *what, uint32_t number, int64_t w, in
   say(what, answer, value);
 }
 
-/* Shows the notifications of the last reply. A question that is asked by hongpilas_ask leaves them where they are. */
+/* Shows the notifications of the last reply. A query that is sent by hongpilas_ask leaves them where they are. */
 static void show_notes(void) {
   hongpilas_note_data note;
   int64_t length = 0;
@@ -26,7 +26,7 @@ static void show_notes(void) {
   }
 }
 
-/* Reads the last reply's text, the text of a question beside it, and bytes of the document, lent and copied. */
+/* Reads the last reply's text, the text of a query beside it, and bytes of the document, lent and copied. */
 static void read_back(uint32_t view) {
   const uint8_t *bytes = NULL;
   uint8_t buffer[8];
@@ -56,14 +56,14 @@ static void try_refusals(uint32_t view) {
   send(view + 1, "no such view", SCI_GETLENGTH, 0, 0, NULL);
   say("null text", hongpilas_send(session, view, SCI_INSERTTEXT, 0, 0, NULL, 1, NULL), 0);
   say("null session", hongpilas_send(NULL, view, SCI_UNDO, 0, 0, NULL, 0, NULL), 0);
-  say("no question", hongpilas_ask(session, view, SCI_UNDO, 0, 0, &value), value);
+  say("no query", hongpilas_ask(session, view, SCI_UNDO, 0, 0, &value), value);
 }
 
 /* Whether the profile has a message, and what it is marked. */
 static void show_message(uint32_t number) {
   const char *name = hongpilas_message_name(number);
   uint32_t marks = hongpilas_message_marks(number);
-  printf("message %u: %s%s%s\n", (unsigned)number, name == NULL ? "not here" : name, (marks & HONGPILAS_MARK_Q) != 0 ? ", a question" : "",
+  printf("message %u: %s%s%s\n", (unsigned)number, name == NULL ? "not here" : name, (marks & HONGPILAS_MARK_Q) != 0 ? ", a query" : "",
          (marks & HONGPILAS_MARK_E) != 0 ? ", edits the text" : "");
 }
 

@@ -160,19 +160,19 @@ static int note_document(side *s, sptr_t document) {
 
 int document_of(side *s, int view) { return document_named(s, ask(s, view, SCI_GETDOCPOINTER, 0, 0)); }
 
-static hongpilas_scintilla *door;
+static hongpilas_scintilla *component;
 
 void begin_session(side *ours, side *theirs) {
   for (int i = 0; i < 1000 && iterate(NULL, 0); i++) continue;
-  hongpilas_scintilla_free(door);
-  door = hongpilas_scintilla_new();
+  hongpilas_scintilla_free(component);
+  component = hongpilas_scintilla_new();
   ours->name = "Hongpilas";
   ours->send = hongpilas_direct;
   ours->document_count = theirs->document_count = 0;
 }
 
 void open_view(side *ours, side *theirs, int view) {
-  ours->views[view] = hongpilas_scintilla_open(door);
+  ours->views[view] = hongpilas_scintilla_open(component);
   our_ears[view].of = ours;
   our_ears[view].view = view;
   hongpilas_set_notify(ours->views[view], hear_ours, &our_ears[view]);

@@ -1,8 +1,10 @@
 /* What may happen inside a notify function of the Scintilla-compatible interface: questions, messages whose notifications join the queue, views that are opened
- * and closed, the component freed, memory refused, and a longjmp out of it. It is linked as counted_heap.h says. */
+ * and closed, the component freed, memory refused, long texts, and a longjmp out of it, also in a thread that ends. It is linked as counted_heap.h says, and with
+ * -pthread. */
 #include "counted_heap.h"
 
 #include <hongpilas_scintilla.h>
+#include <pthread.h>
 #include <setjmp.h>
 #include <stdio.h>
 #include <stdlib.h>
@@ -283,6 +285,28 @@ static void try_memory(void) {
   free_all();
 }
 
+/* ---- Long texts ---- */
+
+static void hush(SCNotification *note, void *data) { must(note != NULL && data != NULL, "a notification comes with the data of its view"); }
+
+/* How many blocks are in use once a text was inserted and deleted. */
+static long blocks_after(size_t length, hongpilas_notify notify) {
+  static char text[1 << 20];
+  long left;
+  open_both(notify, NULL);
+  send(a, SCI_SETUNDOCOLLECTION, 0, 0);
+  send(a, SCI_ADDTEXT, length, (sptr_t)text);
+  send(a, SCI_CLEARALL, 0, 0);
+  left = blocks;
+  free_all();
+  return left;
+}
+
+static void try_long(void) {
+  must(blocks_after(400, hush) == blocks_after(400, NULL) + 1, "the place for the text of a notification stays");
+  must(blocks_after(1 << 20, hush) == blocks_after(1 << 20, NULL), "but not that for a long one");
+}
+
 /* ---- Out of a notify function by longjmp ---- */
 
 static jmp_buf outside;
@@ -336,6 +360,48 @@ static void try_jumps(void) {
     }
 }
 
+/* A thread leaves the function and ends, and its stack is unmapped, since the C library keeps none that is so large. Then another, whose stack lies below, makes the
+ * next call, or frees the component. */
+static pthread_mutex_t first_may = PTHREAD_MUTEX_INITIALIZER, second_may = PTHREAD_MUTEX_INITIALIZER;
+
+static void *jump_in_thread(void *unused) {
+  pthread_mutex_lock(&first_may);
+  send_and_jump(2);
+  pthread_mutex_unlock(&first_may);
+  return unused;
+}
+
+static void *go_on(void *frees) {
+  pthread_mutex_lock(&second_may);
+  if (frees == NULL) {
+    send(a, SCI_DELETERANGE, 0, 1);
+    must(is_ok(a), "the next message is done, in another thread");
+  }
+  if (frees != NULL) free_all();
+  pthread_mutex_unlock(&second_may);
+  return frees;
+}
+
+static void try_threads(bool frees) {
+  pthread_attr_t large;
+  pthread_t first, second;
+  open_both(jump, jump);
+  pthread_mutex_lock(&first_may);
+  pthread_mutex_lock(&second_may);
+  pthread_attr_init(&large);
+  must(pthread_attr_setstacksize(&large, (size_t)64 << 20) == 0, "a stack may be large");
+  must(pthread_create(&first, &large, jump_in_thread, NULL) == 0, "a thread begins");
+  must(pthread_create(&second, NULL, go_on, frees ? &large : NULL) == 0, "and another");
+  pthread_mutex_unlock(&first_may);
+  must(pthread_join(first, NULL) == 0, "the first ends");
+  must_have_heard("ab bb ", "having left a function");
+  pthread_mutex_unlock(&second_may);
+  must(pthread_join(second, NULL) == 0, "so does the second");
+  must_have_heard(frees ? "" : "aL bL aI bI ab bb aD bD ", "which is told the rest");
+  if (!frees) free_all();
+  pthread_attr_destroy(&large);
+}
+
 int main(void) {
   try_questions();
   try_queue();
@@ -344,7 +410,10 @@ int main(void) {
   try_free();
   try_many();
   try_memory();
+  try_long();
   try_jumps();
-  printf("questions, messages, views, a component freed, memory refused and jumps inside a notify function\n");
+  try_threads(false);
+  try_threads(true);
+  printf("questions, messages, views, a component freed, memory refused, long texts and jumps inside a notify function\n");
   return 0;
 }

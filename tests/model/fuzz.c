@@ -3,15 +3,15 @@
  * refusal leaves, how long lent bytes stand, which calls take memory, what is given back. Allocations are refused at random, and each text that is
  * sent and each buffer that is filled ends, or begins, at a page that nobody may touch.
  *
- * There are two ways in: the calls of hongpilas.h (fuzz_calls.h) and, where FUZZ_DOOR is in the environment, the door with Scintilla's manners
- * (fuzz_door.h). The same input makes the same messages of the model by both, but for what the door takes as an int or up to a NUL.
+ * There are two ways in: the calls of hongpilas.h (fuzz_calls.h) and, where FUZZ_SCINTILLA is in the environment, the Scintilla-compatible interface
+ * (fuzz_scintilla.h). The same input makes the same messages of the model by both, but for what the interface takes as an int or up to a NUL.
  *
  * With -DLIBFUZZER it is a target of libFuzzer. Else it is a program:
  *   fuzz [--seed N] [--calls N] [--seconds N]    drawn by a generator of its own, for so many calls or seconds
  *   fuzz FILE..                                  these inputs, as a corpus or a failure has them
  * A difference is told on standard error, the input is written to fuzz.failed, and the program aborts.
  *
- * It is linked with a copy of the library, and of the door, that takes its memory by fuzz_malloc, fuzz_realloc and fuzz_free, so that nothing else in
+ * It is linked with a copy of the library, and of the interface, that takes its memory by fuzz_malloc, fuzz_realloc and fuzz_free, so that nothing else in
  * the program does; see fuzzing. */
 #define _GNU_SOURCE
 #include "../random.h"
@@ -31,7 +31,7 @@
 /* A call is drawn of a record of so many bytes. */
 enum { RECORD = 8, SIDES = 2, VIEWS = 4, LONGEST = 512, LOOK_EVERY = 64, INPUT_CALLS = 4000 };
 
-/* A view as the door has it: what its status and its refusal have to be, and whether it has a callback. `told` is the latter at the note that is
+/* A view as the interface has it: what its status and its refusal have to be, and whether it has a callback. `told` is the latter at the note that is
  * compared. No view where `id`, the model's, is 0. */
 typedef struct ear {
   struct side *of;
@@ -48,7 +48,7 @@ typedef struct side {
   uint32_t views[VIEWS];
   size_t view_count;
   hongpilas_session *session;
-  hongpilas_scintilla *door;
+  hongpilas_scintilla *component;
   ear ears[VIEWS];
   const uint8_t *text; /* where the last reply's text lies */
   const uint8_t *lent; /* bytes that were lent and stand, or NULL */
@@ -96,8 +96,8 @@ static struct {
   int64_t w, l;
 } now;
 
-/* What was done: records, messages that were sent, all calls; of them refused for memory; requests for memory, and refused ones. Through the door:
- * notifications that were heard, and messages that were sent while they were told. */
+/* What was done: records, messages that were sent, all calls; of them refused for memory; requests for memory, and refused ones. Through the Scintilla-
+ * compatible interface: notifications that were heard, and messages that were sent while they were told. */
 static struct { uint64_t inputs, records, messages, calls, out_of_memory, requests, refused, looks, answers[8], heard, meddled; } counts;
 
 static void fail(const char *what) {
@@ -180,7 +180,7 @@ static void begin_message(side *s, const message *m, const char *doing) {
 }
 
 #include "fuzz_calls.h"
-#include "fuzz_door.h"
+#include "fuzz_scintilla.h"
 
 /* Sending what has two numbers alone. */
 
@@ -442,7 +442,7 @@ int LLVMFuzzerTestOneInput(const uint8_t *data, size_t size);
 int LLVMFuzzerTestOneInput(const uint8_t *data, size_t size) {
   static side sides[SIDES];
   record first = {0, 0, 0, 63, 0, 15, 0, 7};
-  if (by == NULL) by = getenv("FUZZ_DOOR") != NULL ? &way_by_door : &way_by_calls;
+  if (by == NULL) by = getenv("FUZZ_SCINTILLA") != NULL ? &way_by_scintilla : &way_by_calls;
   now.data = data;
   now.size = size;
   now.at = now.sent = 0;

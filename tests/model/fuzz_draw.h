@@ -9,7 +9,7 @@ enum { MOST_TEXT = 256 };
 
 /* What a message's arguments are, w and l. p a place, c one close by, e an end of a range, s the rest of a span, l a line, t the text's length, m a
  * marker, h a handle, f a fold level, i an indicator, y a style, d a document, 0 mostly off, 1 mostly on, 2 up to 2, 3 up to 3, g flags of a search,
- * x a mask, o options, - nothing. GETTEXT and GETCURLINE take how many bytes they may write through Scintilla's door alone. */
+ * x a mask, o options, - nothing. GETTEXT and GETCURLINE take how many bytes they may write through the Scintilla-compatible interface alone. */
 typedef struct shape {
   uint32_t number;
   const char *w_and_l;

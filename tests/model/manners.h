@@ -1,4 +1,4 @@
-/* What w, l and the answer of each message are in Scintilla's documentation: what fuzz_door.h and door_examples.c know of the door
+/* What w, l and the answer of each message are in Scintilla's documentation: what fuzz_scintilla.h and scintilla_examples.c know of the interface
  * (hongpilas_scintilla.h) is read from there, and not from its code. */
 #ifndef MANNERS_H
 #define MANNERS_H

@@ -142,8 +142,10 @@ def on_memory():
     loaded, worked_on = LOADED.search(page), WORKED_ON.search(read(FIGURES))
     if not loaded or not worked_on:
         sys.exit(f"{FIGURES}: no sentence on a loaded text, or no row of 64 MiB, under *Memory*")
+    commit = re.search(r"By `out/load` \(`TESTING.md`\), at commit (\w+):", page)[1]
+    kept = "; a forgotten history kept its memory then" if "In these runs a forgotten history kept its memory" in page else ""
     return (f"**Memory.** Loading {loaded['size']} took {loaded['times']} times the bytes of text and line starts. After minutes of random edits, styles "
-            f"and undo, a text of 64 MiB held {float(worked_on['held']):.0f} MiB, {float(worked_on['alive']):.0f} MiB of it in use.")
+            f"and undo, a text of 64 MiB held {float(worked_on['held']):.0f} MiB, {float(worked_on['alive']):.0f} MiB of it in use (commit {commit}{kept}).")
 
 
 def of_readme():

@@ -180,7 +180,7 @@ def cpp(found):
         comment = told(message, methods, "C++", 118, "  /// ")
         lines += cpp_method(message, message.name, kind, sent if message.changes else asked, comment)
         if message.answers == "text":
-            again = [f"  /// Like {message.name}, but lent, not copied: the text is valid until the next question that returns a text."]
+            again = [f"  /// Like {message.name}, but lent, not copied: the text is valid until the next query that returns a text."]
             lines += cpp_method(message, message.name + "View", "std::string_view", "read_lent", again)
     return "".join(f"{line}\n" for line in lines)
 

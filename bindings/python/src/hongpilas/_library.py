@@ -5,7 +5,7 @@ import ctypes
 import enum
 import operator
 import os
-from typing import Any, Union
+from typing import Any
 
 #: The major version of the interface.
 MAJOR = 2
@@ -70,19 +70,6 @@ def as_uint32(number: int) -> int:
 
 def as_uint64(number: int) -> int:
     return whole(number, 0, 0xFFFFFFFFFFFFFFFF)
-
-
-#: What a call takes as an address: that of a bytes object, or of an array.
-Address = Union[bytes, "ctypes.Array[ctypes.c_char]"]
-
-
-def address_of(text: bytes | memoryview) -> Address:
-    """What a call reads a text from: the object itself if that can be, else a copy."""
-    if isinstance(text, bytes):
-        return text
-    if not text.readonly:
-        return (ctypes.c_char * text.nbytes).from_buffer(text)
-    return text.obj if isinstance(text.obj, bytes) and len(text.obj) == text.nbytes else text.tobytes()
 
 
 def library() -> str:

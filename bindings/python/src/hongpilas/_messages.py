@@ -9,19 +9,21 @@ from . import constants
 Text = Union[bytes, bytearray, memoryview, str]
 
 
-def as_bytes(text: Text) -> bytes | memoryview:
-    """The bytes of a text that is sent, without a copy if it is bytes-like and contiguous. Raises TypeError if it is no text: bytes() would make NULs of
-    a number, and bytes of a list.
+def as_bytes(text: Text) -> bytes:
+    """The bytes of a text that is sent. A bytes object goes as it is, and so does a view of the whole of one. All else is copied: a call lets other threads
+    run, and one of them could change it meanwhile. Raises TypeError if it is no text: bytes() would make NULs of a number, and bytes of a list.
     """
-    if isinstance(text, bytes):
+    # No subclass: one could have another length.
+    if type(text) is bytes:
         return text
     if isinstance(text, str):
-        return text.encode()
+        return str.encode(text)
     try:
         view = memoryview(text)
     except TypeError:
         raise TypeError(f"a text is a str or a bytes-like object, and not {type(text).__name__}") from None
-    return view.cast("B") if view.nbytes and view.c_contiguous else view.tobytes()
+    whole = view.obj
+    return whole if type(whole) is bytes and view.c_contiguous and view.nbytes == len(whole) else view.tobytes()
 
 
 class Messages:

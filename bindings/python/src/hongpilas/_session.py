@@ -5,13 +5,13 @@ import ctypes
 import threading
 import warnings
 import weakref
-from contextlib import contextmanager
+from contextlib import contextmanager, suppress
 from dataclasses import astuple, dataclass
 from types import TracebackType
 from typing import Any, Iterator, NoReturn
 
 from . import constants
-from ._library import LIB, LimitsInC, NoteInC, Refusal, address_of, as_int64, as_uint32, as_uint64, name_of
+from ._library import LIB, LimitsInC, NoteInC, Refusal, as_int64, as_uint32, as_uint64, name_of
 from ._messages import Messages, Text, as_bytes
 
 
@@ -99,12 +99,18 @@ class View(Messages):
 
     @contextmanager
     def undo_group(self) -> Iterator[View]:
-        """A context whose edits are one undo step: `with view.undo_group():`. Its end is a message, which replaces the last reply."""
+        """A context whose edits are one undo step: `with view.undo_group():`. Its end is a message, which replaces the last reply.
+
+        An exception that leaves it is raised as it is, even where the end is refused, since the view or the session was closed inside.
+        """
         self.begin_undo_action()
         try:
             yield self
-        finally:
-            self.end_undo_action()
+        except BaseException:
+            with suppress(Refused, ValueError):
+                self.end_undo_action()
+            raise
+        self.end_undo_action()
 
     def text(self) -> bytes:
         """The text of the session's last reply."""
@@ -136,25 +142,6 @@ class View(Messages):
         return f"<View {self.id}>"
 
 
-class Turn:
-    """One call at a time. A second thread waits; a call amid another of the same thread, as from a signal handler or a finalizer, raises RuntimeError."""
-
-    def __init__(self) -> None:
-        self._lock = threading.Lock()
-        self._thread: int | None = None
-
-    def __enter__(self) -> None:
-        if not self._lock.acquire(blocking=False):
-            if self._thread == threading.get_ident():
-                raise RuntimeError("a session is used by one call at a time")
-            self._lock.acquire()
-        self._thread = threading.get_ident()
-
-    def __exit__(self, *_: object) -> None:
-        self._thread = None
-        self._lock.release()
-
-
 def free_dropped(session: int) -> None:
     """Frees a session that nobody closed."""
     warnings.warn("a hongpilas.Session was not closed", ResourceWarning, stacklevel=2)
@@ -169,7 +156,7 @@ class Session:
     """
 
     def __init__(self, limits: Limits = Limits()):
-        self._turn = Turn()
+        self._lock: Any = threading.RLock()
         self._session: int | None = None
         session, given = ctypes.c_void_p(), LimitsInC(*map(as_uint64, astuple(limits)))
         check(LIB.hongpilas_new_with_limits(session, given, ctypes.sizeof(given)))
@@ -186,7 +173,7 @@ class Session:
 
     def close(self) -> None:
         """Frees the session, once. What uses it later raises ValueError."""
-        with self._turn:
+        with self._turn():
             session, self._session = self._session, None
             if session is not None:
                 self._dropped.detach()
@@ -200,7 +187,7 @@ class Session:
     def new_view(self) -> View:
         """Opens a view on a new document. Views have the ids 1, 2, 3 and so on, in the order in which they are opened."""
         id = ctypes.c_uint32()
-        with self._turn:
+        with self._turn():
             check(LIB.hongpilas_new_view(self._open(), id))
         return View(self, id.value)
 
@@ -211,21 +198,21 @@ class Session:
     def value(self) -> int:
         """The value of the last reply: that of the last message that was done and is no question. 0 before the first one."""
         value = ctypes.c_int64()
-        with self._turn:
+        with self._turn():
             check(LIB.hongpilas_value(self._open(), value))
         return value.value
 
     def text(self) -> bytes:
         """The text of the last reply, which is that of a question that was sent as a message."""
         where, length = ctypes.c_void_p(), ctypes.c_size_t()
-        with self._turn:
+        with self._turn():
             check(LIB.hongpilas_text(self._open(), where, length))
             return copied(where, length.value)
 
     def notes(self) -> list[Note]:
         """The notifications of the last reply, of all views, as copies."""
         count, note = ctypes.c_size_t(), NoteInC()
-        with self._turn:
+        with self._turn():
             session = self._open()
             check(LIB.hongpilas_note_count(session, count))
             found = []
@@ -234,6 +221,16 @@ class Session:
                 found.append(note_of(note))
         return found
 
+    def _turn(self) -> Any:
+        """The lock under which a call is made: a second thread waits for it. Raises RuntimeError amid a call of the same thread, as in a signal handler or
+        a finalizer.
+        """
+        # The lock itself says whose it is. No flag of ours could do so at each moment at which a signal comes, and `with` gives the lock back whatever is
+        # raised. A call that a handler makes before the lock is taken is done as a whole.
+        if self._lock._is_owned():
+            raise RuntimeError("a session is used by one call at a time")
+        return self._lock
+
     def _open(self) -> int:
         if self._session is None:
             raise ValueError("the session is closed")
@@ -241,23 +238,22 @@ class Session:
 
     def _send(self, view: int, number: int, w: int, l: int, text: Text) -> int:
         value, sent = ctypes.c_int64(), as_bytes(text)
-        where, length = address_of(sent), len(sent)
         view, number, w, l = as_uint32(view), as_uint32(number), as_int64(w), as_int64(l)
-        with self._turn:
-            check(LIB.hongpilas_send(self._open(), view, number, w, l, where, length, value))
+        with self._turn():
+            check(LIB.hongpilas_send(self._open(), view, number, w, l, sent, len(sent), value))
         return value.value
 
     def _ask(self, view: int, number: int, w: int, l: int) -> int:
         value = ctypes.c_int64()
         view, number, w, l = as_uint32(view), as_uint32(number), as_int64(w), as_int64(l)
-        with self._turn:
+        with self._turn():
             check(LIB.hongpilas_ask(self._open(), view, number, w, l, value))
         return value.value
 
     def _read(self, view: int, number: int, w: int, l: int) -> bytes:
         where, length = ctypes.c_void_p(), ctypes.c_size_t()
         view, number, w, l = as_uint32(view), as_uint32(number), as_int64(w), as_int64(l)
-        with self._turn:
+        with self._turn():
             check(LIB.hongpilas_read(self._open(), view, number, w, l, where, length, None))
             return copied(where, length.value)
 
@@ -268,13 +264,13 @@ class Session:
         except OverflowError:
             raise Refused(Refusal.BAD_ARGUMENT) from None
         view = as_uint32(view)
-        with self._turn:
+        with self._turn():
             check(LIB.hongpilas_lend_range(self._open(), view, start, count, where))
             return copied(where, count)
 
     def _close_view(self, view: int) -> None:
         view = as_uint32(view)
-        with self._turn:
+        with self._turn():
             check(LIB.hongpilas_close_view(self._open(), view))
 
     def __reduce__(self) -> NoReturn:

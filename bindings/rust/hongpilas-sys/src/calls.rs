@@ -22,7 +22,7 @@ pub const HONGPILAS_BAD_ARGUMENT: hongpilas_answer = 6;
 /// Handles, ids, references, the depth of groups or open views are used up.
 pub const HONGPILAS_TOO_MANY: hongpilas_answer = 7;
 
-/// The mark Q of a message: a question: it changes nothing.
+/// The mark Q of a message: a query: it changes nothing.
 pub const HONGPILAS_MARK_Q: u32 = 1;
 /// The mark N of a message: it allocates no memory, unless it is recorded.
 pub const HONGPILAS_MARK_N: u32 = 2;

@@ -37,7 +37,7 @@ fn edit(session: &mut Session) -> Result<(), Refusal> {
     let view = session.view(reader);
     println!("{} bytes, {} lines", view.get_length()?, view.get_line_count()?);
     for line in view.lines()? {
-        println!("a line: {:?}", shown(&line));
+        println!("a line: {:?}", shown(&line?));
     }
     println!("lent: {:?}", shown(session.view_mut(reader).lend_range(0, 5)?));
 

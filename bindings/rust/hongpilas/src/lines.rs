@@ -1,10 +1,12 @@
 //! The lines of a view's document.
 
-use crate::View;
+use crate::{Refusal, View};
 use std::iter::FusedIterator;
 use std::ops::Range;
 
 /// The lines of a view's document, each a copy with its line end; the last one has none. Lines are those of the component.
+///
+/// A line for whose copy there is no memory is an `Err` with [`Refusal::OutOfMemory`], and the lines after it follow.
 #[derive(Debug)]
 pub struct Lines<'v> {
     view: View<'v>,
@@ -18,26 +20,29 @@ impl<'v> Lines<'v> {
     }
 
     /// A line that is there: its view is open, and the text stays as long as the session is borrowed.
-    fn at(&self, line: i64) -> Option<Vec<u8>> {
-        let start = self.view.position_from_line(line).ok()?;
-        let end = self.view.position_from_line(line + 1).ok()?;
-        let mut bytes = vec![0; usize::try_from(end - start).ok()?];
-        self.view.read_range(start, &mut bytes).ok()?;
-        Some(bytes)
+    fn at(&self, line: i64) -> Result<Vec<u8>, Refusal> {
+        let start = self.view.position_from_line(line)?;
+        let end = self.view.position_from_line(line + 1)?;
+        let length = usize::try_from(end - start).map_err(|_| Refusal::OutOfMemory)?;
+        let mut bytes = Vec::new();
+        bytes.try_reserve_exact(length).map_err(|_| Refusal::OutOfMemory)?;
+        bytes.resize(length, 0);
+        self.view.read_range(start, &mut bytes)?;
+        Ok(bytes)
     }
 }
 
 impl Iterator for Lines<'_> {
-    type Item = Vec<u8>;
+    type Item = Result<Vec<u8>, Refusal>;
 
-    fn next(&mut self) -> Option<Vec<u8>> {
+    fn next(&mut self) -> Option<Self::Item> {
         let line = self.lines.next()?;
-        self.at(line)
+        Some(self.at(line))
     }
 
-    fn nth(&mut self, count: usize) -> Option<Vec<u8>> {
+    fn nth(&mut self, count: usize) -> Option<Self::Item> {
         let line = self.lines.nth(count)?;
-        self.at(line)
+        Some(self.at(line))
     }
 
     fn size_hint(&self) -> (usize, Option<usize>) {
@@ -46,9 +51,9 @@ impl Iterator for Lines<'_> {
 }
 
 impl DoubleEndedIterator for Lines<'_> {
-    fn next_back(&mut self) -> Option<Vec<u8>> {
+    fn next_back(&mut self) -> Option<Self::Item> {
         let line = self.lines.next_back()?;
-        self.at(line)
+        Some(self.at(line))
     }
 }
 

@@ -164,7 +164,7 @@ impl<'s> View<'s> {
     /// let mut session = hongpilas::Session::new()?;
     /// let view = session.new_view()?;
     /// session.view_mut(view).insert_text(0, "one\r\ntwo\n")?;
-    /// let lines: Vec<_> = session.view(view).lines()?.collect();
+    /// let lines = session.view(view).lines()?.collect::<Result<Vec<_>, _>>()?;
     /// assert_eq!(lines, [&b"one\r\n"[..], b"two\n", b""]);
     /// # Ok::<(), hongpilas::Refusal>(())
     /// ```

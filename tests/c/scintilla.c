@@ -1,5 +1,5 @@
-/* Messages of the profile in Scintilla's manner, as a program sends them that knows Scintilla: prints what comes of them. `door --sent` lists their
- * numbers; door_examples.c sends those of the worked examples. Then null texts, views and doors, what is refused, what is sent inside a notify function,
+/* Messages of the profile in Scintilla's manner, as a program sends them that knows Scintilla: prints what comes of them. `scintilla --sent` lists their
+ * numbers; scintilla_examples.c sends those of the worked examples. Then null texts, views and components, what is refused, what is sent inside a notify function,
  * and each growth refused in turn, for which it is linked as counted_heap.h says. */
 #include "counted_heap.h"
 
@@ -167,35 +167,35 @@ static void take_step(const sptr_t *views, const step *s) {
 
 static void try_each_message(void) {
   static char names[2][8] = {"first", "second"};
-  hongpilas_scintilla *door = hongpilas_scintilla_new();
+  hongpilas_scintilla *component = hongpilas_scintilla_new();
   sptr_t views[VIEWS] = {0, 0, 0};
-  must(door != NULL, "a door opens");
+  must(component != NULL, "a component opens");
   for (int i = FIRST; i <= SECOND; i++) {
-    views[i] = hongpilas_scintilla_open(door);
+    views[i] = hongpilas_scintilla_open(component);
     hongpilas_set_notify(views[i], hear, names[i]);
   }
   for (size_t i = 0; i < sizeof steps / sizeof *steps; i++) take_step(views, &steps[i]);
   hongpilas_scintilla_close(views[0]);
-  hongpilas_scintilla_free(door);
+  hongpilas_scintilla_free(component);
   must(blocks == 0, "all blocks are given back");
 }
 
-/* ---- Null texts, views and doors ---- */
+/* ---- Null texts, views and components ---- */
 
-/* The view 0 and a null door are harmless to each call. */
+/* The view 0 and a null component are harmless to each call. */
 static void try_nulls(void) {
-  hongpilas_scintilla *door = hongpilas_scintilla_new();
-  sptr_t views[VIEWS] = {hongpilas_scintilla_open(door), 0, 0};
+  hongpilas_scintilla *component = hongpilas_scintilla_new();
+  sptr_t views[VIEWS] = {hongpilas_scintilla_open(component), 0, 0};
   for (size_t i = 0; i < sizeof nulls / sizeof *nulls; i++) take_step(views, &nulls[i]);
   printf("hongpilas_direct_status with no place for the status\n  = %ld\n", (long)hongpilas_direct_status(views[FIRST], SCI_GETLINECOUNT, 0, 0, NULL));
   printf("hongpilas_refusal of no view\n  = %s\n", hongpilas_refusal(0));
   hongpilas_set_notify(0, hear, NULL);
   hongpilas_set_notify(0, NULL, NULL);
   hongpilas_scintilla_close(0);
-  hongpilas_scintilla_free(door);
-  printf("hongpilas_scintilla_open of no door\n  = %ld\n", (long)hongpilas_scintilla_open(NULL));
+  hongpilas_scintilla_free(component);
+  printf("hongpilas_scintilla_open of no component\n  = %ld\n", (long)hongpilas_scintilla_open(NULL));
   printf("hongpilas_scintilla_new_with_limits without limits\n  = %s\n",
-         hongpilas_scintilla_new_with_limits(NULL, sizeof(hongpilas_limits)) == NULL ? "NULL" : "a door");
+         hongpilas_scintilla_new_with_limits(NULL, sizeof(hongpilas_limits)) == NULL ? "NULL" : "a component");
   hongpilas_scintilla_free(NULL);
   must(blocks == 0, "all blocks are given back");
 }
@@ -204,8 +204,8 @@ static void try_nulls(void) {
 
 static void try_edges(void) {
   SciFnDirect send = hongpilas_direct;
-  hongpilas_scintilla *door = hongpilas_scintilla_new();
-  sptr_t view = hongpilas_scintilla_open(door);
+  hongpilas_scintilla *component = hongpilas_scintilla_new();
+  sptr_t view = hongpilas_scintilla_open(component);
   struct Sci_TextRange range = {{0, -1}, NULL}, widest = {{LONG_MIN, LONG_MAX}, NULL};
   const char lone = 'x'; /* of which a call with a negative length reads nothing behind */
   hongpilas_limits none = {0, 0, 0, 0, 0, 0, 0}, few = HONGPILAS_GREATEST_LIMITS;
@@ -221,15 +221,15 @@ static void try_edges(void) {
   send(view, SCI_SETSTATUS, SC_STATUS_OK, 0);
   must(send(view, SCI_APPENDTEXT, 1, 0) == 0 && send(view, SCI_ADDTEXT, (uptr_t)-1, (sptr_t)&lone) == 0, "texts that cannot be");
   must(send(view, SCI_GETSTATUS, 0, 0) == SC_STATUS_FAILURE && send(view, SCI_GETLENGTH, 0, 0) == 2, "are refused");
-  hongpilas_scintilla_free(door);
+  hongpilas_scintilla_free(component);
   must(hongpilas_scintilla_new_with_limits(&none, sizeof none) == NULL, "limits of 0 are refused");
   few.views = 1;
-  door = hongpilas_scintilla_new_with_limits(&few, sizeof few);
-  view = hongpilas_scintilla_open(door);
-  must(view != 0 && hongpilas_scintilla_open(door) == 0, "more views than may be open are refused");
+  component = hongpilas_scintilla_new_with_limits(&few, sizeof few);
+  view = hongpilas_scintilla_open(component);
+  must(view != 0 && hongpilas_scintilla_open(component) == 0, "more views than may be open are refused");
   hongpilas_scintilla_close(view);
-  must(hongpilas_scintilla_open(door) != 0, "a closed one makes room");
-  hongpilas_scintilla_free(door);
+  must(hongpilas_scintilla_open(component) != 0, "a closed one makes room");
+  hongpilas_scintilla_free(component);
   must(blocks == 0, "all blocks are given back");
 }
 
@@ -265,15 +265,15 @@ static void try_ints(void) {
               {SCI_ADDUNDOACTION, true, true, 5, 1},
               {SCI_SETLINEENDTYPESALLOWED, true, false, 1, 0}};
   const uptr_t above = (uptr_t)1 << 32;
-  hongpilas_scintilla *doors[2] = {hongpilas_scintilla_new(), hongpilas_scintilla_new()};
-  sptr_t views[2] = {hongpilas_scintilla_open(doors[0]), hongpilas_scintilla_open(doors[1])};
+  hongpilas_scintilla *components[2] = {hongpilas_scintilla_new(), hongpilas_scintilla_new()};
+  sptr_t views[2] = {hongpilas_scintilla_open(components[0]), hongpilas_scintilla_open(components[1])};
   for (size_t i = 0; i < sizeof ints / sizeof *ints; i++) {
     uptr_t w = (uptr_t)ints[i].w ^ (ints[i].w_is_int ? above : 0), l = (uptr_t)ints[i].l ^ (ints[i].l_is_int ? above : 0);
     sptr_t value = hongpilas_direct(views[0], ints[i].message, (uptr_t)ints[i].w, ints[i].l);
     must(hongpilas_direct(views[1], ints[i].message, w, (sptr_t)l) == value, "an int is cut down: the value");
     must(hongpilas_direct(views[1], SCI_GETSTATUS, 0, 0) == SC_STATUS_OK, "an int is cut down: the status");
   }
-  for (int i = 0; i < 2; i++) hongpilas_scintilla_free(doors[i]);
+  for (int i = 0; i < 2; i++) hongpilas_scintilla_free(components[i]);
   must(blocks == 0, "all blocks are given back");
 }
 
@@ -305,9 +305,9 @@ static void meddle(SCNotification *note, void *data) {
 }
 
 static void try_meddling(void) {
-  hongpilas_scintilla *door = hongpilas_scintilla_new();
+  hongpilas_scintilla *component = hongpilas_scintilla_new();
   meddler m = {0, 0, 0, 0};
-  m.view = hongpilas_scintilla_open(door);
+  m.view = hongpilas_scintilla_open(component);
   hongpilas_set_notify(m.view, meddle, &m);
   hongpilas_direct(m.view, SCI_INSERTTEXT, 0, (sptr_t) "ab");
   must(m.notes == 3 && m.edits > 15, "each note is told, and what edits meanwhile is refused");
@@ -315,7 +315,7 @@ static void try_meddling(void) {
   hongpilas_set_notify(m.view, NULL, NULL);
   hongpilas_direct(m.view, SCI_CLEARALL, 0, 0);
   must(m.notes == 3, "no note is told any more");
-  hongpilas_scintilla_free(door);
+  hongpilas_scintilla_free(component);
   must(blocks == 0, "all blocks are given back");
 }
 
@@ -341,10 +341,10 @@ static bool done_with(long growths) {
   int notes = 0;
   bool is_in, is_styled, is_read;
   growths_left = growths;
-  hongpilas_scintilla *door = hongpilas_scintilla_new();
-  sptr_t view = door == NULL ? 0 : hongpilas_scintilla_open(door);
+  hongpilas_scintilla *component = hongpilas_scintilla_new();
+  sptr_t view = component == NULL ? 0 : hongpilas_scintilla_open(component);
   if (view == 0) {
-    hongpilas_scintilla_free(door);
+    hongpilas_scintilla_free(component);
     return false;
   }
   hongpilas_set_notify(view, count_note, &notes);
@@ -361,7 +361,7 @@ static bool done_with(long growths) {
                   10) == 0,
        "styled text is given");
   must(is_read || styled[0] == '\0', "a refused call writes nothing");
-  hongpilas_scintilla_free(door);
+  hongpilas_scintilla_free(component);
   return is_in && is_styled && is_read;
 }
 

@@ -1,6 +1,6 @@
-/* door_examples SCRIPT..: sends the commands of the worked examples through the door in Scintilla's manner, and compares each value, status, text and
+/* scintilla_examples SCRIPT..: sends the commands of the worked examples through the Scintilla-compatible interface, and compares each value, status, text and
  * notification with what the example prints, which stands beside it in a file .out. What no int and no pointer can say is left out if it is refused,
- * and ends the example otherwise. door_examples --sent SCRIPT.. prints the numbers of the messages that are sent. */
+ * and ends the example otherwise. scintilla_examples --sent SCRIPT.. prints the numbers of the messages that are sent. */
 #include "../model/manners.h"
 
 #include <inttypes.h>
@@ -125,8 +125,8 @@ static void hear(SCNotification *note, void *data) {
   now.heard[now.heard_count++].note = *note;
 }
 
-static void open_view(hongpilas_scintilla *door, const outcome *wanted) {
-  sptr_t view = hongpilas_scintilla_open(door);
+static void open_view(hongpilas_scintilla *component, const outcome *wanted) {
+  sptr_t view = hongpilas_scintilla_open(component);
   must((view != 0) == wanted->is_done, "whether a view opens");
   if (!wanted->is_done) return;
   must(wanted->value > 0 && wanted->value < VIEWS, "a view's id");
@@ -206,13 +206,13 @@ static void send_command(const command *c, const outcome *wanted, char **at) {
 /* ---- Examples ---- */
 
 /* Makes the call of a line; whether the example goes on. */
-static bool take_line(hongpilas_scintilla *door, const char *line, char **printed) {
+static bool take_line(hongpilas_scintilla *component, const char *line, char **printed) {
   static command c;
   static outcome wanted;
   now.line = line;
   now.heard_count = 0;
   read_outcome(printed, &wanted);
-  if (strcmp(line, "open") == 0) open_view(door, &wanted);
+  if (strcmp(line, "open") == 0) open_view(component, &wanted);
   else if (sscanf(line, "close %" SCNu32, &c.view) == 1) {
     hongpilas_scintilla_close(*view_of(c.view));
     *view_of(c.view) = 0;
@@ -229,15 +229,15 @@ static void try_example(const char *path) {
   char *at = script, *told = printed, *line;
   size_t length;
   bool goes_on = true;
-  hongpilas_scintilla *door = hongpilas_scintilla_new();
+  hongpilas_scintilla *component = hongpilas_scintilla_new();
   now.path = path;
   now.line = "at its start";
   memset(now.views, 0, sizeof now.views);
-  must(door != NULL && read_file(path, script, &length) && read_beside(".out", printed, &length), "the example is there, with what it prints");
+  must(component != NULL && read_file(path, script, &length) && read_beside(".out", printed, &length), "the example is there, with what it prints");
   next_line(&at); /* the version */
-  while (goes_on && (line = next_line(&at)) != NULL) goes_on = take_line(door, line, &told);
+  while (goes_on && (line = next_line(&at)) != NULL) goes_on = take_line(component, line, &told);
   must(!goes_on || *told == '\0', "all that is printed is compared");
-  hongpilas_scintilla_free(door);
+  hongpilas_scintilla_free(component);
   ended += !goes_on;
   examples++;
 }
@@ -247,6 +247,8 @@ int main(int count, char **words) {
   for (int i = is_list ? 2 : 1; i < count; i++) try_example(words[i]);
   for (unsigned number = 0; is_list && number < NUMBERS; number++)
     if (sent[number]) printf("%u\n", number);
-  if (!is_list) printf("%ld commands of %ld examples through the door; %ld are left out, at which %ld examples end\n", commands, examples, left_out, ended);
+  if (!is_list)
+    printf("%ld commands of %ld examples through the Scintilla-compatible interface; %ld are left out, at which %ld examples end\n", commands, examples,
+           left_out, ended);
   return 0;
 }

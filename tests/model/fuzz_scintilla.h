@@ -1,8 +1,8 @@
-/* The way in by the door with Scintilla's manners (hongpilas_scintilla.h), for fuzz.c. What w, l and the answer are there stands in manners.h, from
- * Scintilla's documentation: of a message that is drawn it makes one for the door and one for the model, and of the model's answer, text and notes it
- * makes the answer, the bytes and the notifications that the door has to give. */
-#ifndef FUZZ_DOOR_H
-#define FUZZ_DOOR_H
+/* The way in by the Scintilla-compatible interface (hongpilas_scintilla.h), for fuzz.c. What w, l and the answer are there stands in manners.h, from
+ * Scintilla's documentation: of a message that is drawn it makes one for the interface and one for the model, and of the model's answer, text and notes it
+ * makes the answer, the bytes and the notifications that the interface has to give. */
+#ifndef FUZZ_SCINTILLA_H
+#define FUZZ_SCINTILLA_H
 
 #include "manners.h"
 
@@ -148,8 +148,8 @@ static void hear(SCNotification *note, void *data) {
   memset(note, 0x77, sizeof *note); /* it is the view's own */
 }
 
-/* A call as the door takes it, and as the model does. */
-typedef struct door_call {
+/* A call as the interface takes it, and as the model does. */
+typedef struct scintilla_call {
   ear *by;
   char kind; /* what l is: a letter of its manners */
   uptr_t w;
@@ -160,9 +160,9 @@ typedef struct door_call {
   uint8_t *buffer;     /* where a text goes to, or NULL */
   size_t room, wanted; /* how much stands behind it, and how much of that is written */
   uint8_t bytes[ROOM]; /* what is written */
-} door_call;
+} scintilla_call;
 
-static void compare_notification(const heard_note *h, const hongpilas_note_data *wanted, const door_call *c) {
+static void compare_notification(const heard_note *h, const hongpilas_note_data *wanted, const scintilla_call *c) {
   const SCNotification *n = &h->note;
   bool is_record = wanted->code == SCN_MACRORECORD;
   must_be(h->by->id, wanted->view, "the view that is told");
@@ -188,7 +188,7 @@ static void compare_notification(const heard_note *h, const hongpilas_note_data 
 }
 
 /* Each note of the model's last reply was told, in its order, to each view that had a callback then; `*next` is the first of those that were heard. */
-static void compare_notes(side *s, const door_call *c, size_t *next) {
+static void compare_notes(side *s, const scintilla_call *c, size_t *next) {
   hongpilas_note_data note;
   for (size_t i = 0; model_note(s->plain, i, &note); i++) {
     ear *e = ear_of(s, note.view);
@@ -203,8 +203,8 @@ static void compare_notes(side *s, const door_call *c, size_t *next) {
 }
 
 /* The notes of the call, and then those of the messages that were sent inside, as the model does them now. */
-static void compare_heard(side *s, const door_call *c) {
-  static door_call within;
+static void compare_heard(side *s, const scintilla_call *c) {
+  static scintilla_call within;
   size_t next = 0;
   compare_notes(s, c, &next);
   for (size_t i = 0; i < inner.count; i++) {
@@ -226,7 +226,7 @@ static void compare_heard(side *s, const door_call *c) {
 
 /* The text that is sent: its bytes at a guarded page, with a NUL behind them where that is its end. A negative length leads to bytes that nobody may
  * touch. Without a text, w is 0 or the message is refused. */
-static void give_text(door_call *c, const message *m, bool is_null) {
+static void give_text(scintilla_call *c, const message *m, bool is_null) {
   bool is_closed = c->kind == 'Z' || (c->kind == 'e' && m->w == -1);
   const uint8_t *nul = is_closed ? memchr(m->text, 0, m->length) : NULL;
   size_t length = nul != NULL ? (size_t)(nul - m->text) : m->length;
@@ -249,7 +249,7 @@ static void give_text(door_call *c, const message *m, bool is_null) {
 }
 
 /* The buffer that is filled, with exactly the room that it has to have, and what has to be written into it by the model's answer. */
-static void give_buffer(side *s, door_call *c, const message *m, hongpilas_answer answer, bool is_null) {
+static void give_buffer(side *s, scintilla_call *c, const message *m, hongpilas_answer answer, bool is_null) {
   static const char closed[] = {'s', 1, 'b', 1, 't', 1, 'u', 2};
   const uint8_t *text = NULL;
   size_t count = answer == HONGPILAS_DONE ? model_text(s->plain, &text) : 0, nuls = 0;
@@ -274,7 +274,7 @@ static void give_buffer(side *s, door_call *c, const message *m, hongpilas_answe
 }
 
 /* The value that a question has to answer: of a null buffer how long the text is. */
-static sptr_t value_of_question(const side *s, const door_call *c) {
+static sptr_t value_of_question(const side *s, const scintilla_call *c) {
   const uint8_t *text;
   size_t length = model_text(s->plain, &text);
   if (c->buffer == NULL || c->kind != 'b') return (sptr_t)length;
@@ -282,13 +282,13 @@ static sptr_t value_of_question(const side *s, const door_call *c) {
   return (sptr_t)(c->w < length ? c->w : length);
 }
 
-static void must_be_written(const door_call *c, bool is_done) {
+static void must_be_written(const scintilla_call *c, bool is_done) {
   if (is_done && c->wanted > 0) must(memcmp(c->buffer, c->bytes, c->wanted) == 0, "what is written into a buffer");
   for (size_t i = is_done ? c->wanted : 0; c->buffer != NULL && i < c->room; i++) must(c->buffer[i] == 0x77, "the rest of a buffer stays");
 }
 
 /* Makes the call by one form or the other, with the notes that are told, and answers its value. */
-static sptr_t make_call(side *s, const door_call *c, int *status) {
+static sptr_t make_call(side *s, const scintilla_call *c, int *status) {
   sptr_t value;
   struct Sci_TextRange range;
   bool has_range = (c->kind == 't' || c->kind == 'u') && c->l != 0;
@@ -322,7 +322,7 @@ static message as_ints(const message *m) {
 }
 
 /* A refused growth changes nothing, tells nothing and writes nothing. A text that is asked for takes no memory, but with its styles. */
-static hongpilas_answer see_refused_growth(side *s, const door_call *c, sptr_t value) {
+static hongpilas_answer see_refused_growth(side *s, const scintilla_call *c, sptr_t value) {
   must(!takes_buffer(c->kind) || (c->plain.number == SCI_GETSTYLEDTEXT && c->buffer != NULL), "a text is given without memory");
   look_at_refused_growth(s, &c->plain);
   c->by->status = SC_STATUS_BADALLOC;
@@ -334,16 +334,16 @@ static hongpilas_answer see_refused_growth(side *s, const door_call *c, sptr_t v
   return HONGPILAS_OUT_OF_MEMORY;
 }
 
-/* The answer of the model. It was asked a question before, so that the buffer is as large as it has to be; other messages it is sent once the door has
+/* The answer of the model. It was asked a question before, so that the buffer is as large as it has to be; other messages it is sent once the interface has
  * done them. */
-static hongpilas_answer answer_of_model(side *s, const door_call *c) {
+static hongpilas_answer answer_of_model(side *s, const scintilla_call *c) {
   int64_t value;
   if (c->is_bad) return HONGPILAS_BAD_ARGUMENT;
   if (c->is_nothing) return HONGPILAS_DONE;
   return model_send(s->plain, c->plain.view, c->plain.number, c->plain.w, c->plain.l, c->plain.text, c->plain.length, &value);
 }
 
-static void prepare_call(side *s, door_call *c, const message *m, hongpilas_answer *answer) {
+static void prepare_call(side *s, scintilla_call *c, const message *m, hongpilas_answer *answer) {
   bool is_null = m->how / 4 % 16 == 5;
   c->kind = manners_of(m->number)[1];
   c->w = (uptr_t)m->w;
@@ -358,8 +358,8 @@ static void prepare_call(side *s, door_call *c, const message *m, hongpilas_answ
   give_buffer(s, c, m, *answer, is_null);
 }
 
-static hongpilas_answer send_by_door(side *s, const message *m) {
-  static door_call c;
+static hongpilas_answer send_by_scintilla(side *s, const message *m) {
+  static scintilla_call c;
   hongpilas_answer answer = HONGPILAS_DONE;
   int status = 0;
   begin_message(s, m, "hongpilas_direct");
@@ -402,22 +402,22 @@ static void compare_ears(side *s, bool stays) {
     if (s->ears[i].id != 0) must_stand(&s->ears[i], (int)status_of(&s->ears[i]));
 }
 
-static hongpilas_answer open_door(side *s, const hongpilas_limits *limits) {
-  s->door = limits == NULL ? hongpilas_scintilla_new() : hongpilas_scintilla_new_with_limits(limits, sizeof *limits);
-  if (s->door != NULL) return HONGPILAS_DONE;
+static hongpilas_answer open_component(side *s, const hongpilas_limits *limits) {
+  s->component = limits == NULL ? hongpilas_scintilla_new() : hongpilas_scintilla_new_with_limits(limits, sizeof *limits);
+  if (s->component != NULL) return HONGPILAS_DONE;
   return was_refused ? HONGPILAS_OUT_OF_MEMORY : HONGPILAS_BAD_ARGUMENT;
 }
 
-static void close_door(side *s) {
-  hongpilas_scintilla_free(s->door);
+static void close_component(side *s) {
+  hongpilas_scintilla_free(s->component);
   hongpilas_scintilla_free(NULL);
   counts.calls++;
 }
 
-/* A view takes memory of the door before what else may refuse it is looked at. */
-static hongpilas_answer open_by_door(side *s, uint32_t *view) {
+/* A view takes memory of the component before what else may refuse it is looked at. */
+static hongpilas_answer open_by_scintilla(side *s, uint32_t *view) {
   uint32_t wanted = 0;
-  sptr_t opened = hongpilas_scintilla_open(s->door);
+  sptr_t opened = hongpilas_scintilla_open(s->component);
   model *aside = model_copy(s->plain);
   hongpilas_answer answer = model_new_view(aside, &wanted);
   model_free(aside);
@@ -431,7 +431,7 @@ static hongpilas_answer open_by_door(side *s, uint32_t *view) {
   return HONGPILAS_DONE;
 }
 
-static hongpilas_answer close_by_door(side *s, uint32_t view) {
+static hongpilas_answer close_by_scintilla(side *s, uint32_t view) {
   ear *e = ear_of(s, view);
   hongpilas_scintilla_close(e == NULL ? 0 : e->view);
   if (e == NULL) return HONGPILAS_NO_SUCH_VIEW;
@@ -440,7 +440,7 @@ static hongpilas_answer close_by_door(side *s, uint32_t view) {
 }
 
 /* SCI_GETRANGEPOINTER lends, and SCI_GETTEXTRANGE copies. */
-static void lend_by_door(side *s, uint32_t view, uint64_t start, uint64_t count, bool copies) {
+static void lend_by_scintilla(side *s, uint32_t view, uint64_t start, uint64_t count, bool copies) {
   ear *e = ear_of(s, view);
   const uint8_t *wanted = NULL;
   message m = {view, copies ? SCI_GETTEXTRANGE : SCI_GETRANGEPOINTER, (int64_t)start, (int64_t)(start + count), NULL, 0, count % 2 == 0, 0};
@@ -468,7 +468,7 @@ static void lend_by_door(side *s, uint32_t view, uint64_t start, uint64_t count,
 }
 
 /* Texts that are asked for, oftener than the messages are drawn. */
-static void read_by_door(side *s, uint32_t view, const record *r) {
+static void read_by_scintilla(side *s, uint32_t view, const record *r) {
   static const uint32_t numbers[] = {SCI_GETTEXT, SCI_GETCURLINE, SCI_GETLINE, SCI_GETSELTEXT, SCI_GETTEXTRANGE, SCI_GETSTYLEDTEXT, SCI_GETTARGETTEXT};
   uint32_t number = numbers[r->t_kind % (sizeof numbers / sizeof *numbers)];
   around a = {model_peek(s->plain, view, SCI_GETLENGTH), model_peek(s->plain, view, SCI_GETLINECOUNT), 0, 0, 1};
@@ -478,7 +478,7 @@ static void read_by_door(side *s, uint32_t view, const record *r) {
   by->send(s, &m);
 }
 
-/* No view and no door are harmless to each call, and no view has always failed. */
+/* No view and no component are harmless to each call, and no view has always failed. */
 static void try_no_view(const record *r) {
   int status = 0;
   must_be(hongpilas_direct(0, SCI_SETSTATUS, r->w % 4, r->l), 0, "what SETSTATUS answers to no view");
@@ -487,7 +487,8 @@ static void try_no_view(const record *r) {
   must_be(status, SC_STATUS_FAILURE, "the status of no view");
   must(strcmp(hongpilas_refusal(0), answer_names[HONGPILAS_NO_SUCH_VIEW]) == 0, "why no view refuses");
   hongpilas_set_notify(0, r->l % 2 == 0 ? hear : NULL, NULL);
-  must(hongpilas_scintilla_open(NULL) == 0 && hongpilas_scintilla_new_with_limits(NULL, sizeof(hongpilas_limits)) == NULL, "what no door opens, and no limits");
+  must(hongpilas_scintilla_open(NULL) == 0 && hongpilas_scintilla_new_with_limits(NULL, sizeof(hongpilas_limits)) == NULL,
+       "what no component opens, and no limits");
   counts.calls += 7;
 }
 
@@ -526,7 +527,16 @@ static void try_null_pointers(side *s, uint32_t view, const record *r) {
   counts.calls += 3;
 }
 
-static const way way_by_door = {"the door",   open_door,    close_door,   open_by_door, close_by_door,    send_by_door,
-                                lend_by_door, compare_ears, read_by_door, set_status,   try_null_pointers};
+static const way way_by_scintilla = {"the Scintilla-compatible interface",
+                                     open_component,
+                                     close_component,
+                                     open_by_scintilla,
+                                     close_by_scintilla,
+                                     send_by_scintilla,
+                                     lend_by_scintilla,
+                                     compare_ears,
+                                     read_by_scintilla,
+                                     set_status,
+                                     try_null_pointers};
 
 #endif
