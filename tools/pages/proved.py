@@ -16,9 +16,8 @@ SEES, PROVED, TESTED, TRUSTED, USES = "What a contract sees", "What is proved", 
 SHAPES = ([SEES, PROVED, TESTED, USES], [SEES, PROVED, TESTED, TRUSTED, USES])
 HEAD = """# What is proved, crate by crate
 
-The exact statements are in the README of each crate. *What is proved* has what the contracts of its public functions promise; *What is only tested* what no
-contract says and a test runs, and what neither says; *What is trusted* what the proofs rest on. [`PROMISES.md`](PROMISES.md) has the short form,
-[`ARCHITECTURE.md`](ARCHITECTURE.md) the layers. From the lowest layer up:
+The exact statements are in the README of each crate. [`PROMISES.md`](PROMISES.md) has the short form, [`ARCHITECTURE.md`](ARCHITECTURE.md) the layers. From the
+lowest layer up:
 """
 
 

@@ -7,6 +7,7 @@ A message's name and number come from the definitions (crates/ed_types), its arg
 Run it at the top of the repository after a message, an entry or a constant has changed. With --check it writes nothing, and fails where a wrapper is not
 what it would write, where a refusal of the crates has no place in a wrapper, or where an entry has a form that it cannot read.
 """
+import functools
 import os
 import re
 import sys
@@ -332,12 +333,23 @@ def spelled(number):
     return str(number) if number < 10 or 2000 <= number < 5000 else f"0x{number:X}"
 
 
+@functools.lru_cache(maxsize=None)
+def told_of_constants():
+    """What docs/MESSAGES.md says in one line of messages, notifications and kinds of SCN_MODIFIED, by their constants."""
+    page = header.read(message_page.PAGE)
+    lines = [(f"SCI_{entry.name}", header.brief(entry)) for entry in message_page.entries()]
+    lines += [(name, f"Sent to {views}.") for name, views in re.findall(r"^\| \d+ \| (SCN_\w+) \| ([^|]+) \|", page, re.M)]
+    lines += [(name, f"A kind of SCN_MODIFIED: {what}.") for what, name in re.findall(r"^\| ([^|]+) \| `(SC_MOD_\w+)` ", page, re.M)]
+    return dict(lines)
+
+
 def rust_constant(name, title, number):
     """The number of a message or a note has the type of such numbers; all else has that of arguments."""
     if title:
         return f"// {title}.\n"
+    told_of = told_of_constants().get(name)
     kind = "u32" if name.startswith(("SCI_", "SCN_")) else "i64"
-    return f"pub const {name}: {kind} = {number};\n"
+    return f"/// {told_of}\n" * bool(told_of) + f"pub const {name}: {kind} = {number};\n"
 
 
 # The enumerations of Python: a name, its base, what it is, and the constants that it has, with a group that is the member's name.

@@ -1,10 +1,13 @@
 //! Questions beside the replies: messages that change nothing, asked without replacing the last reply.
 
-ghost use Rattle.std.specs.Prelude.{◌≡◌, ◌≢◌, [], true, length, is_some, Ok, IfOk, IfErr};
+ghost use Rattle.std.specs.Prelude.{◌≡◌, ◌≢◌, [], true, length, is_some, Some, Ok, IfOk, IfErr};
+ghost use Rattle.ed_types.specs.declared.refusal.Refusal.TheVariants.{OutOfMemory};
 ghost use Rattle.ed_model.specs.Printed.{refusal_number};
 ghost use Rattle.ed_model.specs.Table.{table};
 ghost use Rattle.editor_session.specs.Answers.{message_with};
+ghost use Rattle.editor_session.specs.Plans.{is_free};
 ghost use Rattle.hongpilas_c.specs.Asked.{is_query, refused_asking, value_answered, text_answered, IsAsked, IsAskRefused, IsRead, asked_text, without_asked};
+ghost use Rattle.hongpilas_c.specs.Calls.{NeverWantsMemory};
 
 use crate::answers::{DONE, number_of};
 use crate::handle::Handle;
@@ -31,6 +34,7 @@ impl Held {
         ensures refused { IfErr result (λ refusal. refusal_number refusal ≡ refused_asking number (table self.old.session view (message_with number w l []))) }
         ensures query { IfOk result (λ reply. is_query number ≡ true) }
         ensures same { self.new ≡ self.old }
+        ensures free { is_free self.old.session view (message_with number w l []) ≡ true → IfErr result (λ refusal. refusal ≢ OutOfMemory) }
     {
         // States that a question leaves the session unchanged.
         queries_leave_the_session();
@@ -46,6 +50,7 @@ impl Held {
         ensures refused { result ≢ 0 → result ≡ refused_asking number (table self.old.session view (message_with number w l [])) }
         ensures same { self.new ≡ self.old }
         ensures value_kept { result ≢ 0 → value.new ≡ value.old }
+        ensures free { NeverWantsMemory view (message_with number w l []) result (Some self.old) }
     {
         if let Some(answer) = self.session.ask(view, number, w, l) {
             *value = answer;
@@ -72,6 +77,7 @@ impl Held {
         ensures last_value { self.new.value ≡ self.old.value }
         ensures read { self.new.read ≡ self.old.read }
         ensures reply { self.new.reply ≡ self.old.reply }
+        ensures free { NeverWantsMemory view (message_with number w l []) result (Some self.old) }
     {
         if let Some(answer) = self.asked.read(&self.session, view, number, w, l) {
             *value = answer;
@@ -107,6 +113,7 @@ pub extern "C" fn hongpilas_ask_unchecked(
     ensures refused { result ≢ 0 → IsAskRefused view (message_with number w l []) result handle.old.held }
     ensures same { handle.new.held ≡ handle.old.held }
     ensures value_kept { result ≢ 0 → value.new ≡ value.old }
+    ensures free { NeverWantsMemory view (message_with number w l []) result handle.old.held }
 {
     let held = handle.held();
     held.ask(view, number, w, l, value)
@@ -135,6 +142,7 @@ pub extern "C" fn hongpilas_read_unchecked(
     ensures text_kept { result ≢ 0 → text.new ≡ text.old }
     ensures count_kept { result ≢ 0 → count.new ≡ count.old }
     ensures value_kept { result ≢ 0 → value.new ≡ value.old }
+    ensures free { NeverWantsMemory view (message_with number w l []) result handle.old.held }
 {
     let held = handle.held();
     let answer = held.read_beside(view, number, w, l, value);

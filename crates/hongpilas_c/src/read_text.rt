@@ -1,6 +1,6 @@
 //! The text of a reply that was read without a plan.
 
-ghost use Rattle.std.specs.Prelude.{◌≡◌, [], pos, IfNone, OnOk, OnErr};
+ghost use Rattle.std.specs.Prelude.{◌≡◌, [], pos, IfNone, IsOk, OnOk, OnErr};
 ghost use Rattle.ed_model.specs.Performing.{quiet};
 ghost use Rattle.editor_session.specs.Answers.{message_with};
 ghost use Rattle.hongpilas_c.specs.Questions.{AnswersTextQuestion};
@@ -84,10 +84,11 @@ impl ReadText {
     ///
     /// # Errors
     ///
-    /// `AllocError` if the allocation fails. The bytes are then as they were.
+    /// `AllocError` if the allocation fails; no bytes need none. The bytes are then as they were.
     pub(crate) fn replace(&mut self, bytes: &[u8]) -> Result<(), AllocError>
         ensures replaced { OnOk result (self.new ≡ bytes.now) }
         ensures same { OnErr result (self.new ≡ self.old) }
+        ensures free { bytes.now ≡ [] → IsOk result }
     {
         let mut copy = Vec::new(self.alloc);
         copy.extend_from_slice(bytes)?;
