@@ -68,9 +68,11 @@ out/libhongpilas.a: $(PROVED) $(HEAP) out/checked.o out/names.o
 # The loader fills its tables before the first call, and nothing writes to them later. A name of the map that the library has not is a fault.
 out/lib%.so: out/lib%.a c/%.map
 	$(CC) -shared -nostartfiles -Wl,-z,defs $(CFLAGS) $(LDFLAGS) -Wl,-z,relro,-z,now -Wl,-soname,lib$*.so.$(MAJOR) \
-	    -Wl,--version-script=c/$*.map,--no-undefined-version -Wl,--whole-archive $< -Wl,--no-whole-archive $(filter %.so,$^) -o $@
+	    -Wl,--version-script=c/$*.map,--no-undefined-version -Wl,--whole-archive $< -Wl,--no-whole-archive $(filter %.so,$^) $(BESIDE) -o $@
 
+# The loader finds the one beside the other, wherever both are.
 out/libhongpilas_scintilla.so: out/libhongpilas.so
+out/libhongpilas_scintilla.so: private BESIDE := -Wl,-rpath,'$$ORIGIN'
 
 # The Scintilla-compatible interface stands beside the libraries: a program that does not use it links none of it. An exception may pass through it.
 out/libhongpilas_scintilla.a: c/scintilla.c c/scintilla_manners.h include/hongpilas_scintilla.h include/hongpilas.h
