@@ -1,13 +1,12 @@
 -- Questions: what the law of queries says of an answer to one.
 use mathlib.Core.Bool.{false≢true}
-use Rattle.std.proofs.Common.{◌≡◌, ◌⊎◌, ℕ, true, refl, ap, sym, subst, ◌∙◌, Option, Some, None, Result, Ok, Err, IfOk, IfErr, option_map}
+use Rattle.std.proofs.Common.{◌≡◌, ℕ, true, refl, ap, sym, subst, ◌∙◌, Option, Some, None, Result, Ok, Err, IfOk, IfErr, option_map}
 use Rattle.ed_types.specs.declared.kind.Kind.{Kind}
 use Rattle.ed_types.specs.declared.message.Message.{Message}
 use Rattle.ed_types.specs.declared.refusal.Refusal.{Refusal}
 use Rattle.ed_types.specs.declared.refusal.Refusal.TheVariants.{OutOfMemory}
 use Rattle.ed_types.specs.Messages.{kind_of, marks_of}
 use Rattle.ed_types.specs.Notices.{Response}
-use Rattle.ed_types.specs.proved.Refusals.{refusing}
 use Rattle.ed_model.specs.Printed.{refusal_number}
 use Rattle.ed_model.specs.Session.{Session}
 use Rattle.ed_model.specs.Table.{table}
