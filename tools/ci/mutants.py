@@ -97,7 +97,7 @@ class Body:
                 self.swaps.append((file, old, rest))
         self.fault = self.put_into(dict(source.texts))
         around = None if self.fault else self.around(source)
-        self.functions, self.stands_in_functions = self.only or around, around is not None
+        self.functions, self.stands_in_functions = self.only or around or set(), around is not None
 
     def put_into(self, texts):
         """Puts it into the texts; says what is wrong with it, or nothing."""
