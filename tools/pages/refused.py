@@ -3,7 +3,8 @@
 
     tools/pages/refused.py [CRATE..]    prints a table for each of these crates, or for all: the mutants by the function in which they stand
     tools/pages/refused.py --check      ends with status 1 where tools/data/mutants.txt names no mutant or one that was not refused, or where CI does
-                                        not try a mutant of the first table of docs/WRONG_BODIES.md
+                                        not try a mutant of the first table of docs/WRONG_BODIES.md; a note names the mutants without a verdict there, which
+                                        are tried before a release
 
 `tools/ci/wrong_bodies --record` writes tools/data/mutants.txt, whose head says what its lines mean. A line `does: WORDS` in a mutant's block says
 what it does, where its name does not: it stands behind the name."""
@@ -109,6 +110,13 @@ def faults(found, known):
     yield from (f"{FILE}: {'/'.join(it)} was not refused" for it, words in sorted(known.items()) if words == ["NOT", "REFUSED"])
 
 
+def print_unrecorded(found, known):
+    """A note: the mutants that nobody has recorded a verdict of."""
+    names = ["/".join(it) for it in sorted(found.keys() - known.keys())]
+    if names:
+        print(f"{FILE} has no verdict yet of {len(names)} mutants (a note, and no fault): {', '.join(names)}")
+
+
 def main(arguments):
     found, (tried, known) = bodies(), wrong_bodies().recorded()
     crates = {crate for crate, _ in found}
@@ -117,6 +125,7 @@ def main(arguments):
             sys.exit(__doc__)
         print(table({it: told for it, told in found.items() if it[0] in (arguments or crates)}, tried, known))
         return 0
+    print_unrecorded(found, known)
     wrong = list(faults(found, known))
     print("\n".join(wrong) or f"{FILE} is of {len(found):,} mutants")
     return 1 if wrong else 0
