@@ -12,9 +12,10 @@
  * names. The tests are written in C (c/checked.c), and are tested, not proved.
  * The unchecked forms, at the end of this header, are a little faster.
  *
- * Threads. A session is used by one call at a time, and may be handed from thread to thread
- * by whatever orders memory, such as a lock or a channel; sessions are independent of each
- * other. `const` says what a call changes, not that two threads may make it at once.
+ * Threads. Calls on one session must not overlap: use a lock, or pass the session through a
+ * channel. A background thread works on a copy (`hongpilas_copy_range`). Different sessions
+ * may be used at the same time. `const` says what a call changes, not that two threads may
+ * make it at once.
  *
  * Duties of the caller, which nothing checks:
  *  - a session is used by no call after hongpilas_free;

@@ -23,8 +23,8 @@
  *  - lend_range: until the next call on the session, except those that only read the last reply.
  * A text that is sent has none of these bytes: copy it first.
  *
- * A session is used by one call at a time, and may be handed from thread to thread by whatever orders memory. What the caller owes besides is
- * said at the top of hongpilas.h. */
+ * Calls on one session must not overlap: use a lock, or pass the session through a channel. What the caller owes besides is said at the top of
+ * hongpilas.h. */
 #ifndef HONGPILAS_HPP
 #define HONGPILAS_HPP
 

@@ -105,10 +105,10 @@ DEFINED = {
 }
 # Where the header and the pages speak of threads, all in this sentence.
 ON_THREADS = (
-    "A session is used by one call at a time, and may be handed from thread to thread by whatever orders memory, such as a lock or a channel; "
-    "sessions are independent of each other."
+    "Calls on one session must not overlap: use a lock, or pass the session through a channel. A background thread works on a copy "
+    "(`hongpilas_copy_range`). Different sessions may be used at the same time."
 )
-SPEAK_OF_THREADS = (HEADER, "README.md", "docs/PROMISES.md", "docs/PROFILE.md")
+SPEAK_OF_THREADS = (HEADER, "README.md", "docs/PROMISES.md", "docs/PROFILE.md", "docs/EMBEDDING.md")
 # What Scintilla.h spells otherwise than other constants: the same words in both, so that either may be included first.
 SPELLED = {
     "SCFIND_WHOLEWORD": "0x2",
