@@ -23,8 +23,8 @@
  *  - lend_range: until the next call on the session, except those that only read the last reply.
  * A text that is sent has none of these bytes: copy it first.
  *
- * A session is used by one call at a time, and may be handed from thread to thread by whatever orders memory. What the caller owes besides is
- * said at the top of hongpilas.h. */
+ * Calls on one session must not overlap: use a lock, or pass the session through a channel. What the caller owes besides is said at the top of
+ * hongpilas.h. */
 #ifndef HONGPILAS_HPP
 #define HONGPILAS_HPP
 
@@ -569,8 +569,8 @@ class BasicView {
   [[nodiscard]] Answer<std::int64_t> GetAnchor() const noexcept(nothrow) { return ask_number(SCI_GETANCHOR, 0, 0); }
   /// Returns the style of the byte at `position`, or 0 if there is none. Message: `SCI_GETSTYLEAT`.
   [[nodiscard]] Answer<std::int64_t> GetStyleAt(std::int64_t position) const noexcept(nothrow) { return ask_number(SCI_GETSTYLEAT, position, 0); }
-  /// Performs again the transaction that was undone last. Does nothing inside a group, or if there is no transaction
-  /// to redo. Message: `SCI_REDO`.
+  /// Performs again the transaction that was undone last; does nothing while a group is open, or if there is no
+  /// transaction to redo. Message: `SCI_REDO`.
   Answer<void> Redo() noexcept(nothrow) { return as_done(SCI_REDO, 0, 0); }
   /// Sets whether undo is collected. Off, even if it was off, forgets the history and closes all groups, and keeps
   /// whether the document counts as modified. On while undo is collected changes nothing. Message:
@@ -731,8 +731,8 @@ class BasicView {
   /// Forgets the history, closes all groups, and makes the current state the save point. No view is notified.
   /// Message: `SCI_EMPTYUNDOBUFFER`.
   Answer<void> EmptyUndoBuffer() noexcept(nothrow) { return as_done(SCI_EMPTYUNDOBUFFER, 0, 0); }
-  /// Takes back the last transaction. Does nothing inside a group, or if there is no transaction to undo. Message:
-  /// `SCI_UNDO`.
+  /// Takes back the last transaction; does nothing while a group is open, or if there is no transaction to undo.
+  /// Message: `SCI_UNDO`.
   Answer<void> Undo() noexcept(nothrow) { return as_done(SCI_UNDO, 0, 0); }
   /// Copies the selection to the clipboard and deletes it. Does nothing if the selection is empty; on a read-only
   /// document the clipboard stays as it is. Message: `SCI_CUT`.

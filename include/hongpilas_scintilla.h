@@ -21,12 +21,13 @@
  *
  * docs/MESSAGES.md has the messages. It, docs/FROM_SCINTILLA.md and docs/PROFILE.md state where Scintilla differs.
  * hongpilas_message_name tells whether the profile has a message.
- * A null component and the view 0 are harmless in every call below, which says what it does with them. The duties of the
- * caller in hongpilas.h hold here, too: one call at a time, and none from a signal handler; a component may be handed from
- * thread to thread, but not while one of its notify functions runs; a component that was freed, and a view that was closed
- * or whose component was freed, is used by no call. A text and a buffer belong to the caller: copy the text of a
- * notification before you send it. During a call nobody changes a text that it is sent, nor reads or changes a buffer that
- * it fills, in another thread either. Two duties are added, for notify functions:
+ * A null component and the view 0 are harmless in every call below, which says what it does with them. The duties of
+ * the caller in hongpilas.h hold here, too: calls on one component must not overlap, and none is made from a signal
+ * handler; a component may be passed to another thread, but not while one of its notify functions runs; a component
+ * that was freed, and a view that was closed or whose component was freed, is used by no call. A text and a buffer
+ * belong to the caller: copy the text of a notification before you send it. During a call nobody changes a text that it
+ * is sent, nor reads or changes a buffer that it fills, in another thread either. Two duties are added, for notify
+ * functions:
  *  - a call from inside one is made on the stack on which it runs, and not on that of another coroutine;
  *  - if one was left by longjmp, and ran on a stack of a coroutine, that stack stays until a message that is no query was
  *    sent from outside, or the component was freed. The stack of a thread that ended may be gone. */
@@ -144,10 +145,10 @@ void hongpilas_scintilla_close(sptr_t view);
  *    and leave the status, as in Scintilla. To APPENDTEXT, COPYTEXT, REPLACETARGET and SEARCHINTARGET it is an empty
  *    text if w is 0, and refused otherwise;
  *  - a text that the message returns is written to the caller's buffer, and closed as in Scintilla: by GETTEXT and
- *    GETCURLINE at most w bytes and a NUL, by GETSELTEXT and GETTEXTRANGE all bytes and a NUL, by GETLINE and
- *    GETTARGETTEXT all bytes and no NUL, by GETSTYLEDTEXT all bytes with their styles and two NULs. If the pointer to
- *    the buffer is null, only the length is returned, without the NULs. A Sci_TextRange is refused if its pointer is
- *    null, or if it does not lie in the text;
+ *    GETCURLINE at most w bytes and a NUL, so the buffer has w + 1, by GETSELTEXT and GETTEXTRANGE all bytes and a NUL,
+ *    by GETLINE and GETTARGETTEXT all bytes and no NUL, by GETSTYLEDTEXT all bytes with their styles and two NULs. If the
+ *    pointer to the buffer is null, only the length is returned, without the NULs. A Sci_TextRange is refused if its
+ *    pointer is null, or if it does not lie in the text;
  *  - a document is the number that GETDOCPOINTER and CREATEDOCUMENT return, and 0 is a new one;
  *  - what Scintilla has as an int is truncated to one, and a byte that is returned is a char;
  *  - SETTEXT and SETREADONLY return 1, as in Scintilla, where docs/MESSAGES.md has 0.
@@ -159,9 +160,10 @@ void hongpilas_scintilla_close(sptr_t view);
  * A refused call changes nothing and writes nothing. The view's status becomes SC_STATUS_BADALLOC if an allocation
  * failed, and SC_STATUS_FAILURE otherwise. The result is 0, or -1 for the messages by which Scintilla says so that
  * nothing is found or added: MARKERADD, MARKERLINEFROMHANDLE, MARKERNEXT, MARKERPREVIOUS, SEARCHINTARGET and
- * GETFOLDPARENT. As in Scintilla the status stays until SCI_SETSTATUS. SCI_GETSTATUS returns it, and the second form, a
- * SciFnDirectStatus, sets *status to it, unless `status` is null. A message that the profile does not have returns 0,
- * with no status. The view 0 refuses each message, and has the status SC_STATUS_FAILURE always. */
+ * GETFOLDPARENT. As in Scintilla the status stays until SCI_SETSTATUS: set it to 0 before a message that you test.
+ * SCI_GETSTATUS returns it, and the second form, a SciFnDirectStatus, sets *status to it, unless `status` is null. A
+ * message that the profile does not have returns 0, with no status. The view 0 refuses each message, and has the status
+ * SC_STATUS_FAILURE always. */
 sptr_t hongpilas_direct(sptr_t view, unsigned int message, uptr_t w, sptr_t l);
 sptr_t hongpilas_direct_status(sptr_t view, unsigned int message, uptr_t w, sptr_t l, int *status);
 

@@ -24,13 +24,12 @@ HEAD = f"""# What was measured last, at one commit and on one machine. Written b
 # docs/FIGURES.md and docs/TUTORIAL.md from it.
 """
 SIZES = ("1 MiB", "16 MiB")
-# The six rows of the README: what it calls them, and what `bench/messages` does, in a document of CITED_SIZE.
+# The rows of the README: what it calls them, and what `bench/messages` does, in a document of CITED_SIZE.
 CITED_SIZE = "16 MiB"
 CITED = {
     "typing a byte": "typing, a line end each 40",
     "inserting at a random place": "8 bytes in at random",
     "loading it": "INSERTTEXT of all",
-    "undoing a typed byte": "undo of typing, a byte",
     "reading a byte": "GETCHARAT",
     "searching it forwards": "SEARCHINTARGET, all of it",
 }
@@ -143,9 +142,10 @@ def on_memory():
     if not loaded or not worked_on:
         sys.exit(f"{FIGURES}: no sentence on a loaded text, or no row of 64 MiB, under *Memory*")
     commit = re.search(r"By `out/load` \(`TESTING.md`\), at commit (\w+):", page)[1]
-    kept = "; a forgotten history kept its memory then" if "In these runs a forgotten history kept its memory" in page else ""
-    return (f"**Memory.** Loading {loaded['size']} took {loaded['times']} times the bytes of text and line starts. After minutes of random edits, styles "
-            f"and undo, a text of 64 MiB held {float(worked_on['held']):.0f} MiB, {float(worked_on['alive']):.0f} MiB of it in use (commit {commit}{kept}).")
+    kept = ", when a forgotten history was not yet freed" if "In these runs a forgotten history kept its memory" in page else ""
+    return (f"**Memory.** Loading {loaded['size']} took {loaded['times']} times the bytes of text and line starts. A text of 64 MiB took "
+            f"{float(worked_on['held']):.0f} MiB after minutes of random edits, styling and undo; {float(worked_on['alive']):.0f} MiB of that was in use. "
+            f"Measured at {commit}{kept}.")
 
 
 def of_readme():

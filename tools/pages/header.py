@@ -2,7 +2,7 @@
 """Writes Scintilla's names and numbers into include/hongpilas.h, names and marks into c/names.c, and the count of messages into README.md, from
 the definitions.
 
-Beside each message stands what docs/MESSAGES.md says of it first.
+Beside each message stand its mark Q, its parameters and what docs/MESSAGES.md says of it first.
 
 SCI_ has its numbers from the rows of crates/ed_types/specs/Messages.antt; SCN_, SC_, SCFIND_ and UNDO_ have theirs from the definitions of
 crates/ed_model/specs that DEFINED names, and what no definition reads from a constant of the code. Run it at the top of the repository after a
@@ -19,6 +19,7 @@ message or a constant was added. With --check it writes nothing, and fails where
 import os
 import re
 import sys
+import textwrap
 
 import message_page
 
@@ -28,8 +29,11 @@ BEGIN = "/* Written by tools/pages/header.py: begin */\n"
 END = "/* Written by tools/pages/header.py: end */\n"
 CONSTANT = r"(?:SC|SCFIND|INDIC|UNDO)_?[A-Z0-9_]+"
 NUMBER = r"(?P<number>0x[0-9A-Fa-f]+|\d+)"
-# How long a comment beside a message's number may be, so that its line has at most 160 columns.
-BRIEF = 114
+# How many columns a line has at most.
+WIDTH = 160
+OF_MESSAGES = """/* Messages. A comment begins with Q if the message is a query, for hongpilas_ask and hongpilas_read, and with the names of w and l, or of w
+ * and the text, as docs/MESSAGES.md has them. 0 is an argument without a meaning. */
+"""
 # What looks like a constant on the page, of whatever kind.
 NAME = r"`((?!SCI_|SCN_)[A-Z][A-Z0-9]*_[A-Z0-9_]+)`"
 # How the page names a constant, each with what its number means: before it, behind it, or as a count of low bits.
@@ -105,10 +109,10 @@ DEFINED = {
 }
 # Where the header and the pages speak of threads, all in this sentence.
 ON_THREADS = (
-    "A session is used by one call at a time, and may be handed from thread to thread by whatever orders memory, such as a lock or a channel; "
-    "sessions are independent of each other."
+    "Calls on one session must not overlap: use a lock, or pass the session through a channel. A background thread works on a copy "
+    "(`hongpilas_copy_range`). Different sessions may be used at the same time."
 )
-SPEAK_OF_THREADS = (HEADER, "README.md", "docs/PROMISES.md", "docs/PROFILE.md")
+SPEAK_OF_THREADS = (HEADER, "README.md", "docs/PROMISES.md", "docs/PROFILE.md", "docs/EMBEDDING.md")
 # What Scintilla.h spells otherwise than other constants: the same words in both, so that either may be included first.
 SPELLED = {
     "SCFIND_WHOLEWORD": "0x2",
@@ -234,25 +238,29 @@ def lines_of(pairs, spelled):
 
 
 def brief(entry):
-    """What the page says first of a message: the first sentence of its rule, or the first part of that, if it is long."""
-    sentence = message_page.first_sentence(entry.rule)
-    if len(sentence) > BRIEF:
-        sentence = re.split("[;:] ", sentence)[0] + "."
-    if len(sentence) > BRIEF:
-        sys.exit(f"{message_page.PAGE}: {entry.name} begins with more than {BRIEF} characters: {sentence}")
-    return sentence
+    """A message's mark Q, the names of w, l and the text, with 0 for an unused w, and what the page says first: the first sentence of its rule."""
+    places = [place for place in ("w", "l", "T") if place in entry.parameters or place == "w" and entry.parameters]
+    names = ", ".join(entry.parameters[place][1] if place in entry.parameters else "0" for place in places)
+    head = " ".join(["Q"] * ("Q" in entry.marks.split()) + [f"({names})"] * bool(names))
+    return ": ".join(filter(None, (head, message_page.first_sentence(entry.rule))))
+
+
+def commented(line, words):
+    """A line with a comment behind it, which goes on below itself where it is long."""
+    before = f"{line} /* "
+    return "\n".join(textwrap.wrap(f"{words} */", WIDTH, initial_indent=before, subsequent_indent=" " * len(before), break_long_words=False)) + "\n"
 
 
 def lines_of_messages():
     """The messages, each with what the page says first of it."""
     told = {entry.name: brief(entry) for entry in message_page.entries()}
     lines = lines_of(messages(), plain).splitlines()
-    return "".join(f"{line} /* {told[name[4:]]} */\n" for line, (name, _) in zip(lines, messages()))
+    return "".join(commented(line, told[name[4:]]) for line, (name, _) in zip(lines, messages()))
 
 
 def generated():
     return "\n".join([
-        "/* Messages. */\n" + lines_of_messages(),
+        OF_MESSAGES + "/* clang-format off */\n" + lines_of_messages() + "/* clang-format on */\n",
         "/* Notifications. */\n" + lines_of(notes(), plain),
         "/* Constants. */\n" + lines_of(constants(), spelled),
     ])

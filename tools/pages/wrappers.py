@@ -241,6 +241,8 @@ def rust(found, changes):
     return "".join(f"{line}\n" for line in lines[:-1])
 
 
+# What the comments of messages begin with, as in the header.
+HEAD_OF_MESSAGES = "// Each begins with Q if the message is a query, and with the names of w and l, or of w and the text. 0 is an argument without a meaning.\n"
 # How Rust spells the types of the header.
 IN_RUST = {
     "uint8_t": "u8", "uint32_t": "u32", "uint64_t": "u64", "int64_t": "i64", "size_t": "usize", "bool": "bool", "void": "c_void", "char": "c_char",
@@ -346,7 +348,7 @@ def told_of_constants():
 def rust_constant(name, title, number):
     """The number of a message or a note has the type of such numbers; all else has that of arguments."""
     if title:
-        return f"// {title}.\n"
+        return f"// {title}.\n" + HEAD_OF_MESSAGES * (title == "Messages")
     told_of = told_of_constants().get(name)
     kind = "u32" if name.startswith(("SCI_", "SCN_")) else "i64"
     return f"/// {told_of}\n" * bool(told_of) + f"pub const {name}: {kind} = {number};\n"

@@ -83,8 +83,8 @@ class Messages:
         return self.ask(constants.SCI_GETSTYLEAT, position)
 
     def redo(self) -> None:
-        """Performs again the transaction that was undone last. Does nothing inside a group, or if there is no
-        transaction to redo. Message: `SCI_REDO`.
+        """Performs again the transaction that was undone last; does nothing while a group is open, or if there is
+        no transaction to redo. Message: `SCI_REDO`.
         """
         self.send(constants.SCI_REDO)
 
@@ -362,8 +362,8 @@ class Messages:
         self.send(constants.SCI_EMPTYUNDOBUFFER)
 
     def undo(self) -> None:
-        """Takes back the last transaction. Does nothing inside a group, or if there is no transaction to undo.
-        Message: `SCI_UNDO`.
+        """Takes back the last transaction; does nothing while a group is open, or if there is no transaction to
+        undo. Message: `SCI_UNDO`.
         """
         self.send(constants.SCI_UNDO)
 

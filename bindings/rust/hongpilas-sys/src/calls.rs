@@ -24,7 +24,7 @@ pub const HONGPILAS_TOO_MANY: hongpilas_answer = 7;
 
 /// The mark Q of a message: a query: it changes nothing.
 pub const HONGPILAS_MARK_Q: u32 = 1;
-/// The mark N of a message: it allocates no memory, unless it is recorded.
+/// The mark N of a message: it allocates nothing (but may, while the view records).
 pub const HONGPILAS_MARK_N: u32 = 2;
 /// The mark E of a message: it edits the text.
 pub const HONGPILAS_MARK_E: u32 = 4;

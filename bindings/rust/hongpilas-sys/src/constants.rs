@@ -2,123 +2,124 @@
 
 // Written by tools/pages/wrappers.py: begin
 // Messages.
-/// Inserts `text` at the caret, and moves anchor and caret to the end of the inserted text.
+// Each begins with Q if the message is a query, and with the names of w and l, or of w and the text. 0 is an argument without a meaning.
+/// (length, text): Inserts `text` at the caret, and moves anchor and caret to the end of the inserted text.
 pub const SCI_ADDTEXT: u32 = 2001;
-/// Inserts `text` at `position`, or at the caret if `position` is -1.
+/// (position, text): Inserts `text` at `position`, or at the caret if `position` is -1.
 pub const SCI_INSERTTEXT: u32 = 2003;
 /// Deletes the whole text.
 pub const SCI_CLEARALL: u32 = 2004;
-/// Returns the length of the text.
+/// Q: Returns the length of the text.
 pub const SCI_GETLENGTH: u32 = 2006;
-/// Returns the byte at `position`, 0 to 255, or 0 if there is none.
+/// Q (position): Returns the byte at `position`, 0 to 255, or 0 if there is none.
 pub const SCI_GETCHARAT: u32 = 2007;
-/// Returns the position of the caret.
+/// Q: Returns the position of the caret.
 pub const SCI_GETCURRENTPOS: u32 = 2008;
-/// Returns the position of the anchor.
+/// Q: Returns the position of the anchor.
 pub const SCI_GETANCHOR: u32 = 2009;
-/// Returns the style of the byte at `position`, or 0 if there is none.
+/// Q (position): Returns the style of the byte at `position`, or 0 if there is none.
 pub const SCI_GETSTYLEAT: u32 = 2010;
-/// Performs again the transaction that was undone last.
+/// Performs again the transaction that was undone last; does nothing while a group is open, or if there is no transaction to redo.
 pub const SCI_REDO: u32 = 2011;
-/// Sets whether undo is collected.
+/// (on): Sets whether undo is collected.
 pub const SCI_SETUNDOCOLLECTION: u32 = 2012;
 /// Moves the anchor to 0 and the caret to the end of the text.
 pub const SCI_SELECTALL: u32 = 2013;
 /// Makes the current state the save point, and always sends SCN_SAVEPOINTREACHED.
 pub const SCI_SETSAVEPOINT: u32 = 2014;
-/// Returns each byte from `start` to `end`, followed by its style; the value is the number of bytes returned.
+/// Q (start, end): Returns each byte from `start` to `end`, followed by its style; the value is the number of bytes returned.
 pub const SCI_GETSTYLEDTEXT: u32 = 2015;
-/// Returns whether REDO would change something.
+/// Q: Returns whether REDO would change something: no group is open, the document is not read-only, and there is a transaction to redo.
 pub const SCI_CANREDO: u32 = 2016;
-/// Returns the line of the marker with `handle`, or -1 if there is none.
+/// Q (handle): Returns the line of the marker with `handle`, or -1 if there is none.
 pub const SCI_MARKERLINEFROMHANDLE: u32 = 2017;
-/// Removes the marker with `handle`.
+/// (handle): Removes the marker with `handle`.
 pub const SCI_MARKERDELETEHANDLE: u32 = 2018;
-/// Returns whether undo is collected.
+/// Q: Returns whether undo is collected.
 pub const SCI_GETUNDOCOLLECTION: u32 = 2019;
-/// Moves anchor and caret to the start of line `line`.
+/// (line): Moves anchor and caret to the start of line `line`; a negative number stands for the first line, one that is too great for the last.
 pub const SCI_GOTOLINE: u32 = 2024;
-/// Moves anchor and caret to `position` (clamped to the text).
+/// (position): Moves anchor and caret to `position` (clamped to the text).
 pub const SCI_GOTOPOS: u32 = 2025;
-/// Moves the anchor to `position` (clamped to the text); the caret stays.
+/// (position): Moves the anchor to `position` (clamped to the text); the caret stays.
 pub const SCI_SETANCHOR: u32 = 2026;
-/// Returns the caret's line with its line end; the value is the caret's distance from the line's start, in bytes.
+/// Q: Returns the caret's line with its line end; the value is the caret's distance from the line's start, in bytes.
 pub const SCI_GETCURLINE: u32 = 2027;
-/// Returns end styled: the position up to which the document is styled.
+/// Q: Returns end styled: the position up to which the document is styled.
 pub const SCI_GETENDSTYLED: u32 = 2028;
-/// Turns each CRLF, CR and LF of the text into one line end: `SC_EOL_CRLF` 0, `SC_EOL_CR` 1 or `SC_EOL_LF` 2.
+/// (mode): Turns each CRLF, CR and LF of the text into one line end: `SC_EOL_CRLF` 0, `SC_EOL_CR` 1 or `SC_EOL_LF` 2.
 pub const SCI_CONVERTEOLS: u32 = 2029;
-/// Returns the document's line end: `SC_EOL_CRLF`, `SC_EOL_CR` or `SC_EOL_LF`.
+/// Q: Returns the document's line end: `SC_EOL_CRLF`, `SC_EOL_CR` or `SC_EOL_LF`.
 pub const SCI_GETEOLMODE: u32 = 2030;
-/// Sets the document's line end: `SC_EOL_CRLF` 0, `SC_EOL_CR` 1 or `SC_EOL_LF` 2.
+/// (mode): Sets the document's line end: `SC_EOL_CRLF` 0, `SC_EOL_CR` 1 or `SC_EOL_LF` 2.
 pub const SCI_SETEOLMODE: u32 = 2031;
-/// Moves end styled to `position`.
+/// (position): Moves end styled to `position`.
 pub const SCI_STARTSTYLING: u32 = 2032;
-/// Gives `style` to the `length` bytes from end styled on, and moves end styled after them.
+/// (length, style): Gives `style` to the `length` bytes from end styled on, and moves end styled after them.
 pub const SCI_SETSTYLING: u32 = 2033;
-/// Adds a marker with `number` to line `line`, after those that it has, and returns its handle.
+/// (line, number): Adds a marker with `number` to line `line`, after those that it has, and returns its handle; -1 if there is no such line.
 pub const SCI_MARKERADD: u32 = 2043;
-/// Removes from line `line`, if there is such a line, the first marker with `number`, or all markers if that is -1.
+/// (line, number): Removes from line `line`, if there is such a line, the first marker with `number`, or all markers if that is -1.
 pub const SCI_MARKERDELETE: u32 = 2044;
-/// Removes all markers with `number` from the document, or all markers if that is -1.
+/// (number): Removes all markers with `number` from the document, or all markers if that is -1.
 pub const SCI_MARKERDELETEALL: u32 = 2045;
-/// Returns the mask of the markers of line `line`.
+/// Q (line): Returns the mask of the markers of line `line`: bit k is set if it has one with number k; 0 if there is no such line.
 pub const SCI_MARKERGET: u32 = 2046;
-/// Returns the first line from `line` on that has a marker whose bit is set in the low 32 bits of `mask`, or -1.
+/// Q (line, mask): Returns the first line from `line` on that has a marker whose bit is set in the low 32 bits of `mask`, or -1.
 pub const SCI_MARKERNEXT: u32 = 2047;
-/// Returns the last line up to `line` that has a marker whose bit is set in the low 32 bits of `mask`, or -1.
+/// Q (line, mask): Returns the last line up to `line` that has a marker whose bit is set in the low 32 bits of `mask`, or -1.
 pub const SCI_MARKERPREVIOUS: u32 = 2048;
-/// Gives each byte from end styled on the style that `styles` has for it, and moves end styled after the last one.
+/// (length, styles): Gives each byte from end styled on the style that `styles` has for it, and moves end styled after the last one.
 pub const SCI_SETSTYLINGEX: u32 = 2073;
 /// Opens an undo group, inside those that are open.
 pub const SCI_BEGINUNDOACTION: u32 = 2078;
 /// Closes the undo group that was opened last.
 pub const SCI_ENDUNDOACTION: u32 = 2079;
-/// Sets the state of line `line`, if there is such a line.
+/// (line, state): Sets the state of line `line`, if there is such a line.
 pub const SCI_SETLINESTATE: u32 = 2092;
-/// Returns the state of line `line`, or 0 if there is no such line.
+/// Q (line): Returns the state of line `line`, or 0 if there is no such line.
 pub const SCI_GETLINESTATE: u32 = 2093;
-/// Returns where the line end of line `line` begins.
+/// Q (line): Returns where the line end of line `line` begins; the text's length from the last line on; -1 if `line` is negative.
 pub const SCI_GETLINEENDPOSITION: u32 = 2136;
-/// Returns whether the document is read-only.
+/// Q: Returns whether the document is read-only.
 pub const SCI_GETREADONLY: u32 = 2140;
-/// Moves the caret to `position` (clamped to the text); the anchor stays.
+/// (position): Moves the caret to `position` (clamped to the text); the anchor stays.
 pub const SCI_SETCURRENTPOS: u32 = 2141;
-/// Moves the anchor to `position` (clamped to the text); if the caret is before it, moves the caret there too.
+/// (position): Moves the anchor to `position` (clamped to the text); if the caret is before it, moves the caret there too.
 pub const SCI_SETSELECTIONSTART: u32 = 2142;
-/// Returns the selection's start: the lesser of anchor and caret.
+/// Q: Returns the selection's start: the lesser of anchor and caret.
 pub const SCI_GETSELECTIONSTART: u32 = 2143;
-/// Moves the caret to `position` (clamped to the text); if the anchor is after it, moves the anchor there too.
+/// (position): Moves the caret to `position` (clamped to the text); if the anchor is after it, moves the anchor there too.
 pub const SCI_SETSELECTIONEND: u32 = 2144;
-/// Returns the selection's end: the greater of anchor and caret.
+/// Q: Returns the selection's end: the greater of anchor and caret.
 pub const SCI_GETSELECTIONEND: u32 = 2145;
-/// Returns line `line` with its line end; the value is its length.
+/// Q (line): Returns line `line` with its line end; the value is its length.
 pub const SCI_GETLINE: u32 = 2153;
-/// Returns the number of lines, which is at least 1.
+/// Q: Returns the number of lines, which is at least 1.
 pub const SCI_GETLINECOUNT: u32 = 2154;
-/// Returns whether the document is modified, that is, not at its save point.
+/// Q: Returns whether the document is modified, that is, not at its save point.
 pub const SCI_GETMODIFY: u32 = 2159;
-/// Moves the anchor to `anchor` and the caret to `caret` (both clamped to the text).
+/// (anchor, caret): Moves the anchor to `anchor` and the caret to `caret` (both clamped to the text).
 pub const SCI_SETSEL: u32 = 2160;
-/// Returns the selected text; the value is its length.
+/// Q: Returns the selected text; the value is its length.
 pub const SCI_GETSELTEXT: u32 = 2161;
-/// Returns the text from `start` to `end`; the value is its length.
+/// Q (start, end): Returns the text from `start` to `end`; the value is its length.
 pub const SCI_GETTEXTRANGE: u32 = 2162;
-/// Returns the line that contains `position` (clamped to the text).
+/// Q (position): Returns the line that contains `position` (clamped to the text).
 pub const SCI_LINEFROMPOSITION: u32 = 2166;
-/// Returns the start of line `line`.
+/// Q (line): Returns the start of line `line`.
 pub const SCI_POSITIONFROMLINE: u32 = 2167;
-/// Replaces the selection by `text`, and moves anchor and caret to the end of the inserted text.
+/// (0, text): Replaces the selection by `text`, and moves anchor and caret to the end of the inserted text.
 pub const SCI_REPLACESEL: u32 = 2170;
-/// Makes the document read-only, or writable if `on` is false.
+/// (on): Makes the document read-only, or writable if `on` is false.
 pub const SCI_SETREADONLY: u32 = 2171;
-/// Returns whether text can be pasted: whether the document is not read-only.
+/// Q: Returns whether text can be pasted: whether the document is not read-only.
 pub const SCI_CANPASTE: u32 = 2173;
-/// Returns whether UNDO would change something.
+/// Q: Returns whether UNDO would change something: no group is open, the document is not read-only, and there is a transaction to undo.
 pub const SCI_CANUNDO: u32 = 2174;
 /// Forgets the history, closes all groups, and makes the current state the save point.
 pub const SCI_EMPTYUNDOBUFFER: u32 = 2175;
-/// Takes back the last transaction.
+/// Takes back the last transaction; does nothing while a group is open, or if there is no transaction to undo.
 pub const SCI_UNDO: u32 = 2176;
 /// Copies the selection to the clipboard and deletes it.
 pub const SCI_CUT: u32 = 2177;
@@ -128,59 +129,59 @@ pub const SCI_COPY: u32 = 2178;
 pub const SCI_PASTE: u32 = 2179;
 /// Deletes the selection, or, if that is empty, the bytes from the caret to the next character boundary.
 pub const SCI_CLEAR: u32 = 2180;
-/// Replaces the whole text by `text`.
+/// (0, text): Replaces the whole text by `text`.
 pub const SCI_SETTEXT: u32 = 2181;
-/// Returns the whole text; the value is its length.
+/// Q: Returns the whole text; the value is its length.
 pub const SCI_GETTEXT: u32 = 2182;
-/// Returns the length of the text.
+/// Q: Returns the length of the text.
 pub const SCI_GETTEXTLENGTH: u32 = 2183;
-/// Sets the target's start to `position` (clamped to the text).
+/// (position): Sets the target's start to `position` (clamped to the text).
 pub const SCI_SETTARGETSTART: u32 = 2190;
-/// Returns the target's start.
+/// Q: Returns the target's start.
 pub const SCI_GETTARGETSTART: u32 = 2191;
-/// Sets the target's end to `position` (clamped to the text).
+/// (position): Sets the target's end to `position` (clamped to the text).
 pub const SCI_SETTARGETEND: u32 = 2192;
-/// Returns the target's end.
+/// Q: Returns the target's end.
 pub const SCI_GETTARGETEND: u32 = 2193;
-/// Replaces the text between the target's ends by `text`, makes the inserted text the target, and returns its length.
+/// (length, text): Replaces the text between the target's ends by `text`, makes the inserted text the target, and returns its length.
 pub const SCI_REPLACETARGET: u32 = 2194;
-/// Searches the target for `text` by the view's search flags.
+/// (length, text): Searches the target for `text` by the view's search flags.
 pub const SCI_SEARCHINTARGET: u32 = 2197;
-/// Sets the view's search flags to `flags`.
+/// (flags): Sets the view's search flags to `flags`: 0, or made of `SCFIND_WHOLEWORD` 0x2, `SCFIND_MATCHCASE` 0x4 and `SCFIND_WORDSTART` 0x100000.
 pub const SCI_SETSEARCHFLAGS: u32 = 2198;
-/// Returns the view's search flags.
+/// Q: Returns the view's search flags.
 pub const SCI_GETSEARCHFLAGS: u32 = 2199;
-/// Returns the display line of line `line`.
+/// Q (line): Returns the display line of line `line`; for a hidden line that of the last visible line before it; -1 if there is no such line.
 pub const SCI_VISIBLEFROMDOCLINE: u32 = 2220;
-/// Returns the line at display line `displayLine`.
+/// Q (displayLine): Returns the line at display line `displayLine`; 0 if that is negative, and the number of lines if it is past the last.
 pub const SCI_DOCLINEFROMVISIBLE: u32 = 2221;
-/// Sets the fold level of line `line`, if there is such a line.
+/// (line, level): Sets the fold level of line `line`, if there is such a line.
 pub const SCI_SETFOLDLEVEL: u32 = 2222;
-/// Returns the fold level of line `line`, or 1024 (`SC_FOLDLEVELBASE`) if there is no such line.
+/// Q (line): Returns the fold level of line `line`, or 1024 (`SC_FOLDLEVELBASE`) if there is no such line.
 pub const SCI_GETFOLDLEVEL: u32 = 2223;
-/// Returns the last child of line `line`.
+/// Q (line, level): Returns the last child of line `line`: the line before the next one whose level number is at most that of `level`, or that of line `line` if `level` is -1; without such a next line, the last line of the document; -1 if line `line` does not exist.
 pub const SCI_GETLASTCHILD: u32 = 2224;
-/// Returns the fold parent of line `line`.
+/// Q (line): Returns the fold parent of line `line`: the nearest earlier header with a smaller level number; -1 if there is none, or no such line.
 pub const SCI_GETFOLDPARENT: u32 = 2225;
-/// Makes the lines from `first` to `last` visible, as far as they exist.
+/// (first, last): Makes the lines from `first` to `last` visible, as far as they exist.
 pub const SCI_SHOWLINES: u32 = 2226;
-/// Hides the lines from `first` to `last`, as far as they exist, except line 0.
+/// (first, last): Hides the lines from `first` to `last`, as far as they exist, except line 0.
 pub const SCI_HIDELINES: u32 = 2227;
-/// Returns whether line `line` is visible; false if there is no such line.
+/// Q (line): Returns whether line `line` is visible; false if there is no such line.
 pub const SCI_GETLINEVISIBLE: u32 = 2228;
-/// Sets whether line `line` is expanded, if there is such a line; shows and hides nothing.
+/// (line, on): Sets whether line `line` is expanded, if there is such a line; shows and hides nothing.
 pub const SCI_SETFOLDEXPANDED: u32 = 2229;
-/// Returns whether line `line` is expanded; false if there is no such line.
+/// Q (line): Returns whether line `line` is expanded; false if there is no such line.
 pub const SCI_GETFOLDEXPANDED: u32 = 2230;
-/// Contracts line `line` if it is an expanded header, and expands it if it is a contracted one.
+/// (line): Contracts line `line` if it is an expanded header, and expands it if it is a contracted one; if it is no header, does so with its fold parent; does nothing without one.
 pub const SCI_TOGGLEFOLD: u32 = 2231;
-/// Makes a hidden line `line` visible.
+/// (line): Makes a hidden line `line` visible; before that, makes each of its fold parents visible, and expands those that are contracted, the outermost first.
 pub const SCI_ENSUREVISIBLE: u32 = 2232;
-/// Returns whether all lines are visible.
+/// Q: Returns whether all lines are visible.
 pub const SCI_GETALLLINESVISIBLE: u32 = 2236;
-/// Contracts, expands or toggles line `line` if it is a header, else its fold parent; does nothing without one.
+/// (line, action): Contracts, expands or toggles line `line` if it is a header, else its fold parent; does nothing without one.
 pub const SCI_FOLDLINE: u32 = 2237;
-/// Inserts `text` at the end of the document.
+/// (length, text): Inserts `text` at the end of the document.
 pub const SCI_APPENDTEXT: u32 = 2282;
 /// Sets the target's start and end to those of the selection, the lesser first.
 pub const SCI_TARGETFROMSELECTION: u32 = 2287;
@@ -212,75 +213,75 @@ pub const SCI_DOCUMENTENDEXTEND: u32 = 2319;
 pub const SCI_DELETEBACK: u32 = 2326;
 /// Replaces the selection by the document's line end, and moves anchor and caret to the end of the inserted text.
 pub const SCI_NEWLINE: u32 = 2329;
-/// Returns the length of line `line` with its line end, or 0 if there is no such line.
+/// Q (line): Returns the length of line `line` with its line end, or 0 if there is no such line.
 pub const SCI_LINELENGTH: u32 = 2350;
-/// Returns the id of the view's document.
+/// Q: Returns the id of the view's document.
 pub const SCI_GETDOCPOINTER: u32 = 2357;
-/// Attaches the view to `document`, or to a new document if that is 0.
+/// (0, document): Attaches the view to `document`, or to a new document if that is 0.
 pub const SCI_SETDOCPOINTER: u32 = 2358;
-/// Sets the view's mask: the kinds of SCN_MODIFIED that it is subscribed to, a bit for each.
+/// (mask): Sets the view's mask: the kinds of SCN_MODIFIED that it is subscribed to, a bit for each.
 pub const SCI_SETMODEVENTMASK: u32 = 2359;
-/// Creates a document, held once by the caller, and returns its id; `bytes` is not used.
+/// (bytes, options): Creates a document, held once by the caller, and returns its id; `bytes` is not used.
 pub const SCI_CREATEDOCUMENT: u32 = 2375;
-/// Adds a reference to `document` that the caller holds.
+/// (0, document): Adds a reference to `document` that the caller holds.
 pub const SCI_ADDREFDOCUMENT: u32 = 2376;
-/// Gives back a reference to `document` that a caller holds.
+/// (0, document): Gives back a reference to `document` that a caller holds.
 pub const SCI_RELEASEDOCUMENT: u32 = 2377;
-/// Returns the view's mask: the kinds of SCN_MODIFIED that it is subscribed to.
+/// Q: Returns the view's mask: the kinds of SCN_MODIFIED that it is subscribed to.
 pub const SCI_GETMODEVENTMASK: u32 = 2378;
-/// Returns the options of the view's document.
+/// Q: Returns the options of the view's document: 0, or made of `SC_DOCUMENTOPTION_STYLES_NONE` and `SC_DOCUMENTOPTION_TEXT_LARGE`.
 pub const SCI_GETDOCUMENTOPTIONS: u32 = 2379;
-/// Returns the last character boundary before `position` (clamped to the text), or 0.
+/// Q (position): Returns the last character boundary before `position` (clamped to the text), or 0.
 pub const SCI_POSITIONBEFORE: u32 = 2417;
-/// Returns the first character boundary after `position` (clamped to the text), or the text's length.
+/// Q (position): Returns the first character boundary after `position` (clamped to the text), or the text's length.
 pub const SCI_POSITIONAFTER: u32 = 2418;
-/// Makes the text from `start` to `end` the clipboard, even if that is empty.
+/// (start, end): Makes the text from `start` to `end` the clipboard, even if that is empty.
 pub const SCI_COPYRANGE: u32 = 2419;
-/// Makes `text` the clipboard, even if it is empty.
+/// (length, text): Makes `text` the clipboard, even if it is empty.
 pub const SCI_COPYTEXT: u32 = 2420;
-/// Adds to line `line`, if there is such a line, a marker for each bit that is set in `mask`, in rising order.
+/// (line, mask): Adds to line `line`, if there is such a line, a marker for each bit that is set in `mask`, in rising order.
 pub const SCI_MARKERADDSET: u32 = 2466;
-/// Sets whether this view converts line ends in what it pastes.
+/// (on): Sets whether this view converts line ends in what it pastes.
 pub const SCI_SETPASTECONVERTENDINGS: u32 = 2467;
-/// Returns whether this view converts line ends in what it pastes.
+/// Q: Returns whether this view converts line ends in what it pastes.
 pub const SCI_GETPASTECONVERTENDINGS: u32 = 2468;
-/// Sets the view's current indicator.
+/// (number): Sets the view's current indicator.
 pub const SCI_SETINDICATORCURRENT: u32 = 2500;
-/// Returns the view's current indicator.
+/// Q: Returns the view's current indicator.
 pub const SCI_GETINDICATORCURRENT: u32 = 2501;
-/// Sets the value that this view fills in; 0 stands for 1.
+/// (value): Sets the value that this view fills in; 0 stands for 1.
 pub const SCI_SETINDICATORVALUE: u32 = 2502;
-/// Returns the value that this view fills in.
+/// Q: Returns the value that this view fills in.
 pub const SCI_GETINDICATORVALUE: u32 = 2503;
-/// Gives the view's current indicator the view's value over the `length` bytes from `start` on.
+/// (start, length): Gives the view's current indicator the view's value over the `length` bytes from `start` on.
 pub const SCI_INDICATORFILLRANGE: u32 = 2504;
-/// Gives the view's current indicator the value 0 over the `length` bytes from `start` on.
+/// (start, length): Gives the view's current indicator the value 0 over the `length` bytes from `start` on.
 pub const SCI_INDICATORCLEARRANGE: u32 = 2505;
-/// Returns a mask in which bit k is set if indicator k is not 0 at the byte at `position`.
+/// Q (position): Returns a mask in which bit k is set if indicator k is not 0 at the byte at `position`; 0 if there is no such byte.
 pub const SCI_INDICATORALLONFOR: u32 = 2506;
-/// Returns the value of indicator `number` at the byte at `position`, or 0 if there is no such byte.
+/// Q (number, position): Returns the value of indicator `number` at the byte at `position`, or 0 if there is no such byte.
 pub const SCI_INDICATORVALUEAT: u32 = 2507;
-/// Returns the start of the longest run of one value of indicator `number` around the byte at `position`.
+/// Q (number, position): Returns the start of the longest run of one value of indicator `number` around the byte at `position`; 0 if there is no such byte.
 pub const SCI_INDICATORSTART: u32 = 2508;
-/// Returns the end of the longest run of one value of indicator `number` around the byte at `position`.
+/// Q (number, position): Returns the end of the longest run of one value of indicator `number` around the byte at `position`: the place after its last byte; 0 if there is no such byte.
 pub const SCI_INDICATOREND: u32 = 2509;
-/// Moves anchor and caret to `position` (clamped to the text).
+/// (position): Moves anchor and caret to `position` (clamped to the text).
 pub const SCI_SETEMPTYSELECTION: u32 = 2556;
-/// Appends a container action with `token` to the history, also on a read-only document.
+/// (token, flags): Appends a container action with `token` to the history, also on a read-only document.
 pub const SCI_ADDUNDOACTION: u32 = 2560;
-/// Deletes the `length` bytes from `start` on.
+/// (start, length): Deletes the `length` bytes from `start` on.
 pub const SCI_DELETERANGE: u32 = 2645;
-/// Returns whether the selection is empty.
+/// Q: Returns whether the selection is empty.
 pub const SCI_GETSELECTIONEMPTY: u32 = 2650;
-/// Sets which line ends the document allows, also if it is read-only.
+/// (types): Sets which line ends the document allows, also if it is read-only: `SC_LINE_END_TYPE_DEFAULT` 0, or `SC_LINE_END_TYPE_UNICODE` 1 for those of Unicode too.
 pub const SCI_SETLINEENDTYPESALLOWED: u32 = 2656;
-/// Returns which line ends the document allows: `SC_LINE_END_TYPE_DEFAULT` or `SC_LINE_END_TYPE_UNICODE`.
+/// Q: Returns which line ends the document allows: `SC_LINE_END_TYPE_DEFAULT` or `SC_LINE_END_TYPE_UNICODE`.
 pub const SCI_GETLINEENDTYPESALLOWED: u32 = 2657;
-/// Returns which line ends divide the text.
+/// Q: Returns which line ends divide the text: those that the document allows, `SC_LINE_END_TYPE_DEFAULT` or `SC_LINE_END_TYPE_UNICODE`.
 pub const SCI_GETLINEENDTYPESACTIVE: u32 = 2658;
-/// Sets the target's start to `start` and its end to `end` (both clamped to the text).
+/// (start, end): Sets the target's start to `start` and its end to `end` (both clamped to the text).
 pub const SCI_SETTARGETRANGE: u32 = 2686;
-/// Returns the text between the target's ends, whichever is the lesser; the value is its length.
+/// Q: Returns the text between the target's ends, whichever is the lesser; the value is its length.
 pub const SCI_GETTARGETTEXT: u32 = 2687;
 /// Sets the target's start to 0 and its end to the end of the text.
 pub const SCI_TARGETWHOLEDOCUMENT: u32 = 2690;
@@ -288,7 +289,7 @@ pub const SCI_TARGETWHOLEDOCUMENT: u32 = 2690;
 pub const SCI_STARTRECORD: u32 = 3001;
 /// Stops recording in this view.
 pub const SCI_STOPRECORD: u32 = 3002;
-/// Asks for styles up to `end`.
+/// (start, end): Asks for styles up to `end`: moves end styled back to `start` if it is greater, and sends the view SCN_STYLENEEDED with the position `end`, even for an empty range.
 pub const SCI_COLOURISE: u32 = 4003;
 
 // Notes.

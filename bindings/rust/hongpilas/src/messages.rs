@@ -386,8 +386,8 @@ impl ViewMut<'_> {
         self.as_done(sys::SCI_CLEARALL, 0, 0, &[])
     }
 
-    /// Performs again the transaction that was undone last. Does nothing inside a group, or if
-    /// there is no transaction to redo. Message: `SCI_REDO`.
+    /// Performs again the transaction that was undone last; does nothing while a group is open,
+    /// or if there is no transaction to redo. Message: `SCI_REDO`.
     pub fn redo(&mut self) -> Result<(), Refusal> {
         self.as_done(sys::SCI_REDO, 0, 0, &[])
     }
@@ -579,7 +579,7 @@ impl ViewMut<'_> {
         self.as_done(sys::SCI_EMPTYUNDOBUFFER, 0, 0, &[])
     }
 
-    /// Takes back the last transaction. Does nothing inside a group, or if there is no
+    /// Takes back the last transaction; does nothing while a group is open, or if there is no
     /// transaction to undo. Message: `SCI_UNDO`.
     pub fn undo(&mut self) -> Result<(), Refusal> {
         self.as_done(sys::SCI_UNDO, 0, 0, &[])
