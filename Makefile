@@ -90,7 +90,7 @@ programs: examples out/memory out/growths out/notify out/scintilla out/scintilla
 
 # These stand between the library and the C library's heap.
 out/memory out/growths out/notify out/scintilla: WRAPPED := -Wl,--wrap=malloc,--wrap=calloc,--wrap=realloc,--wrap=free
-out/threads: WRAPPED := -pthread
+out/threads out/step4 out/step5 out/step6: WRAPPED := -pthread
 out/notify: WRAPPED += -pthread
 
 # By hand: the library under load, beside Scintilla's where its library is named (docs/TESTING.md).

@@ -17,6 +17,13 @@ static void must(hongpilas_answer answer) {
   exit(1);
 }
 
+/* The same of a file. */
+static void must_file(bool is_done, const char *name) {
+  if (is_done) return;
+  perror(name);
+  exit(1);
+}
+
 /* Asks a query. */
 static int64_t ask(uint32_t number, int64_t w) {
   int64_t value = 0;
@@ -37,9 +44,10 @@ static int64_t send(uint32_t number, int64_t w, int64_t l) { return send_text(nu
 static void open_file(const char *name) {
   char part[4096];
   FILE *file = fopen(name, "rb");
-  if (file == NULL) exit(1);
+  must_file(file != NULL, name);
   send(SCI_SETUNDOCOLLECTION, false, 0);
   for (size_t count; (count = fread(part, 1, sizeof part, file)) > 0;) send_text(SCI_APPENDTEXT, (int64_t)count, 0, part, count);
+  must_file(ferror(file) == 0, name);
   send(SCI_SETUNDOCOLLECTION, true, 0);
   send(SCI_SETSAVEPOINT, 0, 0);
   fclose(file);
@@ -79,7 +87,10 @@ static void run(const char *name, const char *rest) {
 
 int main(int argument_count, char **arguments) {
   char order[256];
-  if (argument_count != 2) return 2;
+  if (argument_count != 2) {
+    fprintf(stderr, "name one file; orders come on standard input, and Ctrl-D ends them\n");
+    return 2;
+  }
   must(hongpilas_new(&session));
   must(hongpilas_new_view(session, &view));
   open_file(arguments[1]);

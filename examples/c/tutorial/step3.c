@@ -27,6 +27,13 @@ static void must(hongpilas_answer answer) {
   exit(1);
 }
 
+/* The same of a file. */
+static void must_file(bool is_done, const char *name) {
+  if (is_done) return;
+  perror(name);
+  exit(1);
+}
+
 /* Asks a query. */
 static int64_t ask(uint32_t number, int64_t w) {
   int64_t value = 0;
@@ -67,9 +74,10 @@ static int64_t send(uint32_t number, int64_t w, int64_t l) { return send_text(nu
 static void open_file(const char *name) {
   char part[4096];
   FILE *file = fopen(name, "rb");
-  if (file == NULL) exit(1);
+  must_file(file != NULL, name);
   send(SCI_SETUNDOCOLLECTION, false, 0);
   for (size_t count; (count = fread(part, 1, sizeof part, file)) > 0;) send_text(SCI_APPENDTEXT, (int64_t)count, 0, part, count);
+  must_file(ferror(file) == 0, name);
   send(SCI_SETUNDOCOLLECTION, true, 0);
   send(SCI_SETSAVEPOINT, 0, 0);
   fclose(file);
@@ -81,7 +89,7 @@ static void save(const char *name) {
   size_t length = (size_t)ask(SCI_GETLENGTH, 0);
   must(hongpilas_lend_range(session, view, 0, length, &bytes));
   FILE *file = fopen(name, "wb");
-  if (file == NULL || fwrite(bytes, 1, length, file) != length || fclose(file) != 0) exit(1);
+  must_file(file != NULL && fwrite(bytes, 1, length, file) == length && fclose(file) == 0, name);
   send(SCI_SETSAVEPOINT, 0, 0);
 }
 
@@ -152,7 +160,10 @@ static void run(const char *name, const char *rest) {
 
 int main(int argument_count, char **arguments) {
   char order[256];
-  if (argument_count != 2) return 2;
+  if (argument_count != 2) {
+    fprintf(stderr, "name one file; orders come on standard input, and Ctrl-D ends them\n");
+    return 2;
+  }
   must(hongpilas_new(&session));
   must(hongpilas_new_view(session, &view));
   send(SCI_SETMODEVENTMASK, SC_MOD_INSERTTEXT | SC_MOD_DELETETEXT, 0);

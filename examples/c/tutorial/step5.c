@@ -1,5 +1,6 @@
 /* An editor in six steps, step 5: bookmarks, and folds by indentation. step5 FILE, and orders on standard input. */
 #include <hongpilas.h>
+#include <pthread.h>
 #include <stdio.h>
 #include <stdlib.h>
 #include <string.h>
@@ -24,6 +25,13 @@ static int64_t greatest(int64_t a, int64_t b) { return a > b ? a : b; }
 static void must(hongpilas_answer answer) {
   if (answer == HONGPILAS_DONE) return;
   fprintf(stderr, "refused: %s\n", hongpilas_answer_name(answer));
+  exit(1);
+}
+
+/* The same of a file. */
+static void must_file(bool is_done, const char *name) {
+  if (is_done) return;
+  perror(name);
   exit(1);
 }
 
@@ -67,9 +75,10 @@ static int64_t send(uint32_t number, int64_t w, int64_t l) { return send_text(nu
 static void open_file(const char *name) {
   char part[4096];
   FILE *file = fopen(name, "rb");
-  if (file == NULL) exit(1);
+  must_file(file != NULL, name);
   send(SCI_SETUNDOCOLLECTION, false, 0);
   for (size_t count; (count = fread(part, 1, sizeof part, file)) > 0;) send_text(SCI_APPENDTEXT, (int64_t)count, 0, part, count);
+  must_file(ferror(file) == 0, name);
   send(SCI_SETUNDOCOLLECTION, true, 0);
   send(SCI_SETSAVEPOINT, 0, 0);
   fclose(file);
@@ -81,7 +90,7 @@ static void save(const char *name) {
   size_t length = (size_t)ask(SCI_GETLENGTH, 0);
   must(hongpilas_lend_range(session, view, 0, length, &bytes));
   FILE *file = fopen(name, "wb");
-  if (file == NULL || fwrite(bytes, 1, length, file) != length || fclose(file) != 0) exit(1);
+  must_file(file != NULL && fwrite(bytes, 1, length, file) == length && fclose(file) == 0, name);
   send(SCI_SETSAVEPOINT, 0, 0);
 }
 
@@ -175,8 +184,9 @@ static void find_next(const char *needle) {
   else printf("not found\n");
 }
 
-/* Replaces each match of a text that is not empty. What was found, and then what is put in, becomes the target. */
+/* Replaces each match. What was found, and then what is put in, becomes the target. */
 static void replace_all(const char *needle, const char *by) {
+  if (needle[0] == '\0') return; /* an empty text is found everywhere, without an end */
   send(SCI_BEGINUNDOACTION, 0, 0);
   send(SCI_TARGETWHOLEDOCUMENT, 0, 0);
   while (search(needle) >= 0) {
@@ -184,6 +194,40 @@ static void replace_all(const char *needle, const char *by) {
     send(SCI_SETTARGETRANGE, ask(SCI_GETTARGETEND, 0), ask(SCI_GETLENGTH, 0));
   }
   send(SCI_ENDUNDOACTION, 0, 0);
+}
+
+/* A copy of the text, and the thread that counts the words of it. */
+static struct {
+  pthread_t thread;
+  char *bytes;
+  size_t length, words;
+  bool is_running;
+} copy;
+
+static bool is_blank(char byte) { return byte == ' ' || byte == '\n'; }
+
+/* What the thread does: it has the copy to itself, and makes no call on the session. */
+static void *count_words(void *unused) {
+  copy.words = 0;
+  for (size_t i = 0; i < copy.length; i++) copy.words += !is_blank(copy.bytes[i]) && (i == 0 || is_blank(copy.bytes[i - 1]));
+  return unused;
+}
+
+/* Waits for the thread, if there is one, and says what it counted. */
+static void end_count(void) {
+  if (copy.is_running && pthread_join(copy.thread, NULL) == 0) printf("%zu words were copied\n", copy.words);
+  copy.is_running = false;
+  free(copy.bytes);
+  copy.bytes = NULL;
+}
+
+static void start_count(void) {
+  end_count();
+  copy.length = (size_t)ask(SCI_GETLENGTH, 0);
+  copy.bytes = malloc(copy.length + 1);
+  if (copy.bytes == NULL) return;
+  must(hongpilas_copy_range(session, view, 0, copy.bytes, copy.length));
+  copy.is_running = pthread_create(&copy.thread, NULL, count_words, NULL) == 0;
 }
 
 static int64_t caret_line(void) { return ask(SCI_LINEFROMPOSITION, ask(SCI_GETCURRENTPOS, 0)); }
@@ -216,13 +260,18 @@ static void run(const char *name, const char *rest) {
   if (is(name, "mark")) send(is_marked(caret_line()) ? SCI_MARKERDELETE : SCI_MARKERADD, caret_line(), BOOKMARK);
   if (is(name, "next")) next_bookmark();
   if (is(name, "fold")) fold(caret_line());
+  if (is(name, "count")) start_count();
+  if (is(name, "counted")) end_count();
   char needle[64], by[64];
   if (is(name, "replace") && sscanf(rest, "%63s %63s", needle, by) == 2) replace_all(needle, by);
 }
 
 int main(int argument_count, char **arguments) {
   char order[256];
-  if (argument_count != 2) return 2;
+  if (argument_count != 2) {
+    fprintf(stderr, "name one file; orders come on standard input, and Ctrl-D ends them\n");
+    return 2;
+  }
   must(hongpilas_new(&session));
   must(hongpilas_new_view(session, &view));
   send(SCI_SETMODEVENTMASK, SC_MOD_INSERTTEXT | SC_MOD_DELETETEXT | SC_MOD_CHANGEMARKER, 0);
@@ -237,6 +286,7 @@ int main(int argument_count, char **arguments) {
     run(order, rest);
     draw();
   }
+  end_count();
   hongpilas_free(session);
   return 0;
 }
