@@ -37,7 +37,7 @@ hidden_after h h' c v first from past e size q same =
     (λ k. same k ∙ or_as_cases (is_between from past k) (holds h.starts k) ∙ ap (λ b. cond b true (holds h.starts k)) (behind_first first from past k q))
     ∙ ap (λ (w : ViewLines). lines_hidden first past w.flags) e
 
-one_line : (line k : ℕ) → is_between line (line + 1) k ≡ eqb k line
+pub one_line : (line k : ℕ) → is_between line (line + 1) k ≡ eqb k line
 one_line line k =
     same_tests (is_between line (line + 1) k) (eqb k line)
     (λ t.

@@ -105,7 +105,7 @@ lets_through levels flags k inner = not (is_header levels inner && is_child leve
 abbrev pub open_to : List ℕ → List Flags → ℕ → ℕ → ℕ → Bool
 open_to levels flags header line k = list_all (lets_through levels flags k) (range_with_len (header + 1) (line - (header + 1)))
 
-all_through : (test : ℕ → Bool) (a n : ℕ) → ((k : ℕ) → a ≤ k → k < a + n → test k ≡ true) → list_all test (range_with_len a n) ≡ true
+pub all_through : (test : ℕ → Bool) (a n : ℕ) → ((k : ℕ) → a ≤ k → k < a + n → test k ≡ true) → list_all test (range_with_len a n) ≡ true
 all_through test a zero each = refl
 all_through test a (suc n) each = rw (each a (omega arith) (omega arith)) (all_through test (a + 1) n (λ k h l. each k (omega arith) (omega arith)))
 

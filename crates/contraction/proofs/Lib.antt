@@ -1,4 +1,5 @@
 pub mod Names
+pub mod AnyOrder
 pub mod Carried
 pub mod Changed
 pub mod Expanding

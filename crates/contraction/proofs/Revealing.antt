@@ -3,7 +3,7 @@ use Rattle.contraction.proofs.Names.{◌≡◌, ℕ, List, [], ◌∷◌, revers
 use Rattle.ed_model.specs.proved.Folding.{parents_are}
 
 -- the chain from the fold parent that was found
-parents_of : (levels : List ℕ) (line : ℕ) (o : Option ℕ) → o ≡ fold_parent levels line → fold_parents levels line ≡ parents_from levels o
+pub parents_of : (levels : List ℕ) (line : ℕ) (o : Option ℕ) → o ≡ fold_parent levels line → fold_parents levels line ≡ parents_from levels o
 parents_of levels line o e = parents_are levels line ∙ ap (parents_from levels) (sym e)
 
 -- without a parent, and with one

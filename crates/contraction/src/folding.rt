@@ -98,8 +98,8 @@ impl<P: Place> Contraction<P> {
         }
     }
 
-    // Opens the fold parents of a line, the outermost first. It recurses once for each of them: their level numbers
-    // fall, so there are fewer than 4096.
+    // Opens the fold parents of a line, the nearest first: the flags are then the same as with the outermost first. A
+    // loop, since there may be thousands of them.
     fn open_parents(&mut self, levels: &Levels, line: usize)
         requires lines { length levels.now ≡ length self.old.flags }
         requires line { line < length self.old.flags }
@@ -110,9 +110,10 @@ impl<P: Place> Contraction<P> {
         ensures contracted { self.old.room.contracted ≤ self.new.room.contracted }
         ensures in_all { contracted_in_all self.new ≡ contracted_in_all self.old }
     {
-        if let Some(parent) = fold_parent(levels, line) {
-            self.open_parents(levels, parent);
+        let mut inner = line;
+        'parents: while let Some(parent) = fold_parent(levels, inner) {
             self.open(levels, parent);
+            inner = parent;
         }
     }
 

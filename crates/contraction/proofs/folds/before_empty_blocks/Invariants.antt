@@ -1,4 +1,4 @@
-use Rattle.std.proofs.Common.{◌≡◌, ◌≤◌, ◌<◌, ℕ, false, length, slice_index}
+use Rattle.std.proofs.Common.{◌≡◌, ◌≤◌, ◌<◌, ℕ, false, slice_index}
 use Rattle.contraction.specs.Headings.{heads as heads_by}
 use Rattle.contraction.proofs.folds.before_empty_blocks.Given as goal
 

@@ -1,4 +1,4 @@
-use Rattle.contraction.proofs.Names.{◌≡◌, ◌<◌, ℕ, List, Option, Some, None, length, slice_index, sym, ◌∙◌, arith, IfSome, IfNone, last_heading}
+use Rattle.contraction.proofs.Names.{◌≡◌, ◌<◌, ℕ, List, Option, Some, None, slice_index, sym, ◌∙◌, IfSome, IfNone, last_heading}
 use Rattle.contraction.specs.Headings.{heads as heads_by}
 use Rattle.contraction.proofs.Headings.{last_skipped}
 use Rattle.contraction.proofs.folds.last_heading.Goals as goal
