@@ -1,5 +1,5 @@
 -- The code's rule of joining is the definitions' rule.
-use Rattle.undo_history.proofs.Names.{◌≡◌, ◌≤◌, ◌<◌, ◌+◌, ℕ, suc, List, [], ◌∷◌, length, take, get_or, refl, ap, sym, ◌∙◌, arith, reverse, Bool, true, false, Option, Some, None, ◌||◌, ◌&&◌, nat_lt, not, slice_range, if◌then◌else◌, nat_tests, Change, TextStep, ContainerStep, goes_on, goes_on_after, belongs, latest_text_step, Transaction, History, joins, joins_last, at_save_point, first_changes, StepKind, Insert, Delete, ChangeKind, Text, Container, StepRecord, step_of, Entry, alone, joined, pushed, transactions, entry_in, entries_in, change_of, bytes_end, last_end, history_of, outline, outline_of, outline_if_any, steps_go_on, belongs_after}
+use Rattle.undo_history.proofs.Names.{◌≡◌, ◌≤◌, ◌<◌, ◌+◌, ℕ, suc, List, [], ◌∷◌, length, take, get_or, refl, ap, sym, subst, ◌∙◌, arith, reverse, Bool, true, false, Option, Some, None, ◌||◌, ◌&&◌, nat_lt, not, slice_range, if◌then◌else◌, nat_tests, Change, TextStep, ContainerStep, goes_on, goes_on_after, belongs, latest_text_step, Transaction, History, joins, joins_last, at_save_point, first_changes, StepKind, Insert, Delete, ChangeKind, Text, Container, StepRecord, step_of, Entry, alone, joined, pushed, transactions, entry_in, entries_in, past_of, LastIsOpen, change_of, bytes_end, last_end, history_of, outline, outline_of, outline_if_any, steps_go_on, belongs_after}
 use Rattle.ed_model.specs.Steps as model
 use Rattle.undo_history.proofs.Lists.{latest_first}
 use Rattle.undo_history.proofs.Sealing.{entries_length}
@@ -69,20 +69,40 @@ joins_pushed : (later : Bool) (x : Change) (h : History) (e : Entry) (ts : List 
 joins_pushed later x h e [] = refl
 joins_pushed later x h e (t ∷ ts) = joins_by e.starts later x h e t ts
 
-pub joins_here : (later : Bool) (x : Change) (rs : List StepRecord) (bytes : List ℕ) (i past depth : ℕ) (r : StepRecord) (save_point : Option ℕ) (collecting : Bool) →
-    past ≡ i + 1 → past ≤ length rs → r ≡ get_or rs i r →
-    decided r.is_sealed (at_save_point (history_of (entries_in rs bytes) past save_point depth collecting)) (nat_lt 0 depth) later (belongs x (first_changes (transactions (reverse (take past (entries_in rs bytes))))))
-    ≡ joins later x (history_of (entries_in rs bytes) past save_point depth collecting)
-joins_here later x rs bytes i past depth r save_point collecting p h e =
+-- the last past step, and those before it
+last_first : (rs : List StepRecord) (bytes : List ℕ) (i past : ℕ) (r : StepRecord) → past ≡ i + 1 → past ≤ length rs → r ≡ get_or rs i r →
+    reverse (take past (entries_in rs bytes)) ≡ entry_in r (slice_range bytes (last_end bytes_end 0 (take i rs)) r.bytes_end) ∷ reverse (take i (entries_in rs bytes))
+last_first rs bytes i past r p h e =
     let es = entries_in rs bytes in
-    let hist = history_of es past save_point depth collecting in
     let d = entry_in r (slice_range bytes (last_end bytes_end 0 (take i rs)) r.bytes_end) in
     let next : past ≡ suc i = omega arith in
-    let first : reverse (take past es) ≡ d ∷ reverse (take i es) =
-    ap (λ n. reverse (take n es)) next ∙ latest_first es i d (omega (arith, entries_length rs bytes)) ∙ ap (λ q. q ∷ reverse (take i es)) (entry_read rs bytes i r d (omega arith) e) in
+    ap (λ n. reverse (take n es)) next ∙ latest_first es i d (omega (arith, entries_length rs bytes)) ∙ ap (λ q. q ∷ reverse (take i es)) (entry_read rs bytes i r d (omega arith) e)
+
+pub joins_here : (later : Bool) (x : Change) (rs : List StepRecord) (bytes : List ℕ) (i past depth : ℕ) (r : StepRecord) (save_point : Option ℕ) (collecting : Bool) →
+    past ≡ i + 1 → past ≤ length rs → r ≡ get_or rs i r →
+    decided r.is_sealed (at_save_point (history_of (entries_in rs bytes) past save_point depth collecting)) (nat_lt 0 depth) later (belongs x (first_changes (past_of rs bytes past)))
+    ≡ joins later x (history_of (entries_in rs bytes) past save_point depth collecting)
+joins_here later x rs bytes i past depth r save_point collecting p h e =
+    let hist = history_of (entries_in rs bytes) past save_point depth collecting in
+    let d = entry_in r (slice_range bytes (last_end bytes_end 0 (take i rs)) r.bytes_end) in
+    let first = last_first rs bytes i past r p h e in
     ap (λ t. decided r.is_sealed (at_save_point hist) (nat_lt 0 depth) later (belongs x (first_changes (transactions t)))) first
-    ∙ sym (joins_pushed later x hist d (transactions (reverse (take i es))))
+    ∙ sym (joins_pushed later x hist d (transactions (reverse (take i (entries_in rs bytes)))))
     ∙ ap (λ t. joins_last later x hist (transactions t)) (sym first)
+
+open_by : (b : Bool) (e : Entry) (t : Transaction) (ts : List Transaction) → e.is_sealed ≡ false → LastIsOpen (if b then alone e ∷ t ∷ ts else joined e t ∷ ts)
+open_by true e t ts h = h
+open_by false e t ts h = h
+
+open_pushed : (e : Entry) (ts : List Transaction) → e.is_sealed ≡ false → LastIsOpen (pushed e ts)
+open_pushed e [] h = h
+open_pushed e (t ∷ ts) h = open_by e.starts e t ts h
+
+-- a step that is not sealed leaves its transaction open
+pub open_here : (rs : List StepRecord) (bytes : List ℕ) (i past : ℕ) (r : StepRecord) → past ≡ i + 1 → past ≤ length rs → r ≡ get_or rs i r → r.is_sealed ≡ false → LastIsOpen (past_of rs bytes past)
+open_here rs bytes i past r p h e unsealed =
+    subst (λ t. LastIsOpen (transactions t)) (sym (last_first rs bytes i past r p h e))
+    (open_pushed (entry_in r (slice_range bytes (last_end bytes_end 0 (take i rs)) r.bytes_end)) (transactions (reverse (take i (entries_in rs bytes)))) unsealed)
 
 pub lt_true : (n m : ℕ) → n < m → nat_lt n m ≡ true
 lt_true n m h = grind (arith, nat_tests)

@@ -1,14 +1,13 @@
 -- Which steps join, as the code decides it: by the places of steps and the number of their bytes.
-use Rattle.std.specs.Prelude.{◌≡◌, ℕ, ◌+◌, ◌==◌, nat_le, ◌&&◌, ◌||◌, Bool, true, false, List, length, reverse, take, Option, Some, None}
-use Rattle.ed_model.specs.History.{first_changes, latest_text_step}
+use Rattle.std.specs.Prelude.{◌≡◌, ℕ, ◌+◌, ◌==◌, nat_le, ◌&&◌, ◌||◌, Bool, true, false, List, length, Option, Some, None}
+use Rattle.ed_model.specs.History.{Transaction, first_changes, latest_text_step, with_change}
 use Rattle.ed_model.specs.Steps as model
 use Rattle.undo_history.specs.declared.records.StepKind.{StepKind}
 use Rattle.undo_history.specs.declared.records.StepKind.TheVariants.{Insert, Delete}
 use Rattle.undo_history.specs.declared.records.ChangeKind.{ChangeKind}
 use Rattle.undo_history.specs.declared.records.ChangeKind.TheVariants.{Text, Container}
 use Rattle.undo_history.specs.declared.records.StepOutline.{StepOutline}
-use Rattle.undo_history.specs.declared.records.StepRecord.{StepRecord}
-use Rattle.undo_history.specs.Records.{EndsInOrder, bytes_end, entries_in, transactions}
+use Rattle.undo_history.specs.Records.{change_of, LastIsOpen}
 
 abbrev pub outline : StepKind → ℕ → ℕ → StepOutline
 outline kind place count = record { kind = kind; place = place; count = count }
@@ -21,14 +20,19 @@ abbrev pub outline_if_any : Option model.Step → Option StepOutline
 outline_if_any None = None
 outline_if_any (Some step) = Some (outline_of step)
 
--- the latest step of the text in the last transaction of the first `past` steps
-abbrev pub latest_outline : List StepRecord → List ℕ → ℕ → Option StepOutline
-latest_outline steps bytes past =
-    outline_if_any (latest_text_step (first_changes (transactions (reverse (take past (entries_in steps bytes))))))
+-- the latest step of the text in the last of these transactions
+abbrev pub latest_outline : List Transaction → Option StepOutline
+latest_outline ts = outline_if_any (latest_text_step (first_changes ts))
 
-abbrev pub IsLatestOutline : List StepRecord → ℕ → Option StepOutline → Type 0
-IsLatestOutline steps past found =
-    (bytes : List ℕ) → EndsInOrder bytes_end 0 steps (length bytes) → found ≡ latest_outline steps bytes past
+-- it is this one, unless no change joins the last transaction
+abbrev pub IsLatest : List Transaction → Option StepOutline → Type 0
+IsLatest ts latest = LastIsOpen ts → latest ≡ latest_outline ts
+
+-- if it is `latest`, then it is `after` once a change has been appended
+abbrev pub IsLatestAfter : Option StepOutline → Bool → ChangeKind → ℕ → Option StepOutline → Type 0
+IsLatestAfter latest joined kind count after =
+    (ts : List Transaction) (bytes : List ℕ) → IsLatest ts latest → (joined ≡ true → LastIsOpen ts) → count ≡ length bytes
+    → IsLatest (with_change joined (change_of kind bytes) ts) after
 
 abbrev pub by_kinds : StepKind → StepKind → StepOutline → StepOutline → Bool
 by_kinds Insert Insert step earlier = step.place == earlier.place + earlier.count

@@ -76,6 +76,10 @@ abbrev pub transactions : List Entry → List Transaction
 transactions [] = []
 transactions (e ∷ es) = pushed e (transactions es)
 
+-- the past transactions of the first `past` steps, the last first
+abbrev pub past_of : List StepRecord → List ℕ → ℕ → List Transaction
+past_of rs bytes past = transactions (reverse (take past (entries_in rs bytes)))
+
 -- the first `past` entries are past, and the others are to be redone
 abbrev pub history_of : List Entry → ℕ → Option ℕ → ℕ → Bool → History
 history_of all past save_point depth collecting = record {

@@ -15,10 +15,10 @@ ghost use Rattle.undo_history.specs.Steps.{step_of};
 ghost use Rattle.undo_history.specs.Dropping.{with_past_change, without_future, without_undone};
 ghost use Rattle.undo_history.specs.Records.{change_lent, change_of, HasItsBytes, LastIsOpen};
 
-use crate::joining::{belongs, find_latest_step};
+use crate::joining::{belongs, latest_after};
 use crate::records::{
-    ChangeKind, LentChange, StepKind, StepRecord, all_bytes, all_steps, bytes_before, change_at,
-    end_of, seal,
+    ChangeKind, LentChange, StepKind, StepOutline, StepRecord, all_bytes, all_steps, bytes_before,
+    change_at, end_of, seal,
 };
 use crate::runs::{count_before, count_behind, is_last_of_next};
 use split_vector::SplitVector;
@@ -37,6 +37,9 @@ pub struct UndoHistory {
     past: usize,
     // The number of past transactions.
     transactions: usize,
+    // The latest step of the text in the last transaction, unless that is sealed: no change joins it then. So undo and
+    // redo need not look for it.
+    latest: Option<StepOutline>,
     save_point: Option<usize>,
     depth: u64,
     is_collecting: bool,
@@ -51,7 +54,8 @@ impl Model for UndoHistory {
     ghost Value = { Kept };
 
     ghost use Rattle.std.specs.Prelude.{◌≡◌, ◌≤◌, ◌<◌, ◌+◌, ◌^◌, length};
-    ghost use Rattle.undo_history.specs.Records.{history_of, entries_in, IsInOrder};
+    ghost use Rattle.undo_history.specs.Records.{history_of, entries_in, past_of, IsInOrder};
+    ghost use Rattle.undo_history.specs.Joining.{IsLatest};
 
     ghost view = { λ h. record {
       history = history_of (entries_in h.steps.items h.bytes.items) h.past h.save_point h.depth h.is_collecting;
@@ -63,6 +67,7 @@ impl Model for UndoHistory {
 
     ghost invariant = { λ h. record {
       in_order : IsInOrder h.steps.items h.bytes.items h.past h.transactions;
+      latest : IsLatest (past_of h.steps.items h.bytes.items h.past) h.latest;
       step_room : h.step_room ≤ h.steps.spare;
       byte_room : h.byte_room ≤ h.bytes.spare;
       step_gap : h.steps.gap ≡ length h.steps.items;
@@ -81,6 +86,7 @@ impl UndoHistory {
             bytes: SplitVector::new(alloc),
             past: 0,
             transactions: 0,
+            latest: None,
             save_point: Some(0),
             depth: 0,
             is_collecting: true,
@@ -268,6 +274,7 @@ impl UndoHistory {
         self.byte_room = 0;
         self.past = 0;
         self.transactions = 0;
+        self.latest = None;
         self.save_point = Some(0);
         self.depth = 0;
     }
@@ -463,7 +470,7 @@ impl UndoHistory {
         if self.depth > 0 || later {
             return true;
         }
-        belongs(kind, bytes.len(), find_latest_step(steps, self.past))
+        belongs(kind, bytes.len(), self.latest)
     }
 
     // Drops what was undone, and the save point if only a redo could reach it.
@@ -528,6 +535,7 @@ impl UndoHistory {
         self.steps.insert_reserved(place, step);
         self.past += 1;
         self.transactions = transactions_after(self.transactions, joined);
+        self.latest = latest_after(self.latest, joined, kind, bytes.len());
         self.step_room -= 1;
         self.byte_room -= bytes.len();
     }

@@ -1,9 +1,9 @@
 //! Which changes join the last transaction: successive typing, and successive deletions of single characters.
 
-ghost use Rattle.std.specs.Prelude.{◌≡◌, ◌≤◌, length};
-ghost use Rattle.undo_history.specs.Joining.{IsLatestOutline, steps_go_on, belongs_after};
+ghost use Rattle.std.specs.Prelude.{◌≡◌};
+ghost use Rattle.undo_history.specs.Joining.{IsLatestAfter, steps_go_on, belongs_after};
 
-use crate::records::{ChangeKind, StepKind, StepOutline, StepRecord, bytes_before};
+use crate::records::{ChangeKind, StepKind, StepOutline};
 
 /// Returns whether `step` continues the typing, or the deletion of single characters, of `earlier`.
 pub(crate) fn goes_on(step: StepOutline, earlier: StepOutline) -> bool
@@ -36,21 +36,22 @@ pub(crate) fn belongs(kind: ChangeKind, count: usize, latest: Option<StepOutline
     }
 }
 
-/// Returns the latest step of the text in the last transaction of the first `past` steps.
-#[inline]
-pub(crate) fn find_latest_step(steps: &[StepRecord], past: usize) -> Option<StepOutline>
-    requires { past ≤ length steps.now }
-    ensures { IsLatestOutline steps.now past result }
+/// Returns the latest step of the text in the last transaction once a change with `count` bytes was appended, if `latest`
+/// was that step before. The change joins the last transaction, or begins one. No record is read, so an append takes the
+/// same time however long the transaction is.
+pub(crate) fn latest_after(
+    latest: Option<StepOutline>,
+    joined: bool,
+    kind: ChangeKind,
+    count: usize,
+) -> Option<StepOutline>
+    ensures { IsLatestAfter latest joined kind count result }
 {
-    for i in (0..past).rev() {
-        let step = steps[i];
-        if let ChangeKind::Text { kind, place } = step.kind {
-            let count = step.bytes_end.saturating_sub(bytes_before(steps, i));
-            return Some(StepOutline { kind, place, count });
-        }
-        if step.starts {
-            return None;
-        }
+    match kind {
+        ChangeKind::Text { kind, place } => Some(StepOutline { kind, place, count }),
+        ChangeKind::Container {
+            token: _,
+            coalesce: _,
+        } => { if joined { latest } else { None } }
     }
-    None
 }

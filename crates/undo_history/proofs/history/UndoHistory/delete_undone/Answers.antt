@@ -1,4 +1,4 @@
-use Rattle.undo_history.proofs.Names.{ℕ, ◌≡◌, ◌≤◌, ◌+◌, ◌-◌, ◌∙◌, ap, ap₂, arith, length, take, length-take-le, Kept, kept, without_undone, entries_in, history_of}
+use Rattle.undo_history.proofs.Names.{ℕ, ◌≡◌, ◌≤◌, ◌+◌, ◌-◌, ◌∙◌, ap, ap₂, arith, length, take, length-take-le, Kept, kept, History, without_undone, entries_in, past_of, history_of}
 use Rattle.undo_history.proofs.Pushing.{past_bytes, past_bytes_there, deleted_behind, dropped_in_order, dropped_view}
 use Rattle.undo_history.proofs.history.UndoHistory.delete_undone.Goals as goal
 
@@ -26,9 +26,12 @@ invariant_of-self c =
     c.delete.ensures.items ∙ deleted_behind rs i.past (c.len-steps.result - i.past) (omega (arith, c.len-steps.ensures.len, c.self.invariant.in_order.there)) in
     let bytes_are : c.delete-2.new.self.items ≡ take k bytes =
     c.delete-2.ensures.items ∙ deleted_behind bytes k (c.len-bytes.result - k) (omega (arith, c.len-bytes.ensures.len)) in
+    let past_stays : past_of (take i.past rs) (take k bytes) i.past ≡ past_of rs bytes i.past =
+    ap (λ (h : History). h.past) (dropped_view rs bytes i.past i.transactions k i.depth i.save_point i.is_collecting c.self.invariant.in_order kept_is) in
     let order = dropped_in_order rs bytes i.past i.transactions k c.self.invariant.in_order kept_is in
     record {
       in_order = rw (steps_are, bytes_are) order;
+      latest = rw (steps_are, bytes_are, past_stays) c.self.invariant.latest;
       step_room = omega (arith, c.delete.ensures.spare, c.self.invariant.step_room);
       byte_room = omega (arith, c.delete-2.ensures.spare, c.self.invariant.byte_room);
       step_gap = grind (arith, c.delete.ensures.gap, c.len-steps.ensures.len, c.self.invariant.step_gap, ap length steps_are, length-take-le i.past rs c.self.invariant.in_order.there);

@@ -1,6 +1,6 @@
-use Rattle.undo_history.proofs.Names.{◌≡◌, ◌-◌, ◌∙◌, ap, sym, arith, get_or, length, take, reverse, false, nat_lt, get_or_default, joins, at_save_point, belongs, latest_text_step, first_changes, StepRecord, Kept, history_of, entries_in, transactions, change_of, bytes_end, EndsInOrder, belongs_after, outline_if_any}
+use Rattle.undo_history.proofs.Names.{◌≡◌, ◌-◌, ◌∙◌, ap, sym, arith, get_or, length, false, nat_lt, get_or_default, joins, at_save_point, belongs, latest_text_step, first_changes, StepRecord, Kept, history_of, entries_in, change_of, belongs_after, outline_if_any}
 use Rattle.undo_history.proofs.Latest.{no_step}
-use Rattle.undo_history.proofs.Joins.{joins_here, belongs_by_outlines, sealed_no, saved_no, group_yes, later_yes, by_kind, lt_true, lt_false}
+use Rattle.undo_history.proofs.Joins.{joins_here, open_here, belongs_by_outlines, sealed_no, saved_no, group_yes, later_yes, by_kind, lt_true, lt_false}
 use Rattle.undo_history.proofs.history.UndoHistory.joins.Goals as goal
 use Rattle.undo_history.proofs.history.UndoHistory.joins.Goals.{then-steps-self-via-then-steps-self, then-steps-self-via-else-steps-self+then-is_at_save_point}
 use Rattle.undo_history.proofs.history.UndoHistory.joins.Goals.{then-self-gt0-via-then-self-gt0, then-self-gt0-via-else-self-gt0+then-later}
@@ -57,10 +57,10 @@ returns c =
     ∙ ap (λ (k : Kept). joins c.args.later x k.history) c.self.view_is in
     let unsealed : r.is_sealed ≡ false = ap (λ a. StepRecord.is_sealed (get_or a (i.past - 1) no_step)) (sym c.all_steps-steps.ensures.steps) ∙ c.if-steps-self.false in
     let unsaved : at_save_point h ≡ false = ap (λ (k : Kept). at_save_point k.history) c.self.view_is ∙ sym c.is_at_save_point.ensures ∙ c.if-is_at_save_point.false in
-    let order : EndsInOrder bytes_end 0 c.all_steps-steps.result.now (length bytes) = rw c.all_steps-steps.ensures.steps c.self.invariant.in_order.ends in
-    let found : c.find_latest_step.result ≡ outline_if_any (latest_text_step last) =
-    c.find_latest_step.ensures bytes order
-    ∙ ap (λ a. outline_if_any (latest_text_step (first_changes (transactions (reverse (take i.past (entries_in a bytes))))))) c.all_steps-steps.ensures.steps in
+    let found : i.latest ≡ outline_if_any (latest_text_step last) =
+    c.self.invariant.latest
+    (open_here rs bytes (i.past - 1) i.past r (omega arith) c.self.invariant.in_order.there
+    (get_or_default rs (i.past - 1) no_step r (omega (arith, c.self.invariant.in_order.there))) unsealed) in
     c.belongs.ensures
     ∙ ap (λ q. belongs_after c.args.kind (length c.args.bytes.now) q) found
     ∙ sym (belongs_by_outlines c.args.kind c.args.bytes.now last)

@@ -1,4 +1,4 @@
-use Rattle.undo_history.proofs.Names.{◌≡◌, ◌+◌, ◌++◌, [], ◌∷◌, ◌∙◌, ap, ap₂, sym, subst, arith, length, take, drop, reverse, true, length-append, with_change, Kept, entries_in, transactions, change_of, history_of, LastIsOpen}
+use Rattle.undo_history.proofs.Names.{◌≡◌, ◌+◌, ◌++◌, [], ◌∷◌, ◌∙◌, ap, ap₂, refl, sym, subst, arith, length, take, drop, reverse, true, length-append, with_change, Kept, History, past_of, entries_in, transactions, change_of, history_of, LastIsOpen}
 use Rattle.std.proofs.lemmas.Grind.{common_steps}
 use Rattle.undo_history.proofs.Moving.{history}
 use Rattle.undo_history.proofs.Pushing.{stored_record, stored_in_order, stored_view, inserted_behind, past_is_all, count_within}
@@ -25,9 +25,12 @@ invariant_of-self c =
     c.insert_reserved.ensures.items ∙ inserted_behind rs (stored_record c.args.kind c.args.joined end ∷ []) c.end_of-place.result c.end_of-place.ensures.end in
     let bytes_are : c.insert_slice_reserved.new.self.items ≡ bytes ++ new =
     c.insert_slice_reserved.ensures.items ∙ inserted_behind bytes new c.end_of-stored.result c.end_of-stored.ensures.end in
+    let past_is : past_of (rs ++ stored_record c.args.kind c.args.joined end ∷ []) (bytes ++ new) (i.past + 1) ≡ with_change c.args.joined (change_of c.args.kind new) (past_of rs bytes i.past) =
+    ap (λ (h : History). h.past) (stored_view c.args.kind c.args.joined rs bytes new i.past i.transactions end i.depth i.save_point i.is_collecting c.self.invariant.in_order whole end_is open_) in
     let order = stored_in_order c.args.kind c.args.joined rs bytes new i.past i.transactions end c.self.invariant.in_order whole end_is open_ in
     record {
       in_order = rw (steps_are, bytes_are, c.transactions_after-self-inside.ensures) order;
+      latest = rw (steps_are, bytes_are, past_is) (c.latest_after-self-inside.ensures (past_of rs bytes i.past) new c.self.invariant.latest open_ refl);
       step_room = grind (arith, common_steps);
       byte_room = grind (arith, common_steps);
       step_gap = omega (arith, c.insert_reserved.ensures.gap, c.end_of-place.ensures.end, ap length steps_are, length-append rs (stored_record c.args.kind c.args.joined end ∷ []));

@@ -1,4 +1,5 @@
 use Rattle.undo_history.proofs.Names.{◌≡◌, ◌+◌, ◌≤◌, ◌<◌, ◌∙◌, ap, ap₂, arith, length, drop, redone, Kept, kept, entries_in, history_of, next_count}
+use Rattle.undo_history.proofs.Latest.{latest_sealed}
 use Rattle.undo_history.proofs.Reading.{redo_within}
 use Rattle.undo_history.proofs.Pushing.{count_within}
 use Rattle.undo_history.proofs.Sealing.{entries_length, redone_in_order, redone_view, with_sealed_length}
@@ -41,6 +42,7 @@ invariant_of-self c =
     let more : i.past < length rs = omega (arith, count, entries_length rs bytes) in
     record {
       in_order = rw c.seal.ensures.items (redone_in_order rs bytes i.past i.transactions end c.self.invariant.in_order more (ap (λ n. i.past + n) count));
+      latest = rw c.seal.ensures.items (latest_sealed rs bytes end i.latest (omega (arith, count, within, entries_length rs bytes)));
       step_room = omega (arith, c.seal.ensures.spare, c.self.invariant.step_room);
       byte_room = c.self.invariant.byte_room;
       step_gap = omega (arith, c.seal.ensures.gap, c.self.invariant.step_gap, ap length c.seal.ensures.items, with_sealed_length end rs);

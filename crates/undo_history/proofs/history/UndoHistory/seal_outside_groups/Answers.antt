@@ -1,4 +1,5 @@
 use Rattle.undo_history.proofs.Names.{◌≡◌, ◌+◌, ◌∙◌, ap, ap₂, arith, length, sealed_outside_groups, Kept, kept, entries_in, history_of}
+use Rattle.undo_history.proofs.Latest.{latest_sealed}
 use Rattle.undo_history.proofs.Sealing.{sealed_in_order, sealed_history, sealed_outside, with_sealed_length}
 use Rattle.undo_history.proofs.history.UndoHistory.seal_outside_groups.Goals as goal
 
@@ -8,6 +9,7 @@ invariant_of-self c =
     let rs = i.steps.items in
     record {
       in_order = rw c.seal.ensures.items (sealed_in_order rs i.bytes.items i.past i.transactions c.self.invariant.in_order);
+      latest = rw c.seal.ensures.items (latest_sealed rs i.bytes.items i.past i.latest c.self.invariant.in_order.there);
       step_room = omega (arith, c.seal.ensures.spare, c.self.invariant.step_room);
       byte_room = c.self.invariant.byte_room;
       step_gap = omega (arith, c.seal.ensures.gap, c.self.invariant.step_gap, ap length c.seal.ensures.items, with_sealed_length i.past rs);

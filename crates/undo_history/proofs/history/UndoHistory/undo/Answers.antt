@@ -1,4 +1,5 @@
 use Rattle.undo_history.proofs.Names.{◌≡◌, ◌+◌, ◌-◌, ◌∙◌, ap, ap₂, arith, length, take, reverse, undone, Kept, kept, entries_in, history_of, last_count}
+use Rattle.undo_history.proofs.Latest.{latest_sealed}
 use Rattle.undo_history.proofs.Reading.{undo_within}
 use Rattle.undo_history.proofs.Sealing.{entries_length, undone_in_order, undone_view, with_sealed_length}
 use Rattle.undo_history.proofs.history.UndoHistory.undo.Goals as goal
@@ -33,6 +34,7 @@ invariant_of-self c =
     let order = undone_in_order rs bytes i.past i.transactions start c.self.invariant.in_order (omega arith) (ap (λ n. i.past - n) count) in
     record {
       in_order = rw c.seal.ensures.items order.1;
+      latest = rw c.seal.ensures.items (latest_sealed rs bytes start i.latest (omega (arith, c.self.invariant.in_order.there)));
       step_room = omega (arith, c.seal.ensures.spare, c.self.invariant.step_room);
       byte_room = c.self.invariant.byte_room;
       step_gap = omega (arith, c.seal.ensures.gap, c.self.invariant.step_gap, ap length c.seal.ensures.items, with_sealed_length start rs);
