@@ -251,6 +251,13 @@ static void undo(const side *s, long count) {
   while (s->send(SCI_CANUNDO, 0, 0, NULL, 0) && s->send(SCI_GETLENGTH, 0, 0, NULL, 0) > (int64_t)size) s->send(SCI_UNDO, 0, 0, NULL, 0);
 }
 
+/* Container actions that join the typing before them, and typing that goes on behind them. */
+static void add_container_actions(const side *s, long count) {
+  s->send(SCI_ADDTEXT, 1, 0, "x", 1);
+  for (long i = 0; i < count; i++) s->send(SCI_ADDUNDOACTION, i, UNDO_MAY_COALESCE, NULL, 0);
+  s->send(SCI_ADDTEXT, 1, 0, "x", 1);
+}
+
 static void add_markers(const side *s, long count) {
   for (long i = 0; i < count; i++) s->send(SCI_MARKERADD, below((int64_t)size / LINE), i % 8, NULL, 0);
 }
@@ -407,6 +414,7 @@ static const row quiet_rows[] = {
     {"SETTEXT", {1, 1}, load, set_text},
     {"GETTEXT", {20, 2}, load, get_text},
     {"undo of typing, a byte", {20000, 2000}, load_typed, undo},
+    {"ADDUNDOACTION that coalesces", {20000, 0}, load, add_container_actions},
     {"REPLACETARGET, 5 by 7", {10000, 10000}, load, replace_target},
     {"MARKERADD", {5000, 5000}, load, add_markers},
     {"MARKERGET", {200000, 200000}, load_marked, get_markers},
