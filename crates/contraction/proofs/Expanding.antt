@@ -1,5 +1,5 @@
 -- The children of a header when it is contracted or expanded.
-use Rattle.contraction.proofs.Names.{◌≡◌, ℕ, zero, suc, ◌+◌, ◌-◌, ◌<◌, ◌≤◌, Bool, true, false, not, ◌&&◌, ◌||◌, cond, ltb, leb, List, length, map, sym, refl, ap, ◌∙◌, inl, inr, arith, le_refl, range_with_len, list_all, and-false, cases_eq, cases_Bool, and_parts, and_from, false≢true, not-true, leb-true, le-leb, ltb-true, lt-ltb, le-ltb, get_or-set_other, length-set, list_all-append, length-map-range_with_len, get_or-map-range_with_len, Flags, fresh_flags, flags_at, is_expanded, with_visible, with_expanded, is_between, lines_shown, lines_hidden, expanded, is_open_between, is_header, is_child, last_child, range-append, map_range_agree, is_closed, closed_at, behind_closed}
+use Rattle.contraction.proofs.Names.{◌≡◌, ℕ, zero, suc, ◌+◌, ◌-◌, ◌<◌, ◌≤◌, Bool, true, false, not, ◌&&◌, ◌||◌, cond, ltb, leb, List, length, map, sym, refl, ap, ◌∙◌, inl, inr, arith, le_refl, range_with_len, list_all, and-false, cases_eq, cases_lt, cases_Bool, and_parts, and_from, false≢true, not-true, leb-true, le-leb, ltb-true, lt-ltb, le-ltb, get_or-set_other, length-set, list_all-append, length-map-range_with_len, get_or-map-range_with_len, Flags, fresh_flags, flags_at, is_expanded, with_visible, with_expanded, is_between, lines_shown, lines_hidden, expanded, is_open_between, is_header, is_child, last_child, range-append, map_range_agree, is_closed, closed_at, behind_closed}
 use Rattle.contraction.proofs.LineSets.{same_tests}
 use Rattle.contraction.proofs.Nesting.{last_child_is, nested}
 
@@ -202,12 +202,14 @@ module _ (levels : List ℕ) (flags : List Flags) (header : ℕ) where
       ap length e ∙ length-with_visible (is_child levels header) (open_to levels flags header line) (with_expanded header true flags) ∙ length-with_expanded header true flags
 
   -- later headers are still unchanged
+  expanded_now : (line : ℕ) (now : List Flags) → Passed line now → (later : ℕ) → header < later → later < length flags → is_expanded now later ≡ is_expanded flags later
+  expanded_now line now e later h l =
+      ap (λ fs. is_expanded fs later) e
+      ∙ expanded_still (is_child levels header) (open_to levels flags header line) (with_expanded header true flags) later (omega (arith, length-with_expanded header true flags))
+      ∙ expanded_other header later true flags (λ q. omega arith)
+
   pub closed_still : (line : ℕ) (now : List Flags) → Passed line now → header < line → line < length flags → is_closed levels now line ≡ is_closed levels flags line
-  closed_still line now e h l =
-      ap (λ b. is_header levels line && not b)
-      (ap (λ fs. is_expanded fs line) e
-      ∙ expanded_still (is_child levels header) (open_to levels flags header line) (with_expanded header true flags) line (omega (arith, length-with_expanded header true flags))
-      ∙ expanded_other header line true flags (λ q. omega arith))
+  closed_still line now e h l = ap (λ b. is_header levels line && not b) (expanded_now line now e line h l)
 
   pub passed_start : (last : ℕ) (now : List Flags) → last ≡ last_child levels header → now ≡ lines_shown (header + 1) (last + 1) (with_expanded header true flags) → Passed (header + 1) now
   passed_start last now e q =
@@ -249,6 +251,27 @@ module _ (levels : List ℕ) (flags : List Flags) (header : ℕ) where
               omega (arith, here),
             )
       ]
+
+  -- headers that are expanded hide nothing
+  pub passed_over : (line later : ℕ) (now : List Flags) → header < line → line ≤ later → Passed line now
+      → ((j : ℕ) → line ≤ j → j < later → j < length now → is_expanded now j ≡ true) → Passed later now
+  passed_over line later now h le e each =
+      let size = size_now line now e in
+      let size' = length-with_expanded header true flags in
+      let through : (k j : ℕ) → k < length flags → line ≤ j → j < later → lets_through levels flags k j ≡ true = λ k j l a b.
+      elim (cases_lt j (length flags)) [
+        | inl m ↦ through_by (is_header levels j && is_child levels j k) (is_expanded flags j) (sym (expanded_now line now e j (omega arith) m) ∙ each j a b (omega (arith, size)))
+        | inr m ↦ no_child_through j k (rw (le-ltb j k (omega arith)) refl)
+      ] in
+      e ∙ visible_same (is_child levels header) (is_child levels header) (open_to levels flags header line) (open_to levels flags header later) (with_expanded header true flags)
+      (λ k l. refl)
+      (λ k l t. sym (open_apart line later k h le
+      ∙ and_true (open_to levels flags header line k) (list_all (lets_through levels flags k) (range_with_len line (later - line)))
+      (all_through (lets_through levels flags k) line (later - line) (λ j a b. through k j (omega (arith, size')) a (omega arith)))))
+    where
+      through_by : (a b : Bool) → b ≡ true → (not a || b) ≡ true
+      through_by true b t = t
+      through_by false b t = refl
 
   pub passed_all : (line : ℕ) (now : List Flags) → last_child levels header < line → Passed line now → now ≡ expanded levels header flags
   passed_all line now h e =

@@ -285,3 +285,14 @@ between_none first past k b h =
       | inl l ↦ rw (lt-leb first k l) refl
       | inr l ↦ rw (le-leb first k l, le-ltb k past (omega arith)) refl
     ]
+
+-- behind a place, no line before the next start is in the set
+pub none_until : (s : List ℕ) (end line i k : ℕ) → ArePartitions s end → IsLastAtMost s line i → line ≤ k → (i + 1 < length s → k + 1 < get_or s (i + 1) 0)
+    → starts_at s (k + 1) ≡ false
+none_until s end line i k sound last le next =
+    let here : IsLastAtMost s (k + 1) i = record {
+      within = last.within;
+      at_most = omega (arith, last.at_most);
+      last = λ j a b. omega (arith, next (omega arith), rising_to s sound.rising (i + 1) j (omega arith) b);
+    } in
+    not_there s end (k + 1) i (get_or s i 0) sound here refl (λ e. omega (arith, last.at_most))

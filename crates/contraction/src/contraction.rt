@@ -1,12 +1,12 @@
 //! `Contraction`: how it is made and read, and its room.
 
-ghost use Rattle.std.specs.Prelude.{◌≡◌, ◌+◌, ◌-◌, ◌*◌, ◌≤◌, ◌<◌, [], ◌∷◌, length, max, replicate, IfOk, OnOk, OnErr, IsOk};
+ghost use Rattle.std.specs.Prelude.{◌≡◌, ◌+◌, ◌-◌, ◌*◌, ◌≤◌, ◌<◌, ℕ, true, false, [], ◌∷◌, length, max, replicate, IfOk, OnOk, OnErr, IsOk};
 ghost use Rattle.ed_model.specs.Rows.{fresh_flags};
 ghost use Rattle.ed_model.specs.Folding.{is_visible, is_expanded};
 ghost use Rattle.ed_model.specs.DisplayLines.{display_line, line_shown, all_visible};
 ghost use Rattle.contraction.specs.ViewLines.{most_contracted_room};
 
-use crate::line_set::{contains, lines_before, nth_line_outside, set_is_sound};
+use crate::line_set::{contains, lines_before, next_inside, nth_line_outside, set_is_sound};
 use partitioning::{Partitioning, Place};
 use std::alloc::{AllocError, Global};
 use std::marker::Model;
@@ -78,6 +78,16 @@ impl<P: Place> Contraction<P> {
         ensures { result ≡ is_expanded self.now.flags line }
     {
         !contains(&self.contracted, line)
+    }
+
+    // Returns the first contracted line from `line` on, or the number of lines if there is none.
+    pub(crate) fn next_contracted(&self, line: usize) -> usize
+        requires { line ≤ length self.now.flags }
+        ensures from { line ≤ result }
+        ensures expanded { (k : ℕ) → line ≤ k → k < result → k < length self.now.flags → is_expanded self.now.flags k ≡ true }
+        ensures contracted { result < length self.now.flags → is_expanded self.now.flags result ≡ false }
+    {
+        next_inside(&self.contracted, line)
     }
 
     /// Returns whether all lines are visible, in constant time (`SCI_GETALLLINESVISIBLE`).

@@ -46,6 +46,7 @@ impl<P: Place> Contraction<P> {
         requires room { length self.old.flags ≤ self.old.room.hidden }
         ensures flags { self.new.flags ≡ closed_at levels.now line self.old.flags }
         ensures next { result ≡ behind_closed levels.now line self.old.flags }
+        ensures within { result ≤ length self.new.flags }
         ensures room { self.new.room ≡ self.old.room }
     {
         levels.lines_fit();
@@ -73,9 +74,11 @@ impl<P: Place> Contraction<P> {
         self.set_expanded(header, true);
         let last = last_child(levels, header);
         self.show(header + 1, last + 1);
-        let mut line = header + 1;
+        // Expanded lines hide nothing: only contracted ones are visited.
+        let mut line = self.next_contracted(header + 1);
         'children: while line <= last {
-            line = self.close(levels, line);
+            let next = self.close(levels, line);
+            line = self.next_contracted(next);
         }
     }
 

@@ -1,6 +1,6 @@
 //! A set of lines, as the starts of partitions: 0, and then one more than each line of the set, in rising order.
 
-ghost use Rattle.std.specs.Prelude.{ℕ, ◌≡◌, ◌+◌, ◌-◌, ◌^◌, ◌≤◌, ◌<◌, ◌==◌, ◌||◌, false, length, slice_index, slice_get, unwrap_or};
+ghost use Rattle.std.specs.Prelude.{ℕ, ◌≡◌, ◌+◌, ◌-◌, ◌^◌, ◌≤◌, ◌<◌, ◌==◌, ◌||◌, true, false, length, slice_index, slice_get, unwrap_or};
 ghost use Rattle.ed_model.specs.Folding.{is_between};
 ghost use Rattle.contraction.specs.LineSets.{holds, holds_with_fresh, holds_without, holds_outside, lines_outside};
 ghost use Rattle.partitioning.specs.Partitions.{ArePartitions, IsLastAtMost};
@@ -40,6 +40,21 @@ pub(crate) fn contains<P: Place>(starts: &Partitioning<P>, line: usize) -> bool
     set_is_sound(starts);
     let index = lines_before(starts, line + 1);
     starts.start_of(index) == line + 1
+}
+
+/// Returns the first line of the set from `line` on, or the number of lines if there is none.
+pub(crate) fn next_inside<P: Place>(starts: &Partitioning<P>, line: usize) -> usize
+    requires { line ≤ starts.now.length }
+    ensures from { line ≤ result }
+    ensures outside { (k : ℕ) → line ≤ k → k < result → holds starts.now.starts k ≡ false }
+    ensures inside { result < starts.now.length → holds starts.now.starts result ≡ true }
+{
+    set_is_sound(starts);
+    let next = lines_before(starts, line) + 1;
+    if next == starts.count() {
+        return starts.length();
+    }
+    starts.start_of(next) - 1
 }
 
 /// Adds the line to the set. There must be room for it, unless it is there already.

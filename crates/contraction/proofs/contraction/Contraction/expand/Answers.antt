@@ -1,16 +1,19 @@
 use Rattle.contraction.proofs.Names.{◌+◌, ◌≤◌, ap, ◌∙◌, arith, last_child, lines_shown}
-use Rattle.contraction.proofs.Expanding.{size_now, passed_start, passed_next, passed_all}
+use Rattle.contraction.proofs.Expanding.{size_now, passed_start, passed_next, passed_over, passed_all}
 use Rattle.contraction.proofs.InAll.{shown_contracted, closed_contracted, same_in_all}
 use Rattle.contraction.proofs.contraction.Contraction.expand.Goals as goal
 
 pub children-init : goal.children-init
 children-init g c =
-    let start = passed_start c.args.levels.now c.args.self.now.flags c.args.header c.last_child-last.result c.show.new.self.flags c.last_child-last.ensures.last
+    let levels = c.args.levels.now in
+    let flags = c.args.self.now.flags in
+    let first = c.next_contracted-line.result in
+    let start = passed_start levels flags c.args.header c.last_child-last.result c.show.new.self.flags c.last_child-last.ensures.last
     (c.show.ensures.flags ∙ ap (λ fs. lines_shown (c.args.header + 1) (c.last_child-last.result + 1) fs) c.set_expanded.ensures.flags) in
     record {
-      flags = start;
-      behind = omega arith;
-      lines = size_now c.args.levels.now c.args.self.now.flags c.args.header (c.args.header + 1) c.show.new.self.flags start;
+      flags = passed_over levels flags c.args.header (c.args.header + 1) first c.show.new.self.flags (omega arith) c.next_contracted-line.ensures.from start c.next_contracted-line.ensures.expanded;
+      behind = omega (arith, c.next_contracted-line.ensures.from);
+      lines = size_now levels flags c.args.header (c.args.header + 1) c.show.new.self.flags start;
       hidden = ap (λ r. r.hidden) c.show.ensures.room ∙ c.set_expanded.ensures.hidden;
       contracted = omega (arith, ap (λ r. r.contracted) c.show.ensures.room, c.set_expanded.ensures.contracted);
       in_all =
@@ -23,25 +26,28 @@ pub children-smaller : goal.children-smaller
 children-smaller g c =
     let inv = c.children.invariant in
     let under : c.children.line ≤ last_child c.args.levels.now c.args.header = omega (arith, c.last_child-last.ensures.last) in
-    let next = passed_next c.args.levels.now c.args.self.now.flags c.args.header c.children.line c.close-line.result c.children.self.flags c.close-line.new.self.flags
-    inv.behind (omega (arith, c.requires.header, c.requires.lines)) under c.requires.lines inv.flags c.close-line.ensures.next c.close-line.ensures.flags in
-    omega (arith, next.1)
+    let next = passed_next c.args.levels.now c.args.self.now.flags c.args.header c.children.line c.close-next.result c.children.self.flags c.close-next.new.self.flags
+    inv.behind (omega (arith, c.requires.header, c.requires.lines)) under c.requires.lines inv.flags c.close-next.ensures.next c.close-next.ensures.flags in
+    omega (arith, next.1, c.next_contracted-line-in-children.ensures.from)
 
 pub children-preserved : goal.children-preserved
 children-preserved g c =
     let inv = c.children.invariant in
-    let under : c.children.line ≤ last_child c.args.levels.now c.args.header = omega (arith, c.last_child-last.ensures.last) in
-    let next = passed_next c.args.levels.now c.args.self.now.flags c.args.header c.children.line c.close-line.result c.children.self.flags c.close-line.new.self.flags
-    inv.behind (omega (arith, c.requires.header, c.requires.lines)) under c.requires.lines inv.flags c.close-line.ensures.next c.close-line.ensures.flags in
+    let levels = c.args.levels.now in
+    let flags = c.args.self.now.flags in
+    let then = c.next_contracted-line-in-children in
+    let under : c.children.line ≤ last_child levels c.args.header = omega (arith, c.last_child-last.ensures.last) in
+    let next = passed_next levels flags c.args.header c.children.line c.close-next.result c.children.self.flags c.close-next.new.self.flags
+    inv.behind (omega (arith, c.requires.header, c.requires.lines)) under c.requires.lines inv.flags c.close-next.ensures.next c.close-next.ensures.flags in
     record {
-      flags = next.0;
-      behind = omega (arith, next.1);
-      lines = size_now c.args.levels.now c.args.self.now.flags c.args.header c.close-line.result c.close-line.new.self.flags next.0;
-      hidden = ap (λ r. r.hidden) c.close-line.ensures.room ∙ inv.hidden;
-      contracted = omega (arith, ap (λ r. r.contracted) c.close-line.ensures.room, inv.contracted);
+      flags = passed_over levels flags c.args.header c.close-next.result then.result c.close-next.new.self.flags (omega (arith, next.1, inv.behind)) then.ensures.from next.0 then.ensures.expanded;
+      behind = omega (arith, next.1, inv.behind, then.ensures.from);
+      lines = size_now levels flags c.args.header c.close-next.result c.close-next.new.self.flags next.0;
+      hidden = ap (λ r. r.hidden) c.close-next.ensures.room ∙ inv.hidden;
+      contracted = omega (arith, ap (λ r. r.contracted) c.close-next.ensures.room, inv.contracted);
       in_all =
-          same_in_all c.children.self c.close-line.new.self _ c.close-line.ensures.flags
-          (closed_contracted c.args.levels.now c.children.line c.children.self.flags) c.close-line.ensures.room
+          same_in_all c.children.self c.close-next.new.self _ c.close-next.ensures.flags
+          (closed_contracted levels c.children.line c.children.self.flags) c.close-next.ensures.room
           ∙ inv.in_all;
     }
 
