@@ -81,6 +81,6 @@ is_changed text what sender old new views notes notes' h w made told = record {
   watched = rw made (watched_still old (changed_document text what old) views (keeps_places text what old h) w);
   ids = refl;
   next = refl;
-  room = refl;
+  view_capacity = refl;
   fold_rooms = refl;
 }

@@ -55,7 +55,7 @@ pub record IsChanged (text : List ℕ) (what : DocumentChange) (sender : ℕ) (o
   pub watched : IsWatched new views'
   pub ids : map id_of views'.entries ≡ map id_of views.entries
   pub next : views'.next ≡ views.next
-  pub room : views'.room ≡ views.room
+  pub view_capacity : views'.capacity ≡ views.capacity
   pub fold_rooms : map fold_room_in_all views'.entries ≡ map fold_room_in_all views.entries
 
 -- The message with this text, from the view `sender`, made the change in the document, the views and the notes.

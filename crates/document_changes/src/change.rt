@@ -114,7 +114,7 @@ pub fn change_document(
     ensures watched { IsWatched document.new.document views.new }
     ensures ids { map id_of views.new.entries ≡ map id_of views.old.entries }
     ensures next { views.new.next ≡ views.old.next }
-    ensures view_room { views.new.room ≡ views.old.room }
+    ensures view_capacity { views.new.capacity ≡ views.old.capacity }
     ensures fold_rooms { map fold_room_in_all views.new.entries ≡ map fold_room_in_all views.old.entries }
     ensures room_left { LeavesRoom change document.old document.new }
 {

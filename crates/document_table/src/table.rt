@@ -1,9 +1,9 @@
 //! `DocumentTable` and its calls.
-ghost use Rattle.std.specs.Prelude.{◌≡◌, ◌≢◌, ◌≤◌, ◌<◌, ◌+◌, ◌^◌, ◌∷◌, ◌++◌, ℕ, [], map, max, IsOk, IfSome, IsSomeAnd, OnOk, OnErr, option_copied};
+ghost use Rattle.std.specs.Prelude.{◌≡◌, ◌≢◌, ◌≤◌, ◌<◌, ◌+◌, ◌^◌, ◌∷◌, ◌++◌, ℕ, [], map, IsOk, IfSome, IsSomeAnd, OnOk, option_copied};
 ghost use Rattle.std.specs.Option.{option_copied_mut};
 ghost use Rattle.std.specs.Borrow.{sem};
 ghost use Rattle.ed_model.specs.Session.{left_by};
-ghost use Rattle.id_table.specs.Entries.{HasMemoryFor, KeepsBlocks, Rise, empty_table, entry, id_of, most_ids, value_at, with_room_for, without_id};
+ghost use Rattle.id_table.specs.Entries.{HasRoom, KeepsCapacity, Rise, empty_table, entry, id_of, most_ids, value_at, without_id};
 ghost use Rattle.document_table.specs.Leaving.{documents_in, let_go, released, KeepsRoom};
 
 use document::Document;
@@ -61,31 +61,29 @@ impl DocumentTable {
         self.documents.get_mut(id)
     }
 
-    /// Makes room for `count` more documents.
+    /// Makes room for `count` more documents. Allocates nothing if they fit.
     ///
     /// # Errors
     ///
-    /// `AllocError` if an allocation fails. The table is then unchanged, and has at least as much memory as before.
+    /// `AllocError` if an allocation fails. The table is then unchanged, and its capacity is at least what it was.
     pub fn reserve(&mut self, count: usize) -> Result<(), AllocError>
-        ensures ok { OnOk result (self.new ≡ with_room_for count self.new.blocks self.old) }
-        ensures room_is_there { count ≤ self.old.room → IsOk result × (self.new ≡ self.old) }
-        ensures memory_is_there { HasMemoryFor self.old count → IsOk result × (self.new.blocks ≡ self.old.blocks) }
-        ensures memory_stays { KeepsBlocks self.old.blocks self.new.blocks }
-        ensures ids_at_most { self.new.blocks.ids ≤ most_ids count self.old }
-        ensures err { OnErr result (self.new ≡ with_room_for 0 self.new.blocks self.old) }
+        ensures ok { OnOk result (HasRoom count self.new) }
+        ensures room_is_there { HasRoom count self.old → IsOk result × (self.new ≡ self.old) }
+        ensures rest { self.new ≡ record self.old { capacity = self.new.capacity } }
+        ensures capacity { KeepsCapacity self.old.capacity self.new.capacity }
+        ensures ids_at_most { self.new.capacity.ids ≤ most_ids count self.old }
     {
         self.documents.reserve(count)
     }
 
     /// Adds a document, and returns its id, which is never given again. There must be room for it.
     pub fn insert_reserved(&mut self, document: Document) -> u32
-        requires room { 0 < self.old.room }
+        requires room { HasRoom 1 self.old }
         requires ids { self.old.next + 1 < 2 ^ 32 }
         ensures id { result ≡ self.old.next }
         ensures entries { self.new.entries ≡ self.old.entries ++ entry self.old.next document ∷ [] }
         ensures next { self.new.next ≡ self.old.next + 1 }
-        ensures room { self.new.room + 1 ≡ self.old.room }
-        ensures memory { self.new.blocks ≡ self.old.blocks }
+        ensures capacity { self.new.capacity ≡ self.old.capacity }
     {
         self.documents.insert_reserved(document)
     }
@@ -102,8 +100,7 @@ impl DocumentTable {
         ensures others { (other : ℕ) → other ≢ id → value_at self.new.entries other ≡ value_at self.old.entries other }
         ensures room_stays { KeepsRoom id self.old.entries self.new.entries }
         ensures next { self.new.next ≡ self.old.next }
-        ensures room { self.new.room ≡ self.old.room }
-        ensures memory { self.new.blocks ≡ self.old.blocks }
+        ensures capacity { self.new.capacity ≡ self.old.capacity }
     {
         let Some(document) = self.get_mut(id) else {
             return;
@@ -121,8 +118,7 @@ impl DocumentTable {
         ensures others { (other : ℕ) → other ≢ id → value_at self.new.entries other ≡ value_at self.old.entries other }
         ensures room_stays { KeepsRoom id self.old.entries self.new.entries }
         ensures next { self.new.next ≡ self.old.next }
-        ensures room { self.new.room ≡ self.old.room }
-        ensures memory { self.new.blocks ≡ self.old.blocks }
+        ensures capacity { self.new.capacity ≡ self.old.capacity }
     {
         let Some(document) = self.get_mut(id) else {
             return;

@@ -1,5 +1,5 @@
 -- The entries that places and a slab make, and how a change of one value changes them.
-use Rattle.id_table.proofs.Names.{◌≡◌, ◌≢◌, ℕ, zero, suc, ◌+◌, ◌*◌, ◌<◌, ◌≤◌, true, cond, List, [], ◌∷◌, ◌++◌, length, map, get_or, Option, Some, None, is_some, count_by, refl, sym, ap, subst, ◌∙◌, arith, IsSome, IfSome, IfNone, ne_eqb, length-append, eq-eqb, Slab, get, Updates, with_value, ContainsKey, HasRoomFor, slab_len, Place, entry, id_of, value_at, with_value_at, without_id, Rise, entries_by, InOrder, IsTable, IsOrdered, IsAt, IsNowhere}
+use Rattle.id_table.proofs.Names.{◌≡◌, ◌≢◌, ℕ, zero, suc, ◌+◌, ◌<◌, ◌≤◌, true, cond, List, [], ◌∷◌, ◌++◌, length, map, get_or, Option, Some, None, is_some, refl, sym, ap, subst, ◌∙◌, arith, IsSome, IfSome, IfNone, ne_eqb, length-append, eq-eqb, Slab, get, Updates, with_value, ContainsKey, HasRoomFor, slab_len, Place, entry, id_of, value_at, with_value_at, without_id, Rise, entries_by, InOrder, IsTable, IsOrdered, IsAt, IsNowhere}
 use Rattle.std.specs.List.{AllByRecursion, remove}
 use Rattle.std.proofs.lemmas.List.Sums.{sum_by-set}
 use Rattle.std.proofs.lemmas.List.Edits.{length-remove}
@@ -191,11 +191,8 @@ module _ {V : Type 0} where
       let one : cond (is_some (get slab key)) (suc zero) zero ≡ suc zero = rw v.1 refl in
       omega (arith, more, one)
 
-  pub room_kept : (old new : Slab V) (count : ℕ) → new.slots ≡ old.slots → HasRoomFor new count → slab_len old + count ≤ new.capacity
-  room_kept old new count same room = subst (λ (slots : List (Option V)). count_by is_some slots + count ≤ new.capacity) same room
-
   -- The same for a whole table.
-  module _ (slab : Slab V) (ps : List Place) (capacity next room : ℕ) (table : IsTable slab ps capacity next room) where
+  module _ (slab : Slab V) (ps : List Place) (next : ℕ) (table : IsTable slab ps next) where
     pub length_table : length (entries_by slab ps) ≡ length ps
     length_table = length_entries slab 0 next ps table.ordered
 
@@ -203,11 +200,8 @@ module _ {V : Type 0} where
     pub has_room : (count : ℕ) → length (entries_by slab ps) + count ≤ slab.capacity → HasRoomFor slab count
     has_room count fits = omega (arith, fits, length_table, table.all)
 
-    pub has_places : (count : ℕ) → length (entries_by slab ps) + count ≤ capacity → length ps + count ≤ capacity
-    has_places count fits = omega (arith, fits, length_table)
-
-    pub fewer_than_ids : length ps < next
-    fewer_than_ids = omega (arith, fewer slab 0 next ps table.ordered)
+    pub has_place : (capacity : ℕ) → length (entries_by slab ps) + 1 ≤ capacity → length ps < capacity
+    has_place capacity fits = omega (arith, fits, length_table)
 
     pub ids_rise : Rise 1 next (map (id_of {V = V}) (entries_by slab ps))
     ids_rise = ids_from slab 0 next ps table.ordered
@@ -240,58 +234,42 @@ module _ {V : Type 0} where
 
     -- the value of an id is replaced
     pub written_table : (id at : ℕ) (p : Place) (w : V) → IsAt id ps at → p ≡ get_or ps at p
-        → (entries_by (with_value slab p.key w) ps ≡ with_value_at id w (entries_by slab ps)) × IsTable (with_value slab p.key w) ps capacity next room
+        → (entries_by (with_value slab p.key w) ps ≡ with_value_at id w (entries_by slab ps)) × IsTable (with_value slab p.key w) ps next
     written_table id at p w is_at e =
         let there : ContainsKey slab p.key = has_key id at p is_at e in
         let u : Updates slab (with_value slab p.key w) p.key (Some w) = Updates-with_value slab p.key w there in
         let r = written slab (with_value slab p.key w) p.key u.others w u.changed 0 next id ps at p table.ordered is_at.0 (is_at.1 p) (ap (λ (q : Place). q.key) (sym e)) in
         let same : slab_len (with_value slab p.key w) ≡ slab_len slab = length_with slab p.key w there in (
           r.0,
-          record { ordered = r.1; all = same ∙ table.all; slots = rw same table.slots; places = table.places; few = table.few },
+          record { ordered = r.1; all = same ∙ table.all },
         )
 
     -- the value of an id is removed, and its place
-    pub removed_table : (id at : ℕ) (p : Place) (new : Slab V) → IsAt id ps at → p ≡ get_or ps at p → Updates slab new p.key None → slab_len new + 1 ≡ slab_len slab → new.capacity ≡ slab.capacity
-        → (entries_by new (remove ps at) ≡ without_id id (entries_by slab ps)) × IsTable new (remove ps at) capacity next room
-    removed_table id at p new is_at e u less same =
+    pub removed_table : (id at : ℕ) (p : Place) (new : Slab V) → IsAt id ps at → p ≡ get_or ps at p → Updates slab new p.key None → slab_len new + 1 ≡ slab_len slab
+        → (entries_by new (remove ps at) ≡ without_id id (entries_by slab ps)) × IsTable new (remove ps at) next
+    removed_table id at p new is_at e u less =
         let r = removed slab new p.key u.others 0 next id ps at p table.ordered is_at.0 (is_at.1 p) (ap (λ (q : Place). q.key) (sym e)) in
         let shorter = length-remove ps at is_at.0 in (
           r.0,
-          record {
-            ordered = r.1;
-            all = omega (arith, less, shorter, table.all);
-            slots = omega (arith, less, same, table.slots);
-            places = omega (arith, shorter, table.places);
-            few = table.few;
-          },
+          record { ordered = r.1; all = omega (arith, less, shorter, table.all) },
         )
 
     -- a value is appended, under the next id
-    pub added_table : (p : Place) (w : V) (new : Slab V) (wider left : ℕ) → p.id ≡ next → get slab p.key ≡ None → Updates slab new p.key (Some w) → slab_len new ≡ slab_len slab + 1 → new.capacity ≡ slab.capacity → wider ≡ capacity → left + 1 ≡ room
-        → (entries_by new (ps ++ p ∷ []) ≡ entries_by slab ps ++ entry next w ∷ []) × IsTable new (ps ++ p ∷ []) wider (next + 1) left
-    added_table p w new wider left id was u more same wide less =
+    pub added_table : (p : Place) (w : V) (new : Slab V) → p.id ≡ next → get slab p.key ≡ None → Updates slab new p.key (Some w) → slab_len new ≡ slab_len slab + 1
+        → (entries_by new (ps ++ p ∷ []) ≡ entries_by slab ps ++ entry next w ∷ []) × IsTable new (ps ++ p ∷ []) (next + 1)
+    added_table p w new id was u more =
         let r = added slab new p.key u.others w u.changed was 0 next ps p id refl table.ordered in
         let longer = length-append ps (p ∷ []) in (
           r.0,
-          record {
-            ordered = r.1;
-            all = omega (arith, more, longer, table.all);
-            slots = omega (arith, more, same, less, table.slots);
-            places = omega (arith, longer, wide, less, table.places);
-            few = omega (arith, wide, less, table.few);
-          },
+          record { ordered = r.1; all = omega (arith, more, longer, table.all) },
         )
 
-    -- both have room for more
-    pub wider_table : (new : Slab V) (wider left : ℕ) → new.slots ≡ slab.slots → slab_len slab + left ≤ new.capacity → length ps + left ≤ wider → wider ≤ 2 * (next + left)
-        → (entries_by new ps ≡ entries_by slab ps) × IsTable new ps wider next left
-    wider_table new wider left same slots places few = (
+    -- the slab has room for more
+    pub wider_table : (new : Slab V) → new.slots ≡ slab.slots → (entries_by new ps ≡ entries_by slab ps) × IsTable new ps next
+    wider_table new same = (
       ap (λ (slots : List (Option V)). entries_by (record slab { slots = slots }) ps) same,
       record {
         ordered = subst (λ (slots : List (Option V)). InOrder (record slab { slots = slots }) 0 next ps) (sym same) table.ordered;
         all = rw same table.all;
-        slots = rw same slots;
-        places = places;
-        few = few;
       },
     )

@@ -3,6 +3,6 @@ pub use Rattle.std.proofs.Common.{◌≡◌, ◌≢◌, ℕ, zero, suc, ◌+◌,
 pub use Rattle.std.proofs.lemmas.Bool.{ne_eqb, cases_lt, false≢true}
 pub use Rattle.std.specs.Prelude.{IsSome, vec_capacity}
 pub use Rattle.slab.specs.Slab.{Slab, get, Updates, with_value, ContainsKey, HasRoomFor, slab_len}
-pub use Rattle.id_table.specs.Entries.{entry, id_of, value_at, with_value_at, without_id, Rise, table_of, table_blocks, Entry}
+pub use Rattle.id_table.specs.Entries.{entry, id_of, value_at, with_value_at, without_id, Rise, table_of, table_capacity, Entry}
 pub use Rattle.id_table.specs.Order.{entries_by, InOrder, IsTable, IsOrdered, IsAt, IsNowhere}
 pub use Rattle.id_table.specs.declared.table.Place.{Place}

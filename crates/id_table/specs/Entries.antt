@@ -7,24 +7,23 @@ pub record Entry (V : Type 0) : Type 0 where
   pub id : ℕ
   pub value : V
 
--- how many values, and how many ids, the memory of a table holds in all
-pub record TableBlocks : Type 0 where
+-- how many values, and how many ids, fit with no allocation
+pub record TableCapacity : Type 0 where
   pub values : ℕ
   pub ids : ℕ
 
--- the values in the order of their ids, the id of the next one, how many more were reserved, and the memory for all
+-- the values in the order of their ids, the id of the next one, and how many of them fit
 pub record Entries (V : Type 0) : Type 0 where
   pub entries : List (Entry V)
   pub next : ℕ
-  pub room : ℕ
-  pub blocks : TableBlocks
+  pub capacity : TableCapacity
 
-abbrev pub table_blocks : ℕ → ℕ → TableBlocks
-table_blocks values ids = record { values = values; ids = ids }
+abbrev pub table_capacity : ℕ → ℕ → TableCapacity
+table_capacity values ids = record { values = values; ids = ids }
 
--- no memory is given back
-abbrev pub KeepsBlocks : TableBlocks → TableBlocks → Type 0
-KeepsBlocks old new = (old.values ≤ new.values) × (old.ids ≤ new.ids)
+-- no capacity is given back
+abbrev pub KeepsCapacity : TableCapacity → TableCapacity → Type 0
+KeepsCapacity old new = (old.values ≤ new.values) × (old.ids ≤ new.ids)
 
 -- numbers that rise strictly, from at least `low` on and below `high`
 abbrev pub Rise : ℕ → ℕ → List ℕ → Type 0
@@ -35,24 +34,20 @@ module _ {V : Type 0} where
   abbrev pub entry : ℕ → V → Entry V
   entry id value = record { id = id; value = value }
 
-  abbrev pub table_of : List (Entry V) → ℕ → ℕ → TableBlocks → Entries V
-  table_of entries next room blocks = record { entries = entries; next = next; room = room; blocks = blocks }
+  abbrev pub table_of : List (Entry V) → ℕ → TableCapacity → Entries V
+  table_of entries next capacity = record { entries = entries; next = next; capacity = capacity }
 
-  -- an empty table, which has no memory
+  -- an empty table, in which nothing fits
   abbrev pub empty_table : Entries V
-  empty_table = table_of [] 1 0 (table_blocks 0 0)
+  empty_table = table_of [] 1 (table_capacity 0 0)
 
-  -- the table after room for so many more values was requested, with this memory
-  abbrev pub with_room_for : ℕ → TableBlocks → Entries V → Entries V
-  with_room_for count blocks t = record t { room = max t.room count; blocks = blocks }
+  -- so many more values fit with no allocation
+  abbrev pub HasRoom : ℕ → Entries V → Type 0
+  HasRoom count t = (length t.entries + count ≤ t.capacity.values) × (length t.entries + count ≤ t.capacity.ids)
 
-  -- the most ids that the memory holds after room for so many more values was requested; of values it is not known
+  -- the most ids that fit after `reserve` was called for so many more values; how many values fit is up to the slab
   abbrev pub most_ids : ℕ → Entries V → ℕ
-  most_ids count t = max t.blocks.ids (length t.entries + max count (length t.entries))
-
-  -- the memory holds so many more values
-  abbrev pub HasMemoryFor : Entries V → ℕ → Type 0
-  HasMemoryFor t count = (length t.entries + count ≤ t.blocks.values) × (length t.entries + count ≤ t.blocks.ids)
+  most_ids count t = max t.capacity.ids (length t.entries + max count (length t.entries))
 
   abbrev pub entry_code : Coded V → Coded (Entry V)
   entry_code c = code_by (ℕ × V) (coded× coded_ℕ c) (λ e. (e.id, e.value)) (λ p. entry p.0 p.1) (λ _. refl)
@@ -60,10 +55,10 @@ module _ {V : Type 0} where
   abbrev pub entries_code : Coded V → Coded (Entries V)
   entries_code c =
       code_by
-      (List (Entry V) × ((ℕ × ℕ) × (ℕ × ℕ)))
-      (coded× (coded_list (entry_code c)) (coded× (coded× coded_ℕ coded_ℕ) (coded× coded_ℕ coded_ℕ)))
-      (λ t. (t.entries, ((t.next, t.room), (t.blocks.values, t.blocks.ids))))
-      (λ p. table_of p.0 p.1.0.0 p.1.0.1 (table_blocks p.1.1.0 p.1.1.1))
+      (List (Entry V) × (ℕ × (ℕ × ℕ)))
+      (coded× (coded_list (entry_code c)) (coded× coded_ℕ (coded× coded_ℕ coded_ℕ)))
+      (λ t. (t.entries, (t.next, (t.capacity.values, t.capacity.ids))))
+      (λ p. table_of p.0 p.1.0 (table_capacity p.1.1.0 p.1.1.1))
       (λ _. refl)
 
   abbrev pub id_of : Entry V → ℕ

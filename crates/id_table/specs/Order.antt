@@ -1,8 +1,8 @@
 -- How a table keeps its values. No public contract cites this module.
-use Rattle.std.specs.Prelude.{◌≡◌, ◌≢◌, ℕ, ◌+◌, ◌*◌, ◌<◌, ◌≤◌, List, [], ◌∷◌, length, filter_map, Option, option_map}
+use Rattle.std.specs.Prelude.{◌≡◌, ◌≢◌, ℕ, ◌<◌, List, [], ◌∷◌, length, filter_map, Option, option_map}
 use Rattle.std.specs.List.{AllByRecursion, AllWithin, HoldsAt}
 use Rattle.std.specs.List.Sorted.{IsNonDecreasingBy}
-use Rattle.slab.specs.Slab.{Slab, get, slab_len, ContainsKey, HasRoomFor}
+use Rattle.slab.specs.Slab.{Slab, get, slab_len, ContainsKey}
 use Rattle.id_table.specs.Entries.{Entry, entry}
 use Rattle.id_table.specs.declared.table.Place.{Place}
 
@@ -31,11 +31,7 @@ module _ {V : Type 0} where
   InOrder slab floor next (p ∷ ps) =
       (floor < p.id) × ContainsKey slab p.key × AllByRecursion (λ (q : Place). q.key ≢ p.key) ps × InOrder slab p.id next ps
 
-  -- The places and the slab belong together, and no value lies anywhere else. Both have the room that was reserved, and
-  -- the list of places is at most twice as large as was ever requested.
-  pub record IsTable (slab : Slab V) (ps : List Place) (capacity next room : ℕ) : Type 0 where
+  -- the places and the slab belong together, and no value lies anywhere else
+  pub record IsTable (slab : Slab V) (ps : List Place) (next : ℕ) : Type 0 where
     pub ordered : InOrder slab 0 next ps
     pub all : slab_len slab ≡ length ps
-    pub slots : HasRoomFor slab room
-    pub places : length ps + room ≤ capacity
-    pub few : capacity ≤ 2 * (next + room)

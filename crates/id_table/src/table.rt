@@ -1,8 +1,8 @@
 //! `IdTable` and its calls.
-ghost use Rattle.std.specs.Prelude.{◌≡◌, ◌≤◌, ◌<◌, ◌+◌, ◌^◌, ◌∷◌, ◌++◌, [], map, length, max, IfSome, IfNone, IsOk, OnOk, OnErr, is_some, option_copied};
+ghost use Rattle.std.specs.Prelude.{◌≡◌, ◌≤◌, ◌<◌, ◌+◌, ◌^◌, ◌∷◌, ◌++◌, [], map, length, max, IfSome, IfNone, IsOk, OnOk, is_some, option_copied};
 ghost use Rattle.std.specs.Option.{option_copied_mut};
 ghost use Rattle.std.specs.Borrow.{sem};
-ghost use Rattle.id_table.specs.Entries.{HasMemoryFor, KeepsBlocks, Rise, empty_table, id_of, most_ids, value_at, with_room_for, without_id};
+ghost use Rattle.id_table.specs.Entries.{HasRoom, KeepsCapacity, Rise, empty_table, id_of, most_ids, value_at, without_id};
 ghost use Rattle.id_table.specs.Order.{IsOrdered, IsAt, IsNowhere};
 
 use slab::Slab;
@@ -23,13 +23,11 @@ pub struct IdTable<T> {
     // In rising order of the ids.
     order: Vec<Place>,
     next: u32,
-    // How many more values were reserved.
-    room: usize,
 }
 
 impl<T> Model for IdTable<T> {
     ghost use Rattle.std.specs.Prelude.{vec_capacity};
-    ghost use Rattle.id_table.specs.Entries.{Entries, table_of, table_blocks, entries_code};
+    ghost use Rattle.id_table.specs.Entries.{Entries, table_of, table_capacity, entries_code};
 
     ghost Value = { Entries T };
 
@@ -37,9 +35,9 @@ impl<T> Model for IdTable<T> {
 
     ghost use Rattle.id_table.specs.Order.{entries_by, IsTable};
 
-    ghost view = { λ t. table_of (entries_by t.slab t.order.items) t.next t.room (table_blocks t.slab.capacity (vec_capacity t.order)) };
+    ghost view = { λ t. table_of (entries_by t.slab t.order.items) t.next (table_capacity t.slab.capacity (vec_capacity t.order)) };
 
-    ghost invariant = { λ t. IsTable t.slab t.order.items (vec_capacity t.order) t.next t.room };
+    ghost invariant = { λ t. IsTable t.slab t.order.items t.next };
 }
 
 /// Returns where `id` stands in the order, if it does. Looks at the last place first, since the newest value is asked
@@ -68,7 +66,6 @@ impl<T> IdTable<T> {
             slab: Slab::new(alloc),
             order: Vec::new(alloc),
             next: 1,
-            room: 0,
         }
     }
 
@@ -117,44 +114,36 @@ impl<T> IdTable<T> {
         Some(&mut self.slab[key])
     }
 
-    /// Makes room for `count` more values.
+    /// Makes room for `count` more values. Allocates nothing if they fit.
     ///
     /// # Errors
     ///
-    /// `AllocError` if an allocation fails. The table is then unchanged, and has at least as much memory as before.
+    /// `AllocError` if an allocation fails. The table is then unchanged, and its capacity is at least what it was.
     #[tactic(auto, using(crate::proofs::EntryLemmas::length_table))]
     pub fn reserve(&mut self, count: usize) -> Result<(), AllocError>
-        ensures ok { OnOk result (self.new ≡ with_room_for count self.new.blocks self.old) }
-        ensures room_is_there { count ≤ self.old.room → IsOk result × (self.new ≡ self.old) }
-        ensures memory_is_there { HasMemoryFor self.old count → IsOk result × (self.new.blocks ≡ self.old.blocks) }
-        ensures memory_stays { KeepsBlocks self.old.blocks self.new.blocks }
-        ensures ids_at_most { self.new.blocks.ids ≤ most_ids count self.old }
-        ensures err { OnErr result (self.new ≡ with_room_for 0 self.new.blocks self.old) }
+        ensures ok { OnOk result (HasRoom count self.new) }
+        ensures room_is_there { HasRoom count self.old → IsOk result × (self.new ≡ self.old) }
+        ensures rest { self.new ≡ record self.old { capacity = self.new.capacity } }
+        ensures capacity { KeepsCapacity self.old.capacity self.new.capacity }
+        ensures ids_at_most { self.new.capacity.ids ≤ most_ids count self.old }
     {
-        if count <= self.room {
-            return Ok(());
-        }
         self.slab.reserve(count)?;
-        vec_room::reserve(&mut self.order, count)?;
-        self.room = count;
-        Ok(())
+        vec_room::reserve(&mut self.order, count)
     }
 
     /// Inserts `value` behind all others, and returns its id. There must be room for it.
     pub fn insert_reserved(&mut self, value: T) -> u32
-        requires room { 0 < self.old.room }
+        requires room { HasRoom 1 self.old }
         requires ids { self.old.next + 1 < 2 ^ 32 }
         ensures id { result ≡ self.old.next }
         ensures entries { self.new.entries ≡ self.old.entries ++ record { id = self.old.next; value = value } ∷ [] }
         ensures next { self.new.next ≡ self.old.next + 1 }
-        ensures room { self.new.room + 1 ≡ self.old.room }
-        ensures memory { self.new.blocks ≡ self.old.blocks }
+        ensures capacity { self.new.capacity ≡ self.old.capacity }
     {
         let id = self.next;
         let key = self.slab.insert_reserved(value);
         self.order.push_reserved(Place { id, key });
         self.next = id + 1;
-        self.room -= 1;
         id
     }
 

@@ -74,12 +74,12 @@ pub record IsFollowedSoFar (movement : Movement) (edits : List LineEdit) (ids re
   pub can : CanFollowInTurn movement edits rest (views_of now.entries)
   pub same : map id_of now.entries ≡ map id_of old.entries
   pub next : now.next ≡ old.next
-  pub room : now.room ≡ old.room
+  pub view_capacity : now.capacity ≡ old.capacity
   pub fold_rooms : Rise 0 old.next (map id_of old.entries) → map fold_room_in_all now.entries ≡ map fold_room_in_all old.entries
 
 pub follow_none : (movement : Movement) (edits : List LineEdit) (ids : List ℕ) (old : Entries KeptView) → AreNamed old.entries
     → CanFollowInTurn movement edits ids (views_of old.entries) → IsFollowedSoFar movement edits ids ids old old
-follow_none movement edits ids old named can = record { views = refl; named = named; can = can; same = refl; next = refl; room = refl; fold_rooms = λ rise. refl }
+follow_none movement edits ids old named can = record { views = refl; named = named; can = can; same = refl; next = refl; view_capacity = refl; fold_rooms = λ rise. refl }
 
 -- the view whose turn it is can follow
 pub next_can : (movement : Movement) (edits : List LineEdit) (ids rest after : List ℕ) (id : ℕ) (k : KeptView) (old now : Entries KeptView)
@@ -103,7 +103,7 @@ follow_one movement edits ids rest after id k moved old now new so e found follo
       can = subst (CanFollowInTurn movement edits after) (sym views) (subst (λ r. CanFollowInTurn movement edits r (views_of now.entries)) e so.can).1;
       same = value_ids now.entries id moved ∙ so.same;
       next = so.next;
-      room = so.room;
+      view_capacity = so.view_capacity;
       fold_rooms = λ rise.
           value_rooms now.entries 0 old.next id k moved (subst (Rise 0 old.next) (sym so.same) rise) found rooms ∙ so.fold_rooms rise;
     })
@@ -122,7 +122,7 @@ follow_missing movement edits ids rest after id old now new so e found put =
       can = subst (CanFollowInTurn movement edits after) (sym views) (subst (λ r. CanFollowInTurn movement edits r (views_of now.entries)) e so.can).1;
       same = so.same;
       next = so.next;
-      room = so.room;
+      view_capacity = so.view_capacity;
       fold_rooms = so.fold_rooms;
     })
 

@@ -50,7 +50,7 @@ pub record IsPerformedSoFar (direction : Direction) (rest : List Change) (change
       ≡ gathered.text_room + bytes_of_changes (watchers now.document views') (bits_of direction) rest
   pub ids : map id_of views'.entries ≡ map id_of views.entries
   pub next : views'.next ≡ views.next
-  pub view_room : views'.room ≡ views.room
+  pub view_capacity : views'.capacity ≡ views.capacity
   pub none_made : IsAtMost (with_freed (freed_by_all rest) now.room) (with_freed (freed_by_all (changes_of direction old.document.history)) old.room) no_room
   pub spare : SpareLeft (changes_of direction old.document.history) rest old.spare now.spare
   pub markers_in_all : marker_room_in_all now ≡ marker_room_in_all old
@@ -72,7 +72,7 @@ performed_none direction old views gathered can = record {
   text_room = refl;
   ids = refl;
   next = refl;
-  view_room = refl;
+  view_capacity = refl;
   none_made = made_none (with_freed (freed_by_all (changes_of direction old.document.history)) old.room);
   spare = refl;
   markers_in_all = refl;
@@ -209,7 +209,7 @@ module _ (turn : Turn) (c : Change) (rest after : List Change) (changed : Bool) 
           text_room = omega arith;
           ids = p.ids ∙ so.ids;
           next = p.next ∙ so.next;
-          view_room = p.view_room ∙ so.view_room;
+          view_capacity = p.view_capacity ∙ so.view_capacity;
           none_made = made_next c after (freed_by_all all) old.room now.room new.room
               (subst (λ cs. IsAtMost (with_freed (freed_by_all cs) now.room) (with_freed (freed_by_all all) old.room) no_room) e so.none_made) p.none_made;
           spare = spare_next all after c old.spare now.spare new.spare (subst (λ cs. SpareLeft all cs old.spare now.spare) e so.spare) p.spare;
@@ -236,7 +236,7 @@ performed_all direction rest changed old now views views' gathered gathered' so 
       text_room = omega arith;
       ids = so.ids;
       next = so.next;
-      view_room = so.view_room;
+      view_capacity = so.view_capacity;
       none_made = made_all (with_freed (freed_by_all all) old.room) now.room
           (subst (λ cs. IsAtMost (with_freed (freed_by_all cs) now.room) (with_freed (freed_by_all all) old.room) no_room) e so.none_made);
       spare = subst (λ cs. SpareLeft all cs old.spare now.spare) e so.spare;

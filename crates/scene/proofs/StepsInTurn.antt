@@ -28,7 +28,7 @@ pub record StepLeaves (s : Step) (k k' : Kept) (v v' : Entries KeptView) : Type 
   pub spare : k'.spare ≡ record k.spare { markers = k'.spare.markers; fill = None }
   pub markers_in_all : marker_room_in_all k' ≡ marker_room_in_all k
   pub fold_rooms : map fold_room_in_all v'.entries ≡ map fold_room_in_all v.entries
-  pub view_room : v'.room ≡ v.room
+  pub view_capacity : v'.capacity ≡ v.capacity
 
 -- room left before the first step, after one more of them, after some and then the rest, and after all
 
@@ -70,7 +70,7 @@ rooms_next s rest steps k0 k k' v0 v v' n0 n n' texts so p types takes put share
   spare = spare_next (changes_for steps) (changes_for rest) (TextStep s) k0.spare k.spare k'.spare so.spare p.spare;
   markers_in_all = p.markers_in_all ∙ so.markers_in_all;
   fold_rooms = p.fold_rooms ∙ so.fold_rooms;
-  view_room = p.view_room ∙ so.view_room;
+  view_capacity = p.view_capacity ∙ so.view_capacity;
   note_room = put ∙ so.note_room;
   text_room = less n'.text_room texts n.text_room n0.text_room shared so.text_room;
 }
@@ -93,7 +93,7 @@ rooms_both rest steps k0 k k' v0 v v' n0 n n' so then =
       spare = then.spare ∙ ap (λ (s : ChangeRoom). record s { markers = k'.spare.markers }) so.spare;
       markers_in_all = then.markers_in_all ∙ so.markers_in_all;
       fold_rooms = then.fold_rooms ∙ so.fold_rooms;
-      view_room = then.view_room ∙ so.view_room;
+      view_capacity = then.view_capacity ∙ so.view_capacity;
       note_room = then.note_room ∙ so.note_room;
       text_room = omega arith;
     }

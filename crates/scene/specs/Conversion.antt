@@ -69,7 +69,7 @@ pub record RoomsStay (rest steps : List Step) (before after : Kept) (views views
   pub spare : SpareLeft (changes_for steps) (changes_for rest) before.spare after.spare
   pub markers_in_all : marker_room_in_all after ≡ marker_room_in_all before
   pub fold_rooms : map fold_room_in_all views'.entries ≡ map fold_room_in_all views.entries
-  pub view_room : views'.room ≡ views.room
+  pub view_capacity : views'.capacity ≡ views.capacity
   pub note_room : notes'.note_room + length notes'.notes ≡ notes.note_room + length notes.notes
   pub text_room : notes'.text_room ≤ notes.text_room
 

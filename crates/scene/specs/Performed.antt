@@ -37,7 +37,7 @@ pub record AreAllPerformed (direction : Direction) (k : Kept) (views : Entries K
       ≡ gathered.text_room
   pub ids : map id_of views'.entries ≡ map id_of views.entries
   pub next : views'.next ≡ views.next
-  pub view_room : views'.room ≡ views.room
+  pub view_capacity : views'.capacity ≡ views.capacity
   pub none_made : AddsNoRoomBut (freed_by_all (changes_of direction k.document.history)) k k'
   pub spare : k'.spare ≡ record k.spare { markers = k'.spare.markers; fill = fill_behind_all k.spare.fill (changes_of direction k.document.history) }
   pub markers_in_all : marker_room_in_all k' ≡ marker_room_in_all k

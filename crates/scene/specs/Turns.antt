@@ -81,7 +81,7 @@ pub record IsPerformed (turn : Turn) (lines_changed changed : Bool) (k : Kept) (
   pub text_room : gathered'.text_room + bytes_of_change (watchers k.document views) (bits_of turn.direction) change ≡ gathered.text_room
   pub ids : map id_of views'.entries ≡ map id_of views.entries
   pub next : views'.next ≡ views.next
-  pub view_room : views'.room ≡ views.room
+  pub view_capacity : views'.capacity ≡ views.capacity
   pub none_made : AddsNoRoomBut (freed_by change) k k'
   pub spare : k'.spare ≡ record k.spare { markers = k'.spare.markers; fill = fill_behind k.spare.fill change }
   pub markers_in_all : marker_room_in_all k' ≡ marker_room_in_all k

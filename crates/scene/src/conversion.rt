@@ -108,7 +108,7 @@ fn make_all(document: &mut Document, views: &mut IdTable<View>, notes: &mut Note
     ensures spare { KeepsSpare (conversion_fill to document.old) document.old document.new }
     ensures markers_in_all { marker_room_in_all document.new ≡ marker_room_in_all document.old }
     ensures fold_rooms { KeepFoldRooms views.old views.new }
-    ensures view_room { views.new.room ≡ views.old.room }
+    ensures view_capacity { views.new.capacity ≡ views.old.capacity }
     ensures note_room_left { note_room_in_all notes.new ≡ note_room_in_all notes.old }
     ensures text_room { notes.new.text_room ≤ notes.old.text_room }
 {
@@ -158,7 +158,7 @@ pub fn convert(
     ensures spare { KeepsSpare (conversion_fill to document.old) document.old document.new }
     ensures markers_in_all { marker_room_in_all document.new ≡ marker_room_in_all document.old }
     ensures fold_rooms { KeepFoldRooms views.old views.new }
-    ensures view_room { views.new.room ≡ views.old.room }
+    ensures view_capacity { views.new.capacity ≡ views.old.capacity }
     ensures note_room_left { note_room_in_all notes.new ≡ note_room_in_all notes.old }
     ensures text_room { notes.new.text_room ≤ notes.old.text_room }
 {

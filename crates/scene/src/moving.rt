@@ -18,7 +18,7 @@ pub(crate) fn follow(ids: &[u32], views: &mut IdTable<View>, movement: Movement,
     ensures views { views_in views.new ≡ followed_at movement edits.now ids.now (views_in views.old) }
     ensures named { AreNamed views.new.entries }
     ensures next { views.new.next ≡ views.old.next }
-    ensures room { views.new.room ≡ views.old.room }
+    ensures view_capacity { views.new.capacity ≡ views.old.capacity }
     ensures ids { map id_of views.new.entries ≡ map id_of views.old.entries }
     ensures fold_rooms { IdsRise views.old → KeepFoldRooms views.old views.new }
 {
@@ -39,7 +39,7 @@ fn follow_edits(ids: &[u32], views: &mut IdTable<View>, movement: Movement, chan
     ensures views { views_in views.new ≡ followed_at movement (edits_of change) ids.now (views_in views.old) }
     ensures named { AreNamed views.new.entries }
     ensures next { views.new.next ≡ views.old.next }
-    ensures room { views.new.room ≡ views.old.room }
+    ensures view_capacity { views.new.capacity ≡ views.old.capacity }
     ensures ids { map id_of views.new.entries ≡ map id_of views.old.entries }
     ensures fold_rooms { IdsRise views.old → KeepFoldRooms views.old views.new }
 {
@@ -62,7 +62,7 @@ pub(crate) fn follow_change(
     ensures views { views_in views.new ≡ followed_at movement (edits_of change) ids.now (views_in views.old) }
     ensures named { AreNamed views.new.entries }
     ensures next { views.new.next ≡ views.old.next }
-    ensures room { views.new.room ≡ views.old.room }
+    ensures view_capacity { views.new.capacity ≡ views.old.capacity }
     ensures ids { map id_of views.new.entries ≡ map id_of views.old.entries }
     ensures fold_rooms { IdsRise views.old → KeepFoldRooms views.old views.new }
 {

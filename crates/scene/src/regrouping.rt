@@ -29,7 +29,7 @@ pub fn regroup(
     ensures ids { map id_of views.new.entries ≡ map id_of views.old.entries }
     ensures fold_rooms { KeepFoldRooms views.old views.new }
     ensures next { views.new.next ≡ views.old.next }
-    ensures room { views.new.room ≡ views.old.room }
+    ensures view_capacity { views.new.capacity ≡ views.old.capacity }
 {
     edits_of_settings();
     rows_match_lines();

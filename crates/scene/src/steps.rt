@@ -157,7 +157,7 @@ pub(crate) fn step_heard(
     ensures ids { map id_of views.new.entries ≡ map id_of views.old.entries }
     ensures fold_rooms { KeepFoldRooms views.old views.new }
     ensures next { views.new.next ≡ views.old.next }
-    ensures view_room { views.new.room ≡ views.old.room }
+    ensures view_capacity { views.new.capacity ≡ views.old.capacity }
 {
     edits_of_steps();
     moves_are_those_of_steps();
@@ -225,7 +225,7 @@ pub fn make_step(
     ensures ids { map id_of views.new.entries ≡ map id_of views.old.entries }
     ensures fold_rooms { KeepFoldRooms views.old views.new }
     ensures next { views.new.next ≡ views.old.next }
-    ensures view_room { views.new.room ≡ views.old.room }
+    ensures view_capacity { views.new.capacity ≡ views.old.capacity }
 {
     let is_left = leaves_save_point(document);
     let begins = document.append(later, step);

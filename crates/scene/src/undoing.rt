@@ -169,7 +169,7 @@ pub fn perform_history(
     ensures text_room_left { TakesTextRoom (history_bytes direction document.old views.old) notes.old notes.new }
     ensures ids { map id_of views.new.entries ≡ map id_of views.old.entries }
     ensures next { views.new.next ≡ views.old.next }
-    ensures view_room { views.new.room ≡ views.old.room }
+    ensures view_capacity { views.new.capacity ≡ views.old.capacity }
     ensures fold_rooms { KeepFoldRooms views.old views.new }
 {
     let was_there = document.history().is_at_save_point();

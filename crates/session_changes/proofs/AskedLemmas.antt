@@ -1,6 +1,5 @@
 -- The view and the document of a request, as the session keeps them.
 use Rattle.session_changes.proofs.Names.{◌≡◌, ℕ, ◌==◌, List, map, length, ap, sym, ◌∙◌, subst, Some, None, IsSomeAnd, if◌then◌else◌, ViewChange, Document, View, Session, view_at, document_at, lines_in, with_view, IsSoundView, StandsOn, Request, changed_view, view_change_performed, found_once, changed_view_id, fold_need, FitChangesAreWithin, IsWithin, HasFoldRoom, KeptView, view_in, Kept, document_of, Entries, value_at, views_of, session_in, SessionState, IsKept, IsAsked, CanChangeView, HasFoldRoomAt, levels_of, changed_at, CanChange, id_of_view, id_of_document, IsKeptAs, kept_as, own_at, holds_at, one_changes}
-use Rattle.ed_model.specs.declared.plan.ViewChange.TheVariants as view_change
 
 module _ (s : SessionState) (document view : ℕ) (r : Request) (kept : IsKept s) (asked : IsAsked (session_in s) document view r) where
   pub view_found : view_at (session_in s).views view ≡ Some r.view

@@ -3,7 +3,7 @@ use Rattle.std.specs.Prelude.{◌≡◌, ℕ, ◌<◌, ◌≤◌, nat_lt, max, B
 use Rattle.ed_model.specs.declared.plan.SessionChange.{SessionChange}
 use Rattle.ed_model.specs.declared.plan.SessionChange.TheVariants as change
 use Rattle.ed_model.specs.Session.{new_document}
-use Rattle.id_table.specs.Entries.{Entries, Entry, value_at}
+use Rattle.id_table.specs.Entries.{Entries, Entry, HasRoom, KeepsCapacity, most_ids, value_at}
 use Rattle.document.specs.Kept.{Kept, no_room}
 use Rattle.session_changes.specs.Kept.{OthersStay}
 use Rattle.session_changes.specs.declared.ready.SessionReady.{SessionReady}
@@ -21,7 +21,7 @@ IsDocument k other = ⊥
 
 -- a new document with this property, and room for it in the table
 abbrev pub IsNewDocument : Entries Kept → (Kept → Type 0) → SessionReady → Type 0
-IsNewDocument table IsSo (ready.NewDocument made) = (0 < table.room) × IsSo made.value
+IsNewDocument table IsSo (ready.NewDocument made) = HasRoom 1 table × IsSo made.value
 IsNewDocument table IsSo other = ⊥
 
 abbrev pub IsNothing : SessionReady → Type 0
@@ -71,10 +71,18 @@ ArePlacesAtMost old new id =
     IfSome (value_at old id) (λ was. IfSome (value_at new id) (λ now. HasPlacesAtMost was now))
     × OthersStay id old new
 
--- for an attach, only the room of its document changes; for other changes only that of the table, to at most its old room or 1
+-- Only the capacity of the table changes, if one more document does not fit. It grows, and of ids to no more than that asks for.
+abbrev pub GrowsForOne : Entries Kept → Entries Kept → Type 0
+GrowsForOne old new =
+    (new ≡ record old { capacity = new.capacity }) × KeepsCapacity old.capacity new.capacity × (new.capacity.ids ≤ most_ids 1 old)
+    × (HasRoom 1 old → new ≡ old)
+
+-- for an attach, only the room of its document for views changes; for a new document, only the capacity of the table; else nothing
 abbrev pub IsRoomAtMost : SessionChange → Entries Kept → Entries Kept → Type 0
-IsRoomAtMost (change.Attach id) old new = ArePlacesAtMost old.entries new.entries id × (new.room ≡ old.room)
-IsRoomAtMost other old new = (new.entries ≡ old.entries) × (new.room ≤ max old.room 1)
+IsRoomAtMost (change.Attach id) old new = ArePlacesAtMost old.entries new.entries id × (new.capacity ≡ old.capacity)
+IsRoomAtMost change.AttachNew old new = GrowsForOne old new
+IsRoomAtMost (change.Create options) old new = GrowsForOne old new
+IsRoomAtMost other old new = new ≡ old
 
 -- whether the change may need an allocation
 abbrev pub takes_memory : SessionChange → Bool

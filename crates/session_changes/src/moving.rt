@@ -85,7 +85,7 @@ fn stand_on(views: &mut IdTable<View>, view: u32, document: &Document)
     ensures named { AreNamed views.new.entries }
     ensures next { views.new.next ≡ views.old.next }
     ensures fold_rooms { map fold_room_in_all views.new.entries ≡ map fold_room_in_all views.old.entries }
-    ensures view_room { views.new.room ≡ views.old.room }
+    ensures view_capacity { views.new.capacity ≡ views.old.capacity }
 {
     let Some(view) = views.get_mut(view) else {
         unreachable!()
@@ -109,7 +109,7 @@ pub(crate) fn attach(state: &mut SessionState, from: u32, view: u32, to: u32)
     ensures named_documents { DocumentsAreNamed state.new.documents.entries }
     ensures named_views { AreNamed state.new.views.entries }
     ensures fold_rooms { map fold_room_in_all state.new.views.entries ≡ map fold_room_in_all state.old.views.entries }
-    ensures view_room { state.new.views.room ≡ state.old.views.room }
+    ensures view_capacity { state.new.views.capacity ≡ state.old.views.capacity }
 {
     let SessionState {
         documents,

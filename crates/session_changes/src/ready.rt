@@ -1,11 +1,11 @@
 //! Allocations for a change of a session, before anything changes.
 
-ghost use Rattle.std.specs.Prelude.{◌≡◌, ◌≤◌, max, false, IsOk, IfOk, OnOk};
+ghost use Rattle.std.specs.Prelude.{◌≡◌, false, IsOk, IfOk, OnOk};
 ghost use Rattle.scene.specs.Scenes.{AreNamed};
 ghost use Rattle.message_requests.specs.Requested.{session_in, documents_in};
 ghost use Rattle.session_changes.specs.Kept.{IsKept, DocumentsAreNamed};
 ghost use Rattle.session_changes.specs.Moving.{DocumentsRise};
-ghost use Rattle.session_changes.specs.Ready.{IsReady, IsThere, IsRoomAtMost, IsClipboardFor, IsDocument, IsNewDocument, AwaitsView, IsHeld, HasPlace, ArePlacesAtMost, takes_memory};
+ghost use Rattle.session_changes.specs.Ready.{IsReady, IsThere, IsRoomAtMost, IsClipboardFor, IsDocument, IsNewDocument, AwaitsView, IsHeld, HasPlace, ArePlacesAtMost, GrowsForOne, takes_memory};
 
 use document::Document;
 use document_table::DocumentTable;
@@ -51,7 +51,7 @@ fn reserve_view_in(documents: &mut DocumentTable, document: u32) -> Result<(), A
     ensures same { documents_in documents.new ≡ documents_in documents.old }
     ensures named { DocumentsAreNamed documents.new.entries }
     ensures next { documents.new.next ≡ documents.old.next }
-    ensures room { documents.new.room ≡ documents.old.room }
+    ensures capacity { documents.new.capacity ≡ documents.old.capacity }
     ensures ok { OnOk result (HasPlace documents.new.entries document) }
     ensures room_is_there { HasPlace documents.old.entries document → IsOk result }
     ensures at_most { ArePlacesAtMost documents.old.entries documents.new.entries document }
@@ -85,10 +85,8 @@ fn document_for_view(
     alloc: Global,
     documents: &mut DocumentTable,
 ) -> Result<SessionReady, AllocError>
-    ensures entries { documents.new.entries ≡ documents.old.entries }
-    ensures next { documents.new.next ≡ documents.old.next }
     ensures ok { IfOk result (IsNewDocument documents.new (AwaitsView documents.new.next)) }
-    ensures at_most { documents.new.room ≤ max documents.old.room 1 }
+    ensures at_most { GrowsForOne documents.old documents.new }
 {
     let mut document = Document::new(alloc, documents.next(), 0)?;
     let Ok(()) = document.reserve_view() else {
@@ -110,10 +108,8 @@ fn document_for_caller(
     documents: &mut DocumentTable,
     options: u32,
 ) -> Result<SessionReady, AllocError>
-    ensures entries { documents.new.entries ≡ documents.old.entries }
-    ensures next { documents.new.next ≡ documents.old.next }
     ensures ok { IfOk result (IsNewDocument documents.new (IsHeld documents.new.next options)) }
-    ensures at_most { documents.new.room ≤ max documents.old.room 1 }
+    ensures at_most { GrowsForOne documents.old documents.new }
 {
     let mut document = Document::new(alloc, documents.next(), options)?;
     let Ok(()) = documents.reserve(1) else {

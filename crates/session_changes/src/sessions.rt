@@ -61,7 +61,7 @@ fn change_clipboard(
     ensures documents { DocumentsAreNamed state.new.documents.entries }
     ensures views { AreNamed state.new.views.entries }
     ensures fold_rooms { map fold_room_in_all state.new.views.entries ≡ map fold_room_in_all state.old.views.entries }
-    ensures view_room { state.new.views.room ≡ state.old.views.room }
+    ensures view_capacity { state.new.views.capacity ≡ state.old.views.capacity }
 {
     copy(&state.documents, document, text, change, &mut bytes);
     state.clipboard = bytes;
@@ -106,7 +106,7 @@ fn change_references(state: &mut SessionState, document: u32, view: u32, change:
     ensures documents { DocumentsAreNamed state.new.documents.entries }
     ensures views { AreNamed state.new.views.entries }
     ensures fold_rooms { map fold_room_in_all state.new.views.entries ≡ map fold_room_in_all state.old.views.entries }
-    ensures view_room { state.new.views.room ≡ state.old.views.room }
+    ensures view_capacity { state.new.views.capacity ≡ state.old.views.capacity }
 {
     match change {
         SessionChange::Attach { document: to } => attach(state, document, view, to),
@@ -133,7 +133,7 @@ fn add_document(
     ensures documents { DocumentsAreNamed state.new.documents.entries }
     ensures views { AreNamed state.new.views.entries }
     ensures fold_rooms { map fold_room_in_all state.new.views.entries ≡ map fold_room_in_all state.old.views.entries }
-    ensures view_room { state.new.views.room ≡ state.old.views.room }
+    ensures view_capacity { state.new.views.capacity ≡ state.old.views.capacity }
 {
     let id = state.documents.insert_reserved(Box::into_inner(new));
     if let SessionChange::AttachNew = change {
@@ -160,7 +160,7 @@ pub fn change_session(
     ensures documents { DocumentsAreNamed state.new.documents.entries }
     ensures views { AreNamed state.new.views.entries }
     ensures fold_rooms { map fold_room_in_all state.new.views.entries ≡ map fold_room_in_all state.old.views.entries }
-    ensures view_room { state.new.views.room ≡ state.old.views.room }
+    ensures view_capacity { state.new.views.capacity ≡ state.old.views.capacity }
 {
     match ready {
         SessionReady::Nothing => change_references(state, document, view, change),

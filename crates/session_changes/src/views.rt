@@ -33,7 +33,7 @@ fn reserve_in(views: &mut IdTable<View>, view: u32, change: ViewChange) -> Resul
     ensures next { views.new.next ≡ views.old.next }
     ensures ok { OnOk result (HasFoldRoomAt views.new.entries view change) }
     ensures room_is_there { HasFoldRoomAt views.old.entries view change → IsOk result × (views.new ≡ views.old) }
-    ensures view_room { views.new.room ≡ views.old.room }
+    ensures view_capacity { views.new.capacity ≡ views.old.capacity }
     ensures at_most { IsRoomAtMostAt views.old.entries views.new.entries view change }
     ensures others { OthersStay view views.old.entries views.new.entries }
     ensures free { takes_fold_room change ≡ false → IsOk result }
@@ -64,7 +64,7 @@ pub fn reserve_view_change(
     ensures views { AreNamed state.new.views.entries }
     ensures ok { OnOk result (HasFoldRoomAt state.new.views.entries view change) }
     ensures room_is_there { HasFoldRoomAt state.old.views.entries view change → IsOk result × (state.new ≡ state.old) }
-    ensures view_room { state.new.views.room ≡ state.old.views.room }
+    ensures view_capacity { state.new.views.capacity ≡ state.old.views.capacity }
     ensures clipboard { state.new.clipboard ≡ state.old.clipboard }
     ensures at_most { IsRoomAtMostAt state.old.views.entries state.new.views.entries view change }
     ensures others { OthersStay view state.old.views.entries state.new.views.entries }
@@ -90,7 +90,7 @@ fn change_in(views: &mut IdTable<View>, view: u32, levels: &Levels, change: View
     ensures named { AreNamed views.new.entries }
     ensures next { views.new.next ≡ views.old.next }
     ensures fold_rooms { map fold_room_in_all views.new.entries ≡ map fold_room_in_all views.old.entries }
-    ensures view_room { views.new.room ≡ views.old.room }
+    ensures view_capacity { views.new.capacity ≡ views.old.capacity }
 {
     let Some(view) = views.get_mut(view) else {
         unreachable!()
@@ -109,7 +109,7 @@ fn set_in(views: &mut IdTable<View>, view: u32, change: ViewChange)
     ensures named { AreNamed views.new.entries }
     ensures next { views.new.next ≡ views.old.next }
     ensures fold_rooms { map fold_room_in_all views.new.entries ≡ map fold_room_in_all views.old.entries }
-    ensures view_room { views.new.room ≡ views.old.room }
+    ensures view_capacity { views.new.capacity ≡ views.old.capacity }
 {
     let Some(view) = views.get_mut(view) else {
         unreachable!()
@@ -129,7 +129,7 @@ fn change_by_levels(state: &mut SessionState, document: u32, view: u32, change: 
     ensures documents { state.new.documents ≡ state.old.documents }
     ensures views { AreNamed state.new.views.entries }
     ensures fold_rooms { map fold_room_in_all state.new.views.entries ≡ map fold_room_in_all state.old.views.entries }
-    ensures view_room { state.new.views.room ≡ state.old.views.room }
+    ensures view_capacity { state.new.views.capacity ≡ state.old.views.capacity }
     ensures clipboard { state.new.clipboard ≡ state.old.clipboard }
 {
     // States that the lines that a fit change names exist.
@@ -157,7 +157,7 @@ pub fn change_view(state: &mut SessionState, document: u32, view: u32, change: V
     ensures documents { state.new.documents ≡ state.old.documents }
     ensures views { AreNamed state.new.views.entries }
     ensures fold_rooms { map fold_room_in_all state.new.views.entries ≡ map fold_room_in_all state.old.views.entries }
-    ensures view_room { state.new.views.room ≡ state.old.views.room }
+    ensures view_capacity { state.new.views.capacity ≡ state.old.views.capacity }
     ensures clipboard { state.new.clipboard ≡ state.old.clipboard }
 {
     if is_setting(change) {

@@ -14,6 +14,6 @@ returns-clause-changed c = λ text sender notes.
       watched = rw made (c.regroup.ensures.watched (regrouped rows_together d.line_end_types c.args.types (text_of d) d.rows));
       ids = c.regroup.ensures.ids;
       next = c.regroup.ensures.next;
-      room = c.regroup.ensures.room;
+      view_capacity = c.regroup.ensures.view_capacity;
       fold_rooms = c.regroup.ensures.fold_rooms;
     }

@@ -43,13 +43,13 @@ returns-clause-fold_rooms c =
     let all = rooms_of_all a.to a.document.now put.new.document took.new.document a.views.now put.new.views took.new.views a.notes.now put.new.notes took.new.notes put.ensures.left.rooms put.ensures.text took.ensures.rooms in
     all.fold_rooms
 
-pub returns-clause-view_room : goal.returns-clause-view_room
-returns-clause-view_room c =
+pub returns-clause-view_capacity : goal.returns-clause-view_capacity
+returns-clause-view_capacity c =
     let a = c.args in
     let put = c.put_missing-later in
     let took = c.take_unwanted in
     let all = rooms_of_all a.to a.document.now put.new.document took.new.document a.views.now put.new.views took.new.views a.notes.now put.new.notes took.new.notes put.ensures.left.rooms put.ensures.text took.ensures.rooms in
-    all.view_room
+    all.view_capacity
 
 pub returns-clause-note_room_left : goal.returns-clause-note_room_left
 returns-clause-note_room_left c =

@@ -32,7 +32,7 @@ returns c =
       views = follow_all _ _ _ _ _ _ so (drop_all c.loop-id.id-index c.args.ids.now c.loop-id-test.false);
       named = so.named;
       next = so.next;
-      room = so.room;
+      view_capacity = so.view_capacity;
       ids = so.same;
       fold_rooms = so.fold_rooms;
     }

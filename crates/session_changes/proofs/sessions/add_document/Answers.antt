@@ -45,5 +45,5 @@ returns-in_default c =
       documents = all_named s c.args.document c.args.view can.request c.requires.kept can.asked put.new.self c.into_inner.result put.ensures.entries put.ensures.next (ap (λ (d : Document). d.id) held.0);
       views = c.requires.kept.views;
       fold_rooms = refl;
-      view_room = refl;
+      view_capacity = refl;
     }
