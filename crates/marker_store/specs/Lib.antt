@@ -1,4 +1,3 @@
+pub mod Chains
 pub mod Dropping
-pub mod Entries
-pub mod Flags
 pub mod Lines

@@ -4,9 +4,10 @@ ghost use Rattle.marker_store.specs.Dropping.{is_dropped};
 
 use crate::markers::Marker;
 
-/// All markers, those with a number, or the one with a handle.
+/// No markers, all markers, those with a number, or the one with a handle.
 #[derive(Clone, Copy, Drop)]
 pub enum Drops {
+    Nothing,
     Each,
     Number(u32),
     Handle(u32),
@@ -18,6 +19,7 @@ impl Drops {
         ensures { result ≡ is_dropped self.now marker.now }
     {
         match *self {
+            Drops::Nothing => false,
             Drops::Each => true,
             Drops::Number(number) => marker.number() == number,
             Drops::Handle(handle) => marker.handle() == handle,

@@ -1,0 +1,13 @@
+use Rattle.marker_store.proofs.Names.{◌≡◌, ◌+◌, ◌-◌, ◌^◌, ◌<◌, ◌≤◌, ◌≢◌, ◌==◌, zero, suc, List, [], ◌∷◌, ◌++◌, length, get_or, set, ap, sym, refl, ◌∙◌, arith, subst, Chained, Marker, get_or_default, length-set, length-append, Link, link, link_at, no_link, relinked, IsChain, mask_of, bit_or, list_any, held, true, false, eqb, eq-eqb, ne_eqb, take, drop, append-nil}
+use Rattle.marker_store.proofs.LinkMoves.{row, laid, chain_of, length_of, as_many}
+use Rattle.marker_store.proofs.LinkViews.{lines_seen, bare_is, length-row, length-laid, held_is, links_within}
+use Rattle.marker_store.proofs.Deeds.{row_is}
+use Rattle.marker_store.proofs.chains.Chains.capacity.Goals as goal
+
+pub returns-clause-enough : goal.returns-clause-enough
+returns-clause-enough g c =
+    let d = c.self.inside in
+    let i = c.self.invariant in
+    let all = length d.links.items + d.links.spare in
+    let lines = length d.heads.items + d.heads.spare in
+    omega (arith, held_is d.links.items d.heads.items d.spare d.aside d.unused all lines i, ap held c.self.view_is, ap (λ (x : Chained). x.capacity) c.self.view_is)

@@ -1,0 +1,96 @@
+//! Changes of the markers of one line, and of all lines.
+ghost use Rattle.std.specs.Prelude.{◌≡◌, ◌<◌, ◌+◌, ◌++◌, [], length, slice_index_or, slice_set};
+ghost use Rattle.ed_model.specs.Changes.{without_first};
+ghost use Rattle.marker_store.specs.Dropping.{kept, kept_rows};
+ghost use Rattle.marker_store.specs.Lines.{with_joined};
+
+use crate::chains::Chains;
+use crate::drops::Drops;
+use std::alloc::Allocator;
+
+impl<A: Allocator> Chains<A> {
+    // Lays the markers of the line aside, so that the first one is in front.
+    fn lay_all(&mut self, line: usize)
+        requires { line < length self.old.rows }
+        ensures { self.new ≡ record self.old { rows = slice_set self.old.rows line []; aside = slice_index_or self.old.rows line [] ++ self.old.aside } }
+    {
+        'laying: while !self.is_bare(line) {
+            self.lay(line);
+        }
+    }
+
+    // Puts the markers that are laid aside behind those of the line, but for those that `drops` names.
+    fn put_all_back(&mut self, line: usize, drops: Drops)
+        requires { line < length self.old.rows }
+        ensures { self.new ≡ record self.old { rows = slice_set self.old.rows line (slice_index_or self.old.rows line [] ++ kept drops self.old.aside); aside = [] } }
+    {
+        'putting: while self.has_aside() {
+            let marker = self.first();
+            if drops.takes(&marker) {
+                self.free();
+            } else {
+                self.put_back(line);
+            }
+        }
+    }
+
+    // Puts the markers that are laid aside behind those of the line, but for the first with the number.
+    fn put_back_but_first(&mut self, line: usize, number: u32)
+        requires { line < length self.old.rows }
+        ensures { self.new ≡ record self.old { rows = slice_set self.old.rows line (slice_index_or self.old.rows line [] ++ without_first number self.old.aside); aside = [] } }
+    {
+        'putting: while self.has_aside() {
+            let marker = self.first();
+            if marker.number() == number {
+                self.free();
+                self.put_all_back(line, Drops::Nothing);
+                return;
+            }
+            self.put_back(line);
+        }
+    }
+
+    /// Deletes the markers of the line that `drops` names. No marker is laid aside.
+    pub(crate) fn delete(&mut self, line: usize, drops: Drops)
+        requires line { line < length self.old.rows }
+        requires none { self.old.aside ≡ [] }
+        ensures { self.new ≡ record self.old { rows = slice_set self.old.rows line (kept drops (slice_index_or self.old.rows line [])) } }
+    {
+        self.lay_all(line);
+        self.put_all_back(line, drops);
+    }
+
+    /// Deletes the first marker of the line with the number. No marker is laid aside.
+    pub(crate) fn delete_first(&mut self, line: usize, number: u32)
+        requires line { line < length self.old.rows }
+        requires none { self.old.aside ≡ [] }
+        ensures { self.new ≡ record self.old { rows = slice_set self.old.rows line (without_first number (slice_index_or self.old.rows line [])) } }
+    {
+        self.lay_all(line);
+        self.put_back_but_first(line, number);
+    }
+
+    /// Deletes the markers of all lines that `drops` names. No marker is laid aside.
+    pub(crate) fn delete_all(&mut self, drops: Drops)
+        requires { self.old.aside ≡ [] }
+        ensures { self.new ≡ record self.old { rows = kept_rows drops self.old.rows } }
+    {
+        for line in 0..self.lines() {
+            self.delete(line, drops);
+        }
+    }
+
+    /// Joins the line behind the line to it: its markers follow those of the line. No marker is laid aside.
+    pub(crate) fn join(&mut self, line: usize)
+        requires line { line + 1 < length self.old.rows }
+        requires none { self.old.aside ≡ [] }
+        ensures { self.new ≡ record self.old { rows = with_joined line 1 self.old.rows } }
+    {
+        let lines = self.lines();
+        prove!(line < lines);
+        let behind = line + 1;
+        self.lay_all(behind);
+        self.put_all_back(line, Drops::Nothing);
+        self.remove(behind);
+    }
+}
