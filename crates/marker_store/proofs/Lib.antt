@@ -7,3 +7,5 @@ pub mod LineChains
 pub mod Walks
 pub mod Changes
 pub mod Joins
+pub mod Finds
+pub mod Stores

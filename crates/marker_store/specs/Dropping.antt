@@ -1,5 +1,5 @@
 -- Which markers a call removes.
-use Rattle.std.specs.Prelude.{◌==◌, not, Bool, true, false, List, filter, map}
+use Rattle.std.specs.Prelude.{◌==◌, not, ℕ, Bool, true, false, List, filter, map, Option, Some, None}
 use Rattle.ed_model.specs.Rows.{Marker}
 use Rattle.marker_store.specs.declared.drops.Drops.{Drops}
 use Rattle.marker_store.specs.declared.drops.Drops.TheVariants.{Nothing, Each, Number, Handle}
@@ -15,3 +15,8 @@ kept drops ms = filter (λ m. not (is_dropped drops m)) ms
 
 abbrev pub kept_rows : Drops → List (List Marker) → List (List Marker)
 kept_rows drops rows = map (kept drops) rows
+
+-- the markers with the number, or all of them
+abbrev pub of_number : Option ℕ → Drops
+of_number None = Each
+of_number (Some number) = Number number

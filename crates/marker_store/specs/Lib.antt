@@ -1,3 +1,4 @@
 pub mod Chains
 pub mod Dropping
 pub mod Lines
+pub mod Store

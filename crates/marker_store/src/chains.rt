@@ -70,22 +70,23 @@ impl<A: Allocator> Chains<A> {
     /// Returns how many lines have a chain.
     pub(crate) fn lines(&self) -> usize
         ensures lines { result ≡ length self.now.rows }
-        ensures within { result < 2 ^ 63 }
+        ensures within { length self.now.rows ≤ self.now.line_capacity }
+        ensures small { self.now.line_capacity < 2 ^ 63 }
     {
         self.heads.len()
     }
 
     /// Returns how many links have a marker.
     pub(crate) fn len(&self) -> usize
-        ensures { result ≡ held self.now }
+        ensures len { result ≡ held self.now }
+        ensures fit { held self.now ≤ self.now.capacity }
     {
         self.links.len() - self.unused
     }
 
     /// Returns for how many markers there is memory.
     pub(crate) fn capacity(&self) -> usize
-        ensures capacity { result ≡ self.now.capacity }
-        ensures enough { held self.now ≤ self.now.capacity }
+        ensures { result ≡ self.now.capacity }
     {
         self.links.len() + self.links.spare()
     }

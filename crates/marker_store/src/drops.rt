@@ -1,6 +1,6 @@
 //! Which markers a call removes.
 ghost use Rattle.std.specs.Prelude.{◌≡◌};
-ghost use Rattle.marker_store.specs.Dropping.{is_dropped};
+ghost use Rattle.marker_store.specs.Dropping.{is_dropped, of_number};
 
 use crate::markers::Marker;
 
@@ -14,6 +14,16 @@ pub enum Drops {
 }
 
 impl Drops {
+    /// Returns those with the number, or all of them.
+    pub(crate) fn of_number(number: Option<u32>) -> Self
+        ensures { result ≡ of_number number }
+    {
+        match number {
+            None => Drops::Each,
+            Some(number) => Drops::Number(number),
+        }
+    }
+
     /// Returns whether `marker` is one of them.
     pub(crate) fn takes(&self, marker: &Marker) -> bool
         ensures { result ≡ is_dropped self.now marker.now }

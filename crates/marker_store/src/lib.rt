@@ -6,6 +6,8 @@ mod drops;
 mod links;
 mod markers;
 mod rows;
+mod searches;
+mod store;
 
 #[doc(hidden)]
 pub use chains::Chains;
@@ -13,3 +15,4 @@ pub use chains::Chains;
 pub use links::Link;
 #[doc(hidden)]
 pub use markers::Marker;
+pub use store::{GREATEST_LINES, MarkerStore};

@@ -1,8 +1,9 @@
 //! Changes of the markers of one line, and of all lines.
-ghost use Rattle.std.specs.Prelude.{◌≡◌, ◌<◌, ◌+◌, ◌++◌, [], length, slice_index_or, slice_set};
-ghost use Rattle.ed_model.specs.Changes.{without_first};
+ghost use Rattle.std.specs.Prelude.{◌≡◌, ◌⊎◌, ◌≤◌, ◌<◌, ◌+◌, ◌++◌, [], length, slice_index_or, slice_set};
+ghost use Rattle.ed_model.specs.Changes.{without_first, without_marker};
 ghost use Rattle.marker_store.specs.Dropping.{kept, kept_rows};
 ghost use Rattle.marker_store.specs.Lines.{with_joined};
+ghost use Rattle.marker_store.specs.Store.{all_lines};
 
 use crate::chains::Chains;
 use crate::drops::Drops;
@@ -68,6 +69,31 @@ impl<A: Allocator> Chains<A> {
     {
         self.lay_all(line);
         self.put_back_but_first(line, number);
+    }
+
+    /// Deletes the first marker of the line with the number, or all of its markers. No marker is laid aside.
+    pub(crate) fn delete_on(&mut self, line: usize, number: Option<u32>)
+        requires { self.old.aside ≡ [] }
+        ensures { self.new ≡ record self.old { rows = slice_set self.old.rows line (without_marker number (slice_index_or self.old.rows line [])) } }
+    {
+        if line >= self.lines() {
+            return;
+        }
+        match number {
+            None => self.delete(line, Drops::Each),
+            Some(number) => self.delete_first(line, number),
+        }
+    }
+
+    /// Gives each of `lines` lines a chain, unless all have one. There must be room for them.
+    pub(crate) fn open(&mut self, lines: usize)
+        requires headed { (self.old.rows ≡ []) ⊎ (length self.old.rows ≡ lines) }
+        requires room { lines ≤ self.old.line_capacity }
+        ensures { self.new ≡ record self.old { rows = all_lines lines self.old.rows } }
+    {
+        if self.lines() == 0 {
+            self.insert(0, lines);
+        }
     }
 
     /// Deletes the markers of all lines that `drops` names. No marker is laid aside.
