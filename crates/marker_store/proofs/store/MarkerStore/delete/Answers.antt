@@ -16,7 +16,14 @@ invariant_of-self g c =
     (length-set d.chains.rows c.args.line (without_marker c.args.number (get_or d.chains.rows c.args.line []))) (marker_fewer c.args.number c.args.line d.chains.rows))
 
 pub returns-clause-went : goal.returns-clause-went
-returns-clause-went g c = ?
+returns-clause-went g c =
+    let d = c.self.inside in
+    let new = c.delete_on.new.self in
+    let none = c.self.invariant.none_aside in
+    let still : length new.aside ≡ 0 = ap (λ (x : Chained). length x.aside) c.delete_on.ensures ∙ ap length none in
+    rw (← c.self.view_is)
+    (differs c.len.result c.len-markers.result _ _ (omega (arith, c.len.ensures.len, total_padded new.rows (d.lines - length new.rows), still))
+    (omega (arith, c.len-markers.ensures.len, total_padded d.chains.rows (d.lines - length d.chains.rows), ap length none)))
 
 pub returns-clause-lines : goal.returns-clause-lines
 returns-clause-lines g c =

@@ -1,4 +1,5 @@
 use Rattle.marker_store.proofs.Names.{◌≡◌, ◌≢◌, ◌⊎◌, inl, inr, ℕ, ◌+◌, ◌-◌, ◌^◌, ◌<◌, ◌≤◌, ◌==◌, ◌++◌, List, [], ◌∷◌, length, get_or, set, map, take, drop, replicate, ap, sym, refl, ◌∙◌, arith, subst, true, false, not, min, bit_and, mask_of, list_any, find, sum_by, eq-eqb, ne_eqb, length-set, length-map, nil_from_length, Chained, Marker, held, marker_total, markers_of, marked_lines, MarkedLines, with_fresh, with_joined, without, is_met, has_handle}
+use Rattle.std.proofs.lemmas.List.{get_or_past}
 use Rattle.ed_model.specs.Changes.{without_first, without_marker, is_of_number}
 use Rattle.split_vector.specs.Split.{inserted}
 use Rattle.marker_store.specs.Dropping.{kept, kept_rows, of_number}
@@ -14,4 +15,7 @@ returns-then-line-lines g c =
     rw (← c.self.view_is) (c.mask.ensures ∙ ap mask_of (sym (at_padded d.chains.rows (d.lines - length d.chains.rows) c.args.line)))
 
 pub returns : goal.returns
-returns g c = ?
+returns g c =
+    let d = c.self.inside in
+    rw (← c.self.view_is)
+    (sym (ap mask_of (at_padded d.chains.rows (d.lines - length d.chains.rows) c.args.line ∙ get_or_past d.chains.rows c.args.line [] (omega (arith, c.if-line-lines.false, c.lines.ensures.lines)))))

@@ -25,7 +25,19 @@ invariant_of-self g c =
     })
 
 pub returns-then-lines-gt0 : goal.returns-then-lines-gt0
-returns-then-lines-gt0 g c = ?
+returns-then-lines-gt0 g c =
+    let d = c.self.inside in
+    let n = is_full d.lines d.chains.rows c.self.invariant.headed (omega (arith, c.if-lines-gt0.true, c.lines.ensures.lines)) in
+    rw (← c.self.view_is)
+    (ap (λ (x : Chained). marked_lines (all_lines (d.lines + c.args.count) x.rows) d.next_handle x.capacity x.line_capacity) c.insert.ensures
+    ∙ ap (λ (ls : List (List Marker)). marked_lines ls d.next_handle d.chains.capacity d.chains.line_capacity) (fresh_full d.lines c.args.line c.args.count d.chains.rows n))
 
 pub returns-else-lines-gt0 : goal.returns-else-lines-gt0
-returns-else-lines-gt0 g c = ?
+returns-else-lines-gt0 g c =
+    let d = c.self.inside in
+    let none : d.chains.rows ≡ [] = nil_from_length d.chains.rows (omega (arith, c.if-lines-gt0.false, c.lines.ensures.lines)) in
+    let line = rw (← c.self.view_is) at c.requires.line in
+    let inside : c.args.line ≤ d.lines = omega (arith, line, lines_length d.lines d.chains.rows c.self.invariant.headed) in
+    rw (← c.self.view_is)
+    (ap (λ (ls : List (List Marker)). marked_lines ls d.next_handle d.chains.capacity d.chains.line_capacity)
+    (ap (all_lines (d.lines + c.args.count)) none ∙ fresh_none d.lines c.args.line c.args.count inside ∙ ap (λ (rs : List (List Marker)). with_fresh c.args.line c.args.count (all_lines d.lines rs)) (sym none)))

@@ -1,0 +1,7 @@
+use Rattle.marker_store.proofs.Names.{◌≡◌, with_joined}
+use Rattle.marker_store.proofs.store.MarkerStore.merge.Given as goal
+
+abbrev pub invariant-loop-joined : goal.invariant-loop-joined
+invariant-loop-joined g l =
+    (l.self-inside.chains ≡ record l.initial.self-inside.chains { rows = with_joined l.line l._joined l.initial.self-inside.chains.rows })
+    × (l.self-inside.lines ≡ l.initial.self-inside.lines) × (l.self-inside.next_handle ≡ l.initial.self-inside.next_handle)
