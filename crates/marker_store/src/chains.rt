@@ -80,6 +80,7 @@ impl<A: Allocator> Chains<A> {
     pub(crate) fn len(&self) -> usize
         ensures len { result ≡ held self.now }
         ensures fit { held self.now ≤ self.now.capacity }
+        ensures small { self.now.capacity < 2 ^ 63 }
     {
         self.links.len() - self.unused
     }

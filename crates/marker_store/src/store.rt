@@ -67,6 +67,7 @@ impl<A: Allocator> MarkerStore<A> {
         ensures markers { result ≡ marker_total self.now.lines }
         ensures fewer { marker_total self.now.lines < self.now.next_handle }
         ensures fit { marker_total self.now.lines ≤ self.now.capacity }
+        ensures small { self.now.capacity < 2 ^ 63 }
     {
         self.chains.len()
     }
@@ -128,6 +129,7 @@ impl<A: Allocator> MarkerStore<A> {
         requires { line < length self.old.lines }
         ensures went { IsTrue result ↔ (marker_total self.new.lines ≢ marker_total self.old.lines) }
         ensures lines { self.new ≡ record self.old { lines = without_marker_on line number self.old.lines } }
+        ensures fewer { marker_total self.new.lines ≤ marker_total self.old.lines }
     {
         let markers = self.chains.len();
         self.chains.delete_on(line, number);
@@ -138,6 +140,7 @@ impl<A: Allocator> MarkerStore<A> {
     pub fn delete_all(&mut self, number: Option<u32>) -> bool
         ensures went { IsTrue result ↔ (marker_total self.new.lines ≢ marker_total self.old.lines) }
         ensures lines { self.new ≡ record self.old { lines = without (is_of_number number) self.old.lines } }
+        ensures fewer { marker_total self.new.lines ≤ marker_total self.old.lines }
     {
         let markers = self.chains.len();
         self.chains.delete_all(Drops::of_number(number));
@@ -148,6 +151,7 @@ impl<A: Allocator> MarkerStore<A> {
     pub fn delete_handle(&mut self, handle: u32) -> Option<usize>
         ensures line { result ≡ first_from (has_handle handle self.old.lines) self.old.lines 0 }
         ensures lines { self.new ≡ record self.old { lines = without (λ m. m.handle == handle) self.old.lines } }
+        ensures fewer { marker_total self.new.lines ≤ marker_total self.old.lines }
     {
         let line = self.chains.line_of_handle(handle);
         self.chains.delete_all(Drops::Handle(handle));

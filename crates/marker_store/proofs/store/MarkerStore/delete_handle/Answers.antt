@@ -26,3 +26,11 @@ returns-clause-lines g c =
     rw (← c.self.view_is)
     (ap (λ (x : Chained). marked_lines (all_lines d.lines x.rows) d.next_handle x.capacity x.line_capacity) c.delete_all.ensures
     ∙ ap (λ (ls : List (List Marker)). marked_lines ls d.next_handle d.chains.capacity d.chains.line_capacity) (without_all (λ m. m.handle == c.args.handle) d.lines d.chains.rows))
+
+pub returns-clause-fewer : goal.returns-clause-fewer
+returns-clause-fewer g c =
+    let d = c.self.inside in
+    let new = c.delete_all.new.self in
+    rw (← c.self.view_is)
+    (omega
+    (arith, total_padded new.rows (d.lines - length new.rows), total_padded d.chains.rows (d.lines - length d.chains.rows), ap (λ (x : Chained). marker_total x.rows) c.delete_all.ensures, kept_fewer (Handle c.args.handle) d.chains.rows))
