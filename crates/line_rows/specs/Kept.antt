@@ -8,7 +8,7 @@ use Rattle.ed_model.specs.Changes.{with_markers, new_markers, without_marker, ma
 use Rattle.split_vector.specs.Split.{most_room}
 use Rattle.line_index.specs.declared.edit.LineEdit.{LineEdit}
 use Rattle.line_index.specs.Edits.{fresh_lines}
-use Rattle.marker_store.specs.Lines.{MarkedLines, FitLines, marker_total}
+use Rattle.marker_store.specs.Lines.{MarkedLines, HasLineRoom, marker_total}
 use Rattle.line_rows.specs.Values.{Valued, wanted_block, most_block, stored_after}
 use Rattle.line_rows.specs.Rows.{rows_of}
 
@@ -236,7 +236,7 @@ pub record ArePartsOf (markers : MarkedLines) (levels : List ℕ) (states : List
   pub base : level ≡ base_level
   pub zero_state : state ≡ pos 0
   pub for_states : level_room ≤ state_room
-  pub for_lines : FitLines level_room markers
+  pub for_lines : HasLineRoom level_room markers
   pub for_markers : marker_room + marker_total markers.lines ≤ markers.capacity
 
 -- the same, of the markers, the levels and the states of all lines

@@ -5,7 +5,7 @@ ghost use Rattle.ed_model.specs.LinePlans.{mask_of};
 ghost use Rattle.ed_model.specs.Rows.{base_level, fresh_row, rows_together};
 ghost use Rattle.line_index.specs.Edits.{after_edit, after_edits, FitsLines, FitLines, fresh_by, fresh_lines};
 ghost use Rattle.line_rows.specs.Kept.{kept_rows, row_room, row_blocks, LinesFit, LevelsFit, StatesFit, with_line_room, with_level_room, with_state_room, GainsLineRoom, GainsLevelRoom, GainsStateRoom, GainsMarkerRoom, most_level_block, most_state_block, most_marker_block, most_marker_lines, StateLinesGrow, ChangesOnlyLineMemory, ChangesOnlyMarkerLines, blocks_after, markers_in_all, row_at, with_level, with_state, with_marker, without_marker_on, levels_of, is_marked, has_handle, first_from, last_up_to};
-ghost use Rattle.marker_store.specs.Lines.{FitLines, marker_total};
+ghost use Rattle.marker_store.specs.Lines.{HasLineRoom, marker_total};
 ghost use Rattle.line_rows.specs.Rows.{markers_together};
 
 use crate::fold_levels::FoldLevels;
@@ -40,7 +40,7 @@ impl Model for LineRows {
 fn carry_one(markers: &mut MarkerStore, edit: LineEdit)
     requires lines { FitsLines (length markers.old.lines) edit }
     requires fits { length markers.old.lines + fresh_by edit ≤ 2 ^ 62 }
-    requires room { FitLines (fresh_by edit) markers.old }
+    requires room { HasLineRoom (fresh_by edit) markers.old }
     ensures lines { markers.new.lines ≡ after_edit markers_together markers.old.lines edit }
     ensures rest { markers.new ≡ record markers.old { lines = markers.new.lines } }
     ensures fewer { marker_total markers.new.lines ≤ marker_total markers.old.lines }
@@ -56,7 +56,7 @@ fn carry_one(markers: &mut MarkerStore, edit: LineEdit)
 fn carry_markers(markers: &mut MarkerStore, edits: &[LineEdit])
     requires lines { FitLines (length markers.old.lines) edits.now }
     requires fits { length markers.old.lines + fresh_lines edits.now ≤ 2 ^ 62 }
-    requires room { FitLines (fresh_lines edits.now) markers.old }
+    requires room { HasLineRoom (fresh_lines edits.now) markers.old }
     ensures lines { markers.new.lines ≡ after_edits markers_together edits.now markers.old.lines }
     ensures rest { markers.new ≡ record markers.old { lines = markers.new.lines } }
     ensures fewer { marker_total markers.new.lines ≤ marker_total markers.old.lines }

@@ -38,12 +38,12 @@ abbrev pub marker_total : List (List Marker) → ℕ
 marker_total lines = sum_by length lines
 
 -- there is memory for `count` more lines, or none is needed
-abbrev pub FitLines : ℕ → MarkedLines → Type 0
-FitLines count s = 0 < s.capacity → length s.lines + count ≤ s.line_capacity
+abbrev pub HasLineRoom : ℕ → MarkedLines → Type 0
+HasLineRoom count s = 0 < s.capacity → length s.lines + count ≤ s.line_capacity
 
 -- there is room for `markers` more markers, and for `lines` more lines
 abbrev pub HasRoom : ℕ → ℕ → MarkedLines → Type 0
-HasRoom markers lines s = (marker_total s.lines + markers ≤ s.capacity) × FitLines lines s
+HasRoom markers lines s = (marker_total s.lines + markers ≤ s.capacity) × HasLineRoom lines s
 
 -- the lists with a new marker behind those of the line
 abbrev pub with_marker_on : ℕ → ℕ → MarkedLines → List (List Marker)

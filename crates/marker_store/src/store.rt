@@ -4,7 +4,7 @@ ghost use Rattle.std.specs.Prelude.{◌≡◌, ◌≢◌, ◌≤◌, ◌<◌, �
 ghost use Rattle.split_vector.specs.Split.{most_room};
 ghost use Rattle.ed_model.specs.Changes.{is_of_number};
 ghost use Rattle.ed_model.specs.LinePlans.{mask_of};
-ghost use Rattle.marker_store.specs.Lines.{marked_lines, markers_of, marker_total, FitLines, HasRoom, with_marker_on, without_marker_on, with_fresh, with_joined, without, is_met, has_handle, first_from, last_up_to};
+ghost use Rattle.marker_store.specs.Lines.{marked_lines, markers_of, marker_total, HasLineRoom, HasRoom, with_marker_on, without_marker_on, with_fresh, with_joined, without, is_met, has_handle, first_from, last_up_to};
 
 use crate::chains::Chains;
 use crate::drops::Drops;
@@ -90,6 +90,7 @@ impl<A: Allocator> MarkerStore<A> {
         ensures same { self.new ≡ record self.old { capacity = self.new.capacity; line_capacity = self.new.line_capacity } }
         ensures ok { OnOk result (HasRoom count lines self.new) }
         ensures room_is_there { HasRoom count lines self.old → IsOk result × (self.new ≡ self.old) }
+        ensures markers_fit { marker_total self.old.lines + count ≤ self.old.capacity → self.new.capacity ≡ self.old.capacity }
         ensures at_most { self.new.capacity ≤ most_room 0 self.old.capacity (marker_total self.old.lines + count) }
         ensures lines_at_most { self.new.line_capacity ≤ most_room 0 self.old.line_capacity (length self.old.lines + lines) }
         ensures stays { (self.old.capacity ≤ self.new.capacity) × (self.old.line_capacity ≤ self.new.line_capacity) }
@@ -194,7 +195,7 @@ impl<A: Allocator> MarkerStore<A> {
     pub fn shift(&mut self, line: usize, count: usize)
         requires line { line ≤ length self.old.lines }
         requires fits { length self.old.lines + count ≤ GREATEST_LINES }
-        requires room { FitLines count self.old }
+        requires room { HasLineRoom count self.old }
         ensures { self.new ≡ record self.old { lines = with_fresh line count self.old.lines } }
     {
         self.lines += count;
