@@ -20,6 +20,13 @@ module _ (links : List Link) (heads : List ℕ) (spare aside unused capacity lin
   pub row_is : (line : ℕ) → get_or now.rows line [] ≡ row links (get_or s.chains line [])
   row_is line = ap (λ (c : Chained). get_or c.rows line []) now_is ∙ row_of links line s.chains
 
+  pub bare_row : (line : ℕ) → line < length heads → get_or heads line 0 ≡ 0 → get_or now.rows line [] ≡ []
+  bare_row line h none = row_is line ∙ go (get_or s.chains line []) (chain_of links line heads s.chains s.linked.linked.1.1 h)
+    where
+      go : (c : List ℕ) → IsChain links (get_or heads line 0) c → row links c ≡ []
+      go [] i = refl
+      go (k ∷ ks) i = absurd (omega (arith, i.0, i.1, none))
+
   module _ (line at : ℕ) (h : line < length heads) (head : at ≡ get_or heads line 0) (some : 0 < length (get_or now.rows line [])) where
     abbrev m : Marker
     m = (link_at links at).marker

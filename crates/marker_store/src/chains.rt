@@ -1,5 +1,5 @@
 //! The markers of lines as chains of links.
-ghost use Rattle.std.specs.Prelude.{◌≡◌, ◌≤◌, ◌<◌, ◌+◌, ◌-◌, ◌^◌, ◌==◌, ◌++◌, [], ◌∷◌, length, not, replicate, slice_index_or, slice_set, sum_by, OnOk, OnErr, IsOk};
+ghost use Rattle.std.specs.Prelude.{ℕ, ◌≡◌, ◌≤◌, ◌<◌, ◌+◌, ◌-◌, ◌^◌, ◌==◌, ◌++◌, [], ◌∷◌, length, not, replicate, slice_index_or, slice_set, sum_by, OnOk, OnErr, IsOk};
 ghost use Rattle.std.specs.List.{list_any};
 ghost use Rattle.ed_model.specs.LinePlans.{mask_of};
 ghost use Rattle.split_vector.specs.Split.{inserted, deleted, most_room};
@@ -49,6 +49,20 @@ fn relink<A: Allocator>(links: &mut SplitVector<Link, A>, at: u32, next: u32) ->
     let link = links.get(index);
     links.set(index, Link::new(link.marker(), next));
     link.next()
+}
+
+// Returns the index of the first number from `from` on that is not 0, or how many numbers there are.
+fn first_set(numbers: &[u32], from: usize) -> usize
+    requires { from ≤ length numbers.now }
+    ensures within { (from ≤ result) × (result ≤ length numbers.now) }
+    ensures zero { (k : ℕ) → from ≤ k → k < result → slice_index_or numbers.now k 0 ≡ 0 }
+{
+    for index in from..numbers.len() {
+        if numbers[index] != 0 {
+            return index;
+        }
+    }
+    numbers.len()
 }
 
 impl<A: Allocator + Copy> Chains<A> {
@@ -174,6 +188,23 @@ impl<A: Allocator> Chains<A> {
         ensures { result ≡ (length (slice_index_or self.now.rows line []) == 0) }
     {
         self.heads.get(line) == 0
+    }
+
+    /// Returns the first line from `from` on that has a marker, or how many lines there are. It reads a slice of numbers:
+    /// most lines have no marker.
+    pub(crate) fn next_marked(&self, from: usize) -> usize
+        requires { from ≤ length self.now.rows }
+        ensures within { (from ≤ result) × (result ≤ length self.now.rows) }
+        ensures bare { (k : ℕ) → from ≤ k → k < result → slice_index_or self.now.rows k [] ≡ [] }
+    {
+        let (left, right) = self.heads.halves();
+        if from < left.len() {
+            let line = first_set(left, from);
+            if line < left.len() {
+                return line;
+            }
+        }
+        left.len() + first_set(right, from.saturating_sub(left.len()))
     }
 
     /// Lays the last marker of the line aside.

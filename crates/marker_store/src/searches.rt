@@ -10,10 +10,13 @@ impl<A: Allocator> Chains<A> {
     pub(crate) fn line_of_handle(&self, handle: u32) -> Option<usize>
         ensures { result ≡ first_from (has_handle handle self.now.rows) self.now.rows 0 }
     {
-        for line in 0..self.lines() {
+        let lines = self.lines();
+        let mut line = self.next_marked(0);
+        'searching: while line < lines {
             if self.has(line, handle) {
                 return Some(line);
             }
+            line = self.next_marked(line + 1);
         }
         None
     }
@@ -22,10 +25,16 @@ impl<A: Allocator> Chains<A> {
     pub(crate) fn next(&self, from: usize, mask: u32) -> Option<usize>
         ensures { result ≡ first_from (is_met mask self.now.rows) self.now.rows from }
     {
-        for line in from..self.lines() {
+        let lines = self.lines();
+        if from >= lines {
+            return None;
+        }
+        let mut line = self.next_marked(from);
+        'searching: while line < lines {
             if self.mask(line) & mask != 0 {
                 return Some(line);
             }
+            line = self.next_marked(line + 1);
         }
         None
     }
