@@ -1,7 +1,7 @@
 -- Changes of the markers of one line, link by link.
 use Rattle.split_vector.specs.Split.{deleted}
 use Rattle.marker_store.proofs.Joins.{joined_parts}
-use Rattle.marker_store.proofs.Names.{Bool, not, subst, take, drop, map, take_at, drop_at, set_at, drop_more, take-append-drop, length-take-le, get_or-set_other, with_joined, ◌≢◌, eq-eqb, ne_eqb, ◌≡◌, ℕ, ◌+◌, ◌-◌, ◌<◌, ◌≤◌, ◌==◌, inl, inr, true, false, zero, suc, List, [], ◌∷◌, ◌++◌, length, get_or, set, refl, sym, ap, ◌∙◌, arith, append_assoc, append-nil, length-set, length-append, get_or-set_same, set-set, set-get_or, nil_from_length, Marker, Chained, IsLaid, IsBack, IsFreed}
+use Rattle.marker_store.proofs.Names.{Bool, not, subst, take, drop, map, take_at, drop_at, set_at, drop_more, take-append-drop, length-take-le, length-map, get_or-set_other, with_joined, ◌≢◌, eq-eqb, ne_eqb, ◌≡◌, ℕ, ◌+◌, ◌-◌, ◌<◌, ◌≤◌, ◌==◌, inl, inr, true, false, zero, suc, List, [], ◌∷◌, ◌++◌, length, get_or, set, refl, sym, ap, ◌∙◌, arith, append_assoc, append-nil, length-set, length-append, get_or-set_same, set-set, set-get_or, nil_from_length, Marker, Chained, IsLaid, IsBack, IsFreed}
 use Rattle.ed_model.specs.Changes.{without_first}
 use Rattle.marker_store.specs.Dropping.{is_dropped, kept}
 use Rattle.marker_store.specs.declared.drops.Drops.{Drops}
@@ -139,6 +139,26 @@ kept_step f k xs h = let e : k + 1 ≡ suc k = omega arith in rw e (go k xs h)
     go k [] h = absurd (omega arith)
     go zero (x ∷ xs) h = refl
     go (suc k) (x ∷ xs) h = ap (λ rs. f x ∷ rs) (go k xs (omega arith))
+
+-- lines without markers stay as they are
+pub kept_past :
+    (f : List Marker → List Marker) (n k : ℕ) (xs : List (List Marker)) → f [] ≡ [] → k + n ≤ length xs
+    → ((i : ℕ) → k ≤ i → i < k + n → get_or (map f (take k xs) ++ drop k xs) i [] ≡ [])
+    → map f (take k xs) ++ drop k xs ≡ map f (take (k + n) xs) ++ drop (k + n) xs
+kept_past f zero k xs z h bare = let e : k + 0 ≡ k = omega arith in rw e refl
+kept_past f (suc n) k xs z h bare =
+    let now = map f (take k xs) ++ drop k xs in
+    let none : get_or now k [] ≡ [] = bare k (omega arith) (omega arith) in
+    let one : now ≡ map f (take (k + 1) xs) ++ drop (k + 1) xs
+    = sym (set-get_or now k []) ∙ ap (λ r. set now k r) (none ∙ sym z ∙ ap f (sym none)) ∙ kept_step f k xs (omega arith) in
+    let e : k + 1 + n ≡ k + suc n = omega arith in
+    one ∙ kept_past f n (k + 1) xs z (omega arith) (λ i low high. ap (λ l. get_or l i []) (sym one) ∙ bare i (omega arith) (omega arith))
+    ∙ ap (λ j. map f (take j xs) ++ drop j xs) e
+
+pub kept_length : (f : List Marker → List Marker) (k : ℕ) (xs : List (List Marker)) {now : List (List Marker)} → now ≡ map f (take k xs) ++ drop k xs → length now ≡ length xs
+kept_length f k xs e =
+    ap length e ∙ length-append (map f (take k xs)) (drop k xs)
+    ∙ omega (arith, length-map (take k xs) f, length-append (take k xs) (drop k xs), ap length (take-append-drop k xs))
 
 -- Two lines become one.
 

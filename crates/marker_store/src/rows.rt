@@ -101,8 +101,11 @@ impl<A: Allocator> Chains<A> {
         requires { self.old.aside ≡ [] }
         ensures { self.new ≡ record self.old { rows = kept_rows drops self.old.rows } }
     {
-        for line in 0..self.lines() {
+        let lines = self.lines();
+        let mut line = self.next_marked(0);
+        'deleting: while line < lines {
             self.delete(line, drops);
+            line = self.next_marked(line + 1);
         }
     }
 
