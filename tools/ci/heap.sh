@@ -114,10 +114,10 @@ bound() {
         a_step_of_a_large_text) echo $((2 * 1048576 + 40000)) ;;
         # 65,536 records of 32 bytes, and as many texts of 16, in blocks that the allocator made larger
         many_steps) echo $((2097152 + 1048576 + 40000)) ;;
-        # room for the levels, the states and the markers of 131,072 lines, of 4, 4 and 16 bytes, and a byte for each line, in blocks that the allocator made larger
-        rows_line_by_line) echo $((131072 * (4 + 4 + 16 + 1) + 40000)) ;;
+        # room for the levels, the states and the markers of 131,072 lines, of 4, 4 and 12 bytes, and 4 more for each line, in blocks that the allocator made larger
+        rows_line_by_line) echo $((131072 * (4 + 4 + 12 + 4) + 40000)) ;;
         # the same of 100,000 lines, for which room was made at once
-        rows_at_once) echo $((100000 * (4 + 4 + 16 + 1) + 40000)) ;;
+        rows_at_once) echo $((100000 * (4 + 4 + 12 + 4) + 40000)) ;;
         # 200,000 runs in room for 262,144: a start of 4 bytes, or of 8, and a value of 4, and the old block of the last that grew
         indicators_of_small_places) echo $((262144 * (4 + 4) + 131072 * 4 + 40000)) ;;
         indicators_of_large_places) echo $((262144 * (8 + 4) + 131072 * 4 + 40000)) ;;

@@ -1,5 +1,5 @@
 -- An edit of lines moves their markers, and removes none unless it removes all lines.
-use Rattle.line_rows.proofs.Names.{◌≡◌, ◌+◌, ◌-◌, ℕ, zero, suc, List, [], ◌∷◌, ◌++◌, length, take, drop, replicate, refl, ap, ◌∙◌, arith, drop-drop, sum_by-cons, sum_by-append, sum_by-take-drop, Marker, marker_total, with_fresh, with_joined, markers_together}
+use Rattle.line_rows.proofs.Names.{◌≤◌, LineEdit, FitLines, after_edit, after_edits, fresh_by, fresh_lines, length_after_edit, edit_adds, ◌≡◌, ◌+◌, ◌-◌, ℕ, zero, suc, List, [], ◌∷◌, ◌++◌, length, take, drop, replicate, refl, ap, ◌∙◌, arith, drop-drop, sum_by-cons, sum_by-append, sum_by-take-drop, Marker, marker_total, with_fresh, with_joined, markers_together}
 use Rattle.std.proofs.Common.{slice_range}
 use Rattle.std.proofs.lemmas.List.Concat.{length-flat_map}
 
@@ -35,3 +35,10 @@ total_with_joined line count lines =
       ap marker_total behind,
       sum_by-take-drop length lines line,
     )
+
+-- edits of lines add no more lines than are fresh
+pub edits_add : {R : Type 0} (together : List R → R) (edits : List LineEdit) (rows : List R) → FitLines (length rows) edits → length (after_edits together edits rows) ≤ length rows + fresh_lines edits
+edits_add together [] rows h = omega arith
+edits_add together (edit ∷ edits) rows h =
+    let long = length_after_edit together rows edit h.0 in
+    omega (arith, edits_add together edits (after_edit together rows edit) (rw long h.1), long, edit_adds (length rows) edit)

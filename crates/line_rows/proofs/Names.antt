@@ -13,7 +13,7 @@ pub use Rattle.line_index.specs.Edits.{after_edit, after_edits, FitLines, lines_
 pub use Rattle.line_index.specs.declared.edit.LineEdit.{LineEdit}
 pub use Rattle.line_index.specs.declared.edit.LineEdit.TheVariants.{Come, Join, Restart}
 pub use Rattle.line_index.specs.proved.Edits.{length_after_edit, edit_adds}
-pub use Rattle.marker_store.specs.Lines.{marker_total, with_fresh, with_joined, markers_of, without, MarkedLines}
+pub use Rattle.marker_store.specs.Lines.{marker_total, with_fresh, with_joined, markers_of, without, MarkedLines, HasLineRoom}
 pub use Rattle.split_vector.specs.Split.{inserted, deleted}
 pub use Rattle.line_rows.specs.Kept.{KeptRows, RowRoom, RowBlocks, kept_rows, row_room, row_at, levels_of, row_blocks}
 pub use Rattle.line_rows.specs.Rows.{markers_together, rows_of, PartsCarryRows}

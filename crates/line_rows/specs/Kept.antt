@@ -1,5 +1,5 @@
 -- What a contract sees of `LineRows`.
-use Rattle.std.specs.Prelude.{◌≡◌, ℕ, ℤ, pos, ◌≤◌, ◌-◌, ◌+◌, ◌==◌, Bool, List, [], ◌∷◌, ◌++◌, length, map, min, max, slice_index_or, slice_set, Option, find, reverse}
+use Rattle.std.specs.Prelude.{◌≡◌, ℕ, ℤ, pos, ◌<◌, ◌≤◌, ◌-◌, ◌+◌, ◌==◌, Bool, List, [], ◌∷◌, ◌++◌, length, map, min, max, slice_index_or, slice_set, Option, find, reverse}
 use Rattle.std.specs.List.{range_with_len, list_any}
 use Rattle.ed_model.specs.Numbers.{meets}
 use Rattle.ed_model.specs.Rows.{Marker, Row, fresh_row, base_level}
@@ -8,7 +8,7 @@ use Rattle.ed_model.specs.Changes.{with_markers, new_markers, without_marker, ma
 use Rattle.split_vector.specs.Split.{most_room}
 use Rattle.line_index.specs.declared.edit.LineEdit.{LineEdit}
 use Rattle.line_index.specs.Edits.{fresh_lines}
-use Rattle.marker_store.specs.Lines.{MarkedLines}
+use Rattle.marker_store.specs.Lines.{MarkedLines, HasLineRoom, marker_total}
 use Rattle.line_rows.specs.Values.{Valued, wanted_block, most_block, stored_after}
 use Rattle.line_rows.specs.Rows.{rows_of}
 
@@ -21,8 +21,8 @@ pub record RowRoom : Type 0 where
   pub markers : ℕ
 
 -- The memory: for how many lines, from the first on, levels are stored, and for how many states; for how many of each,
--- and for how many markers, there is memory in all; and for how many fresh lines the states have room, which may be
--- more than was promised.
+-- and for how many markers, there is memory in all; for how many fresh lines the states have room, which may be more than
+-- was promised; and for the markers of how many lines there is memory.
 pub record RowBlocks : Type 0 where
   pub stored_levels : ℕ
   pub level_block : ℕ
@@ -30,6 +30,7 @@ pub record RowBlocks : Type 0 where
   pub state_block : ℕ
   pub state_lines : ℕ
   pub marker_block : ℕ
+  pub marker_lines : ℕ
 
 -- the row of each line, and the handle that the next marker gets
 pub record KeptRows : Type 0 where
@@ -41,24 +42,34 @@ pub record KeptRows : Type 0 where
 abbrev pub row_room : ℕ → ℕ → ℕ → ℕ → RowRoom
 row_room lines levels states markers = record { lines = lines; levels = levels; states = states; markers = markers }
 
-abbrev pub row_blocks : (stored_levels level_block stored_states state_block state_lines marker_block : ℕ) → RowBlocks
-row_blocks stored_levels level_block stored_states state_block state_lines marker_block =
-    record { stored_levels = stored_levels; level_block = level_block; stored_states = stored_states; state_block = state_block; state_lines = state_lines; marker_block = marker_block }
+abbrev pub row_blocks : (stored_levels level_block stored_states state_block state_lines marker_block marker_lines : ℕ) → RowBlocks
+row_blocks stored_levels level_block stored_states state_block state_lines marker_block marker_lines =
+    record {
+      stored_levels = stored_levels;
+      level_block = level_block;
+      stored_states = stored_states;
+      state_block = state_block;
+      state_lines = state_lines;
+      marker_block = marker_block;
+      marker_lines = marker_lines;
+    }
 
 abbrev pub kept_rows : List Row → ℕ → RowRoom → RowBlocks → KeptRows
 kept_rows rows handle room blocks = record { rows = rows; next_handle = handle; room = room; blocks = blocks }
 
--- what a contract sees of the markers, the levels and the states of all lines
-abbrev pub kept_in : MarkedLines → Valued ℕ → Valued ℤ → KeptRows
-kept_in markers levels states =
-    kept_rows (rows_of markers.lines levels.values states.values) markers.next_handle (row_room levels.room levels.reach states.reach markers.room)
-    (row_blocks levels.stored levels.block states.stored states.block states.room markers.block)
+-- what a contract sees of the markers, of the promised room for them, and of the levels and the states of all lines
+abbrev pub kept_in : MarkedLines → ℕ → Valued ℕ → Valued ℤ → KeptRows
+kept_in markers marker_room levels states =
+    kept_rows (rows_of markers.lines levels.values states.values) markers.next_handle (row_room levels.room levels.reach states.reach marker_room)
+    (row_blocks levels.stored levels.block states.stored states.block states.room markers.capacity markers.line_capacity)
 
--- There is memory for the levels and the states that so many fresh lines may get. If none can be set, none is needed.
+-- There is memory for the levels, the states and the markers that so many fresh lines may get. If none can be set, none is
+-- needed.
 abbrev pub LinesFit : KeptRows → ℕ → Type 0
 LinesFit r lines =
     (wanted_block r.blocks.stored_levels (max r.room.lines lines) r.room.levels ≤ r.blocks.level_block)
     × (wanted_block r.blocks.stored_states (max r.blocks.state_lines lines) r.room.states ≤ r.blocks.state_block)
+    × (0 < r.blocks.marker_block → length r.rows + max r.room.lines lines ≤ r.blocks.marker_lines)
 
 -- there is memory for the levels of the first `count` lines, and of the fresh lines that there is room for
 abbrev pub LevelsFit : KeptRows → ℕ → Type 0
@@ -84,7 +95,7 @@ with_level_room r count = record r { room = record r.room { levels = max r.room.
 abbrev pub with_state_room : KeptRows → ℕ → KeptRows
 with_state_room r count = record r { room = record r.room { states = max r.room.states count } }
 
--- the rows gain room for `lines` fresh lines; besides, only the memory for levels and states changes
+-- the rows gain room for `lines` fresh lines; besides, only the memory for the levels, states and markers of lines changes
 abbrev pub GainsLineRoom : KeptRows → KeptRows → ℕ → Type 0
 GainsLineRoom old new lines =
     new ≡ record old {
@@ -93,6 +104,7 @@ GainsLineRoom old new lines =
         level_block = new.blocks.level_block;
         state_block = new.blocks.state_block;
         state_lines = max old.blocks.state_lines lines;
+        marker_lines = new.blocks.marker_lines;
       };
     }
 
@@ -117,7 +129,7 @@ abbrev pub GainsMarkerRoom : KeptRows → KeptRows → ℕ → Type 0
 GainsMarkerRoom old new count =
     new ≡ record old {
       room = record old.room { markers = max old.room.markers count };
-      blocks = record old.blocks { marker_block = new.blocks.marker_block };
+      blocks = record old.blocks { marker_block = new.blocks.marker_block; marker_lines = new.blocks.marker_lines };
     }
 
 -- for how many levels there is memory at most after the block of the levels has grown to serve the room
@@ -132,15 +144,26 @@ most_state_block r = most_block r.blocks.stored_states r.blocks.state_block r.bl
 abbrev pub most_marker_block : KeptRows → ℕ → ℕ
 most_marker_block r count = most_room 0 r.blocks.marker_block (marker_count r.rows + count)
 
+-- for the markers of how many lines there is memory at most after room for `count` fresh lines was made
+abbrev pub most_marker_lines : KeptRows → ℕ → ℕ
+most_marker_lines r count = most_room 0 r.blocks.marker_lines (length r.rows + count)
+
 -- the number of fresh lines for which the states have room stays, or grows to at most `lines`
 abbrev pub StateLinesGrow : KeptRows → KeptRows → ℕ → Type 0
 StateLinesGrow old new lines =
     (old.blocks.state_lines ≤ new.blocks.state_lines) × (new.blocks.state_lines ≤ max old.blocks.state_lines lines)
 
--- only the memory for states changes, and for how many fresh lines the states have room
-abbrev pub ChangesOnlyStateMemory : KeptRows → KeptRows → Type 0
-ChangesOnlyStateMemory old new =
-    new ≡ record old { blocks = record old.blocks { state_block = new.blocks.state_block; state_lines = new.blocks.state_lines } }
+-- only the memory for the states and the markers of lines changes, and for how many fresh lines the states have room
+abbrev pub ChangesOnlyLineMemory : KeptRows → KeptRows → Type 0
+ChangesOnlyLineMemory old new =
+    new
+    ≡ record old {
+      blocks = record old.blocks { state_block = new.blocks.state_block; state_lines = new.blocks.state_lines; marker_lines = new.blocks.marker_lines };
+    }
+
+-- only the memory for the markers of lines changes
+abbrev pub ChangesOnlyMarkerLines : KeptRows → KeptRows → Type 0
+ChangesOnlyMarkerLines old new = new ≡ record old { blocks = record old.blocks { marker_lines = new.blocks.marker_lines } }
 
 -- the blocks after edits of lines: their sizes stay, and the fresh lines take the states' room
 abbrev pub blocks_after : List LineEdit → RowBlocks → RowBlocks
@@ -205,16 +228,18 @@ first_from test rows line = find test (range_with_len line (length rows - line))
 abbrev pub last_up_to : (ℕ → Bool) → List Row → ℕ → Option ℕ
 last_up_to test rows line = find test (reverse (range_with_len 0 (min (line + 1) (length rows))))
 
--- as many levels and states as lines with markers, and at least as much room for fresh lines among the states as among
--- the levels
-pub record ArePartsOf (lines : List (List Marker)) (levels : List ℕ) (states : List ℤ) (level : ℕ) (state : ℤ) (level_room state_room : ℕ) : Type 0 where
-  pub levelled : length lines ≡ length levels
-  pub stated : length lines ≡ length states
+-- as many levels and states as lines with markers; at least as much room for fresh lines among the states as among the
+-- levels, and memory for their markers if there is any for markers; and the promised room for markers
+pub record ArePartsOf (markers : MarkedLines) (levels : List ℕ) (states : List ℤ) (level : ℕ) (state : ℤ) (level_room state_room marker_room : ℕ) : Type 0 where
+  pub levelled : length markers.lines ≡ length levels
+  pub stated : length markers.lines ≡ length states
   pub base : level ≡ base_level
   pub zero_state : state ≡ pos 0
   pub for_states : level_room ≤ state_room
+  pub for_lines : HasLineRoom level_room markers
+  pub for_markers : marker_room + marker_total markers.lines ≤ markers.capacity
 
 -- the same, of the markers, the levels and the states of all lines
-abbrev pub AreParts : MarkedLines → Valued ℕ → Valued ℤ → Type 0
-AreParts markers levels states =
-    ArePartsOf markers.lines levels.values states.values levels.default states.default levels.room states.room
+abbrev pub AreParts : MarkedLines → ℕ → Valued ℕ → Valued ℤ → Type 0
+AreParts markers marker_room levels states =
+    ArePartsOf markers levels.values states.values levels.default states.default levels.room states.room marker_room

@@ -4,7 +4,6 @@ use Rattle.ed_model.specs.Rows.{Marker, Row, base_level, rows_together}
 use Rattle.line_index.specs.declared.edit.LineEdit.{LineEdit}
 use Rattle.line_index.specs.Edits.{after_edits}
 use Rattle.contraction.specs.Headings.{HeadFrom}
-use Rattle.marker_store.specs.Lines.{MarkedLines, marker_total}
 use Rattle.line_rows.specs.Values.{Valued, first_or}
 
 -- the row of each line, from its markers, its level and its state
@@ -17,10 +16,6 @@ rows_of (m ∷ ms) (l ∷ ls) (s ∷ ss) = record { markers = m; level = l; stat
 -- the markers of lines that are joined
 abbrev pub markers_together : List (List Marker) → List Marker
 markers_together markers = flat_map (λ ms. ms) markers
-
--- how many markers in all there may be without an allocation: those that there are, and more
-abbrev pub total_with_room : MarkedLines → ℕ
-total_with_room markers = markers.room + marker_total markers.lines
 
 -- a line without a level has the base level, and no header has a smaller number than this one
 abbrev pub AreLevels : Valued ℕ → ℕ → Type 0

@@ -1,11 +1,12 @@
 //! `LineRows` and its calls.
-ghost use Rattle.std.specs.Prelude.{◌≡◌, ◌≢◌, ◌↔◌, IsTrue, ◌≤◌, ◌<◌, ◌+◌, ◌-◌, ◌^◌, ◌==◌, ◌∷◌, [], length, OnOk, OnErr, IsOk};
+ghost use Rattle.std.specs.Prelude.{◌≡◌, ◌≢◌, ◌↔◌, IsTrue, ◌≤◌, ◌<◌, ◌+◌, ◌-◌, ◌^◌, ◌==◌, ◌∷◌, [], length, max, OnOk, OnErr, IsOk};
 ghost use Rattle.ed_model.specs.Changes.{without_markers, is_of_number, marker_count};
 ghost use Rattle.ed_model.specs.LinePlans.{mask_of};
 ghost use Rattle.ed_model.specs.Rows.{base_level, fresh_row, rows_together};
 ghost use Rattle.line_index.specs.Edits.{after_edit, after_edits, FitsLines, FitLines, fresh_by, fresh_lines};
-ghost use Rattle.line_rows.specs.Kept.{kept_rows, row_room, row_blocks, LinesFit, LevelsFit, StatesFit, with_line_room, with_level_room, with_state_room, GainsLineRoom, GainsLevelRoom, GainsStateRoom, GainsMarkerRoom, most_level_block, most_state_block, most_marker_block, StateLinesGrow, ChangesOnlyStateMemory, blocks_after, markers_in_all, row_at, with_level, with_state, with_marker, without_marker_on, levels_of, is_marked, has_handle, first_from, last_up_to};
-ghost use Rattle.line_rows.specs.Rows.{markers_together, total_with_room};
+ghost use Rattle.line_rows.specs.Kept.{kept_rows, row_room, row_blocks, LinesFit, LevelsFit, StatesFit, with_line_room, with_level_room, with_state_room, GainsLineRoom, GainsLevelRoom, GainsStateRoom, GainsMarkerRoom, most_level_block, most_state_block, most_marker_block, most_marker_lines, StateLinesGrow, ChangesOnlyLineMemory, ChangesOnlyMarkerLines, blocks_after, markers_in_all, row_at, with_level, with_state, with_marker, without_marker_on, levels_of, is_marked, has_handle, first_from, last_up_to};
+ghost use Rattle.marker_store.specs.Lines.{HasLineRoom, marker_total};
+ghost use Rattle.line_rows.specs.Rows.{markers_together};
 
 use crate::fold_levels::FoldLevels;
 use crate::values::LineValues;
@@ -19,6 +20,8 @@ use std::marker::Model;
 #[derive(Drop)]
 pub struct LineRows {
     markers: MarkerStore,
+    // How many more markers were reserved.
+    marker_room: usize,
     levels: FoldLevels,
     states: LineValues<i32>,
 }
@@ -28,20 +31,19 @@ impl Model for LineRows {
 
     ghost Value = { KeptRows };
 
-    ghost view = { λ r. kept_in r.markers r.levels r.states };
+    ghost view = { λ r. kept_in r.markers r.marker_room r.levels r.states };
 
-    ghost invariant = { λ r. AreParts r.markers r.levels r.states };
+    ghost invariant = { λ r. AreParts r.markers r.marker_room r.levels r.states };
 }
 
 // Carries the markers of lines through one edit.
 fn carry_one(markers: &mut MarkerStore, edit: LineEdit)
     requires lines { FitsLines (length markers.old.lines) edit }
     requires fits { length markers.old.lines + fresh_by edit ≤ 2 ^ 62 }
+    requires room { HasLineRoom (fresh_by edit) markers.old }
     ensures lines { markers.new.lines ≡ after_edit markers_together markers.old.lines edit }
-    ensures next_handle { markers.new.next_handle ≡ markers.old.next_handle }
-    ensures room { markers.old.room ≤ markers.new.room }
-    ensures markers_in_all { total_with_room markers.new ≡ total_with_room markers.old }
-    ensures block { markers.new.block ≡ markers.old.block }
+    ensures rest { markers.new ≡ record markers.old { lines = markers.new.lines } }
+    ensures fewer { marker_total markers.new.lines ≤ marker_total markers.old.lines }
 {
     match edit {
         LineEdit::Come { line, count } => markers.shift(line, count),
@@ -54,11 +56,10 @@ fn carry_one(markers: &mut MarkerStore, edit: LineEdit)
 fn carry_markers(markers: &mut MarkerStore, edits: &[LineEdit])
     requires lines { FitLines (length markers.old.lines) edits.now }
     requires fits { length markers.old.lines + fresh_lines edits.now ≤ 2 ^ 62 }
+    requires room { HasLineRoom (fresh_lines edits.now) markers.old }
     ensures lines { markers.new.lines ≡ after_edits markers_together edits.now markers.old.lines }
-    ensures next_handle { markers.new.next_handle ≡ markers.old.next_handle }
-    ensures room { markers.old.room ≤ markers.new.room }
-    ensures markers_in_all { total_with_room markers.new ≡ total_with_room markers.old }
-    ensures block { markers.new.block ≡ markers.old.block }
+    ensures rest { markers.new ≡ record markers.old { lines = markers.new.lines } }
+    ensures fewer { marker_total markers.new.lines ≤ marker_total markers.old.lines }
 {
     for edit in edits {
         carry_one(markers, *edit);
@@ -68,10 +69,11 @@ fn carry_markers(markers: &mut MarkerStore, edits: &[LineEdit])
 impl LineRows {
     /// Returns the row of one fresh line, and no room. The next handle is 1. Allocates nothing.
     pub fn new(alloc: Global) -> Self
-        ensures { result ≡ kept_rows (fresh_row ∷ []) 1 (row_room 0 0 0 0) (row_blocks 0 0 0 0 0 0) }
+        ensures { result ≡ kept_rows (fresh_row ∷ []) 1 (row_room 0 0 0 0) (row_blocks 0 0 0 0 0 0 0) }
     {
         LineRows {
             markers: MarkerStore::new(alloc),
+            marker_room: 0,
             levels: FoldLevels::new(alloc),
             states: LineValues::new(alloc, 0),
         }
@@ -85,12 +87,13 @@ impl LineRows {
         self.markers.lines()
     }
 
-    /// Makes room for `lines` fresh lines. Allocates nothing if the memory is there, and nothing for levels or states
-    /// as long as none can be set.
+    /// Makes room for `lines` fresh lines. Allocates nothing if the memory is there, and nothing for levels, states
+    /// or markers as long as none can be set.
     ///
     /// # Errors
     ///
-    /// `AllocError` if an allocation fails. Nothing has changed then, except that the states may have more memory.
+    /// `AllocError` if an allocation fails. Nothing has changed then, except that the states and the markers may have
+    /// more memory.
     #[inline(always)]
     pub fn reserve(&mut self, lines: usize) -> Result<(), AllocError>
         ensures ok { OnOk result (GainsLineRoom self.old self.new lines) }
@@ -99,7 +102,8 @@ impl LineRows {
         ensures levels_at_most { self.new.blocks.level_block ≤ most_level_block (with_line_room self.old lines) }
         ensures states_at_most { self.new.blocks.state_block ≤ most_state_block (with_line_room self.old lines) }
         ensures state_lines { StateLinesGrow self.old self.new lines }
-        ensures err { OnErr result (ChangesOnlyStateMemory self.old self.new) }
+        ensures marker_lines { self.new.blocks.marker_lines ≤ most_marker_lines self.old (max self.old.room.lines lines) }
+        ensures err { OnErr result (ChangesOnlyLineMemory self.old self.new) }
     {
         // The states have at least as much room for lines as the levels.
         if lines <= self.levels.room() {
@@ -116,9 +120,14 @@ impl LineRows {
         ensures levels_at_most { self.new.blocks.level_block ≤ most_level_block (with_line_room self.old lines) }
         ensures states_at_most { self.new.blocks.state_block ≤ most_state_block (with_line_room self.old lines) }
         ensures state_lines { StateLinesGrow self.old self.new lines }
-        ensures err { OnErr result (ChangesOnlyStateMemory self.old self.new) }
+        ensures marker_lines { self.new.blocks.marker_lines ≤ most_marker_lines self.old (max self.old.room.lines lines) }
+        ensures err { OnErr result (ChangesOnlyLineMemory self.old self.new) }
     {
         let Ok(()) = self.states.reserve(lines, 0) else {
+            return Err(AllocError);
+        };
+        let fresh = lines.max(self.levels.room());
+        let Ok(()) = self.markers.reserve(0, fresh) else {
             return Err(AllocError);
         };
         let Ok(()) = self.levels.reserve(lines, 0) else {
@@ -163,20 +172,26 @@ impl LineRows {
         Ok(())
     }
 
-    /// Makes room for `count` markers.
+    /// Makes room for `count` markers, and for those of each line and of the fresh lines that there is room for.
     ///
     /// # Errors
     ///
-    /// `AllocError` if the allocation fails. Nothing has changed then.
+    /// `AllocError` if an allocation fails. Nothing has changed then, except that there may be memory for the markers of
+    /// more lines.
     pub fn reserve_markers(&mut self, count: usize) -> Result<(), AllocError>
         ensures ok { OnOk result (GainsMarkerRoom self.old self.new count) }
         ensures room_is_there { count ≤ self.old.room.markers → IsOk result × (self.new ≡ self.old) }
         ensures at_most { self.new.blocks.marker_block ≤ most_marker_block self.old count }
-        ensures err { OnErr result (self.new ≡ self.old) }
+        ensures lines_at_most { self.new.blocks.marker_lines ≤ most_marker_lines self.old self.old.room.lines }
+        ensures err { OnErr result (ChangesOnlyMarkerLines self.old self.new) }
     {
-        let Ok(()) = self.markers.reserve(count) else {
+        if count <= self.marker_room {
+            return Ok(());
+        }
+        let Ok(()) = self.markers.reserve(count, self.levels.room()) else {
             return Err(AllocError);
         };
+        self.marker_room = count;
         Ok(())
     }
 
@@ -216,7 +231,9 @@ impl LineRows {
         ensures markers_in_all { markers_in_all self.new ≡ markers_in_all self.old }
         ensures blocks { self.new.blocks ≡ blocks_after edits.now self.old.blocks }
     {
+        let markers = self.markers.markers();
         carry_markers(&mut self.markers, edits);
+        self.marker_room += markers - self.markers.markers();
         self.levels.carry(edits);
         self.states.carry(edits);
     }
@@ -295,6 +312,7 @@ impl LineRows {
         ensures handle { result ≡ self.old.next_handle }
         ensures rows { self.new ≡ with_marker self.old line number }
     {
+        self.marker_room -= 1;
         self.markers.add_reserved(line, number)
     }
 
@@ -309,7 +327,10 @@ impl LineRows {
         ensures marker_room { markers_in_all self.new ≡ markers_in_all self.old }
         ensures blocks { self.new.blocks ≡ self.old.blocks }
     {
-        self.markers.delete(line, number)
+        let markers = self.markers.markers();
+        let went = self.markers.delete(line, number);
+        self.marker_room += markers - self.markers.markers();
+        went
     }
 
     /// Deletes all markers with `number`, or all markers if it is `None` (`SCI_MARKERDELETEALL`). Returns whether there
@@ -322,7 +343,10 @@ impl LineRows {
         ensures marker_room { markers_in_all self.new ≡ markers_in_all self.old }
         ensures blocks { self.new.blocks ≡ self.old.blocks }
     {
-        self.markers.delete_all(number)
+        let markers = self.markers.markers();
+        let went = self.markers.delete_all(number);
+        self.marker_room += markers - self.markers.markers();
+        went
     }
 
     /// Deletes the marker with `handle`, and returns its line, or `None` if no marker has it
@@ -335,7 +359,10 @@ impl LineRows {
         ensures marker_room { markers_in_all self.new ≡ markers_in_all self.old }
         ensures blocks { self.new.blocks ≡ self.old.blocks }
     {
-        self.markers.delete_handle(handle)
+        let markers = self.markers.markers();
+        let line = self.markers.delete_handle(handle);
+        self.marker_room += markers - self.markers.markers();
+        line
     }
 
     /// Returns the line of the marker with `handle`, or `None` if no marker has it (`SCI_MARKERLINEFROMHANDLE`).

@@ -8,7 +8,7 @@ Lists = List (List Marker)
 abbrev flat : Lists → List Marker
 flat lists = flat_map (λ (ms : List Marker). ms) lists
 
-joined_parts : (line c : ℕ) (ps qs rs : Lists) → length ps ≡ line → length qs ≡ c + 1 → with_joined line c (ps ++ (qs ++ rs)) ≡ ps ++ (flat qs ∷ rs)
+pub joined_parts : (line c : ℕ) (ps qs rs : Lists) → length ps ≡ line → length qs ≡ c + 1 → with_joined line c (ps ++ (qs ++ rs)) ≡ ps ++ (flat qs ∷ rs)
 joined_parts line c ps qs rs hp hq =
     let wide : line + (c + 1) - line ≡ c + 1 = omega arith in
     let near : take line (ps ++ (qs ++ rs)) ≡ ps = take_at ps (qs ++ rs) line hp in

@@ -1,4 +1,4 @@
+pub mod Chains
 pub mod Dropping
-pub mod Entries
-pub mod Flags
 pub mod Lines
+pub mod Store

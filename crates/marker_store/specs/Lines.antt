@@ -1,5 +1,5 @@
 -- What a contract sees of a `MarkerStore`, and the effect of its calls on the lists of the lines.
-use Rattle.std.specs.Prelude.{ℕ, ◌+◌, ◌-◌, ◌≤◌, ◌==◌, not, Bool, List, [], ◌∷◌, ◌++◌, length, map, filter, take, drop, replicate, slice_range, slice_index_or, slice_set, sum_by, Option, find, reverse, min, max, refl}
+use Rattle.std.specs.Prelude.{ℕ, ◌+◌, ◌-◌, ◌<◌, ◌≤◌, ◌==◌, not, Bool, List, [], ◌∷◌, ◌++◌, length, map, filter, take, drop, replicate, slice_range, slice_index_or, slice_set, sum_by, Option, find, reverse, min, refl}
 use Rattle.std.specs.List.{range_with_len, flat_map, list_any}
 use Rattle.std.specs.Coded.{Coded, code_by, coded×, coded_list, coded_ℕ}
 use Rattle.ed_model.specs.Rows.{Marker}
@@ -7,13 +7,13 @@ use Rattle.ed_model.specs.Numbers.{meets}
 use Rattle.ed_model.specs.LinePlans.{mask_of}
 use Rattle.ed_model.specs.Changes.{new_markers, without_marker}
 
--- the markers of each line in their order, the handle that the next marker gets, how many more markers were reserved,
--- and for how many in all there is memory
+-- The markers of each line in their order, the handle that the next marker gets, for how many markers there is memory, and
+-- for how many lines. As long as there is no memory for a marker, no line needs any.
 pub record MarkedLines : Type 0 where
   pub lines : List (List Marker)
   pub next_handle : ℕ
-  pub room : ℕ
-  pub block : ℕ
+  pub capacity : ℕ
+  pub line_capacity : ℕ
 
 abbrev pub marker : ℕ → ℕ → Marker
 marker handle number = record { handle = handle; number = number }
@@ -22,12 +22,12 @@ abbrev pub marker_code : Coded Marker
 marker_code = code_by (ℕ × ℕ) (coded× coded_ℕ coded_ℕ) (λ m. (m.handle, m.number)) (λ p. marker p.0 p.1) (λ _. refl)
 
 abbrev pub marked_lines : List (List Marker) → ℕ → ℕ → ℕ → MarkedLines
-marked_lines lines handle room block = record { lines = lines; next_handle = handle; room = room; block = block }
+marked_lines lines handle capacity line_capacity = record { lines = lines; next_handle = handle; capacity = capacity; line_capacity = line_capacity }
 
 abbrev pub marked_lines_code : Coded MarkedLines
 marked_lines_code =
     code_by (List (List Marker) × (ℕ × (ℕ × ℕ))) (coded× (coded_list (coded_list marker_code)) (coded× coded_ℕ (coded× coded_ℕ coded_ℕ)))
-    (λ s. (s.lines, (s.next_handle, (s.room, s.block)))) (λ p. marked_lines p.0 p.1.0 p.1.1.0 p.1.1.1) (λ _. refl)
+    (λ s. (s.lines, (s.next_handle, (s.capacity, s.line_capacity)))) (λ p. marked_lines p.0 p.1.0 p.1.1.0 p.1.1.1) (λ _. refl)
 
 -- the markers of a line; a line that does not exist has none
 abbrev pub markers_of : ℕ → List (List Marker) → List Marker
@@ -37,13 +37,13 @@ markers_of line lines = slice_index_or lines line []
 abbrev pub marker_total : List (List Marker) → ℕ
 marker_total lines = sum_by length lines
 
--- the store with room for `count` more markers, or with the old room if that is more
-abbrev pub with_room : MarkedLines → ℕ → MarkedLines
-with_room s count = record s { room = max s.room count }
+-- there is memory for `count` more lines, or none is needed
+abbrev pub HasLineRoom : ℕ → MarkedLines → Type 0
+HasLineRoom count s = 0 < s.capacity → length s.lines + count ≤ s.line_capacity
 
--- there is memory for the markers and `count` more
-abbrev pub HasMemory : MarkedLines → ℕ → Type 0
-HasMemory s count = marker_total s.lines + count ≤ s.block
+-- there is room for `markers` more markers, and for `lines` more lines
+abbrev pub HasRoom : ℕ → ℕ → MarkedLines → Type 0
+HasRoom markers lines s = (marker_total s.lines + markers ≤ s.capacity) × HasLineRoom lines s
 
 -- the lists with a new marker behind those of the line
 abbrev pub with_marker_on : ℕ → ℕ → MarkedLines → List (List Marker)

@@ -1,48 +1,38 @@
 //! The markers of lines: for each line a list of markers. Each marker has a handle, which is never given again, and a
 //! number from 0 to 31.
 //!
-//! All markers stand in one split vector, in the order of their lines, and those of one line in the order of its list.
-//! Up to one marker, the step, each is stored with its line, and from there on with the distance of its line to the
-//! number of lines.
+//! The markers of a line are a chain of links, from the last marker to the first. All links stand in one vector, in the
+//! order in which they were first needed. The first link of each line's chain stands in a vector of their numbers, from
+//! the first marker on: before it, a document stores only its number of lines.
 //!
 //! ```text
-//! line 0 | line 1: a b | line 2 | line 3: c | line 4            stored, with the step at c: a 1, b 1, c 5 - 3
+//! line 0 | line 1: a b | line 2 | line 3: c            firsts 0 2 0 3; links 1: a, then 0; 2: b, then 1; 3: c, then 0
 //! ```
 //!
-//! An edit of lines moves the step to the markers behind it and changes the number of lines. That alone moves each
-//! marker behind it to its new line: none is copied, and only those that the step passes are changed. Markers of joined
-//! lines move to the line before in the same way. Inserting or deleting a marker does not move the step. A document
-//! without markers stores only its number of lines.
+//! Links without a marker form the spare chain. To change the markers of a line, they are laid aside one by one, on a
+//! chain from the first to the last, and put back. So each change moves the first link of one chain to the front of
+//! another, which writes one link.
 //!
-//! Most lines have no marker, and are asked for their masks all the same. So from the first marker on, a byte for each
-//! line says whether the line may have one. If there is no memory for these bytes, all are dropped until the store is
-//! empty and gets a first marker again. In the meantime the markers of a line are searched for.
+//! What a call costs: a marker is added in a few writes. To delete one, or to read a mask, passes the markers of its line.
+//! A search for a line passes a number for each line. To insert or join lines also moves the numbers between their place
+//! and that of the last such edit.
 //!
-//! What a call costs: one binary search for the first marker of a line, and then a walk over markers, never over lines.
-//! The mask of a line takes a walk over its own markers, or one read if its byte says that it has none. The next line
-//! with a mask takes a walk to the first marker with a bit of it. An edit of lines also edits their bytes, and moves
-//! those between its place and that of the last such edit. Before the search, an edit of lines tries the step, and an
-//! insertion of a marker tries the last marker before the step. So edits at one place, or behind all markers, search
-//! once, and markers that are added line after line never do.
-//!
-//! `stored` keeps the entries, `placed` shows them as markers with their lines, `marked` keeps the bytes of the lines,
-//! and `store` shows the list of each line.
+//! `links` has one link, `chains` the chains and what moves one link, `rows` the changes of a line, `searches` the searches
+//! for one, and `store` also covers lines before the first marker.
 #![tactic(auto)]
 
+mod chains;
 mod drops;
-mod entries;
-mod marked;
+mod links;
 mod markers;
-mod placed;
+mod rows;
+mod searches;
 mod store;
-mod stored;
 
 #[doc(hidden)]
-pub use entries::Entry;
+pub use chains::Chains;
 #[doc(hidden)]
-pub use marked::LineMarks;
+pub use links::Link;
 #[doc(hidden)]
 pub use markers::Marker;
-#[doc(hidden)]
-pub use placed::PlacedMarkers;
 pub use store::{GREATEST_LINES, MarkerStore};

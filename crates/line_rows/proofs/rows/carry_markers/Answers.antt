@@ -1,4 +1,4 @@
-use Rattle.line_rows.proofs.Names.{◌≡◌, ◌+◌, ◌<◌, ◌∷◌, List, length, drop, get_or, sym, ap, ◌∙◌, subst, arith, drop_more, LineEdit, Come, after_edits, FitLines, lines_after_edit, fresh_by, fresh_lines, markers_together, length_after_edit, edit_adds}
+use Rattle.line_rows.proofs.Names.{◌≡◌, ◌+◌, ◌<◌, ◌∷◌, List, length, drop, get_or, sym, ap, ◌∙◌, subst, arith, drop_more, LineEdit, Come, after_edits, FitLines, lines_after_edit, fresh_by, fresh_lines, markers_together, length_after_edit, edit_adds, MarkedLines}
 use Rattle.line_rows.proofs.rows.carry_markers.Goals as goal
 
 pub loop-edit-preserved : goal.loop-edit-preserved
@@ -17,10 +17,12 @@ loop-edit-preserved c =
     let adds = edit_adds (length old) edit in
     record {
       markers = ap (after_edits markers_together left) c.carry_one.ensures.lines ∙ ap (λ es. after_edits markers_together es old) (sym next) ∙ c.loop-edit.invariant.markers;
-      next_handle = c.carry_one.ensures.next_handle ∙ c.loop-edit.invariant.next_handle;
+      rest = c.carry_one.ensures.rest ∙ ap (λ (m : MarkedLines). record m { lines = c.carry_one.new.markers.lines }) c.loop-edit.invariant.rest;
       lines = rw long fit.1;
       fits = omega (arith, c.loop-edit.invariant.fits);
-      room = omega (arith, c.loop-edit.invariant.room, c.carry_one.ensures.room);
-      in_all = c.carry_one.ensures.markers_in_all ∙ c.loop-edit.invariant.in_all;
-      block = c.carry_one.ensures.block ∙ c.loop-edit.invariant.block;
+      room = λ some.
+      let same = c.carry_one.ensures.rest in
+      let held = c.loop-edit.invariant.room (omega (arith, some, ap (λ (m : MarkedLines). m.capacity) same)) in
+      omega (arith, held, long, adds, fresh, ap (λ (m : MarkedLines). m.line_capacity) same);
+      fewer = omega (arith, c.loop-edit.invariant.fewer, c.carry_one.ensures.fewer);
     }

@@ -1,4 +1,4 @@
-use Rattle.line_rows.proofs.Names.{◌≡◌, ◌+◌, ◌≤◌, ◌^◌, length, drop, after_edits, FitLines, fresh_lines, markers_together, marker_total}
+use Rattle.line_rows.proofs.Names.{◌≡◌, ◌+◌, ◌≤◌, ◌^◌, length, drop, after_edits, FitLines, fresh_lines, markers_together, marker_total, HasLineRoom}
 use Rattle.line_rows.proofs.rows.carry_markers.Given as goal
 
 -- the edits that are left lead to the same markers
@@ -7,10 +7,9 @@ invariant-loop-edit l =
     let left = drop l.edit-index l.edits in
     record {
       markers : after_edits markers_together left l.markers.lines ≡ after_edits markers_together l.edits l.initial.markers.lines;
-      next_handle : l.markers.next_handle ≡ l.initial.markers.next_handle;
+      rest : l.markers ≡ record l.initial.markers { lines = l.markers.lines };
       lines : FitLines (length l.markers.lines) left;
       fits : length l.markers.lines + fresh_lines left ≤ 2 ^ 62;
-      room : l.initial.markers.room ≤ l.markers.room;
-      in_all : l.markers.room + marker_total l.markers.lines ≡ l.initial.markers.room + marker_total l.initial.markers.lines;
-      block : l.markers.block ≡ l.initial.markers.block;
+      room : HasLineRoom (fresh_lines left) l.markers;
+      fewer : marker_total l.markers.lines ≤ marker_total l.initial.markers.lines;
     }

@@ -11,4 +11,4 @@ pub returns-clause-lines : goal.returns-clause-lines
 returns-clause-lines c =
     let d = c.self.inside in
     c.lent.ensures.lines ∙ sym c.self.invariant.levelled
-    ∙ parts_length d.markers.lines d.levels.values d.states.values d.markers.next_handle (row_room d.levels.room d.levels.reach d.states.reach d.markers.room) (row_blocks d.levels.stored d.levels.block d.states.stored d.states.block d.states.room d.markers.block) c.args.self.now c.self.invariant.levelled c.self.invariant.stated c.self.view_is
+    ∙ parts_length d.markers.lines d.levels.values d.states.values d.markers.next_handle (row_room d.levels.room d.levels.reach d.states.reach d.marker_room) (row_blocks d.levels.stored d.levels.block d.states.stored d.states.block d.states.room d.markers.capacity d.markers.line_capacity) c.args.self.now c.self.invariant.levelled c.self.invariant.stated c.self.view_is

@@ -1,75 +1,41 @@
-use Rattle.marker_store.proofs.Names.{◌<◌, arith, ap, sym, ◌∙◌, rows_from}
-use Rattle.marker_store.proofs.Rows.{length-rows}
-use Rattle.marker_store.proofs.Calls.{total_is}
-use Rattle.marker_store.proofs.Deletions.{differs, rows_cleared, rows_first_gone, within_cleared, within_first_gone}
-use Rattle.marker_store.proofs.Flags.{marked_cleared, marked_first_gone}
+use Rattle.marker_store.proofs.Names.{◌≡◌, ◌≢◌, ◌⊎◌, inl, inr, ℕ, ◌+◌, ◌-◌, ◌^◌, ◌<◌, ◌≤◌, ◌==◌, ◌++◌, List, [], ◌∷◌, length, get_or, set, map, take, drop, replicate, ap, sym, refl, ◌∙◌, arith, subst, true, false, not, min, bit_and, mask_of, list_any, find, sum_by, eq-eqb, ne_eqb, length-set, length-map, nil_from_length, Chained, Marker, held, marker_total, markers_of, marked_lines, MarkedLines, with_fresh, with_joined, without, is_met, has_handle}
+use Rattle.ed_model.specs.Changes.{without_first, without_marker, is_of_number}
+use Rattle.split_vector.specs.Split.{inserted}
+use Rattle.marker_store.specs.Dropping.{kept, kept_rows, of_number}
+use Rattle.marker_store.specs.declared.drops.Drops.TheVariants.{Each, Handle, Number}
+use Rattle.marker_store.specs.Store.{all_lines, IsStore}
+use Rattle.marker_store.proofs.Finds.{find_none, find_some, last_none, last_some}
+use Rattle.marker_store.proofs.Stores.{full, bare, at_padded, total_padded, lines_length, set_all, marker_nil, marker_fewer, kept_fewer, kept_each, number_rows, without_all, differs, fresh_none, fresh_full, total_wider, length-wider, joined_bare, length-joined, total_joined, joined_next, met_bare, first_all, last_all, is_full, no_more, same_shape, same_store}
 use Rattle.marker_store.proofs.store.MarkerStore.delete.Goals as goal
-use Rattle.marker_store.proofs.store.MarkerStore.delete.Goals.{in-None, in-Some}
-
-pub clear_line-requires : goal.clear_line-requires
-clear_line-requires g c =
-    let line = rw (← c.self.view_is) at c.requires in
-    omega (arith, line, length-rows 0 c.self.inside.placed.count c.self.inside.placed.entries)
-
-pub remove_first-requires : goal.remove_first-requires
-remove_first-requires g c =
-    let line = rw (← c.self.view_is) at c.requires in
-    omega (arith, line, length-rows 0 c.self.inside.placed.count c.self.inside.placed.entries)
 
 pub invariant_of-self : goal.invariant_of-self
 invariant_of-self g c =
-    let old = c.self.inside.placed in
-    let line = rw (← c.self.view_is) at c.requires in
-    let inside : c.args.line < old.count = omega (arith, line, length-rows 0 old.count old.entries) in
-    elim c.match-number.branch [
-      | in-None w ↦
-          let e = w.clear_line.ensures in
-          rw w.self-inside-is (record {
-            some = omega (arith, e.count, c.self.invariant.some);
-            few = omega (arith, e.count, c.self.invariant.few);
-            fewer = omega (arith, e.fewer, c.self.invariant.fewer);
-            within = rw e.count (within_cleared c.args.line old.entries w.clear_line.new.self.entries e.entries old.count c.self.invariant.within);
-            marked = marked_cleared c.self.inside.marked c.args.line _ _ e.entries c.self.invariant.marked;
-          })
-      | in-Some w ↦
-          let e = w.remove_first.ensures in
-          rw w.self-inside-is (record {
-            some = omega (arith, e.count, c.self.invariant.some);
-            few = omega (arith, e.count, c.self.invariant.few);
-            fewer = omega (arith, e.fewer, c.self.invariant.fewer);
-            within = rw e.count (within_first_gone c.args.line w.in-Some.number old.count old.entries w.remove_first.new.self.entries e.entries c.self.invariant.within);
-            marked = marked_first_gone c.self.inside.marked c.args.line w.in-Some.number _ _ e.entries c.self.invariant.marked;
-          })
-    ]
+    let d = c.self.inside in
+    rw c.delete_on.ensures
+    (same_store d.chains (set d.chains.rows c.args.line (without_marker c.args.number (get_or d.chains.rows c.args.line []))) d.lines d.next_handle c.self.invariant
+    (length-set d.chains.rows c.args.line (without_marker c.args.number (get_or d.chains.rows c.args.line []))) (marker_fewer c.args.number c.args.line d.chains.rows))
 
 pub returns-clause-went : goal.returns-clause-went
 returns-clause-went g c =
-    let old = c.self.inside.placed in
-    let new = c.match-number.self-inside.placed in
+    let d = c.self.inside in
+    let new = c.delete_on.new.self in
+    let none = c.self.invariant.none_aside in
+    let still : length new.aside ≡ 0 = ap (λ (x : Chained). length x.aside) c.delete_on.ensures ∙ ap length none in
     rw (← c.self.view_is)
-    (differs c.len.result c.len-markers.result _ _ (c.len.ensures.len ∙ sym (total_is new.count new.entries c.len.ensures.within)) (c.len-markers.ensures.len ∙ sym (total_is old.count old.entries c.len-markers.ensures.within)))
+    (differs c.len.result c.len-markers.result _ _ (omega (arith, c.len.ensures.len, total_padded new.rows (d.lines - length new.rows), still))
+    (omega (arith, c.len-markers.ensures.len, total_padded d.chains.rows (d.lines - length d.chains.rows), ap length none)))
 
 pub returns-clause-lines : goal.returns-clause-lines
 returns-clause-lines g c =
-    let old = c.self.inside.placed in
-    let line = rw (← c.self.view_is) at c.requires in
-    let inside : c.args.line < old.count = omega (arith, line, length-rows 0 old.count old.entries) in
-    elim c.match-number.branch [
-      | in-None w ↦
-          rw (w.self-inside-is, w.in-None.is, ← c.self.view_is)
-          (ap (λ n. rows_from 0 n w.clear_line.new.self.entries) w.clear_line.ensures.count ∙ rows_cleared c.args.line old.entries w.clear_line.new.self.entries w.clear_line.ensures.entries old.count inside)
-      | in-Some w ↦
-          rw (w.self-inside-is, w.in-Some.is, ← c.self.view_is)
-          (ap (λ n. rows_from 0 n w.remove_first.new.self.entries) w.remove_first.ensures.count ∙ rows_first_gone c.args.line w.in-Some.number old.count old.entries w.remove_first.new.self.entries inside w.remove_first.ensures.entries)
-    ]
+    let d = c.self.inside in
+    rw (← c.self.view_is)
+    (ap (λ (x : Chained). marked_lines (all_lines d.lines x.rows) d.next_handle x.capacity x.line_capacity) c.delete_on.ensures
+    ∙ ap (λ (ls : List (List Marker)). marked_lines ls d.next_handle d.chains.capacity d.chains.line_capacity) (set_all (without_marker c.args.number) d.lines c.args.line d.chains.rows (marker_nil c.args.number) c.self.invariant.headed))
 
-pub returns-clause-room : goal.returns-clause-room
-returns-clause-room g c =
-    let old = c.self.inside.placed in
-    let new = c.match-number.self-inside.placed in
-    let was = total_is old.count old.entries c.len-markers.ensures.within in
-    let is = total_is new.count new.entries c.len.ensures.within in
-    elim c.match-number.branch [
-      | in-None w ↦ let now = rw w.self-inside-is at is in rw (w.self-inside-is, ← c.self.view_is) (omega (arith, was, now, w.clear_line.ensures.room))
-      | in-Some w ↦ let now = rw w.self-inside-is at is in rw (w.self-inside-is, ← c.self.view_is) (omega (arith, was, now, w.remove_first.ensures.room))
-    ]
+pub returns-clause-fewer : goal.returns-clause-fewer
+returns-clause-fewer g c =
+    let d = c.self.inside in
+    let new = c.delete_on.new.self in
+    rw (← c.self.view_is)
+    (omega
+    (arith, total_padded new.rows (d.lines - length new.rows), total_padded d.chains.rows (d.lines - length d.chains.rows), ap (λ (x : Chained). marker_total x.rows) c.delete_on.ensures, marker_fewer c.args.number c.args.line d.chains.rows))

@@ -1,34 +1,36 @@
-use Rattle.marker_store.proofs.Names.{arith, ap, sym, refl, ◌∙◌, Handle, rows_from}
-use Rattle.marker_store.proofs.Calls.{total_is}
-use Rattle.marker_store.proofs.Deletions.{rows_kept, within_kept}
-use Rattle.marker_store.proofs.Flags.{marked_kept}
+use Rattle.marker_store.proofs.Names.{◌≡◌, ◌≢◌, ◌⊎◌, inl, inr, ℕ, ◌+◌, ◌-◌, ◌^◌, ◌<◌, ◌≤◌, ◌==◌, ◌++◌, List, [], ◌∷◌, length, get_or, set, map, take, drop, replicate, ap, sym, refl, ◌∙◌, arith, subst, true, false, not, min, bit_and, mask_of, list_any, find, sum_by, eq-eqb, ne_eqb, length-set, length-map, nil_from_length, Chained, Marker, held, marker_total, markers_of, marked_lines, MarkedLines, with_fresh, with_joined, without, is_met, has_handle}
+use Rattle.ed_model.specs.Changes.{without_first, without_marker, is_of_number}
+use Rattle.split_vector.specs.Split.{inserted}
+use Rattle.marker_store.specs.Dropping.{kept, kept_rows, of_number}
+use Rattle.marker_store.specs.declared.drops.Drops.TheVariants.{Each, Handle, Number}
+use Rattle.marker_store.specs.Store.{all_lines, IsStore}
+use Rattle.marker_store.proofs.Finds.{find_none, find_some, last_none, last_some}
+use Rattle.marker_store.proofs.Stores.{full, bare, at_padded, total_padded, lines_length, set_all, marker_nil, marker_fewer, kept_fewer, kept_each, number_rows, without_all, differs, fresh_none, fresh_full, total_wider, length-wider, joined_bare, length-joined, total_joined, joined_next, met_bare, first_all, last_all, is_full, no_more, same_shape, same_store}
 use Rattle.marker_store.proofs.store.MarkerStore.delete_handle.Goals as goal
 
 pub invariant_of-self : goal.invariant_of-self
 invariant_of-self g c =
-    record {
-      some = omega (arith, c.remove_all.ensures.count, c.self.invariant.some);
-      few = omega (arith, c.remove_all.ensures.count, c.self.invariant.few);
-      fewer = omega (arith, c.remove_all.ensures.fewer, c.self.invariant.fewer);
-      within = rw (c.remove_all.ensures.count, c.remove_all.ensures.entries) (within_kept (Handle c.args.handle) c.self.inside.placed.count c.self.inside.placed.entries c.self.invariant.within);
-      marked = rw c.remove_all.ensures.entries (marked_kept c.self.inside.marked (Handle c.args.handle) c.self.inside.placed.entries c.self.invariant.marked);
-    }
+    let d = c.self.inside in
+    rw c.delete_all.ensures
+    (same_store d.chains (kept_rows (Handle c.args.handle) d.chains.rows) d.lines d.next_handle c.self.invariant
+    (length-map d.chains.rows (kept (Handle c.args.handle))) (kept_fewer (Handle c.args.handle) d.chains.rows))
 
-pub returns-in_err-line-clause-lines : goal.returns-in_err-line-clause-lines
-returns-in_err-line-clause-lines g c =
-    let old = c.self.inside.placed in
-    rw (← c.self.view_is) (ap (λ es. rows_from 0 old.count es) (sym (c.in_err-line.ensures.none refl)) ∙ rows_kept (Handle c.args.handle) 0 old.count old.entries)
+pub returns-clause-line : goal.returns-clause-line
+returns-clause-line g c =
+    rw (← c.self.view_is)
+    (c.line_of_handle-line.ensures ∙ first_all (λ (ms : List Marker). list_any (λ m. m.handle == c.args.handle) ms) refl c.self.inside.lines c.self.inside.chains.rows 0 c.self.invariant.headed)
 
 pub returns-clause-lines : goal.returns-clause-lines
 returns-clause-lines g c =
-    let old = c.self.inside.placed in
+    let d = c.self.inside in
     rw (← c.self.view_is)
-    (ap (λ n. rows_from 0 n c.remove_all.new.self.entries) c.remove_all.ensures.count ∙ ap (λ es. rows_from 0 old.count es) c.remove_all.ensures.entries ∙ rows_kept (Handle c.args.handle) 0 old.count old.entries)
+    (ap (λ (x : Chained). marked_lines (all_lines d.lines x.rows) d.next_handle x.capacity x.line_capacity) c.delete_all.ensures
+    ∙ ap (λ (ls : List (List Marker)). marked_lines ls d.next_handle d.chains.capacity d.chains.line_capacity) (without_all (λ m. m.handle == c.args.handle) d.lines d.chains.rows))
 
-pub returns-clause-room : goal.returns-clause-room
-returns-clause-room g c =
-    let old = c.self.inside.placed in
-    let new = c.remove_all.new.self in
-    let was = total_is old.count old.entries c.self.invariant.within in
-    let is = total_is new.count new.entries (rw (c.remove_all.ensures.count, c.remove_all.ensures.entries) (within_kept (Handle c.args.handle) old.count old.entries c.self.invariant.within)) in
-    rw (← c.self.view_is) (omega (arith, was, is, c.remove_all.ensures.room))
+pub returns-clause-fewer : goal.returns-clause-fewer
+returns-clause-fewer g c =
+    let d = c.self.inside in
+    let new = c.delete_all.new.self in
+    rw (← c.self.view_is)
+    (omega
+    (arith, total_padded new.rows (d.lines - length new.rows), total_padded d.chains.rows (d.lines - length d.chains.rows), ap (λ (x : Chained). marker_total x.rows) c.delete_all.ensures, kept_fewer (Handle c.args.handle) d.chains.rows))

@@ -1,24 +1,21 @@
-use Rattle.marker_store.proofs.Names.{◌<◌, arith, sym, ap, ◌∙◌, mask_of}
-use Rattle.marker_store.proofs.Rows.{length-rows}
-use Rattle.marker_store.proofs.Calls.{markers_at}
-use Rattle.marker_store.proofs.Flags.{row_unmarked}
+use Rattle.marker_store.proofs.Names.{◌≡◌, ◌≢◌, ◌⊎◌, inl, inr, ℕ, ◌+◌, ◌-◌, ◌^◌, ◌<◌, ◌≤◌, ◌==◌, ◌++◌, List, [], ◌∷◌, length, get_or, set, map, take, drop, replicate, ap, sym, refl, ◌∙◌, arith, subst, true, false, not, min, bit_and, mask_of, list_any, find, sum_by, eq-eqb, ne_eqb, length-set, length-map, nil_from_length, Chained, Marker, held, marker_total, markers_of, marked_lines, MarkedLines, with_fresh, with_joined, without, is_met, has_handle}
+use Rattle.std.proofs.lemmas.List.{get_or_past}
+use Rattle.ed_model.specs.Changes.{without_first, without_marker, is_of_number}
+use Rattle.split_vector.specs.Split.{inserted}
+use Rattle.marker_store.specs.Dropping.{kept, kept_rows, of_number}
+use Rattle.marker_store.specs.declared.drops.Drops.TheVariants.{Each, Handle, Number}
+use Rattle.marker_store.specs.Store.{all_lines, IsStore}
+use Rattle.marker_store.proofs.Finds.{find_none, find_some, last_none, last_some}
+use Rattle.marker_store.proofs.Stores.{full, bare, at_padded, total_padded, lines_length, set_all, marker_nil, marker_fewer, kept_fewer, kept_each, number_rows, without_all, differs, fresh_none, fresh_full, total_wider, length-wider, joined_bare, length-joined, total_joined, joined_next, met_bare, first_all, last_all, is_full, no_more, same_shape, same_store}
 use Rattle.marker_store.proofs.store.MarkerStore.mask.Goals as goal
 
-pub mask-requires : goal.mask-requires
-mask-requires g c =
-    let line = rw (← c.self.view_is) at c.requires in
-    omega (arith, line, length-rows 0 c.self.inside.placed.count c.self.inside.placed.entries)
-
-pub returns-then-has_none : goal.returns-then-has_none
-returns-then-has_none g c =
-    let line = rw (← c.self.view_is) at c.requires in
-    let old = c.self.inside.placed in
-    let inside : c.args.line < old.count = omega (arith, line, length-rows 0 old.count old.entries) in
-    let none = row_unmarked c.self.inside.marked c.args.line old.entries c.self.invariant.marked (sym c.has_none.ensures ∙ c.if-has_none.true) in
-    rw (← c.self.view_is) (sym (ap mask_of (markers_at old.count c.args.line old.entries inside ∙ none)))
+pub returns-then-line-lines : goal.returns-then-line-lines
+returns-then-line-lines g c =
+    let d = c.self.inside in
+    rw (← c.self.view_is) (c.mask.ensures ∙ ap mask_of (sym (at_padded d.chains.rows (d.lines - length d.chains.rows) c.args.line)))
 
 pub returns : goal.returns
 returns g c =
-    let line = rw (← c.self.view_is) at c.requires in
-    let inside : c.args.line < c.self.inside.placed.count = omega (arith, line, length-rows 0 c.self.inside.placed.count c.self.inside.placed.entries) in
-    rw (← c.self.view_is) (c.mask.ensures ∙ ap mask_of (sym (markers_at c.self.inside.placed.count c.args.line c.self.inside.placed.entries inside)))
+    let d = c.self.inside in
+    rw (← c.self.view_is)
+    (sym (ap mask_of (at_padded d.chains.rows (d.lines - length d.chains.rows) c.args.line ∙ get_or_past d.chains.rows c.args.line [] (omega (arith, c.if-line-lines.false, c.lines.ensures.lines)))))

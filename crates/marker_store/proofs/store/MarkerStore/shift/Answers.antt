@@ -1,34 +1,43 @@
-use Rattle.marker_store.proofs.Names.{◌≤◌, arith, ap, ◌∙◌, marked_lines, with_fresh, rows_from}
-use Rattle.marker_store.proofs.Rows.{length-rows}
-use Rattle.marker_store.proofs.Calls.{rows_raised}
-use Rattle.marker_store.proofs.Deletions.{within_raised, length-raised}
-use Rattle.marker_store.proofs.Flags.{marked_raised}
+use Rattle.marker_store.proofs.Names.{◌≡◌, ◌≢◌, ◌⊎◌, inl, inr, ℕ, ◌+◌, ◌-◌, ◌^◌, ◌<◌, ◌≤◌, ◌==◌, ◌++◌, List, [], ◌∷◌, length, get_or, set, map, take, drop, replicate, ap, sym, refl, ◌∙◌, arith, subst, true, false, not, min, bit_and, mask_of, list_any, find, sum_by, eq-eqb, ne_eqb, length-set, length-map, nil_from_length, Chained, Marker, held, marker_total, markers_of, marked_lines, MarkedLines, with_fresh, with_joined, without, is_met, has_handle}
+use Rattle.ed_model.specs.Changes.{without_first, without_marker, is_of_number}
+use Rattle.split_vector.specs.Split.{inserted}
+use Rattle.marker_store.specs.Dropping.{kept, kept_rows, of_number}
+use Rattle.marker_store.specs.declared.drops.Drops.TheVariants.{Each, Handle, Number}
+use Rattle.marker_store.specs.Store.{all_lines, IsStore}
+use Rattle.marker_store.proofs.Finds.{find_none, find_some, last_none, last_some}
+use Rattle.marker_store.proofs.Stores.{full, bare, at_padded, total_padded, lines_length, set_all, marker_nil, marker_fewer, kept_fewer, kept_each, number_rows, without_all, differs, fresh_none, fresh_full, total_wider, length-wider, joined_bare, length-joined, total_joined, joined_next, met_bare, first_all, last_all, is_full, no_more, same_shape, same_store}
 use Rattle.marker_store.proofs.store.MarkerStore.shift.Goals as goal
-
-pub raise-requires-clause-line : goal.raise-requires-clause-line
-raise-requires-clause-line g c =
-    let line = rw (← c.self.view_is) at c.requires.line in
-    omega (arith, line, length-rows 0 c.self.inside.placed.count c.self.inside.placed.entries)
 
 pub invariant_of-self : goal.invariant_of-self
 invariant_of-self g c =
+    let d = c.self.inside in
+    let i = c.self.invariant in
     let fits = rw (← c.self.view_is) at c.requires.fits in
-    record {
-      some = omega (arith, c.raise.ensures.count, c.self.invariant.some);
-      few = omega (arith, c.raise.ensures.count, fits, length-rows 0 c.self.inside.placed.count c.self.inside.placed.entries);
-      fewer = omega (arith, length-raised c.args.line c.args.count _ _ c.raise.ensures.entries, c.self.invariant.fewer);
-      within = rw c.raise.ensures.count (within_raised c.args.line c.args.count c.self.inside.placed.count _ _ c.raise.ensures.entries c.self.invariant.within);
-      marked = marked_raised c.self.inside.marked c.raise-2.new.self c.args.line c.args.count _ _ c.raise-2.ensures c.raise.ensures.entries c.self.invariant.marked;
-    }
+    let size = lines_length d.lines d.chains.rows i.headed in
+    let n = is_full d.lines d.chains.rows i.headed (omega (arith, c.if-lines-gt0.true, c.lines.ensures.lines)) in
+    rw c.insert.ensures (record {
+      some = omega (arith, i.some);
+      few = omega (arith, size, fits);
+      headed = inr (length-wider c.args.line c.args.count d.chains.rows ∙ ap (λ k. k + c.args.count) n);
+      held = λ h. i.held (omega (arith, n, i.some));
+      fewer = omega (arith, total_wider c.args.line c.args.count d.chains.rows, i.fewer);
+      none_aside = i.none_aside;
+    })
 
-pub returns : goal.returns
-returns g c =
-    let old = c.self.inside.placed in
-    let new = c.raise.new.self in
-    let line = rw (← c.self.view_is) at c.requires.line in
-    let inside : c.args.line ≤ old.count = omega (arith, line, length-rows 0 old.count old.entries) in
-    let rows = ap (λ n. rows_from 0 n new.entries) c.raise.ensures.count ∙ rows_raised c.args.line c.args.count old.count old.entries new.entries inside c.raise.ensures.entries in
+pub returns-then-lines-gt0 : goal.returns-then-lines-gt0
+returns-then-lines-gt0 g c =
+    let d = c.self.inside in
+    let n = is_full d.lines d.chains.rows c.self.invariant.headed (omega (arith, c.if-lines-gt0.true, c.lines.ensures.lines)) in
     rw (← c.self.view_is)
-    (ap (λ l. marked_lines l c.self.inside.next_handle new.room new.block) rows
-    ∙ ap (λ n. marked_lines (with_fresh c.args.line c.args.count (rows_from 0 old.count old.entries)) c.self.inside.next_handle n new.block) c.raise.ensures.room
-    ∙ ap (λ n. marked_lines (with_fresh c.args.line c.args.count (rows_from 0 old.count old.entries)) c.self.inside.next_handle old.room n) c.raise.ensures.block)
+    (ap (λ (x : Chained). marked_lines (all_lines (d.lines + c.args.count) x.rows) d.next_handle x.capacity x.line_capacity) c.insert.ensures
+    ∙ ap (λ (ls : List (List Marker)). marked_lines ls d.next_handle d.chains.capacity d.chains.line_capacity) (fresh_full d.lines c.args.line c.args.count d.chains.rows n))
+
+pub returns-else-lines-gt0 : goal.returns-else-lines-gt0
+returns-else-lines-gt0 g c =
+    let d = c.self.inside in
+    let none : d.chains.rows ≡ [] = nil_from_length d.chains.rows (omega (arith, c.if-lines-gt0.false, c.lines.ensures.lines)) in
+    let line = rw (← c.self.view_is) at c.requires.line in
+    let inside : c.args.line ≤ d.lines = omega (arith, line, lines_length d.lines d.chains.rows c.self.invariant.headed) in
+    rw (← c.self.view_is)
+    (ap (λ (ls : List (List Marker)). marked_lines ls d.next_handle d.chains.capacity d.chains.line_capacity)
+    (ap (all_lines (d.lines + c.args.count)) none ∙ fresh_none d.lines c.args.line c.args.count inside ∙ ap (λ (rs : List (List Marker)). with_fresh c.args.line c.args.count (all_lines d.lines rs)) (sym none)))
