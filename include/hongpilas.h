@@ -7,6 +7,8 @@
  * refusal. A refused call changes nothing: neither the session, nor the last reply, nor
  * what any of its pointers points to.
  *
+ * Notifications come with the reply to a message, for all views: there are no callbacks.
+ *
  * Two forms. hongpilas_send, for example, tests its pointers and lengths, and then makes
  * the proved call, hongpilas_send_unchecked, which tests none of them. Use the plain
  * names. The tests are written in C (c/checked.c), and are tested, not proved.
@@ -27,7 +29,7 @@
  *    means nothing;
  *  - during a call nobody changes a text that it is sent, nor reads or changes a buffer that
  *    it fills, in another thread either;
- *  - what the unchecked forms add to this is stated there.
+ *  - the unchecked forms add duties, which are stated there.
  *
  * Lent bytes. The last reply, with its text and its notifications, is valid until the
  * next message that is done, or hongpilas_free: a refused message and all other calls
@@ -100,7 +102,7 @@ enum {
 /* Names, as strings that are never freed: of an answer, such as "no such view" ("unknown
  * refusal" if there is no such answer); of a message, such as "SCI_GETLENGTH"; and of a
  * notification's code, such as "SCN_MODIFIED". The last two return NULL if the profile
- * does not have that message or code, and so tell whether it has. */
+ * does not have that message or code: so they show whether it has. */
 const char *hongpilas_answer_name(hongpilas_answer answer);
 const char *hongpilas_message_name(uint32_t number);
 const char *hongpilas_note_name(uint32_t code);
@@ -170,7 +172,7 @@ HONGPILAS_MUST_USE hongpilas_answer hongpilas_send(hongpilas_session *session, u
                                                    size_t length, int64_t *value);
 
 /* Sends a view a query: a message that changes nothing, marked Q below and in
- * docs/MESSAGES.md. SEARCHINTARGET, which moves the target, is none.
+ * docs/MESSAGES.md. SEARCHINTARGET moves the target, so it is no query.
  * Sets *value to the value with which hongpilas_send would answer it. Neither the session
  * nor the last reply changes, so that a program may ask while it reads notifications.
  * hongpilas_read also lends the text with which hongpilas_send would answer: it sets *text
@@ -190,7 +192,7 @@ HONGPILAS_MUST_USE hongpilas_answer hongpilas_value(const hongpilas_session *ses
  * byte, and *length. The second form copies the bytes from `start` on, as many as there are
  * and as fit, and sets *count to how many that is. */
 HONGPILAS_MUST_USE hongpilas_answer hongpilas_text(const hongpilas_session *session, const uint8_t **text, size_t *length);
-HONGPILAS_MUST_USE hongpilas_answer hongpilas_copy_text(const hongpilas_session *session, size_t start, void *into, size_t room, size_t *count);
+HONGPILAS_MUST_USE hongpilas_answer hongpilas_copy_text(const hongpilas_session *session, size_t start, void *into, size_t capacity, size_t *count);
 
 /* A notification of a view. Fields that its code does not use are 0. */
 typedef struct hongpilas_note_data {
@@ -222,7 +224,7 @@ HONGPILAS_MUST_USE hongpilas_answer hongpilas_note(const hongpilas_session *sess
 
 /* Copies a notification's text from `start` on, as many bytes as there are and as fit, and
  * sets *count to how many that is. Refused: BAD_ARGUMENT if there is no such notification. */
-HONGPILAS_MUST_USE hongpilas_answer hongpilas_copy_note_text(const hongpilas_session *session, size_t index, size_t start, void *into, size_t room,
+HONGPILAS_MUST_USE hongpilas_answer hongpilas_copy_note_text(const hongpilas_session *session, size_t index, size_t start, void *into, size_t capacity,
                                                              size_t *count);
 
 /* Lends the `count` bytes of the view's document from `start` on, without a copy: sets
@@ -235,11 +237,12 @@ HONGPILAS_MUST_USE hongpilas_answer hongpilas_lend_range(hongpilas_session *sess
 HONGPILAS_MUST_USE hongpilas_answer hongpilas_copy_range(hongpilas_session *session, uint32_t view, size_t start, void *into, size_t count);
 
 /* The unchecked forms: the proved calls themselves. Each does what the call of the same name
- * without `unchecked` does, and tests no pointer and no length. Beside the duties above, the
- * caller sees to it that no pointer is null, even if its length is 0, and that no length is
- * above 2^63 - 1. Calls below that do not return hongpilas_answer cannot be refused, and
- * return their result directly; hongpilas_note_unchecked returns whether there is such
- * a notification, and sets the members of version 2.0 alone; the text of none is empty. */
+ * without `unchecked` does, and tests no pointer and no length. In addition to the duties
+ * above, no pointer may be null, even if its length is 0, and no length may be above
+ * 2^63 - 1. Calls below that do not return hongpilas_answer cannot be refused, and return
+ * their result directly. hongpilas_note_unchecked returns whether there is such a
+ * notification, and sets only the members of version 2.0. A notification that does not exist
+ * has an empty text. */
 HONGPILAS_MUST_USE hongpilas_answer hongpilas_new_view_unchecked(hongpilas_session *session, uint32_t *view);
 HONGPILAS_MUST_USE hongpilas_answer hongpilas_close_view_unchecked(hongpilas_session *session, uint32_t view);
 HONGPILAS_MUST_USE hongpilas_answer hongpilas_send_unchecked(hongpilas_session *session, uint32_t view, uint32_t number, int64_t w, int64_t l,
@@ -250,10 +253,10 @@ HONGPILAS_MUST_USE hongpilas_answer hongpilas_read_unchecked(hongpilas_session *
                                                              const uint8_t **text, size_t *length, int64_t *value);
 int64_t hongpilas_value_unchecked(const hongpilas_session *session);
 size_t hongpilas_text_unchecked(const hongpilas_session *session, const uint8_t **text);
-size_t hongpilas_copy_text_unchecked(const hongpilas_session *session, size_t start, uint8_t *into, size_t room);
+size_t hongpilas_copy_text_unchecked(const hongpilas_session *session, size_t start, uint8_t *into, size_t capacity);
 size_t hongpilas_note_count_unchecked(const hongpilas_session *session);
 bool hongpilas_note_unchecked(const hongpilas_session *session, size_t index, hongpilas_note_data *note);
-size_t hongpilas_copy_note_text_unchecked(const hongpilas_session *session, size_t index, size_t start, uint8_t *into, size_t room);
+size_t hongpilas_copy_note_text_unchecked(const hongpilas_session *session, size_t index, size_t start, uint8_t *into, size_t capacity);
 HONGPILAS_MUST_USE hongpilas_answer hongpilas_lend_range_unchecked(hongpilas_session *session, uint32_t view, size_t start, size_t count,
                                                                    const uint8_t **bytes);
 HONGPILAS_MUST_USE hongpilas_answer hongpilas_copy_range_unchecked(hongpilas_session *session, uint32_t view, size_t start, uint8_t *into, size_t count);

@@ -34,7 +34,7 @@ OVER_SCINTILLA = """#include <hongpilas_scintilla.h>
 #include <stdio.h>
 
 static int count;
-static void hear(SCNotification *notification, void *data) {{ count += notification != NULL && data == NULL; }}
+static void on_notify(SCNotification *notification, void *data) {{ count += notification != NULL && data == NULL; }}
 
 int main(void) {{
 {}  printf("%d\\n", count);
