@@ -37,11 +37,11 @@ class Messages:
         raise NotImplementedError
 
     def ask(self, number: int, w: int = 0, l: int = 0) -> int:
-        """Asks any question, and returns its value."""
+        """Sends any query, and returns its value."""
         raise NotImplementedError
 
     def read(self, number: int, w: int = 0, l: int = 0) -> bytes:
-        """Asks any question that returns a text, and returns that."""
+        """Sends any query that returns a text, and returns that."""
         raise NotImplementedError
 
     # Written by tools/pages/wrappers.py: begin

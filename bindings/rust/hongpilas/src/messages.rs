@@ -8,7 +8,7 @@ fn length_of(text: &[u8]) -> i64 {
     text.len() as i64
 }
 
-/// Questions, which change nothing. Positions, lengths and lines are in bytes and lines, and count from 0. An argument outside the range that a sentence
+/// Queries, which change nothing. Positions, lengths and lines are in bytes and lines, and count from 0. An argument outside the range that a sentence
 /// states is refused as [`Refusal::BadArgument`].
 impl View<'_> {
     // Written by tools/pages/wrappers.py: begin questions
@@ -364,7 +364,7 @@ impl View<'_> {
     // Written by tools/pages/wrappers.py: end questions
 }
 
-/// All other messages, and the texts of questions without a copy.
+/// All other messages, and the texts of queries without a copy.
 impl ViewMut<'_> {
     // Written by tools/pages/wrappers.py: begin messages
     /// Inserts `text` at the caret, and moves anchor and caret to the end of the inserted text.
