@@ -24,14 +24,14 @@
  *  - no call is made from a signal handler, nor in the forked child of a process that
  *    has several threads;
  *  - a pointer that is not null points to what the call's type says, of that length;
- *  - lent bytes are read-only, and only while valid (below). Never pass them back, as a
- *    text to send or a buffer to fill: copy them first. If their length is 0, the address
- *    means nothing;
+ *  - borrowed bytes are only read, and only while they are valid (below). Never pass them
+ *    back, as a text to send or a buffer to fill: copy them first. If their length is 0, the
+ *    address means nothing;
  *  - during a call nobody changes a text that it is sent, nor reads or changes a buffer that
  *    it fills, in another thread either;
  *  - the unchecked forms add duties, which are stated there.
  *
- * Lent bytes. The last reply, with its text and its notifications, is valid until the
+ * Borrowed bytes. The last reply, with its text and its notifications, is valid until the
  * next message that is done, or hongpilas_free: a refused message and all other calls
  * leave it unchanged. A text that hongpilas_read lends is valid until the next
  * hongpilas_read of the session, or hongpilas_free. Bytes of a document, from
@@ -49,10 +49,9 @@
  *  - or take a message's notifications together as "this changed", and read the session.
  *
  * Texts are bytes with a length. There is no closing NUL, and a NUL is an ordinary
- * byte. Positions and lengths are in bytes and count from 0. They are int64_t as values of
- * messages, and size_t in calls such as hongpilas_lend_range: a position that the library
- * returned is never negative there, unless it is the -1 of a message that finds nothing;
- * cast it.
+ * byte. Positions and lengths are in bytes and count from 0: int64_t as values of messages,
+ * and size_t in calls such as hongpilas_lend_range. Cast a position that a message returned,
+ * unless it is the -1 of a message that found nothing.
  *
  * The library has no global state. It allocates by malloc, realloc and free. */
 #ifndef HONGPILAS_H
@@ -163,11 +162,10 @@ HONGPILAS_MUST_USE hongpilas_answer hongpilas_new_view(hongpilas_session *sessio
 HONGPILAS_MUST_USE hongpilas_answer hongpilas_close_view(hongpilas_session *session, uint32_t view);
 
 /* Sends a message to a view. docs/MESSAGES.md says what w, l and the text mean, what the
- * message does, and when it is refused. Where it names w `length`, w says how many bytes of
- * the text are taken; it is not filled in from the length of the text: APPENDTEXT with w 0
- * appends nothing. The text is read in place, and not stored. Sets *value to the value of
- * the reply; `value` may be null. The reply, with its text and its notifications, replaces
- * the last one. */
+ * message does, and when it is refused. If it names w `length`, pass in w how many bytes of
+ * the text the message takes: APPENDTEXT with w 0 appends nothing. The text is read in
+ * place, and not stored. Sets *value to the value of the reply; `value` may be null. The
+ * reply, with its text and its notifications, replaces the last one. */
 HONGPILAS_MUST_USE hongpilas_answer hongpilas_send(hongpilas_session *session, uint32_t view, uint32_t number, int64_t w, int64_t l, const void *text,
                                                    size_t length, int64_t *value);
 
@@ -315,8 +313,8 @@ HONGPILAS_MUST_USE hongpilas_answer hongpilas_copy_range_unchecked(hongpilas_ses
 #define SCI_ENDUNDOACTION          2079 /* Closes the undo group that was opened last. */
 #define SCI_SETLINESTATE           2092 /* (line, state): Sets the state of line `line`, if there is such a line. */
 #define SCI_GETLINESTATE           2093 /* Q (line): Returns the state of line `line`, or 0 if there is no such line. */
-#define SCI_GETLINEENDPOSITION     2136 /* Q (line): Returns where the line end of line `line` begins; the text's length from the last line on; -1 if `line` is
-                                           negative. */
+#define SCI_GETLINEENDPOSITION     2136 /* Q (line): Returns where the line end of line `line` begins; the text's length for the last line and past it; -1 if
+                                           `line` is negative. */
 #define SCI_GETREADONLY            2140 /* Q: Returns whether the document is read-only. */
 #define SCI_SETCURRENTPOS          2141 /* (position): Moves the caret to `position` (clamped to the text); the anchor stays. */
 #define SCI_SETSELECTIONSTART      2142 /* (position): Moves the anchor to `position` (clamped to the text); if the caret is before it, moves the caret there
@@ -363,9 +361,7 @@ HONGPILAS_MUST_USE hongpilas_answer hongpilas_copy_range_unchecked(hongpilas_ses
                                            is past the last. */
 #define SCI_SETFOLDLEVEL           2222 /* (line, level): Sets the fold level of line `line`, if there is such a line. */
 #define SCI_GETFOLDLEVEL           2223 /* Q (line): Returns the fold level of line `line`, or 1024 (`SC_FOLDLEVELBASE`) if there is no such line. */
-#define SCI_GETLASTCHILD           2224 /* Q (line, level): Returns the last child of line `line`: the line before the next one whose level number is at most
-                                           that of `level`, or that of line `line` if `level` is -1; without such a next line, the last line of the document; -1
-                                           if line `line` does not exist. */
+#define SCI_GETLASTCHILD           2224 /* Q (line, level): Returns the last child of line `line`, or -1 if there is no such line. */
 #define SCI_GETFOLDPARENT          2225 /* Q (line): Returns the fold parent of line `line`: the nearest earlier header with a smaller level number; -1 if there
                                            is none, or no such line. */
 #define SCI_SHOWLINES              2226 /* (first, last): Makes the lines from `first` to `last` visible, as far as they exist. */
@@ -374,12 +370,11 @@ HONGPILAS_MUST_USE hongpilas_answer hongpilas_copy_range_unchecked(hongpilas_ses
 #define SCI_SETFOLDEXPANDED        2229 /* (line, on): Sets whether line `line` is expanded, if there is such a line; shows and hides nothing. */
 #define SCI_GETFOLDEXPANDED        2230 /* Q (line): Returns whether line `line` is expanded; false if there is no such line. */
 #define SCI_TOGGLEFOLD             2231 /* (line): Contracts line `line` if it is an expanded header, and expands it if it is a contracted one; if it is no
-                                           header, does so with its fold parent; does nothing without one. */
+                                           header, does the same to its fold parent, if it has one. */
 #define SCI_ENSUREVISIBLE          2232 /* (line): Makes a hidden line `line` visible; before that, makes each of its fold parents visible, and expands those
                                            that are contracted, the outermost first. */
 #define SCI_GETALLLINESVISIBLE     2236 /* Q: Returns whether all lines are visible. */
-#define SCI_FOLDLINE               2237 /* (line, action): Contracts, expands or toggles line `line` if it is a header, else its fold parent; does nothing
-                                           without one. */
+#define SCI_FOLDLINE               2237 /* (line, action): Contracts, expands or toggles line `line` if it is a header, else its fold parent, if it has one. */
 #define SCI_APPENDTEXT             2282 /* (length, text): Inserts `text` at the end of the document. */
 #define SCI_TARGETFROMSELECTION    2287 /* Sets the target's start and end to those of the selection, the lesser first. */
 #define SCI_CHARLEFT               2304 /* Moves anchor and caret to the selection's start, or, if it is empty, to the character boundary before the caret. */
