@@ -23,7 +23,7 @@
  *  - lend_range: until the next call on the session, except those that only read the last reply.
  * A text that is sent has none of these bytes: copy it first.
  *
- * Calls on one session must not overlap: use a lock, or pass the session through a channel. What the caller owes besides is said at the top of
+ * Calls on one session must not overlap: use a lock, or pass the session through a channel. The caller's other duties stand at the top of
  * hongpilas.h. */
 #ifndef HONGPILAS_HPP
 #define HONGPILAS_HPP
@@ -114,7 +114,7 @@ Made unless_out_of_memory(Make make) noexcept {
 #endif
 }
 
-/// The end of a guard, at which nobody hears of a refusal.
+/// The end of a guard, which reports no refusal.
 inline void ends(hongpilas_answer) noexcept {}
 
 /// Bytes that the library lends. If there are none, their address means nothing.
