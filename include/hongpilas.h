@@ -134,7 +134,7 @@ typedef struct hongpilas_limits {
 /* Every call first makes these tests, in this order, before those listed at the call. It
  * refuses
  *
- *   NO_SUCH_VIEW if the session is null;
+ *   NO_SUCH_VIEW if the session is null, and so has no views;
  *   BAD_ARGUMENT if a pointer to a result or to limits is null, unless the call says that
  *     it may be; if a text or a buffer is null and its length is not 0; and if its length
  *     is above 2^63 - 1.
