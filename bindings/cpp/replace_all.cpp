@@ -17,8 +17,8 @@ using hongpilas::LentNote;
 using hongpilas::Session;
 using hongpilas::View;
 
-/* Prints the notifications of the last reply: the next message replaces them. The view's mask leaves insertions and deletions of the kinds of
- * SCN_MODIFIED. */
+/* Prints the notifications of the last reply: the next message replaces them. The view's mask lets SCN_MODIFIED through for insertions and
+ * deletions alone. */
 static void print_notes(const Session &session) {
   for (const LentNote &note : session.lent_notes()) {
     std::cout << "  " << hongpilas::note_name(note.code);

@@ -10,8 +10,8 @@ from hongpilas import Find, Modification, Notification, Session, View, note_name
 
 
 def print_notes(session: Session) -> None:
-    """Prints the notifications of the last reply: the next message replaces them. The view's mask leaves insertions and deletions of the kinds of
-    SCN_MODIFIED."""
+    """Prints the notifications of the last reply: the next message replaces them. The view's mask lets SCN_MODIFIED through for insertions and
+    deletions alone."""
     for note in session.notes():
         where = ""
         if note.code == Notification.MODIFIED:

@@ -24,7 +24,7 @@ static void must_do(bool is_done, const char *what) {
   exit(1);
 }
 
-/* Prints the notifications of the last reply. The view's mask leaves insertions and deletions of the kinds of SCN_MODIFIED. */
+/* Prints the notifications of the last reply. The view's mask lets SCN_MODIFIED through for insertions and deletions alone. */
 static void print_notes(void) {
   hongpilas_note_data note;
   for (size_t i = 0; hongpilas_note(session, i, &note, sizeof note) == HONGPILAS_DONE; i++) {

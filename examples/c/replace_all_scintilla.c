@@ -17,7 +17,7 @@ static void must_do(bool is_done, const char *what) {
   exit(1);
 }
 
-/* Is called for each notification, when its message is done. The view's mask leaves insertions and deletions of the kinds of SCN_MODIFIED. */
+/* Is called for each notification, when its message is done. The view's mask lets SCN_MODIFIED through for insertions and deletions alone. */
 static void print_note(SCNotification *note, void *data) {
   (void)data;
   printf("  %s", hongpilas_note_name(note->nmhdr.code));

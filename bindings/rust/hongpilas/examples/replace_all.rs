@@ -9,8 +9,8 @@ use std::error::Error;
 use std::io::{self, Write};
 use std::{env, fs, thread};
 
-/// Prints the notifications of the last reply: the next message replaces them. The view's mask leaves insertions and deletions of the kinds of
-/// `SCN_MODIFIED`.
+/// Prints the notifications of the last reply: the next message replaces them. The view's mask lets `SCN_MODIFIED` through for insertions and
+/// deletions alone.
 fn print_notes(session: &Session) {
     for note in session.notes() {
         print!("  {}", note.name().unwrap_or("?"));
