@@ -1,6 +1,7 @@
 # Builds the library for C programs, tests it, measures it and installs it. Run it at the top of the repository.
 #   make                          out/libhongpilas.a and .so; out/libhongpilas_scintilla.a and .so, the Scintilla-compatible interface
-#   make examples                 out/hello, out/notes, out/lexer, out/margin, the editor twice: out/edit, out/edit_scintilla, and out/step1 to out/step6
+#   make examples                 those in C: out/replace_all and out/replace_all_scintilla, out/hello, out/notes, out/lexer, out/margin, the editor twice:
+#                                 out/edit and out/edit_scintilla, and out/step1 to out/step6
 #   make test, make check         tests/check: all that is tested of the library for C, its wrappers and packages
 #   make bench                    bench/messages: what messages take, beside Scintilla where its library is found
 #   make install PREFIX=/usr/local; LIBDIR=.. where the libraries have another place than $PREFIX/lib; both are named from / on
@@ -84,13 +85,13 @@ out/libhongpilas_scintilla.a: c/scintilla.c c/scintilla_manners.h include/hongpi
 # The programs of docs/TUTORIAL.md.
 STEPS := $(addprefix out/step,1 2 3 4 5 6)
 
-examples: out/hello out/notes out/lexer out/margin out/edit out/edit_scintilla $(STEPS)
+examples: out/replace_all out/replace_all_scintilla out/hello out/notes out/lexer out/margin out/edit out/edit_scintilla $(STEPS)
 
 programs: examples out/memory out/growths out/notify out/scintilla out/scintilla_examples out/checked_test out/threads
 
 # These stand between the library and the C library's heap.
 out/memory out/growths out/notify out/scintilla: WRAPPED := -Wl,--wrap=malloc,--wrap=calloc,--wrap=realloc,--wrap=free
-out/threads out/step4 out/step5 out/step6: WRAPPED := -pthread
+out/threads out/replace_all out/replace_all_scintilla out/step4 out/step5 out/step6: WRAPPED := -pthread
 out/notify: WRAPPED += -pthread
 
 # By hand: the library under load, beside Scintilla's where its library is named (docs/TESTING.md).
@@ -111,8 +112,10 @@ vpath %.c examples/c examples/c/tutorial tests/c
 out/%: %.c out/libhongpilas.a include/hongpilas.h
 	$(COMPILE) $(LDFLAGS) $< $(COMPATIBLE) out/libhongpilas.a $(WRAPPED) -o $@
 
-out/scintilla out/scintilla_examples out/notify out/lexer out/margin out/edit_scintilla: COMPATIBLE := out/libhongpilas_scintilla.a
-out/scintilla out/scintilla_examples out/notify out/lexer out/margin out/edit_scintilla: out/libhongpilas_scintilla.a
+# Those over the Scintilla-compatible interface.
+OVER_IT := $(addprefix out/,scintilla scintilla_examples notify lexer margin replace_all_scintilla edit_scintilla)
+$(OVER_IT): COMPATIBLE := out/libhongpilas_scintilla.a
+$(OVER_IT): out/libhongpilas_scintilla.a
 
 # The editor over the Scintilla-compatible interface: edit.c, but for a few lines.
 out/edit_scintilla.c: examples/c/edit.c examples/c/edit_scintilla.diff

@@ -90,11 +90,11 @@ hongpilas_answer hongpilas_text(const hongpilas_session *session, const uint8_t 
   return HONGPILAS_DONE;
 }
 
-hongpilas_answer hongpilas_copy_text(const hongpilas_session *session, size_t start, void *into, size_t room, size_t *count) {
+hongpilas_answer hongpilas_copy_text(const hongpilas_session *session, size_t start, void *into, size_t capacity, size_t *count) {
   uint8_t none;
   if (session == NULL) return HONGPILAS_NO_SUCH_VIEW;
-  if (!can_hold(into, room) || count == NULL) return HONGPILAS_BAD_ARGUMENT;
-  *count = hongpilas_copy_text_unchecked(session, start, into == NULL ? &none : (uint8_t *)into, room);
+  if (!can_hold(into, capacity) || count == NULL) return HONGPILAS_BAD_ARGUMENT;
+  *count = hongpilas_copy_text_unchecked(session, start, into == NULL ? &none : (uint8_t *)into, capacity);
   return HONGPILAS_DONE;
 }
 
@@ -117,11 +117,11 @@ hongpilas_answer hongpilas_note(const hongpilas_session *session, size_t index, 
   return HONGPILAS_DONE;
 }
 
-hongpilas_answer hongpilas_copy_note_text(const hongpilas_session *session, size_t index, size_t start, void *into, size_t room, size_t *count) {
+hongpilas_answer hongpilas_copy_note_text(const hongpilas_session *session, size_t index, size_t start, void *into, size_t capacity, size_t *count) {
   uint8_t none;
   if (session == NULL) return HONGPILAS_NO_SUCH_VIEW;
-  if (!can_hold(into, room) || count == NULL || index >= hongpilas_note_count_unchecked(session)) return HONGPILAS_BAD_ARGUMENT;
-  *count = hongpilas_copy_note_text_unchecked(session, index, start, into == NULL ? &none : (uint8_t *)into, room);
+  if (!can_hold(into, capacity) || count == NULL || index >= hongpilas_note_count_unchecked(session)) return HONGPILAS_BAD_ARGUMENT;
+  *count = hongpilas_copy_note_text_unchecked(session, index, start, into == NULL ? &none : (uint8_t *)into, capacity);
   return HONGPILAS_DONE;
 }
 

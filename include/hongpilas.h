@@ -7,6 +7,8 @@
  * refusal. A refused call changes nothing: neither the session, nor the last reply, nor
  * what any of its pointers points to.
  *
+ * Notifications come with the reply to a message, for all views: there are no callbacks.
+ *
  * Two forms. hongpilas_send, for example, tests its pointers and lengths, and then makes
  * the proved call, hongpilas_send_unchecked, which tests none of them. Use the plain
  * names. The tests are written in C (c/checked.c), and are tested, not proved.
@@ -22,14 +24,14 @@
  *  - no call is made from a signal handler, nor in the forked child of a process that
  *    has several threads;
  *  - a pointer that is not null points to what the call's type says, of that length;
- *  - lent bytes are read-only, and only while valid (below). Never pass them back, as a
- *    text to send or a buffer to fill: copy them first. If their length is 0, the address
- *    means nothing;
+ *  - borrowed bytes are only read, and only while they are valid (below). Never pass them
+ *    back, as a text to send or a buffer to fill: copy them first. If their length is 0, the
+ *    address means nothing;
  *  - during a call nobody changes a text that it is sent, nor reads or changes a buffer that
  *    it fills, in another thread either;
- *  - what the unchecked forms add to this is stated there.
+ *  - the unchecked forms add duties, which are stated there.
  *
- * Lent bytes. The last reply, with its text and its notifications, is valid until the
+ * Borrowed bytes. The last reply, with its text and its notifications, is valid until the
  * next message that is done, or hongpilas_free: a refused message and all other calls
  * leave it unchanged. A text that hongpilas_read lends is valid until the next
  * hongpilas_read of the session, or hongpilas_free. Bytes of a document, from
@@ -47,10 +49,9 @@
  *  - or take a message's notifications together as "this changed", and read the session.
  *
  * Texts are bytes with a length. There is no closing NUL, and a NUL is an ordinary
- * byte. Positions and lengths are in bytes and count from 0. They are int64_t as values of
- * messages, and size_t in calls such as hongpilas_lend_range: a position that the library
- * returned is never negative there, unless it is the -1 of a message that finds nothing;
- * cast it.
+ * byte. Positions and lengths are in bytes and count from 0: int64_t as values of messages,
+ * and size_t in calls such as hongpilas_lend_range. Cast a position that a message returned,
+ * unless it is the -1 of a message that found nothing.
  *
  * The library has no global state. It allocates by malloc, realloc and free. */
 #ifndef HONGPILAS_H
@@ -100,7 +101,7 @@ enum {
 /* Names, as strings that are never freed: of an answer, such as "no such view" ("unknown
  * refusal" if there is no such answer); of a message, such as "SCI_GETLENGTH"; and of a
  * notification's code, such as "SCN_MODIFIED". The last two return NULL if the profile
- * does not have that message or code, and so tell whether it has. */
+ * does not have that message or code: so they show whether it has. */
 const char *hongpilas_answer_name(hongpilas_answer answer);
 const char *hongpilas_message_name(uint32_t number);
 const char *hongpilas_note_name(uint32_t code);
@@ -133,7 +134,7 @@ typedef struct hongpilas_limits {
 /* Every call first makes these tests, in this order, before those listed at the call. It
  * refuses
  *
- *   NO_SUCH_VIEW if the session is null;
+ *   NO_SUCH_VIEW if the session is null, and so has no views;
  *   BAD_ARGUMENT if a pointer to a result or to limits is null, unless the call says that
  *     it may be; if a text or a buffer is null and its length is not 0; and if its length
  *     is above 2^63 - 1.
@@ -161,16 +162,15 @@ HONGPILAS_MUST_USE hongpilas_answer hongpilas_new_view(hongpilas_session *sessio
 HONGPILAS_MUST_USE hongpilas_answer hongpilas_close_view(hongpilas_session *session, uint32_t view);
 
 /* Sends a message to a view. docs/MESSAGES.md says what w, l and the text mean, what the
- * message does, and when it is refused. Where it names w `length`, w says how many bytes of
- * the text are taken; it is not filled in from the length of the text: APPENDTEXT with w 0
- * appends nothing. The text is read in place, and not stored. Sets *value to the value of
- * the reply; `value` may be null. The reply, with its text and its notifications, replaces
- * the last one. */
+ * message does, and when it is refused. If it names w `length`, pass in w how many bytes of
+ * the text the message takes: APPENDTEXT with w 0 appends nothing. The text is read in
+ * place, and not stored. Sets *value to the value of the reply; `value` may be null. The
+ * reply, with its text and its notifications, replaces the last one. */
 HONGPILAS_MUST_USE hongpilas_answer hongpilas_send(hongpilas_session *session, uint32_t view, uint32_t number, int64_t w, int64_t l, const void *text,
                                                    size_t length, int64_t *value);
 
 /* Sends a view a query: a message that changes nothing, marked Q below and in
- * docs/MESSAGES.md. SEARCHINTARGET, which moves the target, is none.
+ * docs/MESSAGES.md. SEARCHINTARGET moves the target, so it is no query.
  * Sets *value to the value with which hongpilas_send would answer it. Neither the session
  * nor the last reply changes, so that a program may ask while it reads notifications.
  * hongpilas_read also lends the text with which hongpilas_send would answer: it sets *text
@@ -190,7 +190,7 @@ HONGPILAS_MUST_USE hongpilas_answer hongpilas_value(const hongpilas_session *ses
  * byte, and *length. The second form copies the bytes from `start` on, as many as there are
  * and as fit, and sets *count to how many that is. */
 HONGPILAS_MUST_USE hongpilas_answer hongpilas_text(const hongpilas_session *session, const uint8_t **text, size_t *length);
-HONGPILAS_MUST_USE hongpilas_answer hongpilas_copy_text(const hongpilas_session *session, size_t start, void *into, size_t room, size_t *count);
+HONGPILAS_MUST_USE hongpilas_answer hongpilas_copy_text(const hongpilas_session *session, size_t start, void *into, size_t capacity, size_t *count);
 
 /* A notification of a view. Fields that its code does not use are 0. */
 typedef struct hongpilas_note_data {
@@ -222,7 +222,7 @@ HONGPILAS_MUST_USE hongpilas_answer hongpilas_note(const hongpilas_session *sess
 
 /* Copies a notification's text from `start` on, as many bytes as there are and as fit, and
  * sets *count to how many that is. Refused: BAD_ARGUMENT if there is no such notification. */
-HONGPILAS_MUST_USE hongpilas_answer hongpilas_copy_note_text(const hongpilas_session *session, size_t index, size_t start, void *into, size_t room,
+HONGPILAS_MUST_USE hongpilas_answer hongpilas_copy_note_text(const hongpilas_session *session, size_t index, size_t start, void *into, size_t capacity,
                                                              size_t *count);
 
 /* Lends the `count` bytes of the view's document from `start` on, without a copy: sets
@@ -235,11 +235,12 @@ HONGPILAS_MUST_USE hongpilas_answer hongpilas_lend_range(hongpilas_session *sess
 HONGPILAS_MUST_USE hongpilas_answer hongpilas_copy_range(hongpilas_session *session, uint32_t view, size_t start, void *into, size_t count);
 
 /* The unchecked forms: the proved calls themselves. Each does what the call of the same name
- * without `unchecked` does, and tests no pointer and no length. Beside the duties above, the
- * caller sees to it that no pointer is null, even if its length is 0, and that no length is
- * above 2^63 - 1. Calls below that do not return hongpilas_answer cannot be refused, and
- * return their result directly; hongpilas_note_unchecked returns whether there is such
- * a notification, and sets the members of version 2.0 alone; the text of none is empty. */
+ * without `unchecked` does, and tests no pointer and no length. In addition to the duties
+ * above, no pointer may be null, even if its length is 0, and no length may be above
+ * 2^63 - 1. Calls below that do not return hongpilas_answer cannot be refused, and return
+ * their result directly. hongpilas_note_unchecked returns whether there is such a
+ * notification, and sets only the members of version 2.0. A notification that does not exist
+ * has an empty text. */
 HONGPILAS_MUST_USE hongpilas_answer hongpilas_new_view_unchecked(hongpilas_session *session, uint32_t *view);
 HONGPILAS_MUST_USE hongpilas_answer hongpilas_close_view_unchecked(hongpilas_session *session, uint32_t view);
 HONGPILAS_MUST_USE hongpilas_answer hongpilas_send_unchecked(hongpilas_session *session, uint32_t view, uint32_t number, int64_t w, int64_t l,
@@ -250,10 +251,10 @@ HONGPILAS_MUST_USE hongpilas_answer hongpilas_read_unchecked(hongpilas_session *
                                                              const uint8_t **text, size_t *length, int64_t *value);
 int64_t hongpilas_value_unchecked(const hongpilas_session *session);
 size_t hongpilas_text_unchecked(const hongpilas_session *session, const uint8_t **text);
-size_t hongpilas_copy_text_unchecked(const hongpilas_session *session, size_t start, uint8_t *into, size_t room);
+size_t hongpilas_copy_text_unchecked(const hongpilas_session *session, size_t start, uint8_t *into, size_t capacity);
 size_t hongpilas_note_count_unchecked(const hongpilas_session *session);
 bool hongpilas_note_unchecked(const hongpilas_session *session, size_t index, hongpilas_note_data *note);
-size_t hongpilas_copy_note_text_unchecked(const hongpilas_session *session, size_t index, size_t start, uint8_t *into, size_t room);
+size_t hongpilas_copy_note_text_unchecked(const hongpilas_session *session, size_t index, size_t start, uint8_t *into, size_t capacity);
 HONGPILAS_MUST_USE hongpilas_answer hongpilas_lend_range_unchecked(hongpilas_session *session, uint32_t view, size_t start, size_t count,
                                                                    const uint8_t **bytes);
 HONGPILAS_MUST_USE hongpilas_answer hongpilas_copy_range_unchecked(hongpilas_session *session, uint32_t view, size_t start, uint8_t *into, size_t count);
@@ -312,8 +313,8 @@ HONGPILAS_MUST_USE hongpilas_answer hongpilas_copy_range_unchecked(hongpilas_ses
 #define SCI_ENDUNDOACTION          2079 /* Closes the undo group that was opened last. */
 #define SCI_SETLINESTATE           2092 /* (line, state): Sets the state of line `line`, if there is such a line. */
 #define SCI_GETLINESTATE           2093 /* Q (line): Returns the state of line `line`, or 0 if there is no such line. */
-#define SCI_GETLINEENDPOSITION     2136 /* Q (line): Returns where the line end of line `line` begins; the text's length from the last line on; -1 if `line` is
-                                           negative. */
+#define SCI_GETLINEENDPOSITION     2136 /* Q (line): Returns where the line end of line `line` begins; the text's length for the last line and past it; -1 if
+                                           `line` is negative. */
 #define SCI_GETREADONLY            2140 /* Q: Returns whether the document is read-only. */
 #define SCI_SETCURRENTPOS          2141 /* (position): Moves the caret to `position` (clamped to the text); the anchor stays. */
 #define SCI_SETSELECTIONSTART      2142 /* (position): Moves the anchor to `position` (clamped to the text); if the caret is before it, moves the caret there
@@ -360,9 +361,7 @@ HONGPILAS_MUST_USE hongpilas_answer hongpilas_copy_range_unchecked(hongpilas_ses
                                            is past the last. */
 #define SCI_SETFOLDLEVEL           2222 /* (line, level): Sets the fold level of line `line`, if there is such a line. */
 #define SCI_GETFOLDLEVEL           2223 /* Q (line): Returns the fold level of line `line`, or 1024 (`SC_FOLDLEVELBASE`) if there is no such line. */
-#define SCI_GETLASTCHILD           2224 /* Q (line, level): Returns the last child of line `line`: the line before the next one whose level number is at most
-                                           that of `level`, or that of line `line` if `level` is -1; without such a next line, the last line of the document; -1
-                                           if line `line` does not exist. */
+#define SCI_GETLASTCHILD           2224 /* Q (line, level): Returns the last child of line `line`, or -1 if there is no such line. */
 #define SCI_GETFOLDPARENT          2225 /* Q (line): Returns the fold parent of line `line`: the nearest earlier header with a smaller level number; -1 if there
                                            is none, or no such line. */
 #define SCI_SHOWLINES              2226 /* (first, last): Makes the lines from `first` to `last` visible, as far as they exist. */
@@ -371,12 +370,11 @@ HONGPILAS_MUST_USE hongpilas_answer hongpilas_copy_range_unchecked(hongpilas_ses
 #define SCI_SETFOLDEXPANDED        2229 /* (line, on): Sets whether line `line` is expanded, if there is such a line; shows and hides nothing. */
 #define SCI_GETFOLDEXPANDED        2230 /* Q (line): Returns whether line `line` is expanded; false if there is no such line. */
 #define SCI_TOGGLEFOLD             2231 /* (line): Contracts line `line` if it is an expanded header, and expands it if it is a contracted one; if it is no
-                                           header, does so with its fold parent; does nothing without one. */
+                                           header, does the same to its fold parent, if it has one. */
 #define SCI_ENSUREVISIBLE          2232 /* (line): Makes a hidden line `line` visible; before that, makes each of its fold parents visible, and expands those
                                            that are contracted, the outermost first. */
 #define SCI_GETALLLINESVISIBLE     2236 /* Q: Returns whether all lines are visible. */
-#define SCI_FOLDLINE               2237 /* (line, action): Contracts, expands or toggles line `line` if it is a header, else its fold parent; does nothing
-                                           without one. */
+#define SCI_FOLDLINE               2237 /* (line, action): Contracts, expands or toggles line `line` if it is a header, else its fold parent, if it has one. */
 #define SCI_APPENDTEXT             2282 /* (length, text): Inserts `text` at the end of the document. */
 #define SCI_TARGETFROMSELECTION    2287 /* Sets the target's start and end to those of the selection, the lesser first. */
 #define SCI_CHARLEFT               2304 /* Moves anchor and caret to the selection's start, or, if it is empty, to the character boundary before the caret. */

@@ -23,7 +23,7 @@
  *  - lend_range: until the next call on the session, except those that only read the last reply.
  * A text that is sent has none of these bytes: copy it first.
  *
- * Calls on one session must not overlap: use a lock, or pass the session through a channel. What the caller owes besides is said at the top of
+ * Calls on one session must not overlap: use a lock, or pass the session through a channel. The caller's other duties stand at the top of
  * hongpilas.h. */
 #ifndef HONGPILAS_HPP
 #define HONGPILAS_HPP
@@ -114,7 +114,7 @@ Made unless_out_of_memory(Make make) noexcept {
 #endif
 }
 
-/// The end of a guard, at which nobody hears of a refusal.
+/// The end of a guard, which reports no refusal.
 inline void ends(hongpilas_answer) noexcept {}
 
 /// Bytes that the library lends. If there are none, their address means nothing.
@@ -670,8 +670,8 @@ class BasicView {
   Answer<void> SetLineState(std::int64_t line, std::int64_t state) noexcept(nothrow) { return as_done(SCI_SETLINESTATE, line, state); }
   /// Returns the state of line `line`, or 0 if there is no such line. Message: `SCI_GETLINESTATE`.
   [[nodiscard]] Answer<std::int64_t> GetLineState(std::int64_t line) const noexcept(nothrow) { return ask_number(SCI_GETLINESTATE, line, 0); }
-  /// Returns where the line end of line `line` begins; the text's length from the last line on; -1 if `line` is
-  /// negative. Message: `SCI_GETLINEENDPOSITION`.
+  /// Returns where the line end of line `line` begins; the text's length for the last line and past it; -1 if `line`
+  /// is negative. Message: `SCI_GETLINEENDPOSITION`.
   [[nodiscard]] Answer<std::int64_t> GetLineEndPosition(std::int64_t line) const noexcept(nothrow) { return ask_number(SCI_GETLINEENDPOSITION, line, 0); }
   /// Returns whether the document is read-only. Message: `SCI_GETREADONLY`.
   [[nodiscard]] Answer<bool> GetReadOnly() const noexcept(nothrow) { return ask_flag(SCI_GETREADONLY, 0, 0); }
@@ -790,10 +790,10 @@ class BasicView {
   /// Returns the fold level of line `line`, or 1024 (`SC_FOLDLEVELBASE`) if there is no such line. Message:
   /// `SCI_GETFOLDLEVEL`.
   [[nodiscard]] Answer<std::int64_t> GetFoldLevel(std::int64_t line) const noexcept(nothrow) { return ask_number(SCI_GETFOLDLEVEL, line, 0); }
-  /// Returns the last child of line `line`: the line before the next one whose level number is at most that of
-  /// `level`, or that of line `line` if `level` is -1; without such a next line, the last line of the document; -1 if
-  /// line `line` does not exist. Refused with `Refusal::BadArgument` unless `level` is -1 to 2^31-1. Message:
-  /// `SCI_GETLASTCHILD`.
+  /// Returns the last child of line `line`, or -1 if there is no such line. That child is the line before the next
+  /// one whose level number is at most that of `level` (that of line `line` if `level` is -1), or the last line of
+  /// the document if there is no such next line. Refused with `Refusal::BadArgument` unless `level` is -1 to 2^31-1.
+  /// Message: `SCI_GETLASTCHILD`.
   [[nodiscard]] Answer<std::int64_t> GetLastChild(std::int64_t line, std::int64_t level) const noexcept(nothrow) {
     return ask_number(SCI_GETLASTCHILD, line, level);
   }
@@ -812,7 +812,7 @@ class BasicView {
   /// Returns whether line `line` is expanded; false if there is no such line. Message: `SCI_GETFOLDEXPANDED`.
   [[nodiscard]] Answer<bool> GetFoldExpanded(std::int64_t line) const noexcept(nothrow) { return ask_flag(SCI_GETFOLDEXPANDED, line, 0); }
   /// Contracts line `line` if it is an expanded header, and expands it if it is a contracted one; if it is no header,
-  /// does so with its fold parent; does nothing without one. Message: `SCI_TOGGLEFOLD`.
+  /// does the same to its fold parent, if it has one. Message: `SCI_TOGGLEFOLD`.
   Answer<void> ToggleFold(std::int64_t line) noexcept(nothrow) { return as_done(SCI_TOGGLEFOLD, line, 0); }
   /// Makes a hidden line `line` visible; before that, makes each of its fold parents visible, and expands those that
   /// are contracted, the outermost first. Does nothing for a visible line, or if there is no such line. Message:
@@ -820,9 +820,9 @@ class BasicView {
   Answer<void> EnsureVisible(std::int64_t line) noexcept(nothrow) { return as_done(SCI_ENSUREVISIBLE, line, 0); }
   /// Returns whether all lines are visible. Message: `SCI_GETALLLINESVISIBLE`.
   [[nodiscard]] Answer<bool> GetAllLinesVisible() const noexcept(nothrow) { return ask_flag(SCI_GETALLLINESVISIBLE, 0, 0); }
-  /// Contracts, expands or toggles line `line` if it is a header, else its fold parent; does nothing without one.
-  /// `action` is `SC_FOLDACTION_CONTRACT` 0, `SC_FOLDACTION_EXPAND` 1 or `SC_FOLDACTION_TOGGLE` 2; all else is
-  /// refused with `Refusal::BadArgument`. Message: `SCI_FOLDLINE`.
+  /// Contracts, expands or toggles line `line` if it is a header, else its fold parent, if it has one. `action` is
+  /// `SC_FOLDACTION_CONTRACT` 0, `SC_FOLDACTION_EXPAND` 1 or `SC_FOLDACTION_TOGGLE` 2; all else is refused with
+  /// `Refusal::BadArgument`. Message: `SCI_FOLDLINE`.
   Answer<void> FoldLine(std::int64_t line, std::int64_t action) noexcept(nothrow) { return as_done(SCI_FOLDLINE, line, action); }
   /// Inserts `text` at the end of the document. Message: `SCI_APPENDTEXT`.
   Answer<void> AppendText(Text text) noexcept(nothrow) { return as_done(SCI_APPENDTEXT, length_of(text), 0, text); }

@@ -14,13 +14,13 @@
  *     hongpilas_scintilla *component = hongpilas_scintilla_new();
  *     sptr_t view = hongpilas_scintilla_open(component);
  *     if (view != 0) {
- *       hongpilas_set_notify(view, hear, NULL);
+ *       hongpilas_set_notify(view, on_notify, NULL);
  *       send(view, SCI_ADDTEXT, 5, (sptr_t)"hello");
  *     }
  *     hongpilas_scintilla_free(component);
  *
  * docs/MESSAGES.md has the messages. It, docs/FROM_SCINTILLA.md and docs/PROFILE.md state where Scintilla differs.
- * hongpilas_message_name tells whether the profile has a message.
+ * hongpilas_message_name returns NULL if the profile does not have a message.
  * A null component and the view 0 are harmless in every call below, which says what it does with them. The duties of
  * the caller in hongpilas.h hold here, too: calls on one component must not overlap, and none is made from a signal
  * handler; a component may be passed to another thread, but not while one of its notify functions runs; a component
@@ -29,8 +29,8 @@
  * is sent, nor reads or changes a buffer that it fills, in another thread either. Two duties are added, for notify
  * functions:
  *  - a call from inside one is made on the stack on which it runs, and not on that of another coroutine;
- *  - if one was left by longjmp, and ran on a stack of a coroutine, that stack stays until a message that is no query was
- *    sent from outside, or the component was freed. The stack of a thread that ended may be gone. */
+ *  - if one ran on the stack of a coroutine and was left by longjmp, that stack is kept until a message that is no query was
+ *    sent from outside, or the component was freed. The stack of a thread that ended need not be kept. */
 #ifndef HONGPILAS_SCINTILLA_H
 #define HONGPILAS_SCINTILLA_H
 
@@ -126,15 +126,15 @@ typedef struct hongpilas_scintilla hongpilas_scintilla;
 
 /* Opens a session without views, with the greatest limits or with lower ones; `size` is sizeof(hongpilas_limits). Returns
  * NULL if an allocation fails, if `limits` is null, if a limit is out of its range, or if hongpilas_new_with_limits refuses the
- * size. The third call frees the session with all its views, and does nothing if the component is null. A notify function, below,
- * may make it: then no further one is called, and the call from which it was notified returns as usual. */
+ * size. The third call frees the session with all its views, and does nothing if the component is null. A notify function may
+ * make it: then no further notification is delivered, and the call that delivered this one returns as usual. */
 HONGPILAS_MUST_USE hongpilas_scintilla *hongpilas_scintilla_new(void);
 HONGPILAS_MUST_USE hongpilas_scintilla *hongpilas_scintilla_new_with_limits(const hongpilas_limits *limits, size_t size);
 void hongpilas_scintilla_free(hongpilas_scintilla *component);
 
 /* Opens a view on a new document, and returns its handle for all calls below, or 0 if the component is null, an allocation
  * fails or no more views may be open. The second call closes a view, which is notified no more, and does nothing if the view
- * is 0. A notify function may make both. */
+ * is 0. A notify function may make both calls. */
 HONGPILAS_MUST_USE sptr_t hongpilas_scintilla_open(hongpilas_scintilla *component);
 void hongpilas_scintilla_close(sptr_t view);
 
@@ -158,7 +158,7 @@ void hongpilas_scintilla_close(sptr_t view);
  * They are valid until the next message to a view of the same component. If l is 0, the address means nothing.
  *
  * A refused call changes nothing and writes nothing. The view's status becomes SC_STATUS_BADALLOC if an allocation
- * failed, and SC_STATUS_FAILURE otherwise. The result is 0, or -1 for the messages by which Scintilla says so that
+ * failed, and SC_STATUS_FAILURE otherwise. The result is 0, or -1 for the messages that return -1 in Scintilla when
  * nothing is found or added: MARKERADD, MARKERLINEFROMHANDLE, MARKERNEXT, MARKERPREVIOUS, SEARCHINTARGET and
  * GETFOLDPARENT. As in Scintilla the status stays until SCI_SETSTATUS: set it to 0 before a message that you test.
  * SCI_GETSTATUS returns it, and the second form, a SciFnDirectStatus, sets *status to it, unless `status` is null. A
@@ -184,13 +184,13 @@ const char *hongpilas_refusal(sptr_t view);
  *    kept for it. Nothing is lost: what stands in the queue is delivered.
  *
  * A notify function may be left by a C++ exception or by longjmp. Its message has been done, and the notification counts as
- * delivered. What stands in the queue behind it stays there until the next message from outside that is no query, to any
- * view of the component, and is delivered when that message is done or refused. It is refused as "out of memory" as above.
- * SCI_SETSTATUS, and a message that does nothing for its null text, deliver nothing. An exception passes through the
- * interface if it was built with -fexceptions, as `make` builds it. Whether a function was left by longjmp is seen by the
- * tables for exceptions that compilers write (-funwind-tables). A call behind the jump that comes through frames without them,
- * such as those of a JIT compiler, is judged by marks on the stack alone, which may have outlived the jump: then it is taken
- * as one from inside. */
+ * delivered. The rest of the queue stays until the next message from outside that is no query, to any view of the
+ * component: it is delivered when that message is done or refused. That message too is refused as "out of memory" if the
+ * rest of the queue cannot be kept for it. SCI_SETSTATUS, and a message that does nothing for its null text, deliver nothing.
+ * An exception passes through the interface if that was built with -fexceptions, as `make` builds it. The interface sees that
+ * a function was left by longjmp by the tables for exceptions that compilers write (-funwind-tables). If a later call comes
+ * through frames without such tables, such as those of a JIT compiler, it has only marks on the stack to judge by. These may
+ * have outlived the jump: then the call counts as one from inside. */
 typedef void (*hongpilas_notify)(SCNotification *notification, void *data);
 void hongpilas_set_notify(sptr_t view, hongpilas_notify notify, void *data);
 

@@ -13,7 +13,7 @@ template class hongpilas::BasicView<hongpilas::Returning>;
 int main() {
   hongpilas::Session session;
   hongpilas::View view = session.new_view();
-  // What a question returns is to be used.
+  // What a query returns is to be used.
   auto &ignore = std::ignore;
   // Written by tools/pages/wrappers.py: begin
   view.AddText("ab");

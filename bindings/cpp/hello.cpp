@@ -11,7 +11,7 @@ using hongpilas::Note;
 using hongpilas::Session;
 using hongpilas::View;
 
-/* Prints the notifications of an insertion. The questions of the loop leave them as they are. */
+/* Prints the notifications of an insertion. The queries of the loop leave them as they are. */
 static void print_notes(const Session &session) {
   for (const LentNote &note : session.lent_notes())
     if (note.code == SCN_MODIFIED && (note.kind & SC_MOD_INSERTTEXT) != 0)
@@ -19,7 +19,7 @@ static void print_notes(const Session &session) {
                 << note.lines << " lines more, now " << session.view(note.view).GetLineCount() << "\n";
 }
 
-/* A view that is const answers questions alone. */
+/* A view that is const answers queries alone. */
 static void show(const View &view) {
   std::cout << view.GetLength() << " bytes, " << view.GetLineCount() << " lines\n";
   std::cout << "line 1 is \"" << view.GetLine(1) << "\"\n";

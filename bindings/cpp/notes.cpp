@@ -1,4 +1,4 @@
-/* What hello.cpp does not show of notifications: questions keep them, copies outlive the next message, a view has its own, codes have names.
+/* What hello.cpp does not show of notifications: queries keep them, copies outlive the next message, a view has its own, codes have names.
  * c++ -std=c++17 -I../../include notes.cpp ../../out/libhongpilas.a -o notes */
 #include <hongpilas.hpp>
 

@@ -1,21 +1,21 @@
-"""Two views of one document: a text goes in and out, each view is told, what is refused says why, and a macro is replayed."""
+"""Two views of one document: a text goes in and out, each view is notified, refusals say why, and a macro is replayed."""
 from typing import Callable
 
 from hongpilas import Limits, Refused, Session, constants, note_name
 
 
-def tell(session: Session) -> None:
-    """Says what the views were told."""
+def print_notes(session: Session) -> None:
+    """Prints the notifications of the last reply."""
     for note in session.notes():
         print(f"view {note.view}: {note_name(note.code)}, kind {note.kind:#x}, position {note.position}, lines {note.lines}, {note.text!r}")
 
 
 def edit(session: Session) -> None:
-    """Puts a text in by one view, and reads it by another."""
+    """Inserts a text by one view, and reads it by another."""
     writer, reader = session.new_view(), session.new_view()
     reader.set_doc_pointer(writer.get_doc_pointer())
     writer.insert_text(0, "hello,\nworld\n")
-    tell(session)
+    print_notes(session)
     print(reader.get_length(), "bytes,", reader.get_line_count(), "lines")
     print(reader.get_line(1), reader.get_text_range(3, 8), reader.read_range(0, 5))
     reader.set_target_range(0, reader.get_length())
@@ -36,7 +36,7 @@ def replay(session: Session) -> None:
 
 
 def attempt(what: str, call: Callable[[], object]) -> None:
-    """Says what a call raises."""
+    """Prints what a call raises."""
     try:
         call()
     except (Refused, OverflowError, RuntimeError, TypeError, ValueError) as fault:

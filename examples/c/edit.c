@@ -34,28 +34,28 @@ static bool is_over;
 static struct {
   bool is_modified;
   int64_t lines, position, from, to;
-} heard = {false, 1, 0, INT64_MAX, -1};
+} known = {false, 1, 0, INT64_MAX, -1};
 
 #define say(...) snprintf(notice, sizeof notice, __VA_ARGS__)
 
 /* ---- The component ---- */
 
-static void hear_change(const hongpilas_note_data *note) {
+static void add_change(const hongpilas_note_data *note) {
   bool is_deletion = (note->kind & SC_MOD_DELETETEXT) != 0;
-  heard.lines += note->lines;
-  heard.position = note->position;
-  heard.from = least(heard.from, note->position);
-  heard.to = is_deletion ? greatest(heard.to - note->length, note->position) : greatest(heard.to, note->position) + note->length;
+  known.lines += note->lines;
+  known.position = note->position;
+  known.from = least(known.from, note->position);
+  known.to = is_deletion ? greatest(known.to - note->length, note->position) : greatest(known.to, note->position) + note->length;
 }
 
-/* Takes up the notes of the last message, as far as they are the first view's: each view of the document is told the same. */
-static void hear(void) {
+/* Reads the notifications of the last reply, as far as they are the first view's: each view of the document is notified of the same. */
+static void read_notes(void) {
   hongpilas_note_data note;
   for (size_t i = 0; hongpilas_note(session, i, &note, sizeof note) == HONGPILAS_DONE; i++) {
     if (note.view != panes[0].view) continue;
-    if (note.code == SCN_SAVEPOINTLEFT) heard.is_modified = true;
-    if (note.code == SCN_SAVEPOINTREACHED) heard.is_modified = false;
-    if (note.code == SCN_MODIFIED && (note.kind & (SC_MOD_INSERTTEXT | SC_MOD_DELETETEXT))) hear_change(&note);
+    if (note.code == SCN_SAVEPOINTLEFT) known.is_modified = true;
+    if (note.code == SCN_SAVEPOINTREACHED) known.is_modified = false;
+    if (note.code == SCN_MODIFIED && (note.kind & (SC_MOD_INSERTTEXT | SC_MOD_DELETETEXT))) add_change(&note);
   }
 }
 
@@ -68,7 +68,7 @@ static bool is_done(hongpilas_answer answer) {
 static int64_t send_text(const pane *to, uint32_t number, int64_t w, int64_t l, const void *text, size_t length) {
   int64_t value = 0;
   if (!is_done(hongpilas_send(session, to->view, number, w, l, text, length, &value))) return 0;
-  hear();
+  read_notes();
   return value;
 }
 
@@ -141,7 +141,7 @@ static void hide_and_show(const pane *p, int64_t line, int64_t last) {
   int64_t above = -1; /* the number of the outermost contracted header above, or -1 */
   for (int64_t up = ask_of(p, SCI_GETFOLDPARENT, line); up >= 0; up = ask_of(p, SCI_GETFOLDPARENT, up))
     if (!ask_of(p, SCI_GETFOLDEXPANDED, up)) above = ask_of(p, SCI_GETFOLDLEVEL, up) & SC_FOLDLEVELNUMBERMASK;
-  for (; line < heard.lines; line++) {
+  for (; line < known.lines; line++) {
     int64_t number = ask_of(p, SCI_GETFOLDLEVEL, line) & SC_FOLDLEVELNUMBERMASK;
     bool is_visible = number <= above || above < 0;
     if (is_visible != (ask_of(p, SCI_GETLINEVISIBLE, line) != 0)) send_text(p, is_visible ? SCI_SHOWLINES : SCI_HIDELINES, line, line, NULL, 0);
@@ -153,11 +153,11 @@ static void hide_and_show(const pane *p, int64_t line, int64_t last) {
 /* Levels of the lines that changed, and of those before them up to a line with text. A line without text has the level of the next one with text. */
 static void set_levels(void) {
   const pane *p = &panes[active];
-  if (heard.from > heard.to) return;
-  int64_t first = line_at(p, heard.from), last = line_at(p, heard.to);
+  if (known.from > known.to) return;
+  int64_t first = line_at(p, known.from), last = line_at(p, known.to);
   while (first > 0 && indentation(p, --first) < 0) continue;
   int64_t next = -1;
-  for (int64_t line = last + 1; line < heard.lines && next < 0; line++) next = indentation(p, line);
+  for (int64_t line = last + 1; line < known.lines && next < 0; line++) next = indentation(p, line);
   next = greatest(next, 0);
   for (int64_t line = last; line >= first; line--) {
     int64_t own = indentation(p, line);
@@ -166,8 +166,8 @@ static void set_levels(void) {
     set_level(line, (SC_FOLDLEVELBASE + next) | flags);
   }
   for (int i = 0; i < pane_count; i++) hide_and_show(&panes[i], first, last);
-  heard.from = INT64_MAX;
-  heard.to = -1;
+  known.from = INT64_MAX;
+  known.to = -1;
 }
 
 /* Brings the caret out of what was hidden, to the header that hides it. */
@@ -186,7 +186,7 @@ static void fold(int64_t action) {
 /* Contracts every header, or expands every one if some line is hidden. */
 static void fold_all(int64_t none) {
   int64_t action = ask(SCI_GETALLLINESVISIBLE, none) ? SC_FOLDACTION_CONTRACT : SC_FOLDACTION_EXPAND;
-  for (int64_t line = 0; line < heard.lines; line++)
+  for (int64_t line = 0; line < known.lines; line++)
     if (ask(SCI_GETFOLDLEVEL, line) & SC_FOLDLEVELHEADERFLAG) command(SCI_FOLDLINE, line, action);
   leave_hidden();
 }
@@ -248,8 +248,8 @@ static void draw_status(int64_t line, int64_t column) {
   const char *name = file_name + greatest(0, (int64_t)strlen(file_name) - columns / 3);
   while ((*name & 0xC0) == 0x80) name++;
   snprintf(text, sizeof text, "%s%s%s%s  line %lld of %lld, column %lld, last change at %lld%*s", notice, notice[0] == '\0' ? "" : "  ",
-           *name == '\0' ? "no name" : name, heard.is_modified ? ", changed" : "", (long long)line + 1, (long long)heard.lines, (long long)column + 1,
-           (long long)heard.position, columns, "");
+           *name == '\0' ? "no name" : name, known.is_modified ? ", changed" : "", (long long)line + 1, (long long)known.lines, (long long)column + 1,
+           (long long)known.position, columns, "");
   draw_bottom(text, true);
 }
 
@@ -334,9 +334,9 @@ static bool renew_document(void) {
   if (ask(SCI_GETDOCPOINTER, 0) == old) return false;
   if (pane_count == 2 && !attach(&panes[1 - active])) close_other_view();
   for (int i = 0; i < pane_count; i++) panes[i].top = panes[i].left = 0;
-  heard.is_modified = false;
-  heard.lines = 1;
-  heard.from = heard.to = 0;
+  known.is_modified = false;
+  known.lines = 1;
+  known.from = known.to = 0;
   return true;
 }
 
@@ -369,7 +369,7 @@ static void load(const char *name) {
     command(SCI_SETUNDOCOLLECTION, true, 0);
     command(SCI_EMPTYUNDOBUFFER, 0, 0);
     take_line_end();
-    heard.position = 0;
+    known.position = 0;
     snprintf(file_name, sizeof file_name, "%s", is_whole ? name : "");
   }
   if (file != NULL) fclose(file);
@@ -421,7 +421,7 @@ static void save(int64_t is_asking) {
 /* Leaves the text, for another file or for good. */
 static void leave(int64_t is_for_good) {
   char name[sizeof file_name] = "";
-  if (heard.is_modified && !agree("Changes are not saved. Leave them? (y) ")) return;
+  if (known.is_modified && !agree("Changes are not saved. Leave them? (y) ")) return;
   if (is_for_good) is_over = true;
   else if (prompt("Open: ", name, sizeof name) && name[0] != '\0') load(name);
 }
@@ -483,7 +483,7 @@ static void toggle_bookmark(int64_t number) {
 static void go_to_bookmark(int64_t direction) {
   uint32_t number = direction > 0 ? SCI_MARKERNEXT : SCI_MARKERPREVIOUS;
   int64_t line = command(number, caret_line() + direction, 1 << BOOKMARK);
-  if (line < 0) line = command(number, direction > 0 ? 0 : heard.lines - 1, 1 << BOOKMARK);
+  if (line < 0) line = command(number, direction > 0 ? 0 : known.lines - 1, 1 << BOOKMARK);
   if (line < 0) say("No bookmark");
   else command(SCI_GOTOLINE, line, 0);
 }

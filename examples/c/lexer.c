@@ -1,4 +1,4 @@
-/* A container lexer, as a program for Scintilla has it: the component tells from where on styles are needed, and the program sets them, in the notify
+/* A container lexer, as a program for Scintilla has it: the component says from where on styles are needed, and the program sets them, in the notify
  * function itself. What it styles is a small language: numbers, words in capitals, and notes from '#' to the end of the line. */
 #include <hongpilas_scintilla.h>
 #include <stdbool.h>
@@ -39,7 +39,7 @@ static void style(sptr_t from, sptr_t end) {
 }
 
 /* A change of the text asks for styles from its line on: an editor that draws would ask for what it shows. */
-static void hear(SCNotification *note, void *data) {
+static void on_notify(SCNotification *note, void *data) {
   (void)data;
   if (note->nmhdr.code == SCN_MODIFIED && (note->modificationType & (SC_MOD_INSERTTEXT | SC_MOD_DELETETEXT)) != 0) {
     printf("  text changed at %td: asks for styles\n", note->position);
@@ -71,7 +71,7 @@ int main(void) {
   hongpilas_scintilla *component = hongpilas_scintilla_new();
   if (component == NULL) return 1;
   view = hongpilas_scintilla_open(component);
-  hongpilas_set_notify(view, hear, NULL);
+  hongpilas_set_notify(view, on_notify, NULL);
   send(SCI_ADDTEXT, sizeof text - 1, (sptr_t)text);
   show("a text");
   send(SCI_INSERTTEXT, 4, (sptr_t) "34 and ");

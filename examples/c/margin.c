@@ -26,7 +26,7 @@ static void draw_from(sptr_t line) {
 }
 
 /* Where lines come or go, those behind have other numbers; otherwise the line alone is drawn. */
-static void hear(SCNotification *note, void *data) {
+static void on_notify(SCNotification *note, void *data) {
   int kind = note->modificationType;
   (void)data;
   if (note->nmhdr.code != SCN_MODIFIED) return;
@@ -47,7 +47,7 @@ int main(void) {
   hongpilas_scintilla *component = hongpilas_scintilla_new();
   if (component == NULL) return 1;
   view = hongpilas_scintilla_open(component);
-  hongpilas_set_notify(view, hear, NULL);
+  hongpilas_set_notify(view, on_notify, NULL);
   send(SCI_APPENDTEXT, sizeof text - 1, (sptr_t)text);
   send(SCI_SETFOLDLEVEL, 0, SC_FOLDLEVELBASE | SC_FOLDLEVELHEADERFLAG);
   send(SCI_SETFOLDLEVEL, 1, SC_FOLDLEVELBASE + 1);

@@ -143,7 +143,7 @@ static void show_other_notes(uint32_t view) {
   quietly(view, SCI_SETREADONLY, 0, 0);
 }
 
-/* A view hears of what its mask lets through, and of what another view of its document does. */
+/* A view is notified of what its mask lets through, also of what another view of its document does. */
 static void show_masks(uint32_t view, uint32_t other) {
   int64_t document = 0;
   must(hongpilas_send(session, view, SCI_GETDOCPOINTER, 0, 0, NULL, 0, &document));

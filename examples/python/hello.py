@@ -11,7 +11,7 @@ TOP = os.path.dirname(os.path.dirname(os.path.dirname(os.path.abspath(__file__))
 
 
 class Note(ctypes.Structure):
-    """What a view is told; hongpilas_note_data of the header. `bytes` stands until the next message that is done; `text` is a copy."""
+    """A notification; hongpilas_note_data of the header. `bytes` is valid until the next message that is done; `text` is a copy."""
 
     _fields_ = [
         *((name, ctypes.c_uint32) for name in ("view", "code", "kind", "message")),
@@ -34,7 +34,7 @@ class Refused(Exception):
 
 
 def lent(address: int | None, length: int) -> bytes:
-    """A copy of bytes that were lent."""
+    """A copy of borrowed bytes."""
     return ctypes.string_at(address, length) if length and address else b""
 
 
@@ -76,15 +76,15 @@ def library() -> Any:
 
 
 class Session:
-    """A session with one view, given back at the end of `with`.
+    """A session with one view, freed at the end of `with`.
 
     Messages are methods by their names in lower case: session.gettextrange(3, 8). A text among the arguments is the message's text;
-    ADDTEXT and the like have its length as their first number. What is answered is the text that the message hands out, or else its value.
+    ADDTEXT and the like have its length as their first number. The result is the text that the message returns, or else its value.
     """
 
     lib = library()
     numbers = {name[4:].lower(): number for name, number in constants().items() if name.startswith("SCI_")}
-    hands_out = {"getline", "getcurline", "gettext", "gettextrange", "getseltext", "getstyledtext", "gettargettext"}
+    return_texts = {"getline", "getcurline", "gettext", "gettextrange", "getseltext", "getstyledtext", "gettargettext"}
 
     def __init__(self) -> None:
         self.handle, self.view = ctypes.c_void_p(), ctypes.c_uint32()
@@ -102,7 +102,7 @@ class Session:
         self.close()
 
     def close(self) -> None:
-        """Gives the session back, once. It has no handle then, so that what uses it later raises AttributeError."""
+        """Frees the session, once. It has no handle then, so that later use raises AttributeError."""
         if "handle" in self.__dict__:
             self.lib.hongpilas_free(self.__dict__.pop("handle"))
 
@@ -112,27 +112,27 @@ class Session:
             raise Refused(self.lib.hongpilas_answer_name(answer).decode())
 
     def send(self, number: int, w: int = 0, l: int = 0, text: bytes = b"") -> int:
-        """Sends a message, and answers its value."""
+        """Sends a message, and returns its value."""
         value = ctypes.c_int64()
         number, w, l = whole(ctypes.c_uint32, number), whole(ctypes.c_int64, w), whole(ctypes.c_int64, l)
         self.check(self.lib.hongpilas_send(self.handle, self.view, number, w, l, text, len(text), value))
         return value.value
 
     def text(self) -> bytes:
-        """The text that the last message handed out."""
+        """The text that the last message returned."""
         where, length = ctypes.c_void_p(), ctypes.c_size_t()
         self.check(self.lib.hongpilas_text(self.handle, where, length))
         return lent(where.value, length.value)
 
     def notes(self) -> list[Note]:
-        """The notes of the last message."""
-        told: list[Note] = []
+        """The notifications of the last message."""
+        notes: list[Note] = []
         note = Note()
-        while not self.lib.hongpilas_note(self.handle, len(told), note, ctypes.sizeof(note)):
+        while not self.lib.hongpilas_note(self.handle, len(notes), note, ctypes.sizeof(note)):
             note.text = lent(note.bytes, note.byte_count)
-            told.append(note)
+            notes.append(note)
             note = Note()
-        return told
+        return notes
 
     def byte_range(self, start: int, end: int) -> bytes:
         """Bytes of the document, without a message."""
@@ -150,7 +150,7 @@ class Session:
             w, l = ([argument for argument in texts if isinstance(argument, int)] + [0, 0])[:2]
             text = b"".join(argument for argument in texts if isinstance(argument, bytes))
             value = self.send(self.numbers[name], w, l, text)
-            return self.text() if name in self.hands_out else value
+            return self.text() if name in self.return_texts else value
 
         return message
 

@@ -2,7 +2,7 @@
 //!
 //!     rustc hello.rs -L ../../out -l static=hongpilas
 //!
-//! In ../../bindings/rust are crates whose types keep what the header asks of the caller.
+//! In ../../bindings/rust are crates whose types take over duties of the caller.
 use std::ffi::{c_char, CStr};
 use std::mem;
 use std::ptr;
@@ -14,7 +14,7 @@ struct Opaque {
     _private: [u8; 0],
 }
 
-/// What a view is told; hongpilas_note_data of the header.
+/// A notification; hongpilas_note_data of the header.
 #[repr(C)]
 struct Note {
     view: u32,
@@ -60,7 +60,7 @@ const SCI_GETLENGTH: u32 = 2006;
 const SCI_GETLINE: u32 = 2153;
 const SCI_UNDO: u32 = 2176;
 
-/// Lent bytes as a text, copied. Where there are none, their address means nothing.
+/// Borrowed bytes as a text, copied. If there are none, their address means nothing.
 unsafe fn copied(bytes: *const u8, length: usize) -> String {
     if length == 0 {
         return String::new();
@@ -73,7 +73,7 @@ fn name_of(answer: u32) -> String {
     unsafe { CStr::from_ptr(hongpilas_answer_name(answer)) }.to_string_lossy().into_owned()
 }
 
-/// A session with one view, given back where it is dropped. It may be moved to another thread, and is used by one at a time.
+/// A session with one view, freed when it is dropped. It may be moved to another thread, and is used by one at a time.
 struct Session {
     handle: *mut Opaque,
     view: u32,
@@ -115,7 +115,7 @@ impl Session {
         }
     }
 
-    /// Bytes of the document, lent: they stand as long as the session is borrowed, until its next call.
+    /// Bytes of the document, borrowed: they are valid until the next call.
     fn range(&mut self, start: usize, count: usize) -> Result<&[u8], u32> {
         let mut bytes = ptr::null();
         match unsafe { hongpilas_lend_range(self.handle, self.view, start, count, &mut bytes) } {
@@ -125,8 +125,8 @@ impl Session {
         }
     }
 
-    /// Prints the notes of the last reply.
-    fn tell_notes(&mut self) {
+    /// Prints the notifications of the last reply.
+    fn print_notes(&mut self) {
         let mut note: Note = unsafe { mem::zeroed() };
         let mut index = 0;
         while unsafe { hongpilas_note(self.handle, index, &mut note, mem::size_of::<Note>()) } == 0 {
@@ -146,7 +146,7 @@ impl Drop for Session {
     }
 }
 
-/// Says what was answered; a refusal by its name.
+/// Prints the answer; a refusal by its name.
 fn say(what: &str, answer: Result<i64, u32>) {
     match answer {
         Ok(value) => println!("{what}: {value}"),
@@ -160,7 +160,7 @@ fn main() {
     // The session is handed to another thread, and back.
     let mut session = std::thread::spawn(move || session).join().unwrap();
     say("INSERTTEXT", session.send(SCI_INSERTTEXT, 0, 0, b"hello,\nworld"));
-    session.tell_notes();
+    session.print_notes();
     say("GETLENGTH", session.send(SCI_GETLENGTH, 0, 0, b""));
     say("GETLINE", session.send(SCI_GETLINE, 1, 0, b""));
     println!("  {:?}", session.text());

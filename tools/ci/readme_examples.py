@@ -4,7 +4,7 @@
 The page has one block of C and one of Rust, of at most ten lines each, with a comment behind each line that prints: what it prints. Into
 FOLDER, which is made where it is not there, go `readme.c` and what it prints, `readme.c.out`, and for cargo `Cargo.toml`, `src/main.rs`
 and `readme.rs.out`. `tests/check` and `bindings/check` build and run them, and compare. Ends with status 1 where the page has no such
-block, or one that prints nothing, or where its first block of text is not six rows that follow one another on a screen of
+block, or one that prints nothing, or where its first block of text is not twelve rows that follow one another on a screen of
 tests/editor/edit.screens, which `tests/check` compares with the editor's; what is in reverse there is not marked on the page.
 The block of C of docs/FROM_SCINTILLA.md becomes `from_scintilla.c`, with a notify function that counts; `from_scintilla.out` has the count.
 With --check in place of FOLDER it writes nothing.
@@ -15,7 +15,7 @@ import sys
 
 TOP = os.path.dirname(os.path.dirname(os.path.dirname(os.path.abspath(__file__))))
 MOST = 10
-ROWS = 6
+ROWS = 12
 SCREENS = "tests/editor/edit.screens"
 IN_C = """#include <hongpilas.h>
 #include <stdio.h>
@@ -34,7 +34,7 @@ OVER_SCINTILLA = """#include <hongpilas_scintilla.h>
 #include <stdio.h>
 
 static int count;
-static void hear(SCNotification *notification, void *data) {{ count += notification != NULL && data == NULL; }}
+static void on_notify(SCNotification *notification, void *data) {{ count += notification != NULL && data == NULL; }}
 
 int main(void) {{
 {}  printf("%d\\n", count);

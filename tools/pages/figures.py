@@ -28,6 +28,7 @@ SIZES = ("1 MiB", "16 MiB")
 CITED_SIZE = "16 MiB"
 CITED = {
     "typing a byte": "typing, a line end each 40",
+    "undoing a typed byte": "undo of typing, a byte",
     "inserting at a random place": "8 bytes in at random",
     "loading it": "INSERTTEXT of all",
     "reading a byte": "GETCHARAT",

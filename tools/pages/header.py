@@ -156,7 +156,7 @@ IN_C = {
     "&mut NoteInC": "hongpilas_note_data *{}",
 }
 # What calls name otherwise on one side: both are compared under the second name.
-ALIASES = {"hongpilas_answer": "uint32_t", "session": "handle", "answer": "number", "room": "length", "count": "length"}
+ALIASES = {"hongpilas_answer": "uint32_t", "session": "handle", "answer": "number", "capacity": "length", "count": "length"}
 
 
 def read(path):

@@ -42,7 +42,7 @@ static int64_t ask(uint32_t number, int64_t w) {
 }
 
 /* Takes up a change of a range. A message may make several steps: what is stale already moves with each of them. */
-static void hear_change(const hongpilas_note_data *note) {
+static void mark_stale(const hongpilas_note_data *note) {
   bool is_insertion = (note->kind & SC_MOD_INSERTTEXT) != 0, is_deletion = (note->kind & SC_MOD_DELETETEXT) != 0;
   if (stale.to > note->position) stale.to += is_insertion ? note->length : is_deletion ? -note->length : 0;
   stale.from = least(stale.from, note->position);
@@ -51,20 +51,20 @@ static void hear_change(const hongpilas_note_data *note) {
 }
 
 /* Reads the notifications of the last reply. */
-static void hear(void) {
+static void read_notes(void) {
   hongpilas_note_data note;
   for (size_t i = 0; hongpilas_note(session, i, &note, sizeof note) == HONGPILAS_DONE; i++) {
     if (note.code == SCN_SAVEPOINTLEFT) is_modified = true;
     if (note.code == SCN_SAVEPOINTREACHED) is_modified = false;
-    if (note.code == SCN_MODIFIED) hear_change(&note);
+    if (note.code == SCN_MODIFIED) mark_stale(&note);
   }
 }
 
-/* Sends a message, and hears what it did. */
+/* Sends a message, and reads its notifications. */
 static int64_t send_text(uint32_t number, int64_t w, int64_t l, const char *text, size_t length) {
   int64_t value = 0;
   must(hongpilas_send(session, view, number, w, l, text, length, &value));
-  hear();
+  read_notes();
   return value;
 }
 

@@ -37,11 +37,11 @@ class Messages:
         raise NotImplementedError
 
     def ask(self, number: int, w: int = 0, l: int = 0) -> int:
-        """Asks any question, and returns its value."""
+        """Sends any query, and returns its value."""
         raise NotImplementedError
 
     def read(self, number: int, w: int = 0, l: int = 0) -> bytes:
-        """Asks any question that returns a text, and returns that."""
+        """Sends any query that returns a text, and returns that."""
         raise NotImplementedError
 
     # Written by tools/pages/wrappers.py: begin
@@ -260,8 +260,8 @@ class Messages:
         return self.ask(constants.SCI_GETLINESTATE, line)
 
     def get_line_end_position(self, line: int) -> int:
-        """Returns where the line end of line `line` begins; the text's length from the last line on; -1 if `line`
-        is negative. Message: `SCI_GETLINEENDPOSITION`.
+        """Returns where the line end of line `line` begins; the text's length for the last line and past it; -1 if
+        `line` is negative. Message: `SCI_GETLINEENDPOSITION`.
         """
         return self.ask(constants.SCI_GETLINEENDPOSITION, line)
 
@@ -470,10 +470,10 @@ class Messages:
         return self.ask(constants.SCI_GETFOLDLEVEL, line)
 
     def get_last_child(self, line: int, level: int) -> int:
-        """Returns the last child of line `line`: the line before the next one whose level number is at most that
-        of `level`, or that of line `line` if `level` is -1; without such a next line, the last line of the
-        document; -1 if line `line` does not exist. Raises `Refused` with `Refusal.BAD_ARGUMENT` unless `level`
-        is -1 to 2^31-1. Message: `SCI_GETLASTCHILD`.
+        """Returns the last child of line `line`, or -1 if there is no such line. That child is the line before the
+        next one whose level number is at most that of `level` (that of line `line` if `level` is -1), or the
+        last line of the document if there is no such next line. Raises `Refused` with `Refusal.BAD_ARGUMENT`
+        unless `level` is -1 to 2^31-1. Message: `SCI_GETLASTCHILD`.
         """
         return self.ask(constants.SCI_GETLASTCHILD, line, level)
 
@@ -507,7 +507,7 @@ class Messages:
 
     def toggle_fold(self, line: int) -> None:
         """Contracts line `line` if it is an expanded header, and expands it if it is a contracted one; if it is no
-        header, does so with its fold parent; does nothing without one. Message: `SCI_TOGGLEFOLD`.
+        header, does the same to its fold parent, if it has one. Message: `SCI_TOGGLEFOLD`.
         """
         self.send(constants.SCI_TOGGLEFOLD, line)
 
@@ -523,9 +523,9 @@ class Messages:
         return self.ask(constants.SCI_GETALLLINESVISIBLE) != 0
 
     def fold_line(self, line: int, action: int) -> None:
-        """Contracts, expands or toggles line `line` if it is a header, else its fold parent; does nothing without
-        one. `action` is `SC_FOLDACTION_CONTRACT` 0, `SC_FOLDACTION_EXPAND` 1 or `SC_FOLDACTION_TOGGLE` 2; all
-        else is refused with `Refusal.BAD_ARGUMENT`. Message: `SCI_FOLDLINE`.
+        """Contracts, expands or toggles line `line` if it is a header, else its fold parent, if it has one.
+        `action` is `SC_FOLDACTION_CONTRACT` 0, `SC_FOLDACTION_EXPAND` 1 or `SC_FOLDACTION_TOGGLE` 2; all else
+        is refused with `Refusal.BAD_ARGUMENT`. Message: `SCI_FOLDLINE`.
         """
         self.send(constants.SCI_FOLDLINE, line, action)
 

@@ -72,7 +72,7 @@ class Note:
 class View(Messages):
     """A view of a session, by its id. Messages are its methods; a View does not close its view when it ends.
 
-    Questions change nothing. All other messages, once done, replace the session's one reply, whichever view they were sent to.
+    Queries change nothing. All other messages, once done, replace the session's one reply, whichever view they were sent to.
     """
 
     def __init__(self, session: Session, id: int):
@@ -83,11 +83,11 @@ class View(Messages):
         return self.session._send(self.id, number, w, l, text)
 
     def ask(self, number: int, w: int = 0, l: int = 0) -> int:
-        """Asks any question, and returns its value. The last reply stays. Raises Refused, with Refusal.UNKNOWN_MESSAGE, if the message is no question."""
+        """Sends any query, and returns its value. The last reply stays. Raises Refused, with Refusal.UNKNOWN_MESSAGE, if the message is no query."""
         return self.session._ask(self.id, number, w, l)
 
     def read(self, number: int, w: int = 0, l: int = 0) -> bytes:
-        """Asks any question that returns a text, and returns that. The last reply stays."""
+        """Sends any query that returns a text, and returns that. The last reply stays."""
         return self.session._read(self.id, number, w, l)
 
     def lines(self) -> Iterator[bytes]:
@@ -196,14 +196,14 @@ class Session:
         return View(self, id)
 
     def value(self) -> int:
-        """The value of the last reply: that of the last message that was done and is no question. 0 before the first one."""
+        """The value of the last reply: that of the last message that was done and is no query. 0 before the first one."""
         value = ctypes.c_int64()
         with self._turn():
             check(LIB.hongpilas_value(self._open(), value))
         return value.value
 
     def text(self) -> bytes:
-        """The text of the last reply, which is that of a question that was sent as a message."""
+        """The text of the last reply, which is that of a query that was sent as a message."""
         where, length = ctypes.c_void_p(), ctypes.c_size_t()
         with self._turn():
             check(LIB.hongpilas_text(self._open(), where, length))

@@ -158,7 +158,7 @@ extern "C" {
         session: *const hongpilas_session,
         start: usize,
         into: *mut c_void,
-        room: usize,
+        capacity: usize,
         count: *mut usize,
     ) -> hongpilas_answer;
     #[must_use]
@@ -176,7 +176,7 @@ extern "C" {
         index: usize,
         start: usize,
         into: *mut c_void,
-        room: usize,
+        capacity: usize,
         count: *mut usize,
     ) -> hongpilas_answer;
     #[must_use]
@@ -236,7 +236,7 @@ extern "C" {
         session: *const hongpilas_session,
         start: usize,
         into: *mut u8,
-        room: usize,
+        capacity: usize,
     ) -> usize;
     pub fn hongpilas_note_count_unchecked(session: *const hongpilas_session) -> usize;
     pub fn hongpilas_note_unchecked(
@@ -249,7 +249,7 @@ extern "C" {
         index: usize,
         start: usize,
         into: *mut u8,
-        room: usize,
+        capacity: usize,
     ) -> usize;
     #[must_use]
     pub fn hongpilas_lend_range_unchecked(

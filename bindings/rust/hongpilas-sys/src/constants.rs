@@ -79,7 +79,7 @@ pub const SCI_ENDUNDOACTION: u32 = 2079;
 pub const SCI_SETLINESTATE: u32 = 2092;
 /// Q (line): Returns the state of line `line`, or 0 if there is no such line.
 pub const SCI_GETLINESTATE: u32 = 2093;
-/// Q (line): Returns where the line end of line `line` begins; the text's length from the last line on; -1 if `line` is negative.
+/// Q (line): Returns where the line end of line `line` begins; the text's length for the last line and past it; -1 if `line` is negative.
 pub const SCI_GETLINEENDPOSITION: u32 = 2136;
 /// Q: Returns whether the document is read-only.
 pub const SCI_GETREADONLY: u32 = 2140;
@@ -159,7 +159,7 @@ pub const SCI_DOCLINEFROMVISIBLE: u32 = 2221;
 pub const SCI_SETFOLDLEVEL: u32 = 2222;
 /// Q (line): Returns the fold level of line `line`, or 1024 (`SC_FOLDLEVELBASE`) if there is no such line.
 pub const SCI_GETFOLDLEVEL: u32 = 2223;
-/// Q (line, level): Returns the last child of line `line`: the line before the next one whose level number is at most that of `level`, or that of line `line` if `level` is -1; without such a next line, the last line of the document; -1 if line `line` does not exist.
+/// Q (line, level): Returns the last child of line `line`, or -1 if there is no such line.
 pub const SCI_GETLASTCHILD: u32 = 2224;
 /// Q (line): Returns the fold parent of line `line`: the nearest earlier header with a smaller level number; -1 if there is none, or no such line.
 pub const SCI_GETFOLDPARENT: u32 = 2225;
@@ -173,13 +173,13 @@ pub const SCI_GETLINEVISIBLE: u32 = 2228;
 pub const SCI_SETFOLDEXPANDED: u32 = 2229;
 /// Q (line): Returns whether line `line` is expanded; false if there is no such line.
 pub const SCI_GETFOLDEXPANDED: u32 = 2230;
-/// (line): Contracts line `line` if it is an expanded header, and expands it if it is a contracted one; if it is no header, does so with its fold parent; does nothing without one.
+/// (line): Contracts line `line` if it is an expanded header, and expands it if it is a contracted one; if it is no header, does the same to its fold parent, if it has one.
 pub const SCI_TOGGLEFOLD: u32 = 2231;
 /// (line): Makes a hidden line `line` visible; before that, makes each of its fold parents visible, and expands those that are contracted, the outermost first.
 pub const SCI_ENSUREVISIBLE: u32 = 2232;
 /// Q: Returns whether all lines are visible.
 pub const SCI_GETALLLINESVISIBLE: u32 = 2236;
-/// (line, action): Contracts, expands or toggles line `line` if it is a header, else its fold parent; does nothing without one.
+/// (line, action): Contracts, expands or toggles line `line` if it is a header, else its fold parent, if it has one.
 pub const SCI_FOLDLINE: u32 = 2237;
 /// (length, text): Inserts `text` at the end of the document.
 pub const SCI_APPENDTEXT: u32 = 2282;

@@ -9,7 +9,7 @@ fn shown(text: &[u8]) -> Cow<'_, str> {
     String::from_utf8_lossy(text)
 }
 
-/// Prints the notifications of an insertion. The questions of the loop leave them as they are.
+/// Prints the notifications of an insertion. The queries of the loop leave them as they are.
 fn print_notes(session: &Session) -> Result<(), Refusal> {
     for note in session.notes() {
         if note.code == SCN_MODIFIED && note.kind & SC_MOD_INSERTTEXT != 0 {

@@ -8,7 +8,7 @@ fn length_of(text: &[u8]) -> i64 {
     text.len() as i64
 }
 
-/// Questions, which change nothing. Positions, lengths and lines are in bytes and lines, and count from 0. An argument outside the range that a sentence
+/// Queries, which change nothing. Positions, lengths and lines are in bytes and lines, and count from 0. An argument outside the range that a sentence
 /// states is refused as [`Refusal::BadArgument`].
 impl View<'_> {
     // Written by tools/pages/wrappers.py: begin questions
@@ -106,8 +106,8 @@ impl View<'_> {
         self.ask(sys::SCI_GETLINESTATE, line, 0)
     }
 
-    /// Returns where the line end of line `line` begins; the text's length from the last line
-    /// on; -1 if `line` is negative. Message: `SCI_GETLINEENDPOSITION`.
+    /// Returns where the line end of line `line` begins; the text's length for the last line
+    /// and past it; -1 if `line` is negative. Message: `SCI_GETLINEENDPOSITION`.
     pub fn get_line_end_position(&self, line: i64) -> Result<i64, Refusal> {
         self.ask(sys::SCI_GETLINEENDPOSITION, line, 0)
     }
@@ -228,10 +228,11 @@ impl View<'_> {
         self.ask(sys::SCI_GETFOLDLEVEL, line, 0)
     }
 
-    /// Returns the last child of line `line`: the line before the next one whose level number
-    /// is at most that of `level`, or that of line `line` if `level` is -1; without such a next
-    /// line, the last line of the document; -1 if line `line` does not exist. Refused with
-    /// [`Refusal::BadArgument`] unless `level` is -1 to 2^31-1. Message: `SCI_GETLASTCHILD`.
+    /// Returns the last child of line `line`, or -1 if there is no such line. That child is the
+    /// line before the next one whose level number is at most that of `level` (that of line
+    /// `line` if `level` is -1), or the last line of the document if there is no such next
+    /// line. Refused with [`Refusal::BadArgument`] unless `level` is -1 to 2^31-1. Message:
+    /// `SCI_GETLASTCHILD`.
     pub fn get_last_child(&self, line: i64, level: i64) -> Result<i64, Refusal> {
         self.ask(sys::SCI_GETLASTCHILD, line, level)
     }
@@ -364,7 +365,7 @@ impl View<'_> {
     // Written by tools/pages/wrappers.py: end questions
 }
 
-/// All other messages, and the texts of questions without a copy.
+/// All other messages, and the texts of queries without a copy.
 impl ViewMut<'_> {
     // Written by tools/pages/wrappers.py: begin messages
     /// Inserts `text` at the caret, and moves anchor and caret to the end of the inserted text.
@@ -681,8 +682,8 @@ impl ViewMut<'_> {
     }
 
     /// Contracts line `line` if it is an expanded header, and expands it if it is a contracted
-    /// one; if it is no header, does so with its fold parent; does nothing without one.
-    /// Message: `SCI_TOGGLEFOLD`.
+    /// one; if it is no header, does the same to its fold parent, if it has one. Message:
+    /// `SCI_TOGGLEFOLD`.
     pub fn toggle_fold(&mut self, line: i64) -> Result<(), Refusal> {
         self.as_done(sys::SCI_TOGGLEFOLD, line, 0, &[])
     }
@@ -694,8 +695,8 @@ impl ViewMut<'_> {
         self.as_done(sys::SCI_ENSUREVISIBLE, line, 0, &[])
     }
 
-    /// Contracts, expands or toggles line `line` if it is a header, else its fold parent; does
-    /// nothing without one. `action` is `SC_FOLDACTION_CONTRACT` 0, `SC_FOLDACTION_EXPAND` 1 or
+    /// Contracts, expands or toggles line `line` if it is a header, else its fold parent, if it
+    /// has one. `action` is `SC_FOLDACTION_CONTRACT` 0, `SC_FOLDACTION_EXPAND` 1 or
     /// `SC_FOLDACTION_TOGGLE` 2; all else is refused with [`Refusal::BadArgument`]. Message:
     /// `SCI_FOLDLINE`.
     pub fn fold_line(&mut self, line: i64, action: i64) -> Result<(), Refusal> {

@@ -65,7 +65,7 @@ pub fn note_name(code: u32) -> Option<&'static str> {
     }
 }
 
-/// The notifications of the last reply, for all views or for one, in their order. They borrow the session, and not for good: questions may be
+/// The notifications of the last reply, for all views or for one, in their order. They borrow the session, and not for good: queries may be
 /// asked in a loop over them.
 #[derive(Clone, Debug)]
 pub struct Notes<'a> {

@@ -94,7 +94,7 @@ impl Session {
         Refusal::check(unsafe { sys::hongpilas_close_view(self.as_ptr(), view.into()) })
     }
 
-    /// A view, to ask questions of it: the session is borrowed as shared, and so there may be several at once. Questions of one that is not open are refused
+    /// A view, to send queries to it: the session is borrowed as shared, and so there may be several at once. Queries to one that is not open are refused
     /// as [`Refusal::NoSuchView`].
     ///
     /// ```
@@ -115,7 +115,7 @@ impl Session {
         ViewMut::of(self, id)
     }
 
-    /// The value of the last reply: that of the last message that was done, to whichever view, and is no question. 0 before the first one.
+    /// The value of the last reply: that of the last message that was done, to whichever view, and is no query. 0 before the first one.
     pub fn value(&self) -> i64 {
         let mut value = 0;
         // SAFETY: the session is open, and the place is this function's own.
@@ -124,7 +124,7 @@ impl Session {
         value
     }
 
-    /// The text of the last reply, which is that of a question that was sent as a message.
+    /// The text of the last reply, which is that of a query that was sent as a message.
     pub fn text(&self) -> &[u8] {
         let (mut bytes, mut length) = (ptr::null(), 0);
         // SAFETY: the session is open, and the places are this function's own. The bytes are valid as long as the reply, which stays as long as the
@@ -136,7 +136,7 @@ impl Session {
         }
     }
 
-    /// The notifications of the last reply, for all views; [`View::notes`] has those for one. Questions may be asked in a loop over them:
+    /// The notifications of the last reply, for all views; [`View::notes`] has those for one. Queries may be sent in a loop over them:
     ///
     /// ```
     /// use hongpilas::{Session, SCN_MODIFIED, SC_MOD_INSERTTEXT};

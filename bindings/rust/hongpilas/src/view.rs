@@ -11,9 +11,9 @@ fn size_of_range(number: i64) -> Result<usize, Refusal> {
     usize::try_from(number).map_err(|_| Refusal::BadArgument)
 }
 
-/// A view of a session, to ask questions of it. [`Session::view`] makes one.
+/// A view of a session, to send queries to it. [`Session::view`] makes one.
 ///
-/// A question changes nothing, the last reply neither, and so it borrows the session as shared. A text that it returns is a copy.
+/// A query changes nothing, the last reply neither, and so it borrows the session as shared. A text that it returns is a copy.
 ///
 /// ```
 /// let mut session = hongpilas::Session::new()?;
@@ -32,7 +32,7 @@ pub struct View<'s> {
 
 /// A view of a session, to send messages to it. [`Session::view_mut`] makes one.
 ///
-/// It borrows the session as mutable. All questions of a [`View`] are its methods, too; a question may stand among the arguments of a message:
+/// It borrows the session as mutable. All queries of a [`View`] are its methods, too; a query may stand among the arguments of a message:
 ///
 /// ```
 /// let mut session = hongpilas::Session::new()?;
@@ -104,10 +104,10 @@ impl<'s> View<'s> {
         Notes::of(self.session, Some(self.id))
     }
 
-    /// Asks any question, and returns its value. The message table says what `w` and `l` mean.
+    /// Sends any query, and returns its value. The message table says what `w` and `l` mean.
     ///
     /// # Errors
-    /// [`Refusal::UnknownMessage`] if the message is no question; else the refusals that the message table states.
+    /// [`Refusal::UnknownMessage`] if the message is no query; else the refusals that the message table states.
     pub fn ask(&self, number: u32, w: i64, l: i64) -> Result<i64, Refusal> {
         let mut value = 0;
         // SAFETY: the session is open, and no other call is made on it at once, since it is not Sync. The place is this function's own.
@@ -115,7 +115,7 @@ impl<'s> View<'s> {
         Refusal::check(answer).map(|()| value)
     }
 
-    /// Asks any question that returns a text, and returns a copy of that.
+    /// Sends any query that returns a text, and returns a copy of that.
     ///
     /// # Errors
     /// Those of [`ask`](View::ask), and [`Refusal::OutOfMemory`].
@@ -184,7 +184,7 @@ impl<'s> View<'s> {
         self.ask(number, w, l).map(DocumentId::from)
     }
 
-    /// The text of a question, lent until the next call of this, or the session's end.
+    /// The text of a query, lent until the next call of this, or the session's end.
     ///
     /// # Safety
     /// This is called no more as long as the bytes are used, nor is the session dropped.
@@ -226,7 +226,7 @@ impl<'s> ViewMut<'s> {
         Refusal::check(answer).map(|()| value)
     }
 
-    /// Asks any question that returns a text, and lends that, without a copy. The last reply stays.
+    /// Sends any query that returns a text, and lends that, without a copy. The last reply stays.
     ///
     /// # Errors
     /// Those of [`ask`](View::ask), and [`Refusal::OutOfMemory`].
