@@ -72,10 +72,10 @@ module _ (line : ℕ) (old : Chained) (h : line < length old.rows) where
           front = w.front ++ b.first ∷ [];
           rest = b.rest;
           is =
-          b.is ∙ ap (λ (c : Chained). changed c line (row_at line c ++ b.first ∷ []) b.rest) w.is
-          ∙ ap (λ f. changed (changed old line w.front w.rest) line (f ++ b.first ∷ []) b.rest) (row_of_changed w.front w.rest) ∙ again w.front w.rest (w.front ++ b.first ∷ []) b.rest;
+              b.is ∙ ap (λ (c : Chained). changed c line (row_at line c ++ b.first ∷ []) b.rest) w.is
+              ∙ ap (λ f. changed (changed old line w.front w.rest) line (f ++ b.first ∷ []) b.rest) (row_of_changed w.front w.rest) ∙ again w.front w.rest (w.front ++ b.first ∷ []) b.rest;
           same =
-          append_assoc w.front (b.first ∷ []) (after b.rest) ∙ ap (λ r. w.front ++ r) (sym (keeps b.rest) ∙ ap after (sym rest)) ∙ w.same;
+              append_assoc w.front (b.first ∷ []) (after b.rest) ∙ ap (λ r. w.front ++ r) (sym (keeps b.rest) ∙ ap after (sym rest)) ∙ w.same;
         }
 
     pub put_freed : (now new : Chained) → HasPut line after old now → (f : IsFreed now new) → ((rest : List Marker) → after (f.first ∷ rest) ≡ after rest) → HasPut line after old new

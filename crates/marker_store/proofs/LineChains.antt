@@ -56,13 +56,25 @@ module _ (links : List Link) (heads heads' : List ℕ) (spare aside unused : ℕ
   other_lines chains' a same = record {
     linked = (s.linked.linked.0, (s.linked.linked.1.0, a));
     once =
-    λ k. omega
-    (arith, s.linked.once k, same (times k) refl, sum_by-cons (times k) s.spares (s.asides ∷ chains'), sum_by-cons (times k) s.asides chains',
-    sum_by-cons (times k) s.spares (s.asides ∷ s.chains), sum_by-cons (times k) s.asides s.chains);
+        λ k. omega (
+          arith,
+          s.linked.once k,
+          same (times k) refl,
+          sum_by-cons (times k) s.spares (s.asides ∷ chains'),
+          sum_by-cons (times k) s.asides chains',
+          sum_by-cons (times k) s.spares (s.asides ∷ s.chains),
+          sum_by-cons (times k) s.asides s.chains,
+        );
     full =
-    omega
-    (arith, s.linked.full, same length refl, sum_by-cons length s.spares (s.asides ∷ chains'), sum_by-cons length s.asides chains',
-    sum_by-cons length s.spares (s.asides ∷ s.chains), sum_by-cons length s.asides s.chains);
+        omega (
+          arith,
+          s.linked.full,
+          same length refl,
+          sum_by-cons length s.spares (s.asides ∷ chains'),
+          sum_by-cons length s.asides chains',
+          sum_by-cons length s.spares (s.asides ∷ s.chains),
+          sum_by-cons length s.asides s.chains,
+        );
   }
 
 module _ (links : List Link) (heads : List ℕ) (spare aside unused capacity line_capacity : ℕ) (s : AreSound links heads spare aside unused) where

@@ -57,9 +57,16 @@ lines_seen links heads aside capacity line_capacity = length-map heads (λ at. r
 
 pub held_is : (links : List Link) (heads : List ℕ) (spare aside unused capacity line_capacity : ℕ) → AreSound links heads spare aside unused → held (chains_in links heads aside capacity line_capacity) + unused ≡ length links
 held_is links heads spare aside unused capacity line_capacity s =
-    omega
-    (arith, ap held (seen links heads spare aside capacity line_capacity s.spares s.asides s.chains s.linked), rows_total links s.chains, length-laid links s.asides, s.linked.full, s.counted,
-    sum_by-cons length s.spares (s.asides ∷ s.chains), sum_by-cons length s.asides s.chains)
+    omega (
+      arith,
+      ap held (seen links heads spare aside capacity line_capacity s.spares s.asides s.chains s.linked),
+      rows_total links s.chains,
+      length-laid links s.asides,
+      s.linked.full,
+      s.counted,
+      sum_by-cons length s.spares (s.asides ∷ s.chains),
+      sum_by-cons length s.asides s.chains,
+    )
 
 -- the chain of a line has no more links than there are
 pub links_within : (links : List Link) (heads : List ℕ) (spare aside unused : ℕ) (s : AreSound links heads spare aside unused) (line : ℕ) → length (get_or s.chains line []) + 0 ≤ length links

@@ -152,9 +152,14 @@ fresh_full n line count rows e =
 
 pub total_wider : (line count : ℕ) (rows : Lists) → marker_total (inserted rows line (none count)) ≡ marker_total rows
 total_wider line count rows =
-    omega
-    (arith, sum_by-append length (take line rows ++ none count) (drop line rows), sum_by-append length (take line rows) (none count), total_none count,
-    sum_by-append length (take line rows) (drop line rows), ap marker_total (take-append-drop line rows))
+    omega (
+      arith,
+      sum_by-append length (take line rows ++ none count) (drop line rows),
+      sum_by-append length (take line rows) (none count),
+      total_none count,
+      sum_by-append length (take line rows) (drop line rows),
+      ap marker_total (take-append-drop line rows),
+    )
 
 -- Lines are joined.
 
@@ -202,9 +207,16 @@ module _ (line count : ℕ) (rows : Lists) (h : line + count < length rows) wher
 
   pub total_joined : marker_total (with_joined line count rows) ≡ marker_total rows
   total_joined =
-      omega
-      (arith, ap marker_total is, sum_by-append length ps (flat_map (λ (ms : List Marker). ms) qs ∷ rs), sum_by-cons length (flat_map (λ (ms : List Marker). ms) qs) rs, flat_total qs,
-      ap marker_total whole, sum_by-append length ps (qs ++ rs), sum_by-append length qs rs)
+      omega (
+        arith,
+        ap marker_total is,
+        sum_by-append length ps (flat_map (λ (ms : List Marker). ms) qs ∷ rs),
+        sum_by-cons length (flat_map (λ (ms : List Marker). ms) qs) rs,
+        flat_total qs,
+        ap marker_total whole,
+        sum_by-append length ps (qs ++ rs),
+        sum_by-append length qs rs,
+      )
 
 pub joined_next : (line i : ℕ) (rows : Lists) → line + (i + 1) < length rows → with_joined line 1 (with_joined line i rows) ≡ with_joined line (i + 1) rows
 joined_next line i rows h = joined_more line 1 i rows h

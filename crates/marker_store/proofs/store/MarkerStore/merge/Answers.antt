@@ -80,6 +80,9 @@ loop-joined-preserved g c =
     let inside : c.args.line + count < d.lines = omega (arith, fits, size) in
     let n : length rows ≡ d.lines = is_full d.lines rows i.headed (omega (arith, c.if-lines-eq0.false, c.lines.ensures.lines)) in
     let k = c.loop-joined._joined in
-    let w = c.loop-joined.invariant in
-    (c.join.ensures ∙ ap (λ (x : Chained). record x { rows = with_joined c.args.line 1 x.rows }) w.0
-    ∙ ap (λ (rs : List (List Marker)). record d.chains { rows = rs }) (joined_next c.args.line k rows (omega (arith, inside, n, c.loop-joined-test.true))), w.1, w.2)
+    let w = c.loop-joined.invariant in (
+      c.join.ensures ∙ ap (λ (x : Chained). record x { rows = with_joined c.args.line 1 x.rows }) w.0
+          ∙ ap (λ (rs : List (List Marker)). record d.chains { rows = rs }) (joined_next c.args.line k rows (omega (arith, inside, n, c.loop-joined-test.true))),
+      w.1,
+      w.2,
+    )
