@@ -2,7 +2,6 @@
 pub mod Answers
 pub mod Answering
 pub mod Documents
-pub mod Attached
 pub mod Asked
 pub mod Plans
 pub mod Planned

@@ -3,9 +3,8 @@
 ghost use Rattle.id_table.specs.Entries.{value_at};
 ghost use Rattle.std.specs.Prelude.{◌≡◌, IfSome, IfNone, Some, None};
 ghost use Rattle.ed_model.specs.Session.{document_at, view_at};
-ghost use Rattle.message_requests.specs.Requested.{session_in};
+ghost use Rattle.message_requests.specs.Requested.{request_in, session_in};
 ghost use Rattle.session_changes.specs.Kept.{IsKept};
-ghost use Rattle.editor_session.specs.Attached.{request_in};
 
 use document::Document;
 use ed_view::View;
@@ -25,6 +24,7 @@ pub(crate) struct Attached<'a> {
 pub(crate) fn look_up(state: &SessionState, view: u32) -> Option<Attached<'_>>
     requires kept { IsKept state.now }
     ensures view { IfSome result (λ found. view_at (session_in state.now).views view ≡ Some found.view.now.view) }
+    ensures own { IfSome result (λ found. view_at (session_in state.now).views found.view.now.view.id ≡ Some found.view.now.view) }
     ensures document { IfSome result (λ found. document_at (session_in state.now).documents found.view.now.view.document ≡ Some found.document.now.document) }
     ensures entry { IfSome result (λ found. value_at state.now.documents.entries found.view.now.view.document ≡ Some found.document.now) }
     ensures none { IfNone result (view_at (session_in state.now).views view ≡ None) }
@@ -38,7 +38,7 @@ pub(crate) fn look_up(state: &SessionState, view: u32) -> Option<Attached<'_>>
     Some(Attached { view, document })
 }
 
-/// Returns the request of a message to a view that was looked up.
+/// Returns the request of a message to a view that was looked up. Its type says that it is sound.
 #[inline(always)]
 pub(crate) fn request_to<'a, 'm: 'a>(
     state: &'a SessionState,
@@ -46,6 +46,8 @@ pub(crate) fn request_to<'a, 'm: 'a>(
     message: &SentMessage<'m>,
 ) -> Request<'a>
     requires kept { IsKept state.now }
+    requires view { view_at (session_in state.now).views found.view.now.view.id ≡ Some found.view.now.view }
+    requires document { document_at (session_in state.now).documents found.view.now.view.document ≡ Some found.document.now.document }
     ensures { result ≡ request_in state.now found.entry.view.now found.entry.document.now message.now }
 {
     Request {

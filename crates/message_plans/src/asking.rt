@@ -2,7 +2,6 @@
 //! document. Both are answered without a plan.
 
 ghost use Rattle.std.specs.Prelude.{◌≡◌};
-ghost use Rattle.ed_model.specs.PlansFit.{IsSoundRequest};
 ghost use Rattle.message_plans.specs.Asking.{handed_asked, value_asked};
 
 use ed_types::Kind;
@@ -15,7 +14,6 @@ use text_plans::{selection_plans, target_plans, texts};
 #[inline(always)]
 #[tactic(auto, using(crate::proofs::Plain::planned_so, crate::proofs::Plain::planned_if))]
 pub fn value_of(kind: Kind, r: &Request) -> Option<i64>
-    requires sound { IsSoundRequest r.now }
     ensures { result ≡ value_asked kind r.now }
 {
     match kind {
@@ -62,7 +60,6 @@ pub fn value_of(kind: Kind, r: &Request) -> Option<i64>
 /// the question is refused or hands out nothing, as GETLINE does for a line that does not exist.
 #[tactic(auto, using(crate::proofs::Plain::handed_so, crate::proofs::Plain::handed_if, crate::proofs::Plain::handed_if_any))]
 pub fn handed_of(kind: Kind, r: &Request) -> Option<HandedOut>
-    requires sound { IsSoundRequest r.now }
     ensures { result ≡ handed_asked kind r.now }
 {
     match kind {

@@ -1,7 +1,6 @@
 //! Plans of frequent messages, which are matched before all others, and the changes that some of them make.
 
 ghost use Rattle.std.specs.Prelude.{◌≡◌};
-ghost use Rattle.ed_model.specs.PlansFit.{IsSoundRequest};
 ghost use Rattle.ed_model.specs.Table.{plan_of};
 ghost use Rattle.message_plans.specs.Frequent.{change_asked, is_performed, target_plan_of};
 
@@ -18,7 +17,6 @@ use text_plans::{key_plans, selection_plans, target_plans, texts};
 ///
 /// Those of `plan_of`.
 pub fn frequent_plan_of(kind: Kind, r: &Request) -> Planned
-    requires sound { IsSoundRequest r.now }
     ensures { result ≡ plan_of kind r.now }
 {
     match kind {
@@ -53,7 +51,6 @@ pub fn frequent_plan_of(kind: Kind, r: &Request) -> Planned
 /// other messages, and if the message is refused or changes nothing.
 #[inline(always)]
 pub fn change_of(kind: Kind, r: &Request) -> Option<(DocumentChange, i64)>
-    requires sound { IsSoundRequest r.now }
     ensures { result ≡ change_asked kind r.now }
 {
     let planned = match kind {
@@ -71,7 +68,6 @@ pub fn change_of(kind: Kind, r: &Request) -> Option<(DocumentChange, i64)>
 /// Returns whether the message is UNDO or REDO, and its plan performs a transaction.
 #[inline(always)]
 pub fn is_performed(kind: Kind, r: &Request) -> bool
-    requires sound { IsSoundRequest r.now }
     ensures { result ≡ is_performed kind (plan_of kind r.now) }
 {
     match kind {
@@ -95,7 +91,6 @@ pub fn is_performed(kind: Kind, r: &Request) -> bool
 /// Those of `plan_of`.
 #[inline(always)]
 pub fn target_plan_of(kind: Kind, r: &Request) -> Option<Planned>
-    requires sound { IsSoundRequest r.now }
     ensures { result ≡ target_plan_of kind r.now }
 {
     match kind {

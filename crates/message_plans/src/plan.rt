@@ -1,7 +1,6 @@
 //! The plan of each message.
 
 ghost use Rattle.std.specs.Prelude.{◌≡◌};
-ghost use Rattle.ed_model.specs.PlansFit.{IsSoundRequest};
 ghost use Rattle.ed_model.specs.Table.{plan_of};
 
 use ed_model::Planned;
@@ -19,7 +18,6 @@ use text_plans::{key_plans, selection_plans, target_plans, texts};
 /// The first refusal that applies to the message, by the model's table.
 #[inline(never)]
 pub fn plan_of(kind: Kind, r: &Request) -> Planned
-    requires sound { IsSoundRequest r.now }
     ensures { result ≡ plan_of kind r.now }
 {
     match kind {

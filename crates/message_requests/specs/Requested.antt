@@ -1,7 +1,9 @@
--- The model's session in what a `SessionState` keeps.
+-- The model's session in what a `SessionState` keeps, and the model's request in what a `Request` borrows.
 use Rattle.std.specs.Prelude.{◌≡◌, List, map}
 use Rattle.std.specs.List.{AllByRecursion}
+use Rattle.ed_types.specs.declared.message.Message.{Message}
 use Rattle.ed_model.specs.Session.{Session, Document, View}
+use Rattle.ed_model.specs.Requests.{Request}
 use Rattle.document.specs.Kept.{Kept}
 use Rattle.ed_view.specs.Kept.{KeptView}
 use Rattle.id_table.specs.Entries.{Entries, Entry}
@@ -24,6 +26,10 @@ session_in s = record {
   next_view = s.views.next;
   limits = s.limits;
 }
+
+-- the model's request of a message to this view on this document
+abbrev pub request_in : SessionState → KeptView → Kept → Message → Request
+request_in s v k m = record { session = session_in s; view = v.view; document = k.document; message = m }
 
 -- each document is kept under its own id
 abbrev pub DocumentsAreNamed : SessionState → Type 0

@@ -3,7 +3,6 @@
 ghost use Rattle.std.specs.Prelude.{◌≡◌, ◌≤◌, ◌<◌, ◌^◌, length, option_copied, option_map, slice_get, IfSome, Some};
 ghost use Rattle.ed_model.specs.Session.{limit_of, lines_in};
 ghost use Rattle.ed_model.specs.Numbers.{within};
-ghost use Rattle.ed_model.specs.PlansFit.{IsSoundRequest};
 ghost use Rattle.ed_model.specs.SessionPlans.{document_named};
 ghost use Rattle.document.specs.Kept.{document_of};
 ghost use Rattle.ed_model.specs.Requests.{end_or_size, size, text, line_total, line_at, selection_end, selection_start, target_greatest, target_least};
@@ -15,7 +14,7 @@ use crate::arguments::{is_minus_one, within};
 use crate::state::SessionState;
 use contraction::Levels;
 use document::Document;
-use ed_view::View;
+use ed_view::{LineFlags, View};
 use line_rows::LineRows;
 use std::marker::Model;
 
@@ -41,7 +40,8 @@ impl<'a> Model for SentMessage<'a> {
 }
 
 /// A message, and what it is sent to: the session, the view and the view's document, all borrowed. Contracts see the
-/// model's request. The session keeps each document under its own id.
+/// model's request. The session is sound and keeps each document under its own id, the view is one of its views, and the
+/// document is the view's.
 #[derive(Drop)]
 pub struct Request<'a> {
     /// The state of the session.
@@ -56,20 +56,16 @@ pub struct Request<'a> {
 
 impl<'a> Model for Request<'a> {
     ghost use Rattle.ed_model.specs.Requests.{Request as ModelRequest};
-    ghost use Rattle.message_requests.specs.Requested.{session_in};
+    ghost use Rattle.message_requests.specs.Requested.{request_in};
 
     ghost Value = { ModelRequest };
 
+    ghost use Rattle.ed_model.specs.PlansFit.{IsSoundRequest};
     ghost use Rattle.message_requests.specs.Requested.{DocumentsAreNamed};
 
-    ghost view = { λ r. record {
-      session = session_in r.session.now;
-      view = r.view.now.view;
-      document = r.document.now.document;
-      message = r.message;
-    } };
+    ghost view = { λ r. request_in r.session.now r.view.now r.document.now r.message };
 
-    ghost invariant = { λ r. DocumentsAreNamed r.session.now };
+    ghost invariant = { λ r. DocumentsAreNamed r.session.now × IsSoundRequest (request_in r.session.now r.view.now r.document.now r.message) };
 }
 
 // What plans read of a request. Most functions are named like the model's definition.
@@ -171,7 +167,6 @@ impl<'a> Request<'a> {
     #[inline(always)]
     #[tactic(auto, using(crate::specs::proved::Standing::anchor_in_text))]
     pub fn anchor(&self) -> usize
-        requires { IsSoundRequest self.now }
         ensures anchor { result ≡ self.now.view.anchor }
         ensures within { result ≤ size self.now }
         ensures bounded { result < 2 ^ 62 }
@@ -185,7 +180,6 @@ impl<'a> Request<'a> {
     #[inline(always)]
     #[tactic(auto, using(crate::specs::proved::Standing::caret_in_text))]
     pub fn caret(&self) -> usize
-        requires { IsSoundRequest self.now }
         ensures caret { result ≡ self.now.view.caret }
         ensures within { result ≤ size self.now }
         ensures bounded { result < 2 ^ 62 }
@@ -198,7 +192,6 @@ impl<'a> Request<'a> {
     /// Returns where the selection starts: the lesser of anchor and caret (GETSELECTIONSTART).
     #[inline(always)]
     pub fn selection_start(&self) -> usize
-        requires { IsSoundRequest self.now }
         ensures start { result ≡ selection_start self.now }
         ensures bounded { result < 2 ^ 62 }
     {
@@ -208,7 +201,6 @@ impl<'a> Request<'a> {
     /// Returns where the selection ends: the greater of anchor and caret (GETSELECTIONEND).
     #[inline(always)]
     pub fn selection_end(&self) -> usize
-        requires { IsSoundRequest self.now }
         ensures end { result ≡ selection_end self.now }
         ensures within { result ≤ size self.now }
         ensures bounded { result < 2 ^ 62 }
@@ -220,7 +212,6 @@ impl<'a> Request<'a> {
     #[inline(always)]
     #[tactic(auto, using(crate::specs::proved::Standing::styled_in_text))]
     pub fn end_styled(&self) -> usize
-        requires { IsSoundRequest self.now }
         ensures end { result ≡ self.now.document.end_styled }
         ensures within { result ≤ size self.now }
         ensures bounded { result < 2 ^ 62 }
@@ -234,7 +225,6 @@ impl<'a> Request<'a> {
     #[inline(always)]
     #[tactic(auto, using(crate::specs::proved::Standing::target_start_in_text))]
     pub fn target_start(&self) -> usize
-        requires { IsSoundRequest self.now }
         ensures start { result ≡ self.now.view.target_start }
         ensures within { result ≤ size self.now }
         ensures bounded { result < 2 ^ 62 }
@@ -249,7 +239,6 @@ impl<'a> Request<'a> {
     #[inline(always)]
     #[tactic(auto, using(crate::specs::proved::Standing::target_end_in_text))]
     pub fn target_end(&self) -> usize
-        requires { IsSoundRequest self.now }
         ensures end { result ≡ self.now.view.target_end }
         ensures within { result ≤ size self.now }
         ensures bounded { result < 2 ^ 62 }
@@ -261,7 +250,6 @@ impl<'a> Request<'a> {
 
     /// Returns the lesser of the start and the end of the target.
     pub fn target_least(&self) -> usize
-        requires { IsSoundRequest self.now }
         ensures least { result ≡ target_least self.now }
         ensures bounded { result < 2 ^ 62 }
     {
@@ -270,12 +258,21 @@ impl<'a> Request<'a> {
 
     /// Returns the greater of the start and the end of the target.
     pub fn target_greatest(&self) -> usize
-        requires { IsSoundRequest self.now }
         ensures greatest { result ≡ target_greatest self.now }
         ensures within { result ≤ size self.now }
         ensures bounded { result < 2 ^ 62 }
     {
         self.target_start().max(self.target_end())
+    }
+
+    /// Returns the view's flags of the document's lines: one entry for each line.
+    #[inline(always)]
+    #[tactic(auto, using(crate::specs::proved::Standing::flags_of_lines))]
+    pub fn lines(&self) -> &LineFlags
+        ensures flags { result.now.flags ≡ self.now.view.flags }
+        ensures lines { length self.now.view.flags ≡ line_total self.now }
+    {
+        self.view.lines()
     }
 
     /// Returns the rows of the document: one for each line.
@@ -303,7 +300,6 @@ impl<'a> Request<'a> {
     /// Returns the document whose id is the argument, or `None` if there is no such document.
     #[tactic(auto, using(crate::proofs::Named::named, crate::proofs::Named::not_named))]
     pub fn document_named(&self, argument: i64) -> Option<&Document>
-        requires { IsSoundRequest self.now }
         ensures { option_map document_of (option_copied result) ≡ document_named self.now.session argument }
     {
         let documents = &self.session.documents;

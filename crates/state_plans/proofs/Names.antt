@@ -1,5 +1,5 @@
 -- The names of the crates below, and of this crate's definitions, that several proofs cite. Declares nothing.
-pub use Rattle.std.proofs.Common.{◌≡◌, ℕ, zero, suc, Bool, true, false, cond, List, [], ◌∷◌, length, map, refl, arith, pos, ◌^◌, sym, ap, ◌∙◌, ◌-◌, ◌+◌, ◌<◌, ◌≤◌, min, length-take, drop, length-drop, rules, nat_abs, to_z, of_z, w64}
+pub use Rattle.std.proofs.Common.{◌≡◌, ℕ, zero, suc, Bool, true, false, cond, List, [], ◌∷◌, length, map, refl, arith, pos, ◌^◌, sym, ap, ◌∙◌, ◌-◌, ◌+◌, ◌<◌, ◌≤◌, min, length-take, drop, length-drop, rules, nat_abs, subst, to_z, of_z, w64}
 pub use Rattle.std.specs.List.{range_with_len, list_any, AllByRecursion}
 pub use Rattle.std.specs.Prelude.{ℤ, negsuc, ◌==◌, ◌||◌, None, find, filter, slice_index_or, Some, Err, Option, take, slice_get, unwrap_or, IfSome, not, sum, slice_index, Ok}
 pub use Rattle.decorations.specs.Decorated.{values_of, run_about, mask_of}

@@ -1,7 +1,6 @@
 //! Plans of the messages on folding and visibility.
 
 ghost use Rattle.std.specs.Prelude.{◌≡◌, ◌≤◌, ◌<◌, ◌^◌, IfSome};
-ghost use Rattle.ed_model.specs.PlansFit.{IsSoundRequest};
 ghost use Rattle.ed_model.specs.Requests.{answer, line_total};
 ghost use Rattle.ed_model.specs.FoldingPlans.{doc_line_from_visible, ensure_visible, fold_at, fold_by, fold_line, get_all_lines_visible, get_fold_expanded, get_fold_level, get_fold_parent, get_last_child, get_line_visible, hide_lines, line_shown_at, past_line, set_fold_expanded, set_fold_level, show_lines, toggle_fold, visible_from_doc_line};
 
@@ -63,16 +62,14 @@ pub fn get_fold_parent(r: &Request) -> i64
 }
 
 /// Contracts, expands or toggles a header.
-#[tactic(auto, using(message_requests::specs::proved::Standing::flags_of_lines))]
 fn fold_by(r: &Request, action: usize, header: Option<usize>) -> Planned
-    requires sound { IsSoundRequest r.now }
-    requires header { IfSome header (λ line. line < line_total r.now) }
+    requires { IfSome header (λ line. line < line_total r.now) }
     ensures { result ≡ fold_by r.now action header }
 {
     let Some(header) = header else {
         return answer(0);
     };
-    if action == CONTRACT || (action == TOGGLE && r.view.lines().expanded(header)) {
+    if action == CONTRACT || (action == TOGGLE && r.lines().expanded(header)) {
         change_view(ViewChange::Contract { line: header })
     } else {
         change_view(ViewChange::Expand { line: header })
@@ -82,7 +79,6 @@ fn fold_by(r: &Request, action: usize, header: Option<usize>) -> Planned
 /// Contracts, expands or toggles line `w` if it is a header, or else its fold parent.
 #[tactic(auto, using(crate::proofs::Ranges::header_within))]
 fn fold_at(r: &Request, action: usize) -> Planned
-    requires { IsSoundRequest r.now }
     ensures { result ≡ fold_at r.now action }
 {
     match line_among(r.line_total(), r.message.w) {
@@ -93,7 +89,6 @@ fn fold_at(r: &Request, action: usize) -> Planned
 
 /// FOLDLINE: contracts (`l` = 0), expands (1) or toggles (2) the header of line `w`.
 pub fn fold_line(r: &Request) -> Planned
-    requires { IsSoundRequest r.now }
     ensures { result ≡ fold_line r.now }
 {
     match within(0, 2, r.message.l) {
@@ -104,7 +99,6 @@ pub fn fold_line(r: &Request) -> Planned
 
 /// TOGGLEFOLD: contracts the header of line `w`, or expands it if it is contracted.
 pub fn toggle_fold(r: &Request) -> Planned
-    requires { IsSoundRequest r.now }
     ensures { result ≡ toggle_fold r.now }
 {
     fold_at(r, TOGGLE)
@@ -112,13 +106,12 @@ pub fn toggle_fold(r: &Request) -> Planned
 
 /// VISIBLEFROMDOCLINE: returns the display line of line `w`, and for a hidden line that of the visible line before it.
 #[inline(always)]
-#[tactic(auto, using(message_requests::specs::proved::Standing::flags_of_lines, crate::proofs::Ranges::display_bounded))]
+#[tactic(auto, using(crate::proofs::Ranges::display_bounded))]
 pub fn visible_from_doc_line(r: &Request) -> i64
-    requires { IsSoundRequest r.now }
     ensures { answer result ≡ visible_from_doc_line r.now }
 {
     match line_among(r.line_total(), r.message.w) {
-        Some(line) => r.view.lines().display_of(line) as i64,
+        Some(line) => r.lines().display_of(line) as i64,
         None => -1,
     }
 }
@@ -131,18 +124,17 @@ fn line_shown_at(r: &Request, argument: i64) -> usize
     if argument <= 0 {
         0
     } else {
-        r.view.lines().doc_of(argument as usize)
+        r.lines().doc_of(argument as usize)
     }
 }
 
 /// DOCLINEFROMVISIBLE: returns the line at display line `w`, and the number of lines if `w` is past the last.
 #[inline(always)]
-#[tactic(auto, using(message_requests::specs::proved::Standing::flags_of_lines, crate::proofs::Ranges::shown_bounded))]
+#[tactic(auto, using(crate::proofs::Ranges::shown_bounded))]
 pub fn doc_line_from_visible(r: &Request) -> i64
-    requires { IsSoundRequest r.now }
     ensures { answer result ≡ doc_line_from_visible r.now }
 {
-    prove!(r.view.lines().count() == r.line_total());
+    prove!(r.lines().count() == r.line_total());
     line_shown_at(r, r.message.w) as i64
 }
 
@@ -217,13 +209,11 @@ pub fn get_fold_level(r: &Request) -> i64
 
 /// GETLINEVISIBLE: returns whether line `w` is visible.
 #[inline(always)]
-#[tactic(auto, using(message_requests::specs::proved::Standing::flags_of_lines))]
 pub fn get_line_visible(r: &Request) -> i64
-    requires { IsSoundRequest r.now }
     ensures { answer result ≡ get_line_visible r.now }
 {
     match line_among(r.line_total(), r.message.w) {
-        Some(line) => flag(r.view.lines().visible(line)),
+        Some(line) => flag(r.lines().visible(line)),
         None => 0,
     }
 }
@@ -232,18 +222,16 @@ pub fn get_line_visible(r: &Request) -> i64
 pub fn get_all_lines_visible(r: &Request) -> Planned
     ensures { result ≡ get_all_lines_visible r.now }
 {
-    answer_flag(r.view.lines().is_all_visible())
+    answer_flag(r.lines().is_all_visible())
 }
 
 /// GETFOLDEXPANDED: returns whether line `w` counts as expanded.
 #[inline(always)]
-#[tactic(auto, using(message_requests::specs::proved::Standing::flags_of_lines))]
 pub fn get_fold_expanded(r: &Request) -> i64
-    requires { IsSoundRequest r.now }
     ensures { answer result ≡ get_fold_expanded r.now }
 {
     match line_among(r.line_total(), r.message.w) {
-        Some(line) => flag(r.view.lines().expanded(line)),
+        Some(line) => flag(r.lines().expanded(line)),
         None => 0,
     }
 }

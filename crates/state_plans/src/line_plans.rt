@@ -1,7 +1,6 @@
 //! Plans of the messages on line ends, markers and line states.
 
 ghost use Rattle.std.specs.Prelude.{◌≡◌, ◌≤◌, ◌<◌, ◌^◌, length, IfSome};
-ghost use Rattle.ed_model.specs.PlansFit.{IsSoundRequest};
 ghost use Rattle.ed_model.specs.Requests.{answer};
 ghost use Rattle.ed_model.specs.LinePlans.{convert_eols, get_eol_mode, get_line_state, has_handles, line_end_kind, line_end_number, line_of_handle, marker_add, marker_add_set, marker_delete, marker_delete_all, marker_delete_handle, marker_get, marker_line_from_handle, marker_next, marker_previous, numbers_in, set_eol_mode, set_line_state};
 
@@ -182,7 +181,6 @@ pub fn marker_previous(r: &Request) -> i64
 /// Returns the line of the marker with the handle `w`.
 #[tactic(auto, using(crate::proofs::Handles::no_handle, crate::proofs::Ranges::next_bounded))]
 fn line_of_handle(r: &Request) -> Option<usize>
-    requires { IsSoundRequest r.now }
     ensures line { result ≡ line_of_handle r.now }
     ensures bounded { IfSome result (λ line. line < 2 ^ 63) }
 {
@@ -194,7 +192,6 @@ fn line_of_handle(r: &Request) -> Option<usize>
 
 /// MARKERLINEFROMHANDLE: returns the line of the marker with handle `w`.
 pub fn marker_line_from_handle(r: &Request) -> Planned
-    requires { IsSoundRequest r.now }
     ensures { result ≡ marker_line_from_handle r.now }
 {
     answer(line_or_none(line_of_handle(r)))
@@ -202,7 +199,6 @@ pub fn marker_line_from_handle(r: &Request) -> Planned
 
 /// MARKERDELETEHANDLE: deletes the marker with handle `w`.
 pub fn marker_delete_handle(r: &Request) -> Planned
-    requires { IsSoundRequest r.now }
     ensures { result ≡ marker_delete_handle r.now }
 {
     let handle = at_least_zero(r.message.w) as u64;

@@ -1,7 +1,6 @@
 //! Plans of the messages on documents, masks and recording.
 
 ghost use Rattle.std.specs.Prelude.{◌≡◌, IfOk, IfErr};
-ghost use Rattle.ed_model.specs.PlansFit.{IsSoundRequest};
 ghost use Rattle.ed_model.specs.declared.plan.ViewChange.TheVariants.{SetRecording};
 ghost use Rattle.ed_model.specs.Requests.{change_view};
 ghost use Rattle.ed_model.specs.SessionPlans.{add_ref_document, create_document, document_options, get_doc_pointer, get_document_options, get_line_end_types, get_mod_event_mask, has_document_ids, release_document, set_doc_pointer, set_line_end_types_allowed, set_mod_event_mask, types_number};
@@ -38,7 +37,6 @@ fn has_document_ids(r: &Request) -> bool
 ///
 /// `NoSuchDocument` if there is none, and `TooMany` if it has the greatest number of references.
 fn to_be_referred_to(r: &Request) -> Result<u32, Refusal>
-    requires { IsSoundRequest r.now }
     ensures id { IfOk result (IsReferredTo r.now) }
     ensures refused { IfErr result (IsRefusedReference r.now) }
 {
@@ -55,7 +53,6 @@ fn to_be_referred_to(r: &Request) -> Result<u32, Refusal>
 
 /// SETDOCPOINTER: attaches the view to the document with id `l`, or to a new one if `l` is 0.
 pub fn set_doc_pointer(r: &Request) -> Planned
-    requires { IsSoundRequest r.now }
     ensures { result ≡ set_doc_pointer r.now }
 {
     if r.message.l != 0 {
@@ -108,7 +105,6 @@ pub fn create_document(r: &Request) -> Planned
 
 /// ADDREFDOCUMENT: gives the caller one more reference to the document with id `l`.
 pub fn add_ref_document(r: &Request) -> Planned
-    requires { IsSoundRequest r.now }
     ensures { result ≡ add_ref_document r.now }
 {
     let document = to_be_referred_to(r)?;
@@ -117,7 +113,6 @@ pub fn add_ref_document(r: &Request) -> Planned
 
 /// RELEASEDOCUMENT: takes a reference of the caller to the document with id `l` back.
 pub fn release_document(r: &Request) -> Planned
-    requires { IsSoundRequest r.now }
     ensures { result ≡ release_document r.now }
 {
     let Some(document) = r.document_named(r.message.l) else {

@@ -1,7 +1,6 @@
 //! Plans of the messages on styles and indicators.
 
 ghost use Rattle.std.specs.Prelude.{◌≡◌, ◌<◌, ◌^◌};
-ghost use Rattle.ed_model.specs.PlansFit.{IsSoundRequest};
 ghost use Rattle.ed_model.specs.Requests.{answer, with_argument};
 ghost use Rattle.ed_model.specs.StylePlans.{colourise, fill_indicator, get_end_styled, get_indicator_current, get_indicator_value, get_style_at, get_styled_text, indicator_all_on_for, indicator_clear_range, indicator_end, indicator_fill_range, indicator_start, indicator_value_at, run_end_at, run_past, run_start, set_indicator_current, set_indicator_value, set_styling, set_styling_ex, start_styling, styles, unstyled, values_of};
 ghost use Rattle.ed_model.specs.TextPlans.{at_place};
@@ -55,7 +54,6 @@ pub fn get_styled_text(r: &Request) -> Planned
 /// GETENDSTYLED: returns the place up to which the text is styled.
 #[inline(always)]
 pub fn get_end_styled(r: &Request) -> i64
-    requires { IsSoundRequest r.now }
     ensures { answer result ≡ get_end_styled r.now }
 {
     r.end_styled() as i64
@@ -73,7 +71,6 @@ pub fn start_styling(r: &Request) -> Planned
 
 /// Returns how many bytes follow the end of the styled text.
 fn unstyled(r: &Request) -> usize
-    requires { IsSoundRequest r.now }
     ensures { result ≡ unstyled r.now }
 {
     r.size() - r.end_styled()
@@ -82,7 +79,6 @@ fn unstyled(r: &Request) -> usize
 /// SETSTYLING: sets the style of the next `w` bytes to `l`.
 #[inline(always)]
 pub fn set_styling(r: &Request) -> Planned
-    requires { IsSoundRequest r.now }
     ensures { result ≡ set_styling r.now }
 {
     let Some(style) = within(0, 255, r.message.l) else {
@@ -99,7 +95,6 @@ pub fn set_styling(r: &Request) -> Planned
 
 /// SETSTYLINGEX: sets the styles of the next `w` bytes to those in the message's text.
 pub fn set_styling_ex(r: &Request) -> Planned
-    requires { IsSoundRequest r.now }
     ensures { result ≡ set_styling_ex r.now }
 {
     match within(0, r.message.text.len(), r.message.w) {

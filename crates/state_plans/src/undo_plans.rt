@@ -4,7 +4,6 @@ ghost use Rattle.std.specs.Prelude.{◌≡◌};
 ghost use Rattle.ed_model.specs.Requests.{answer};
 ghost use Rattle.ed_model.specs.UndoPlans.{add_undo_action, begin_undo_action, empty_undo_buffer, end_undo_action, get_can_redo, get_can_undo, get_modify, get_read_only, get_undo_collection, redo, set_read_only, set_save_point, set_undo_collection, undo};
 ghost use Rattle.state_plans.specs.Acting.{act_if};
-ghost use Rattle.ed_model.specs.PlansFit.{IsSoundRequest};
 
 use ed_model::{DocumentChange, Plan, Planned, undo_and_redo_are_never_too_long};
 use ed_types::Refusal;
@@ -43,7 +42,6 @@ fn act_if(can: bool, read_only: bool, act: Plan) -> Planned
 /// UNDO: undoes the last transaction. No step of it exceeds the limit, since the text was that long before.
 #[inline(always)]
 pub fn undo(r: &Request) -> Planned
-    requires { IsSoundRequest r.now }
     ensures { result ≡ undo r.now }
 {
     undo_and_redo_are_never_too_long();
@@ -57,7 +55,6 @@ pub fn undo(r: &Request) -> Planned
 /// REDO: performs the next transaction again. No step of it exceeds the limit, since the text was that long before.
 #[inline(always)]
 pub fn redo(r: &Request) -> Planned
-    requires { IsSoundRequest r.now }
     ensures { result ≡ redo r.now }
 {
     undo_and_redo_are_never_too_long();

@@ -2,7 +2,6 @@
 
 ghost use Rattle.std.specs.Prelude.{◌≡◌, ◌≤◌};
 ghost use Rattle.ed_model.specs.KeyPlans.{char_left, char_right, delete_back, extend_to, new_line, place_home, place_left, place_line_end, place_right};
-ghost use Rattle.ed_model.specs.PlansFit.{IsSoundRequest};
 ghost use Rattle.ed_model.specs.Requests.{size};
 
 use crate::selection_plans::{go_to, select, selected};
@@ -12,7 +11,6 @@ use message_requests::edits::{Replacement, replace_and_go, replace_plan};
 
 /// Returns the cut before the caret.
 pub fn place_left(r: &Request) -> usize
-    requires { IsSoundRequest r.now }
     ensures place { result ≡ place_left r.now }
     ensures within { result ≤ r.now.view.caret }
 {
@@ -21,7 +19,6 @@ pub fn place_left(r: &Request) -> usize
 
 /// Returns the cut behind the caret.
 pub fn place_right(r: &Request) -> usize
-    requires { IsSoundRequest r.now }
     ensures { result ≡ place_right r.now }
 {
     r.cut_after(r.caret())
@@ -29,7 +26,6 @@ pub fn place_right(r: &Request) -> usize
 
 /// Returns the start of the caret's line.
 pub fn place_home(r: &Request) -> usize
-    requires { IsSoundRequest r.now }
     ensures { result ≡ place_home r.now }
 {
     r.line_start(r.line_at(r.caret()))
@@ -37,7 +33,6 @@ pub fn place_home(r: &Request) -> usize
 
 /// Returns where the line end of the caret's line begins.
 pub fn place_line_end(r: &Request) -> usize
-    requires { IsSoundRequest r.now }
     ensures { result ≡ place_line_end r.now }
 {
     r.line_end(r.line_at(r.caret()))
@@ -52,7 +47,6 @@ pub fn extend_to(r: &Request, place: usize) -> Planned
 
 /// CHARLEFT: moves the caret one character to the left, or to the start of a selection that is not empty.
 pub fn char_left(r: &Request) -> Planned
-    requires { IsSoundRequest r.now }
     ensures { result ≡ char_left r.now }
 {
     if selected(r) == 0 {
@@ -64,7 +58,6 @@ pub fn char_left(r: &Request) -> Planned
 
 /// CHARRIGHT: moves the caret one character to the right, or to the end of a selection that is not empty.
 pub fn char_right(r: &Request) -> Planned
-    requires { IsSoundRequest r.now }
     ensures { result ≡ char_right r.now }
 {
     if selected(r) == 0 {
@@ -76,7 +69,6 @@ pub fn char_right(r: &Request) -> Planned
 
 /// DELETEBACK: deletes the selection, or if it is empty the character before the caret.
 pub fn delete_back(r: &Request) -> Planned
-    requires { IsSoundRequest r.now }
     ensures { result ≡ delete_back r.now }
 {
     let count = selected(r);
@@ -90,7 +82,6 @@ pub fn delete_back(r: &Request) -> Planned
 
 /// NEWLINE: replaces the selection by the document's line end.
 pub fn new_line(r: &Request) -> Planned
-    requires { IsSoundRequest r.now }
     ensures { result ≡ new_line r.now }
 {
     let added = match r.document.typed_line_end() {

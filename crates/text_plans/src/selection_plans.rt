@@ -4,7 +4,6 @@ ghost use Rattle.std.specs.Prelude.{◌≡◌, ◌≤◌, ◌+◌, length};
 ghost use Rattle.ed_model.specs.declared.plan.Source.TheVariants.{Clipboard};
 ghost use Rattle.ed_model.specs.Edits.{source_bytes};
 ghost use Rattle.ed_model.specs.Requests.{answer, selection_start, size};
-ghost use Rattle.ed_model.specs.PlansFit.{IsSoundRequest};
 ghost use Rattle.message_requests.specs.HandingOut.{handed_out};
 ghost use Rattle.ed_model.specs.SelectionPlans.{can_paste, clear, copy, copy_range, copy_text, cut, get_anchor, get_current_pos, get_paste_convert_endings, get_sel_text, get_selection_empty, get_selection_end, get_selection_start, go_to, go_to_line, go_to_pos, paste, replace_sel, select, select_all, selected, set_anchor, set_current_pos, set_paste_convert_endings, set_sel, set_selection_end, set_selection_start};
 
@@ -34,7 +33,6 @@ pub fn go_to(place: usize) -> Planned
 
 /// GETCURRENTPOS: returns the caret, in bytes from 0.
 pub fn get_current_pos(r: &Request) -> i64
-    requires { IsSoundRequest r.now }
     ensures { answer result ≡ get_current_pos r.now }
 {
     r.caret() as i64
@@ -42,7 +40,6 @@ pub fn get_current_pos(r: &Request) -> i64
 
 /// GETANCHOR: returns the anchor, in bytes from 0.
 pub fn get_anchor(r: &Request) -> i64
-    requires { IsSoundRequest r.now }
     ensures { answer result ≡ get_anchor r.now }
 {
     r.anchor() as i64
@@ -50,7 +47,6 @@ pub fn get_anchor(r: &Request) -> i64
 
 /// GETSELECTIONSTART: returns the lesser end of the selection.
 pub fn get_selection_start(r: &Request) -> i64
-    requires { IsSoundRequest r.now }
     ensures { answer result ≡ get_selection_start r.now }
 {
     r.selection_start() as i64
@@ -58,7 +54,6 @@ pub fn get_selection_start(r: &Request) -> i64
 
 /// GETSELECTIONEND: returns the greater end of the selection.
 pub fn get_selection_end(r: &Request) -> i64
-    requires { IsSoundRequest r.now }
     ensures { answer result ≡ get_selection_end r.now }
 {
     r.selection_end() as i64
@@ -142,7 +137,6 @@ pub fn set_sel(r: &Request) -> Planned
 
 /// GETSELTEXT: returns the selected bytes.
 pub fn get_sel_text(r: &Request) -> HandedOut
-    requires { IsSoundRequest r.now }
     ensures { handed_out result ≡ get_sel_text r.now }
 {
     bytes_between(r.selection_start(), r.selection_end())
@@ -150,7 +144,6 @@ pub fn get_sel_text(r: &Request) -> HandedOut
 
 /// Returns how many bytes are selected.
 pub(crate) fn selected(r: &Request) -> usize
-    requires { IsSoundRequest r.now }
     ensures selected { result ≡ selected r.now }
     ensures within { selection_start r.now + result ≤ size r.now }
 {
@@ -159,7 +152,6 @@ pub(crate) fn selected(r: &Request) -> usize
 
 /// REPLACESEL: replaces the selection by the message's text.
 pub fn replace_sel(r: &Request) -> Planned
-    requires { IsSoundRequest r.now }
     ensures { result ≡ replace_sel r.now }
 {
     let count = r.message.text.len();
@@ -183,7 +175,6 @@ pub fn can_paste(r: &Request) -> Planned
 
 /// CUT: copies a selection that is not empty to the clipboard, and deletes it.
 pub fn cut(r: &Request) -> Planned
-    requires { IsSoundRequest r.now }
     ensures { result ≡ cut r.now }
 {
     let start = r.selection_start();
@@ -201,7 +192,6 @@ pub fn cut(r: &Request) -> Planned
 
 /// COPY: copies a selection that is not empty to the clipboard.
 pub fn copy(r: &Request) -> Planned
-    requires { IsSoundRequest r.now }
     ensures { result ≡ copy r.now }
 {
     let start = r.selection_start();
@@ -226,7 +216,6 @@ fn pasted_length(r: &Request, convert: bool) -> usize
 
 /// PASTE: replaces the selection by the text of the clipboard, with the document's line ends if the view converts them.
 pub fn paste(r: &Request) -> Planned
-    requires { IsSoundRequest r.now }
     ensures { result ≡ paste r.now }
 {
     if r.session.clipboard.is_empty() {
@@ -244,7 +233,6 @@ pub fn paste(r: &Request) -> Planned
 
 /// CLEAR: deletes the selection, or if it is empty the bytes from the caret to the next cut between characters.
 pub fn clear(r: &Request) -> Planned
-    requires { IsSoundRequest r.now }
     ensures { result ≡ clear r.now }
 {
     let count = selected(r);

@@ -1,7 +1,6 @@
 //! Plans of the messages on the target.
 
 ghost use Rattle.std.specs.Prelude.{◌≡◌, ◌≤◌, ◌<◌, ◌+◌, ◌^◌, length, IfSome};
-ghost use Rattle.ed_model.specs.PlansFit.{IsSoundRequest};
 ghost use Rattle.message_requests.specs.HandingOut.{handed_out};
 ghost use Rattle.ed_model.specs.Requests.{answer};
 ghost use Rattle.ed_model.specs.TargetPlans.{found_target, get_search_flags, get_target_end, get_target_start, get_target_text, replace_target, replacement_length, search_flags, search_in_target, set_search_flags, set_target, set_target_end, set_target_range, set_target_start, target_from_selection, target_whole_document};
@@ -51,7 +50,6 @@ pub fn set_target_range(r: &Request) -> Planned
 
 /// GETTARGETSTART: returns the start of the target, in bytes from 0.
 pub fn get_target_start(r: &Request) -> i64
-    requires { IsSoundRequest r.now }
     ensures { answer result ≡ get_target_start r.now }
 {
     r.target_start() as i64
@@ -59,7 +57,6 @@ pub fn get_target_start(r: &Request) -> i64
 
 /// GETTARGETEND: returns the end of the target, in bytes from 0.
 pub fn get_target_end(r: &Request) -> i64
-    requires { IsSoundRequest r.now }
     ensures { answer result ≡ get_target_end r.now }
 {
     r.target_end() as i64
@@ -67,7 +64,6 @@ pub fn get_target_end(r: &Request) -> i64
 
 /// TARGETFROMSELECTION: sets the target to the selection.
 pub fn target_from_selection(r: &Request) -> Planned
-    requires { IsSoundRequest r.now }
     ensures { result ≡ target_from_selection r.now }
 {
     set_target(r.selection_start(), r.selection_end())
@@ -82,7 +78,6 @@ pub fn target_whole_document(r: &Request) -> Planned
 
 /// GETTARGETTEXT: returns the bytes of the target.
 pub fn get_target_text(r: &Request) -> HandedOut
-    requires { IsSoundRequest r.now }
     ensures { handed_out result ≡ get_target_text r.now }
 {
     bytes_between(r.target_least(), r.target_greatest())
@@ -114,7 +109,6 @@ pub fn set_search_flags(r: &Request) -> Planned
 /// Returns the place of a pattern in the target, by the flags of the view.
 #[tactic(auto, using(message_requests::specs::proved::Standing::length_text))]
 fn find_in_target(r: &Request, pattern: &[u8]) -> Option<usize>
-    requires { IsSoundRequest r.now }
     ensures place { result ≡ match_in_target r.now pattern.now }
     ensures bounded { IfSome result (λ place. place + length pattern.now < 2 ^ 62) }
 {
@@ -144,7 +138,6 @@ fn found_target(count: usize, found: Option<usize>) -> Planned
 /// SEARCHINTARGET: searches for the first `w` bytes of the message's text in the target, and sets the target to the
 /// match. The value is its start, or -1 if there is none.
 pub fn search_in_target(r: &Request) -> Planned
-    requires { IsSoundRequest r.now }
     ensures { result ≡ search_in_target r.now }
 {
     match within(0, r.message.text.len(), r.message.w) {
@@ -174,7 +167,6 @@ fn replacement_length(size: usize, argument: i64) -> Option<usize>
 
 /// REPLACETARGET: replaces the target by the first `w` bytes of the message's text, which become the target.
 pub fn replace_target(r: &Request) -> Planned
-    requires { IsSoundRequest r.now }
     ensures { result ≡ replace_target r.now }
 {
     let Some(count) = replacement_length(r.message.text.len(), r.message.w) else {

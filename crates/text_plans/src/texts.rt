@@ -2,7 +2,6 @@
 
 ghost use Rattle.std.specs.Prelude.{◌≡◌, ◌≤◌, ◌<◌, ◌^◌, IfSome};
 ghost use Rattle.ed_model.specs.Numbers.{within};
-ghost use Rattle.ed_model.specs.PlansFit.{IsSoundRequest};
 ghost use Rattle.ed_model.specs.Requests.{answer, end_or_size, size, text, with_argument};
 ghost use Rattle.message_requests.specs.HandingOut.{handed_or_zero, handed_out};
 ghost use Rattle.ed_model.specs.TextPlans.{add_text, append_text, at_place, clear_all, delete_range, get_char_at, get_cur_line, get_length, get_line, get_line_count, get_line_end_position, get_text, get_text_range, insert_text, insertion_place, line_from_position, line_length, position_after, position_before, position_from_line, set_text};
@@ -16,7 +15,6 @@ use message_requests::{Request, past_argument};
 
 /// Returns where INSERTTEXT inserts: -1 is the caret.
 fn insertion_place(r: &Request, argument: i64) -> Option<usize>
-    requires { IsSoundRequest r.now }
     ensures place { result ≡ insertion_place r.now argument }
     ensures within { IfSome result (λ place. place ≤ size r.now) }
 {
@@ -29,7 +27,6 @@ fn insertion_place(r: &Request, argument: i64) -> Option<usize>
 
 /// INSERTTEXT: inserts the message's text at `w`.
 pub fn insert_text(r: &Request) -> Planned
-    requires { IsSoundRequest r.now }
     ensures { result ≡ insert_text r.now }
 {
     let Some(start) = insertion_place(r, r.message.w) else {
@@ -41,7 +38,6 @@ pub fn insert_text(r: &Request) -> Planned
 
 /// ADDTEXT: inserts the first `w` bytes of the message's text at the caret, and moves the caret behind them.
 pub fn add_text(r: &Request) -> Planned
-    requires { IsSoundRequest r.now }
     ensures { result ≡ add_text r.now }
 {
     match within(0, r.message.text.len(), r.message.w) {
@@ -167,7 +163,6 @@ pub fn get_line(r: &Request) -> Option<HandedOut>
 
 /// GETCURLINE: returns the caret's line, and the place of the caret in it.
 pub fn get_cur_line(r: &Request) -> HandedOut
-    requires { IsSoundRequest r.now }
     ensures { handed_out result ≡ get_cur_line r.now }
 {
     let caret = r.caret();
@@ -215,7 +210,6 @@ pub fn line_from_position(r: &Request) -> i64
 /// last starts at the end of the text, and for lines further behind the value is -1.
 #[inline(always)]
 pub fn position_from_line(r: &Request) -> i64
-    requires { IsSoundRequest r.now }
     ensures { answer result ≡ position_from_line r.now }
 {
     if r.message.w < 0 {

@@ -1,14 +1,9 @@
-use Rattle.editor_session.proofs.Names.{sym, ap, subst, ◌∙◌, IsSoundRequest, session_in, value_asked}
-use Rattle.editor_session.proofs.Questions.{asked_of_no_view, asked_of, sound_request, answers_as_the_table}
+use Rattle.editor_session.proofs.Names.{sym, ap, ◌∙◌, session_in, value_asked}
+use Rattle.editor_session.proofs.Questions.{asked_of_no_view, asked_of, answers_as_the_table}
 use Rattle.editor_session.proofs.asking.ask_as.Goals as goal
 
 pub returns-in_default-clause-value : goal.returns-in_default-clause-value
 returns-in_default-clause-value c = sym (asked_of_no_view (session_in c.args.state.now) c.args.view c.args.message.now c.args.kind c.requires.question c.in_default.ensures.none)
-
-pub value_of-requires : goal.value_of-requires
-value_of-requires c =
-    let a = c.args in let f = c.in-Some.found in
-    record { sound = subst IsSoundRequest (sym c.request_to-request.ensures) (sound_request (session_in a.state.now) a.view a.message.now f.view.now.view f.document.now.document c.requires.kept.sound c.in-Some.ensures.view c.in-Some.ensures.document) }
 
 pub returns-clause-value : goal.returns-clause-value
 returns-clause-value c =

@@ -1,13 +1,7 @@
-use Rattle.editor_session.proofs.Names.{rules, ◌≡◌, to_z, of_z, w64, sym, subst, Some, IsSoundRequest, request, session_in, change_asked, IsPlannedAs, unrecorded}
+use Rattle.editor_session.proofs.Names.{rules, ◌≡◌, to_z, of_z, w64, sym, subst, Some, request, session_in, change_asked, IsPlannedAs, unrecorded}
 use Rattle.ed_model.specs.declared.plan.Plan.TheVariants as plan
 use Rattle.editor_session.proofs.DocumentChanges.{frequent_plan}
-use Rattle.editor_session.proofs.Questions.{sound_request}
 use Rattle.editor_session.proofs.frequent.find_change.Goals as goal
-
-pub change_of-requires : goal.change_of-requires
-change_of-requires c =
-    let a = c.args in let f = c.in-Some.found in
-    record { sound = subst IsSoundRequest (sym c.request_to-request.ensures) (sound_request (session_in a.state.now) a.view a.message.now f.view.now.view f.document.now.document c.requires.kept.sound c.in-Some.ensures.view c.in-Some.ensures.document) }
 
 pub returns : goal.returns
 returns c =

@@ -1,12 +1,6 @@
-use Rattle.editor_session.proofs.Names.{rules, ◌≡◌, sym, subst, true, IsSoundRequest, request, plan_of, session_in, performing, is_performed, IsPlannedAs, unrecorded}
+use Rattle.editor_session.proofs.Names.{rules, ◌≡◌, sym, subst, true, request, plan_of, session_in, performing, is_performed, IsPlannedAs, unrecorded}
 use Rattle.editor_session.proofs.DocumentChanges.{transaction_plan}
-use Rattle.editor_session.proofs.Questions.{sound_request}
 use Rattle.editor_session.proofs.frequent.find_transaction.Goals as goal
-
-pub is_performed-requires : goal.is_performed-requires
-is_performed-requires c =
-    let a = c.args in let f = c.in-Some.found in
-    record { sound = subst IsSoundRequest (sym c.request_to-request.ensures) (sound_request (session_in a.state.now) a.view a.message.now f.view.now.view f.document.now.document c.requires.kept.sound c.in-Some.ensures.view c.in-Some.ensures.document) }
 
 pub returns-then-is_performed : goal.returns-then-is_performed
 returns-then-is_performed c =

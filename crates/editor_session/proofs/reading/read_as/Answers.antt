@@ -1,4 +1,4 @@
-use Rattle.editor_session.proofs.Names.{rules, ◌≡◌, ◌≤◌, ◌+◌, [], to_z, of_z, w64, true, false, length, slice_range, sym, ap, refl, subst, ◌∙◌, Ok, Some, None, IfSome, vec_capacity, Response, response, text_of, request, session_in, handed_asked, IsSoundRequest, reply_to, reply_handing}
+use Rattle.editor_session.proofs.Names.{rules, ◌≡◌, ◌≤◌, ◌+◌, [], to_z, of_z, w64, true, false, length, slice_range, sym, ap, refl, subst, ◌∙◌, Ok, Some, None, IfSome, vec_capacity, Response, response, text_of, request, session_in, handed_asked, reply_to, reply_handing}
 use Rattle.editor_session.proofs.Questions.{sound_request}
 use Rattle.editor_session.proofs.TextQuestions.{asked_of_no_view, asked_of, none_promised, all_promised, handing, handed_within, handing_length, text_reply}
 use Rattle.editor_session.proofs.reading.read_as.Goals as goal
@@ -7,11 +7,6 @@ pub returns-in_default-clause-room : goal.returns-in_default-clause-room
 returns-in_default-clause-room c =
     let a = c.args in let s = session_in a.state.now in let m = a.message.now in
     none_promised (reply_to s a.view m) _ (asked_of_no_view s a.view m a.kind c.requires.question c.in_default.ensures.none)
-
-pub handed_of-requires : goal.handed_of-requires
-handed_of-requires c =
-    let a = c.args in let f = c.in-Some.found in
-    record { sound = subst IsSoundRequest (sym c.request_to-request.ensures) (sound_request (session_in a.state.now) a.view a.message.now f.view.now.view f.document.now.document c.requires.kept.sound c.in-Some.ensures.view c.in-Some.ensures.document) }
 
 pub returns-in_default-handed_of-clause-room : goal.returns-in_default-handed_of-clause-room
 returns-in_default-handed_of-clause-room c =

@@ -1,4 +1,4 @@
-use Rattle.state_plans.proofs.Names.{◌≡◌, ◌∙◌, ap, rules, can_redo, act_if}
+use Rattle.state_plans.proofs.Names.{◌≡◌, ◌∙◌, ap, subst, rules, IsSoundRequest, can_redo, act_if}
 use Rattle.ed_model.specs.declared.plan.Plan.TheVariants.{Redo}
 use Rattle.state_plans.proofs.Undoing.{redo_planned}
 use Rattle.state_plans.proofs.undo_plans.redo.Goals as goal
@@ -9,4 +9,4 @@ returns c =
     let can : c.can_redo.result ≡ can_redo r.document.history = search rules in
     let read_only : c.is_read_only.result ≡ r.document.read_only = search rules in
     c.act_if.ensures ∙ ap (λ b. act_if b c.is_read_only.result Redo) can ∙ ap (λ b. act_if (can_redo r.document.history) b Redo) read_only
-    ∙ redo_planned c.undo_and_redo_are_never_too_long.ensures.redo r c.requires
+    ∙ redo_planned c.undo_and_redo_are_never_too_long.ensures.redo r (subst IsSoundRequest c.r.view_is c.r.invariant.1)
