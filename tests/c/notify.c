@@ -176,6 +176,8 @@ typedef struct trial {
 } trial;
 
 static trial *to_send; /* what is sent inside; NULL for nothing */
+static unsigned int queries[MOST];
+static size_t query_count;
 
 static sptr_t send_any(unsigned int number, sptr_t w, sptr_t l, char *written, int *status) {
   static char text[] = "xy";
@@ -207,13 +209,12 @@ static void take_trial(trial *t, bool is_inside) {
   send(a, SCI_ADDTEXT, 5, (sptr_t) "xy\nzw");
   if (!is_inside) send_trial(t);
   snprintf(t->heard, sizeof t->heard, "%s", heard);
-  for (unsigned int number = 2000; number < 5000; number++)
-    for (sptr_t w = 0; w < 3 && (hongpilas_message_marks(number) & HONGPILAS_MARK_Q) != 0; w++) {
-      char written[64] = "";
-      int status = 0;
-      t->behind = t->behind * 31 + (uptr_t)send_any(number, w, 1, written, &status);
-      for (size_t i = 0; i < sizeof written; i++) t->behind = t->behind * 31 + (unsigned char)written[i];
-    }
+  for (size_t i = 0; i < 3 * query_count; i++) {
+    char written[64] = "";
+    int status = 0;
+    t->behind = t->behind * 31 + (uptr_t)send_any(queries[i / 3], (sptr_t)(i % 3), 1, written, &status);
+    for (size_t j = 0; j < sizeof written; j++) t->behind = t->behind * 31 + (unsigned char)written[j];
+  }
   free_all();
 }
 
@@ -227,6 +228,8 @@ static void try_each(void) {
   static const sptr_t arguments[] = {0, 1, 2, -1};
   enum { ARGUMENTS = sizeof arguments / sizeof *arguments };
   int tried = 0;
+  for (unsigned int number = 2000; number < 5000; number++)
+    if ((hongpilas_message_marks(number) & HONGPILAS_MARK_Q) != 0 && query_count < MOST) queries[query_count++] = number;
   for (unsigned int number = 2000; number < 5000; number++) {
     const char *name = hongpilas_message_name(number);
     if (name == NULL || (hongpilas_message_marks(number) & HONGPILAS_MARK_E) != 0) continue;
