@@ -220,6 +220,13 @@ class Sessions(unittest.TestCase):
             self.assertIsInstance(note, Note)
             self.assertRaises(AttributeError, setattr, note, "code", 0)
 
+    def test_a_later_version_may_add_fields(self):
+        """So nobody unpacks them."""
+        with Session() as session:
+            session.new_view().add_text("ab")
+            self.assertRaises(TypeError, iter, session.notes()[0])
+        self.assertRaises(TypeError, iter, Limits())
+
     def test_undo_groups(self):
         with Session() as session:
             view = session.new_view()
@@ -411,6 +418,11 @@ class Methods(unittest.TestCase):
         told = [name for method in vars(Messages).values() for name in re.findall(r"Message:\s`(\w+)`\.$", inspect.getdoc(method) or "")]
         sent = {name for name in vars(constants) if name.startswith("SCI_")}
         self.assertEqual((set(told), len(told)), (sent, len(sent)))
+
+    def test_arguments_have_the_names_of_the_method(self):
+        """A docstring names no argument by the letter of a definition."""
+        for name, method in inspect.getmembers(Messages, inspect.isfunction):
+            self.assertNotRegex(inspect.getdoc(method) or "", r"\b[A-Z] is `|\bHere [a-z] is\b", name)
 
     def test_types_are_hinted(self):
         for name, method in inspect.getmembers(View, inspect.isfunction):

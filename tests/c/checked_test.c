@@ -41,15 +41,16 @@ static uint64_t with_bytes(uint64_t digest, const void *bytes, size_t count) {
   return digest;
 }
 
-/* The last reply, looked at by the calls that test nothing. */
+/* The last reply, looked at by the calls that test nothing. What only reads takes a const session. */
 static uint64_t with_reply(uint64_t digest) {
+  const hongpilas_session *it = session;
   const uint8_t *text;
-  int64_t value = hongpilas_value_unchecked(session);
-  size_t length = hongpilas_text_unchecked(session, &text);
+  int64_t value = hongpilas_value_unchecked(it);
+  size_t length = hongpilas_text_unchecked(it, &text);
   hongpilas_note_data note;
   memset(&note, 0, sizeof note);
   digest = with_bytes(with_bytes(digest, &value, sizeof value), text, length);
-  for (size_t i = 0; hongpilas_note_unchecked(session, i, &note); i++) {
+  for (size_t i = 0; hongpilas_note_unchecked(it, i, &note); i++) {
     digest = with_bytes(digest, &note, offsetof(hongpilas_note_data, text));
     digest = with_bytes(digest, note.text, note.text_length);
   }
@@ -239,6 +240,7 @@ static void try_longer_note(void) {
 /* All questions beside the reply, over all positions and lines and some beside: each is answered as hongpilas_send does, and leaves the reply. What
  * hongpilas_read lent stays through messages. */
 static void try_asking(void) {
+  const hongpilas_session *read_only = session;
   static const uint8_t none;
   int64_t length = 0;
   size_t done = 0;
@@ -250,7 +252,7 @@ static void try_asking(void) {
         size_t text_length = 77;
         int64_t value = 77, asked = 77, read = 77;
         uint64_t before = with_reply(0);
-        hongpilas_answer by_asking = hongpilas_ask(session, view, questions[i], w, l, &asked), by_sending;
+        hongpilas_answer by_asking = hongpilas_ask(read_only, view, questions[i], w, l, &asked), by_sending;
         hongpilas_answer by_reading = hongpilas_read(session, view, questions[i], w, l, &text, &text_length, &read);
         must(before == with_reply(0), "a question beside the reply leaves it");
         by_sending = hongpilas_send_unchecked(session, view, questions[i], w, l, &none, 0, &value);
@@ -267,31 +269,32 @@ static void try_asking(void) {
   printf("questions beside the reply: all are answered as messages are\n");
 }
 
-/* Each call as it is meant; with a null text and a null buffer where nothing is to be read or written. */
+/* Each call as it is meant; with a null text and a null buffer where nothing is to be read or written, and a const session where that is only read. */
 static void try_meant(void) {
+  const hongpilas_session *read_only = session;
   hongpilas_answer answer;
   printf("-- as it is meant\n");
   memset(&places, 0, sizeof places);
   answer = hongpilas_send(session, view, SCI_APPENDTEXT, 3, 0, (const uint8_t *)"...", 3, &places.value);
   print_count("send", answer, (size_t)places.value);
-  answer = hongpilas_note_count(session, &places.count);
+  answer = hongpilas_note_count(read_only, &places.count);
   print_count("note_count", answer, places.count);
-  answer = hongpilas_note(session, places.count - 1, &places.note, sizeof places.note);
+  answer = hongpilas_note(read_only, places.count - 1, &places.note, sizeof places.note);
   print_bytes("note", answer, places.note.text, places.note.text_length);
-  answer = hongpilas_copy_note_text(session, places.count - 1, 1, places.buffer, BUFFER, &places.count);
+  answer = hongpilas_copy_note_text(read_only, places.count - 1, 1, places.buffer, BUFFER, &places.count);
   print_bytes("copy_note_text", answer, places.buffer, places.count);
-  answer = hongpilas_copy_note_text(session, 0, 0, NULL, 0, &places.count);
+  answer = hongpilas_copy_note_text(read_only, 0, 0, NULL, 0, &places.count);
   print_count("copy_note_text of nothing", answer, places.count);
   answer = hongpilas_send(session, view, SCI_GETTEXT, 0, 0, NULL, 0, &places.value);
   print_count("send, no text", answer, (size_t)places.value);
   places.value = 0;
-  answer = hongpilas_value(session, &places.value);
+  answer = hongpilas_value(read_only, &places.value);
   print_count("value", answer, (size_t)places.value);
-  answer = hongpilas_text(session, &places.bytes, &places.count);
+  answer = hongpilas_text(read_only, &places.bytes, &places.count);
   print_bytes("text", answer, places.bytes, places.count);
-  answer = hongpilas_copy_text(session, 7, places.buffer, BUFFER, &places.count);
+  answer = hongpilas_copy_text(read_only, 7, places.buffer, BUFFER, &places.count);
   print_bytes("copy_text", answer, places.buffer, places.count);
-  answer = hongpilas_copy_text(session, 0, NULL, 0, &places.count);
+  answer = hongpilas_copy_text(read_only, 0, NULL, 0, &places.count);
   print_count("copy_text of nothing", answer, places.count);
   answer = hongpilas_lend_range(session, view, 2, 4, &places.bytes);
   print_bytes("lend_range", answer, places.bytes, 4);
@@ -303,6 +306,18 @@ static void try_meant(void) {
   answer = hongpilas_new_view(session, &places.view);
   print_count("new_view", answer, places.view);
   print_answer("close_view", hongpilas_close_view(session, places.view));
+}
+
+/* Each query has a name and its mark, and what is no message, or no notification, has neither. */
+static void try_names(void) {
+  for (size_t i = 0; i < question_count; i++) {
+    const char *name = hongpilas_message_name(questions[i]);
+    must(name != NULL && strncmp(name, "SCI_", 4) == 0, "a query has a name");
+    must((hongpilas_message_marks(questions[i]) & HONGPILAS_MARK_Q) != 0, "and its mark");
+  }
+  must(strcmp(hongpilas_message_name(SCI_UNDO), "SCI_UNDO") == 0 && strcmp(hongpilas_note_name(SCN_MODIFIED), "SCN_MODIFIED") == 0,
+       "names are those of Scintilla");
+  must(hongpilas_message_name(9999) == NULL && hongpilas_message_marks(9999) == 0 && hongpilas_note_name(9999) == NULL, "what is not here has no name");
 }
 
 static void open_session(void) {
@@ -320,6 +335,7 @@ int main(int count, char **words) {
 
   for (int i = 1; i < count && i <= MOST_QUESTIONS; i++) questions[question_count++] = (uint32_t)strtoul(words[i], NULL, 10);
   must(question_count > 0, "there are questions");
+  try_names();
   open_session();
   before = asked();
   try_null_session();

@@ -1,9 +1,9 @@
-/* What may happen inside a notify function of the Scintilla-compatible interface: questions, messages whose notifications join the queue, views that are opened
- * and closed, the component freed, memory refused, long texts, and a longjmp out of it, also in a thread that ends. It is linked as counted_heap.h says, and with
+/* What may happen inside a notify function of the Scintilla-compatible interface: questions, messages whose notifications join the queue, each message that does
+ * not edit the text, views that are opened and closed, the component freed, memory refused, long texts, and a longjmp out of it, also in a thread that ends. It is linked as counted_heap.h says, and with
  * -pthread. */
+#include "../model/manners.h"
 #include "counted_heap.h"
 
-#include <hongpilas_scintilla.h>
 #include <pthread.h>
 #include <setjmp.h>
 #include <stdio.h>
@@ -162,6 +162,88 @@ static void try_recorded(void) {
   send(a, SCI_ADDTEXT, 2, (sptr_t) "xy");
   must_have_heard("ar ab bb aL bL aI bI ar ", "a message that is sent inside is recorded");
   free_all();
+}
+
+/* ---- Each message that does not edit the text ---- */
+
+/* A message, and what it comes to: its answer, its status, why it was refused, what it writes, what is notified, and how the view answers all queries then. */
+typedef struct trial {
+  unsigned int number;
+  sptr_t w, l, answer;
+  int status;
+  char refusal[64], written[64], heard[MOST];
+  uptr_t behind;
+} trial;
+
+static trial *to_send; /* what is sent inside; NULL for nothing */
+static unsigned int queries[MOST];
+static size_t query_count;
+
+static sptr_t send_any(unsigned int number, sptr_t w, sptr_t l, char *written, int *status) {
+  static char text[] = "xy";
+  struct Sci_TextRange range = {{(Sci_PositionCR)w, (Sci_PositionCR)l}, written};
+  char letter = manners_of(number)[1];
+  if (letter == 't' || letter == 'u') l = (sptr_t)&range;
+  else if (takes_buffer(letter)) l = (sptr_t)written;
+  else if (strchr("nNZe", letter) != NULL) l = (sptr_t)text;
+  return hongpilas_direct_status(a, number, (uptr_t)w, l, status);
+}
+
+static void send_trial(trial *t) {
+  t->answer = send_any(t->number, t->w, t->l, t->written, &t->status);
+  snprintf(t->refusal, sizeof t->refusal, "%s", hongpilas_refusal(a));
+}
+
+static void send_at_insertion(SCNotification *note, void *data) {
+  trial *t = to_send;
+  keep(note, (const char *)data);
+  if (letter_of(note) != 'I' || t == NULL) return;
+  to_send = NULL;
+  send_trial(t);
+}
+
+/* Sends it inside a function, while a notification waits, or behind the call. */
+static void take_trial(trial *t, bool is_inside) {
+  open_both(send_at_insertion, hear);
+  to_send = is_inside ? t : NULL;
+  send(a, SCI_ADDTEXT, 5, (sptr_t) "xy\nzw");
+  if (!is_inside) send_trial(t);
+  snprintf(t->heard, sizeof t->heard, "%s", heard);
+  for (size_t i = 0; i < 3 * query_count; i++) {
+    char written[64] = "";
+    int status = 0;
+    t->behind = t->behind * 31 + (uptr_t)send_any(queries[i / 3], (sptr_t)(i % 3), 1, written, &status);
+    for (size_t j = 0; j < sizeof written; j++) t->behind = t->behind * 31 + (unsigned char)written[j];
+  }
+  free_all();
+}
+
+static bool are_equal(const trial *one, const trial *other) {
+  return one->answer == other->answer && one->status == other->status && strcmp(one->refusal, other->refusal) == 0 &&
+         memcmp(one->written, other->written, sizeof one->written) == 0 && strcmp(one->heard, other->heard) == 0 && one->behind == other->behind;
+}
+
+/* Each is performed inside as it is outside. Its notifications come behind those that wait. */
+static void try_each(void) {
+  static const sptr_t arguments[] = {0, 1, 2, -1};
+  enum { ARGUMENTS = sizeof arguments / sizeof *arguments };
+  int tried = 0;
+  for (unsigned int number = 2000; number < 5000; number++)
+    if ((hongpilas_message_marks(number) & HONGPILAS_MARK_Q) != 0 && query_count < MOST) queries[query_count++] = number;
+  for (unsigned int number = 2000; number < 5000; number++) {
+    const char *name = hongpilas_message_name(number);
+    if (name == NULL || (hongpilas_message_marks(number) & HONGPILAS_MARK_E) != 0) continue;
+    tried++;
+    for (int i = 0; i < ARGUMENTS * ARGUMENTS; i++) {
+      trial in = {number, arguments[i % ARGUMENTS], arguments[i / ARGUMENTS], 0, 0, "", "", "", 0}, out = in;
+      take_trial(&in, true);
+      take_trial(&out, false);
+      if (!are_equal(&in, &out))
+        printf("%s %ld %ld: %ld and %ld, heard \"%s\" and \"%s\"\n", name, (long)in.w, (long)in.l, (long)in.answer, (long)out.answer, in.heard, out.heard);
+      must(are_equal(&in, &out), "what does not edit the text is performed inside as it is outside");
+    }
+  }
+  must(tried > 100, "all messages were tried that do not edit the text");
 }
 
 /* ---- Views that come and go ---- */
@@ -406,6 +488,7 @@ int main(void) {
   try_questions();
   try_queue();
   try_recorded();
+  try_each();
   try_views();
   try_free();
   try_many();

@@ -50,6 +50,7 @@ typedef struct side {
   hongpilas_session *session;
   hongpilas_scintilla *component;
   ear ears[VIEWS];
+  uint32_t turns;      /* how often the last reply was looked at */
   const uint8_t *text; /* where the last reply's text lies */
   const uint8_t *lent; /* bytes that were lent and stand, or NULL */
   size_t lent_count;

@@ -19,12 +19,62 @@ static void compare_note(const hongpilas_note_data *a, const hongpilas_note_data
   must_be_text(a->text, a->text_length, b->text, b->text_length, "a note's text");
 }
 
-/* The last reply is that of the last message that was done: looked at through each call that lends. `stays` where it has to lie where it lay. */
+/* The calls that read the last reply, each by the call that tests its arguments or by the unchecked one, which answer the same. */
+
+static int64_t value_by(const side *s, bool is_checked) {
+  int64_t value = -77;
+  if (!is_checked) return hongpilas_value_unchecked(s->session);
+  must_be(hongpilas_value(s->session, &value), HONGPILAS_DONE, "the answer of hongpilas_value");
+  return value;
+}
+
+static size_t text_by(const side *s, bool is_checked, const uint8_t **text) {
+  size_t length = 77;
+  if (!is_checked) return hongpilas_text_unchecked(s->session, text);
+  must_be(hongpilas_text(s->session, text, &length), HONGPILAS_DONE, "the answer of hongpilas_text");
+  return length;
+}
+
+static size_t note_count_by(const side *s, bool is_checked) {
+  size_t count = 77;
+  if (!is_checked) return hongpilas_note_count_unchecked(s->session);
+  must_be(hongpilas_note_count(s->session, &count), HONGPILAS_DONE, "the answer of hongpilas_note_count");
+  return count;
+}
+
+static bool note_by(const side *s, bool is_checked, size_t index, hongpilas_note_data *note) {
+  if (!is_checked) return hongpilas_note_unchecked(s->session, index, note);
+  hongpilas_answer answer = hongpilas_note(s->session, index, note, sizeof *note);
+  must(answer == HONGPILAS_DONE || answer == HONGPILAS_BAD_ARGUMENT, "the answer of hongpilas_note");
+  return answer == HONGPILAS_DONE;
+}
+
+/* A buffer without room may be null. */
+static size_t copy_text_by(const side *s, bool is_checked, size_t start, uint8_t *into, size_t room) {
+  size_t count = 77;
+  if (!is_checked) return hongpilas_copy_text_unchecked(s->session, start, into, room);
+  must_be(hongpilas_copy_text(s->session, start, room == 0 ? NULL : into, room, &count), HONGPILAS_DONE, "the answer of hongpilas_copy_text");
+  return count;
+}
+
+/* Of no notification the one is refused, and leaves the count; the other copies nothing. */
+static size_t copy_note_text_by(const side *s, bool is_checked, size_t index, size_t start, uint8_t *into, size_t room) {
+  size_t count = 0;
+  bool is_there = index < model_note_count(s->plain);
+  if (!is_checked) return hongpilas_copy_note_text_unchecked(s->session, index, start, into, room);
+  must_be(hongpilas_copy_note_text(s->session, index, start, room == 0 ? NULL : into, room, &count), is_there ? HONGPILAS_DONE : HONGPILAS_BAD_ARGUMENT,
+          "the answer of hongpilas_copy_note_text");
+  return count;
+}
+
+/* The last reply is that of the last message that was done: looked at through each call that lends, in either form. `stays` where it has to lie where it lay.
+ * A message has it looked at twice, and both of these have both forms. */
 static void compare_reply(side *s, bool stays) {
+  bool is_checked = s->turns++ % 3 != 0;
   const uint8_t *text = NULL, *wanted = NULL;
-  size_t length = hongpilas_text_unchecked(s->session, &text), count = hongpilas_note_count_unchecked(s->session);
+  size_t length = text_by(s, is_checked, &text), count = note_count_by(s, is_checked);
   size_t wanted_length = model_text(s->plain, &wanted);
-  must_be(hongpilas_value_unchecked(s->session), model_value(s->plain), "the last value");
+  must_be(value_by(s, is_checked), model_value(s->plain), "the last value");
   must_be_text(text, length, wanted, wanted_length, "the last text");
   if (stays && length > 0) must(text == s->text, "the last text lies where it lay");
   s->text = text;
@@ -32,7 +82,7 @@ static void compare_reply(side *s, bool stays) {
   counts.calls += 3 + count;
   for (size_t i = 0; i < count; i++) {
     hongpilas_note_data a, b;
-    must(hongpilas_note_unchecked(s->session, i, &a) && model_note(s->plain, i, &b), "there is a note");
+    must(note_by(s, is_checked, i, &a) && model_note(s->plain, i, &b), "there is a note");
     compare_note(&a, &b);
   }
 }
@@ -152,11 +202,12 @@ static void copy_last(side *s, uint32_t view, const record *r) {
   size_t length = model_text(s->plain, &text), start = r->w % 3 == 0 ? (size_t)hostile_number(r->w_kind, r->w, &(around){0}) : r->w, room = r->l;
   size_t rest = start < length ? length - start : 0, wanted = rest < room ? rest : room;
   uint8_t *into = place_for(1, room, r->t % 2 == 0);
+  bool is_checked = r->t / 2 % 2 == 0;
   (void)view;
   now.doing = "hongpilas_copy_text";
   counts.calls += 3;
   memset(into, 0x77, room);
-  must_be((int64_t)hongpilas_copy_text_unchecked(s->session, start, into, room), (int64_t)wanted, "how much was copied");
+  must_be((int64_t)copy_text_by(s, is_checked, start, into, room), (int64_t)wanted, "how much was copied");
   if (wanted > 0) must_be_text(into, wanted, text + start, wanted, "the copied text");
   for (size_t i = wanted; i < room; i++) must(into[i] == 0x77, "a copy leaves the rest of the buffer");
   now.doing = "hongpilas_copy_note_text";
@@ -164,16 +215,16 @@ static void copy_last(side *s, uint32_t view, const record *r) {
   size_t index = r->t_kind % 16 == 0 ? SIZE_MAX : model_note_count(s->plain) == 0 ? 0 : r->t_kind % (model_note_count(s->plain) + 1);
   bool is_there = model_note(s->plain, index, &note);
   memset(&found, 0x77, sizeof found);
-  must_be(hongpilas_note_unchecked(s->session, index, &found), is_there, "whether there is such a note");
+  must_be(note_by(s, is_checked, index, &found), is_there, "whether there is such a note");
   if (!is_there) {
     must(found.view == 0x77777777, "no note leaves the place for one");
-    must_be((int64_t)hongpilas_copy_note_text_unchecked(s->session, index, start, into, room), 0, "the text of no note");
+    must_be((int64_t)copy_note_text_by(s, is_checked, index, start, into, room), 0, "the text of no note");
     return;
   }
   compare_note(&found, &note);
   rest = start < note.text_length ? note.text_length - start : 0;
   wanted = rest < room ? rest : room;
-  must_be((int64_t)hongpilas_copy_note_text_unchecked(s->session, index, start, into, room), (int64_t)wanted, "how much of a note was copied");
+  must_be((int64_t)copy_note_text_by(s, is_checked, index, start, into, room), (int64_t)wanted, "how much of a note was copied");
   if (wanted > 0) must_be_text(into, wanted, note.text + start, wanted, "a note's copied text");
 }
 

@@ -32,19 +32,19 @@ static const manners documented[] = {
     {SCI_FOLDLINE, "-i-"},         {SCI_CREATEDOCUMENT, "-i-"},   {SCI_SETLINEENDTYPESALLOWED, "i--"}, {SCI_SETMODEVENTMASK, "i--"}};
 // clang-format on
 
-static const char *manners_of(uint32_t number) {
+static inline const char *manners_of(uint32_t number) {
   for (size_t i = 0; i < sizeof documented / sizeof *documented; i++)
     if (documented[i].number == number) return documented[i].letters;
   return "---";
 }
 
 /* Whether l is where a text goes to. */
-static bool takes_buffer(char letter) { return strchr("rsbtu", letter) != NULL; }
+static inline bool takes_buffer(char letter) { return strchr("rsbtu", letter) != NULL; }
 
 /* What is answered where a message is refused, and where the session answers a value. */
-static sptr_t refused_value(uint32_t number) { return manners_of(number)[2] == 'f' || manners_of(number)[2] == 'F' ? -1 : 0; }
+static inline sptr_t refused_value(uint32_t number) { return manners_of(number)[2] == 'f' || manners_of(number)[2] == 'F' ? -1 : 0; }
 
-static sptr_t answered_value(uint32_t number, int64_t value) {
+static inline sptr_t answered_value(uint32_t number, int64_t value) {
   switch (manners_of(number)[2]) {
     case 'c': return (char)value;
     case 'i':

@@ -50,6 +50,11 @@ fn places() -> Vec<PathBuf> {
     PLACES.iter().map(|place| here.join(place)).collect()
 }
 
+/// Whether `make` may still build the library in a place. Cargo runs this each time if a file that it waits for is not there, so it waits for no other one.
+fn is_in_checkout(place: &Path) -> bool {
+    place.parent().is_some_and(|top| top.join("Makefile").is_file())
+}
+
 /// Prints where the headers are, for the build scripts of crates that use this one: DEP_HONGPILAS_INCLUDE.
 fn tell_include(place: &Path) {
     let include = place.join("../include");
@@ -65,17 +70,24 @@ fn main() {
     let (kind, file) = if has_feature("DYNAMIC") { ("dylib", "libhongpilas.so") } else { ("static", "libhongpilas.a") };
     println!("cargo:rustc-link-lib={kind}=hongpilas");
     let places = places();
-    if let Some(place) = places.iter().find(|place| place.join(file).is_file()) {
-        println!("cargo:rerun-if-changed={}", place.join(file).display());
+    let found = places.iter().position(|place| place.join(file).is_file());
+    // This runs again once there is another library to take: a new one where it was found, or one that `make` has built in a place that goes before; or
+    // any, if there was none.
+    for (index, place) in places.iter().enumerate() {
+        let is_awaited = match found {
+            Some(at) => index == at || (index < at && is_in_checkout(place)),
+            None => true,
+        };
+        if is_awaited {
+            println!("cargo:rerun-if-changed={}", place.join(file).display());
+        }
+    }
+    if let Some(place) = found.map(|index| &places[index]) {
         println!("cargo:rustc-link-search=native={}", place.display());
         tell_include(place);
         return;
     }
-    // What only checks, such as `cargo check` and `cargo doc`, needs no library; what links says that it is not there. Once it is in one of these
-    // places, this runs again.
-    for place in &places {
-        println!("cargo:rerun-if-changed={}", place.join(file).display());
-    }
+    // What only checks, such as `cargo check` and `cargo doc`, needs no library; what links says that it is not there.
     let list: Vec<String> = places.iter().map(|place| place.display().to_string()).collect();
     println!(
         "cargo:warning={file} is not in {}: build the library with `make`, or name the folder that has it in HONGPILAS_LIB_DIR",

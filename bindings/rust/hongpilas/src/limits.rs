@@ -11,6 +11,12 @@ use hongpilas_sys as sys;
 /// limits.views = 2;
 /// assert_eq!(limits.doc_bytes, Limits::GREATEST.doc_bytes);
 /// ```
+///
+/// A later version may have more of them, so no literal makes them:
+///
+/// ```compile_fail,E0639
+/// let limits = hongpilas::Limits { views: 2, ..hongpilas::Limits::GREATEST };
+/// ```
 #[derive(Clone, Copy, Debug, PartialEq, Eq, Hash)]
 #[non_exhaustive]
 pub struct Limits {

@@ -8,6 +8,24 @@ use std::mem::{size_of, MaybeUninit};
 use std::ops::Range;
 
 /// A notification of a view. Fields that its code does not use are 0.
+///
+/// A later version may have more of them, so a pattern leaves the others open:
+///
+/// ```
+/// fn is_of(note: hongpilas::Note, wanted: hongpilas::ViewId) -> bool {
+///     let hongpilas::Note { view, .. } = note;
+///     view == wanted
+/// }
+/// ```
+///
+/// ```compile_fail,E0638
+/// fn position_of(note: hongpilas::Note) -> i64 {
+///     let hongpilas::Note {
+///         view: _, code: _, kind: _, message: _, position, length: _, lines: _, line: _, now: _, prev: _, token: _, w: _, l: _, text: _
+///     } = note;
+///     position
+/// }
+/// ```
 #[derive(Clone, Copy, Debug, PartialEq, Eq, Hash)]
 #[non_exhaustive]
 pub struct Note<'a> {

@@ -9,6 +9,20 @@ use std::num::NonZeroU32;
 macro_rules! refusals {
     ($($(#[doc = $doc:literal])* $name:ident => $number:ident,)*) => {
         /// Why a call is refused. A refused call has changed nothing.
+        ///
+        /// A later version may have more of them, so a `match` has an arm for all others:
+        ///
+        /// ```compile_fail,E0004
+        /// use hongpilas::Refusal;
+        ///
+        /// fn is_for_want_of_memory(refusal: Refusal) -> bool {
+        ///     match refusal {
+        ///         Refusal::OutOfMemory => true,
+        ///         Refusal::NoSuchView | Refusal::UnknownMessage | Refusal::NoSuchDocument => false,
+        ///         Refusal::TooLong | Refusal::BadArgument | Refusal::TooMany | Refusal::Other(_) => false,
+        ///     }
+        /// }
+        /// ```
         #[derive(Clone, Copy, Debug, PartialEq, Eq, PartialOrd, Ord, Hash)]
         #[non_exhaustive]
         pub enum Refusal {

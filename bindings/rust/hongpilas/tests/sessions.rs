@@ -5,6 +5,7 @@ use hongpilas::{
     SCI_GETLINE, SCI_UNDO, SCN_MODIFIED,
 };
 use std::collections::HashSet;
+use std::iter::FusedIterator;
 use std::thread;
 
 /// `is_not` names one function where `T` is not `Send`, and one of two where it is: then a call of it does not compile.
@@ -123,6 +124,11 @@ fn a_length_is_counted_in_bytes() -> Result<(), Refusal> {
     Ok(())
 }
 
+/// Once it has ended, it stays so.
+fn fused<I: FusedIterator>(iterator: I) -> I {
+    iterator
+}
+
 #[test]
 fn notes_are_read_from_both_ends() -> Result<(), Refusal> {
     let mut session = Session::new()?;
@@ -133,7 +139,7 @@ fn notes_are_read_from_both_ends() -> Result<(), Refusal> {
         last.map(|note| (note.view, note.code, note.name(), note.kind, note.text)),
         Some((view, SCN_MODIFIED, Some("SCN_MODIFIED"), 0x2011, &b"ab"[..]))
     );
-    let mut notes = session.notes();
+    let mut notes = fused(session.notes());
     assert_eq!(notes.len(), 3);
     assert_eq!(notes.next().map(|note| note.code), Some(2008));
     assert_eq!(notes.next_back().map(|note| note.code), Some(2008));
@@ -175,7 +181,7 @@ fn lines_are_those_of_the_component() -> Result<(), Refusal> {
     let view = session.view(view);
     assert_eq!(view.lines()?.collect::<Vec<_>>(), lines);
     assert_eq!(view.lines()?.rev().collect::<Vec<_>>(), lines.iter().rev().cloned().collect::<Vec<_>>());
-    let mut some = view.lines()?;
+    let mut some = fused(view.lines()?);
     assert_eq!((some.len(), some.nth(1), some.len()), (5, Some(lines[1].clone()), 3));
     assert_eq!((some.next_back(), some.len()), (Some(lines[4].clone()), 2));
     assert_eq!(session.view(ViewId::from(7)).lines().err(), Some(Refusal::NoSuchView));
