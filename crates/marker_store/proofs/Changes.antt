@@ -1,7 +1,7 @@
 -- Changes of the markers of one line, link by link.
 use Rattle.split_vector.specs.Split.{deleted}
 use Rattle.marker_store.proofs.Joins.{joined_parts}
-use Rattle.marker_store.proofs.Names.{Bool, not, subst, take, drop, map, take_at, drop_at, set_at, drop_more, take-append-drop, length-take-le, length-map, get_or-set_other, with_joined, ◌≢◌, eq-eqb, ne_eqb, ◌≡◌, ℕ, ◌+◌, ◌-◌, ◌<◌, ◌≤◌, ◌==◌, inl, inr, true, false, zero, suc, List, [], ◌∷◌, ◌++◌, length, get_or, set, refl, sym, ap, ◌∙◌, arith, append_assoc, append-nil, length-set, length-append, get_or-set_same, set-set, set-get_or, nil_from_length, Marker, Chained, IsLaid, IsBack, IsFreed}
+use Rattle.marker_store.proofs.Names.{Bool, not, take, drop, map, take_at, drop_at, set_at, drop_more, take-append-drop, length-take-le, length-map, get_or-set_other, with_joined, ◌≢◌, eq-eqb, ne_eqb, ◌≡◌, ℕ, ◌+◌, ◌<◌, ◌≤◌, ◌==◌, true, false, zero, suc, List, [], ◌∷◌, ◌++◌, length, get_or, set, refl, sym, ap, ◌∙◌, arith, append_assoc, append-nil, length-set, length-append, get_or-set_same, set-set, set-get_or, nil_from_length, Marker, Chained, IsLaid, IsBack, IsFreed}
 use Rattle.ed_model.specs.Changes.{without_first}
 use Rattle.marker_store.specs.Dropping.{is_dropped, kept}
 use Rattle.marker_store.specs.declared.drops.Drops.{Drops}
@@ -72,10 +72,10 @@ module _ (line : ℕ) (old : Chained) (h : line < length old.rows) where
           front = w.front ++ b.first ∷ [];
           rest = b.rest;
           is =
-          b.is ∙ ap (λ (c : Chained). changed c line (row_at line c ++ b.first ∷ []) b.rest) w.is
-          ∙ ap (λ f. changed (changed old line w.front w.rest) line (f ++ b.first ∷ []) b.rest) (row_of_changed w.front w.rest) ∙ again w.front w.rest (w.front ++ b.first ∷ []) b.rest;
+              b.is ∙ ap (λ (c : Chained). changed c line (row_at line c ++ b.first ∷ []) b.rest) w.is
+              ∙ ap (λ f. changed (changed old line w.front w.rest) line (f ++ b.first ∷ []) b.rest) (row_of_changed w.front w.rest) ∙ again w.front w.rest (w.front ++ b.first ∷ []) b.rest;
           same =
-          append_assoc w.front (b.first ∷ []) (after b.rest) ∙ ap (λ r. w.front ++ r) (sym (keeps b.rest) ∙ ap after (sym rest)) ∙ w.same;
+              append_assoc w.front (b.first ∷ []) (after b.rest) ∙ ap (λ r. w.front ++ r) (sym (keeps b.rest) ∙ ap after (sym rest)) ∙ w.same;
         }
 
     pub put_freed : (now new : Chained) → HasPut line after old now → (f : IsFreed now new) → ((rest : List Marker) → after (f.first ∷ rest) ≡ after rest) → HasPut line after old new

@@ -1,6 +1,6 @@
 -- The calls that move one link, and what a contract sees of them.
-use Rattle.marker_store.proofs.Names.{subst, ◌≡◌, ℕ, ◌+◌, ◌-◌, ◌^◌, ◌<◌, ◌≤◌, ◌≢◌, zero, suc, List, [], ◌∷◌, ◌++◌, length, get_or, set, drop, refl, sym, ap, ◌∙◌, arith, map, length-set, length-append, Marker, Link, link, link_at, relinked, IsChain, AreLinked, AreSound, Chained, chained, chains_in, IsLaid, IsBack, IsFreed}
-use Rattle.marker_store.proofs.LinkMoves.{row, laid, as_many, chain_of, moved, moved_rows, moved_laid, cut_laid, other_laid}
+use Rattle.marker_store.proofs.Names.{subst, ◌≡◌, ℕ, ◌+◌, ◌-◌, ◌^◌, ◌<◌, ◌≤◌, suc, List, [], ◌∷◌, ◌++◌, length, get_or, set, drop, refl, sym, ap, ◌∙◌, arith, map, length-set, length-append, Marker, Link, link, link_at, relinked, IsChain, AreLinked, AreSound, Chained, chained, chains_in, IsLaid, IsBack, IsFreed}
+use Rattle.marker_store.proofs.LinkMoves.{row, laid, chain_of, moved, moved_rows, moved_laid, cut_laid, other_laid}
 use Rattle.marker_store.proofs.NewLinks.{new_linked, new_rows, laid_longer}
 use Rattle.marker_store.proofs.LinkViews.{seen, row_of, length-row, length-laid, begins, Begins}
 
@@ -74,10 +74,10 @@ module _ (links : List Link) (heads : List ℕ) (spare aside unused capacity lin
       last = m;
       row = row_is line ∙ ap (row links) is;
       is =
-      seen laid_links laid_heads spare at capacity line_capacity s.spares (at ∷ s.asides) (set s.chains line b.ks) laid_linked
-      ∙ ap (λ rs. chained rs (laid laid_links (at ∷ s.asides)) capacity line_capacity) laid_rows
-      ∙ ap (λ ms. chained (set (map (row links) s.chains) line (row links b.ks)) ms capacity line_capacity) laid_asides
-      ∙ ap (λ (c : Chained). record c { rows = set c.rows line (row links b.ks); aside = m ∷ c.aside }) (sym now_is);
+          seen laid_links laid_heads spare at capacity line_capacity s.spares (at ∷ s.asides) (set s.chains line b.ks) laid_linked
+          ∙ ap (λ rs. chained rs (laid laid_links (at ∷ s.asides)) capacity line_capacity) laid_rows
+          ∙ ap (λ ms. chained (set (map (row links) s.chains) line (row links b.ks)) ms capacity line_capacity) laid_asides
+          ∙ ap (λ (c : Chained). record c { rows = set c.rows line (row links b.ks); aside = m ∷ c.aside }) (sym now_is);
     }
 
   module _ (some : 0 < length now.aside) where
@@ -137,10 +137,10 @@ module _ (links : List Link) (heads : List ℕ) (spare aside unused capacity lin
         rest = laid links c.ks;
         was = aside_is;
         is =
-        seen back_links back_heads spare (link_at links aside).next capacity line_capacity s.spares c.ks back_chains back_linked
-        ∙ ap (λ rs. chained rs (laid back_links c.ks) capacity line_capacity) (back_rows ∙ ap (λ r. set (map (row links) s.chains) line (r ++ a ∷ [])) (sym (row_of links line s.chains)))
-        ∙ ap (λ ms. chained (set (map (row links) s.chains) line (get_or (map (row links) s.chains) line [] ++ a ∷ [])) ms capacity line_capacity) back_asides
-        ∙ ap (λ (x : Chained). record x { rows = set x.rows line (get_or x.rows line [] ++ a ∷ []); aside = laid links c.ks }) (sym now_is);
+            seen back_links back_heads spare (link_at links aside).next capacity line_capacity s.spares c.ks back_chains back_linked
+            ∙ ap (λ rs. chained rs (laid back_links c.ks) capacity line_capacity) (back_rows ∙ ap (λ r. set (map (row links) s.chains) line (r ++ a ∷ [])) (sym (row_of links line s.chains)))
+            ∙ ap (λ ms. chained (set (map (row links) s.chains) line (get_or (map (row links) s.chains) line [] ++ a ∷ [])) ms capacity line_capacity) back_asides
+            ∙ ap (λ (x : Chained). record x { rows = set x.rows line (get_or x.rows line [] ++ a ∷ []); aside = laid links c.ks }) (sym now_is);
       }
 
     abbrev freed_links : List Link
@@ -171,10 +171,10 @@ module _ (links : List Link) (heads : List ℕ) (spare aside unused capacity lin
       rest = laid links c.ks;
       was = aside_is;
       is =
-      seen freed_links heads aside (link_at links aside).next capacity line_capacity (aside ∷ s.spares) c.ks s.chains freed_linked
-      ∙ ap (λ rs. chained rs (laid freed_links c.ks) capacity line_capacity) freed_rows
-      ∙ ap (λ ms. chained (map (row links) s.chains) ms capacity line_capacity) freed_asides
-      ∙ ap (λ (x : Chained). record x { aside = laid links c.ks }) (sym now_is);
+          seen freed_links heads aside (link_at links aside).next capacity line_capacity (aside ∷ s.spares) c.ks s.chains freed_linked
+          ∙ ap (λ rs. chained rs (laid freed_links c.ks) capacity line_capacity) freed_rows
+          ∙ ap (λ ms. chained (map (row links) s.chains) ms capacity line_capacity) freed_asides
+          ∙ ap (λ (x : Chained). record x { aside = laid links c.ks }) (sym now_is);
     }
 
   -- A spare link goes to a line.

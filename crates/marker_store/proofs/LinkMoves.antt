@@ -48,9 +48,12 @@ module _ (links : List Link) (k : ℕ) (l : Link) (p : 0 < k) where
   chain_kept at (j ∷ js) u c =
       elim (cases_eq j k) [
         | inl e ↦ absurd (let t = times-here k js in omega (arith, t, ap (λ x. times k (x ∷ js)) e))
-        | inr ne ↦
-            (c.0, c.1, omega (arith, c.2, length-set links (k - 1) l),
-            rw (other_link links j k l c.1 p ne) (chain_kept (link_at links j).next js (omega (arith, times-other j k js ne)) c.3))
+        | inr ne ↦ (
+          c.0,
+          c.1,
+          omega (arith, c.2, length-set links (k - 1) l),
+          rw (other_link links j k l c.1 p ne) (chain_kept (link_at links j).next js (omega (arith, times-other j k js ne)) c.3),
+        )
       ]
 
   pub row_kept : (at : ℕ) (js : List ℕ) → times k js ≡ 0 → IsChain links at js → row (set links (k - 1) l) js ≡ row links js
@@ -181,9 +184,15 @@ module _
 
   moved_full : sum_by length moved_chains ≡ length moved_links
   moved_full =
-      omega
-      (arith, w.full, length-set links (k - 1) (link m (get_or hs b 0)), sum_by-set length cs a ks [] (omega (arith, many)), ap length is,
-      sum_by-set length cut b (k ∷ get_or cs b []) [] (omega (arith, many, length-set cs a ks)), ap length behind)
+      omega (
+        arith,
+        w.full,
+        length-set links (k - 1) (link m (get_or hs b 0)),
+        sum_by-set length cs a ks [] (omega (arith, many)),
+        ap length is,
+        sum_by-set length cut b (k ∷ get_or cs b []) [] (omega (arith, many, length-set cs a ks)),
+        ap length behind,
+      )
 
   pub moved : AreLinked moved_links moved_heads moved_chains
   moved = record {

@@ -1,6 +1,6 @@
 -- What a contract sees of sound chains.
-use Rattle.marker_store.proofs.Names.{subst, ◌≡◌, ℕ, ◌+◌, ◌-◌, ◌<◌, ◌≤◌, ◌≢◌, inl, inr, zero, suc, List, [], ◌∷◌, ◌++◌, length, get_or, set, refl, sym, ap, ◌∙◌, arith, map, length-set, length-map, length-append, cases_eq, sum_by, sum_by-cons, ◌==◌, ne_eqb, Marker, Link, link, no_link, link_at, relinked, row_from, laid_from, IsChain, AreChains, AreLinked, Chained, chained, chains_in, AreSound, held}
-use Rattle.marker_store.proofs.LinkMoves.{row, laid, row_is, laid_is, as_many, chain_of, length_of}
+use Rattle.marker_store.proofs.Names.{◌≡◌, ℕ, ◌+◌, ◌<◌, ◌≤◌, zero, suc, List, [], ◌∷◌, length, get_or, refl, sym, ap, ◌∙◌, arith, map, length-map, length-append, sum_by, sum_by-cons, ◌==◌, ne_eqb, Link, link_at, row_from, laid_from, IsChain, AreChains, AreLinked, chained, chains_in, AreSound, held}
+use Rattle.marker_store.proofs.LinkMoves.{row, laid, row_is, laid_is, length_of}
 
 pub length-row : (links : List Link) (c : List ℕ) → length (row links c) ≡ length c
 length-row links [] = refl
@@ -57,9 +57,16 @@ lines_seen links heads aside capacity line_capacity = length-map heads (λ at. r
 
 pub held_is : (links : List Link) (heads : List ℕ) (spare aside unused capacity line_capacity : ℕ) → AreSound links heads spare aside unused → held (chains_in links heads aside capacity line_capacity) + unused ≡ length links
 held_is links heads spare aside unused capacity line_capacity s =
-    omega
-    (arith, ap held (seen links heads spare aside capacity line_capacity s.spares s.asides s.chains s.linked), rows_total links s.chains, length-laid links s.asides, s.linked.full, s.counted,
-    sum_by-cons length s.spares (s.asides ∷ s.chains), sum_by-cons length s.asides s.chains)
+    omega (
+      arith,
+      ap held (seen links heads spare aside capacity line_capacity s.spares s.asides s.chains s.linked),
+      rows_total links s.chains,
+      length-laid links s.asides,
+      s.linked.full,
+      s.counted,
+      sum_by-cons length s.spares (s.asides ∷ s.chains),
+      sum_by-cons length s.asides s.chains,
+    )
 
 -- the chain of a line has no more links than there are
 pub links_within : (links : List Link) (heads : List ℕ) (spare aside unused : ℕ) (s : AreSound links heads spare aside unused) (line : ℕ) → length (get_or s.chains line []) + 0 ≤ length links

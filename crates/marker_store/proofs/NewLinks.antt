@@ -1,5 +1,5 @@
 -- A new link goes to the front of a chain.
-use Rattle.marker_store.proofs.Names.{subst, ◌≡◌, ℕ, ◌+◌, ◌-◌, ◌<◌, ◌≤◌, ◌≢◌, inl, inr, zero, suc, List, [], ◌∷◌, ◌++◌, length, get_or, set, refl, sym, ap, ◌∙◌, arith, map, length-set, length-append, cases_eq, get_or_append_left, get_or_at, map-set, sum_by-set, sum_by-cons, sum_by, Marker, Link, link, no_link, link_at, IsChain, AreChains, times, uses, AreLinked}
+use Rattle.marker_store.proofs.Names.{◌≡◌, ℕ, ◌+◌, ◌-◌, ◌<◌, ◌≤◌, inl, inr, List, [], ◌∷◌, ◌++◌, length, get_or, set, refl, ap, ◌∙◌, arith, map, length-append, cases_eq, get_or_append_left, get_or_at, map-set, sum_by-set, sum_by-cons, Marker, Link, link, no_link, link_at, IsChain, AreChains, times, uses, AreLinked}
 use Rattle.marker_store.proofs.LinkMoves.{row, laid, times-here, times-other, chain_of, chains_with, as_many}
 
 longer_link : (links ys : List Link) (k : ℕ) → 0 < k → k ≤ length links → link_at (links ++ ys) k ≡ link_at links k
@@ -62,9 +62,12 @@ module _ (links : List Link) (hs : List ℕ) (cs : List (List ℕ)) (b : ℕ) (m
   behind = chain_of links b hs cs w.linked hb
 
   new_chain : IsChain new_links new (new ∷ get_or cs b [])
-  new_chain =
-      (refl, omega arith, omega (arith, length-append links (link m (get_or hs b 0) ∷ [])),
-      rw new_link (chain_longer links (link m (get_or hs b 0) ∷ []) (get_or hs b 0) (get_or cs b []) behind))
+  new_chain = (
+    refl,
+    omega arith,
+    omega (arith, length-append links (link m (get_or hs b 0) ∷ [])),
+    rw new_link (chain_longer links (link m (get_or hs b 0) ∷ []) (get_or hs b 0) (get_or cs b []) behind),
+  )
 
   new_uses : (k : ℕ) → uses k new_chains + times k (get_or cs b []) ≡ uses k cs + times k (new ∷ get_or cs b [])
   new_uses k = sum_by-set (times k) cs b (new ∷ get_or cs b []) [] (omega (arith, many))
@@ -84,8 +87,8 @@ module _ (links : List Link) (hs : List ℕ) (cs : List (List ℕ)) (b : ℕ) (m
     linked = chains_with new_links b new (new ∷ get_or cs b []) hs cs (chains_longer links (link m (get_or hs b 0) ∷ []) hs cs w.linked) new_chain;
     once = new_once;
     full =
-    omega
-    (arith, sum_by-set length cs b (new ∷ get_or cs b []) [] (omega (arith, many)), w.full, length-append links (link m (get_or hs b 0) ∷ []));
+        omega
+        (arith, sum_by-set length cs b (new ∷ get_or cs b []) [] (omega (arith, many)), w.full, length-append links (link m (get_or hs b 0) ∷ []));
   }
 
   pub new_rows : map (row new_links) new_chains ≡ set (map (row links) cs) b (row links (get_or cs b []) ++ m ∷ [])

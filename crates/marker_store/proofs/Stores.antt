@@ -1,5 +1,5 @@
 -- The lines of a store, of which the first have chains.
-use Rattle.marker_store.proofs.Names.{subst, ◌≡◌, ◌≢◌, ◌⊎◌, ℕ, ◌+◌, ◌-◌, ◌^◌, ◌<◌, ◌≤◌, ◌==◌, inl, inr, zero, suc, Bool, true, false, not, List, [], ◌∷◌, ◌++◌, length, get_or, set, take, drop, replicate, map, filter, refl, sym, ap, ◌∙◌, arith, append_assoc, append-nil, length-set, length-append, length-map, length-take-le, length-drop, take-append-drop, take_at, drop_at, set-get_or, nil_from_length, sum_by, sum_by-set, sum_by-cons, sum_by-append, flat_map, slice_range, find, reverse, range_with_len, min, Some, None, IsTrue, eqb, eq-eqb, ne_eqb, bit_and, mask_of, list_any, Marker, Chained, without, with_fresh, with_joined, marker_total, has_handle, first_from, is_met, last_up_to}
+use Rattle.marker_store.proofs.Names.{◌≡◌, ◌≢◌, ◌⊎◌, ℕ, ◌+◌, ◌-◌, ◌<◌, ◌≤◌, ◌==◌, inl, inr, zero, suc, Bool, true, false, not, List, [], ◌∷◌, ◌++◌, length, get_or, set, take, drop, replicate, filter, refl, sym, ap, ◌∙◌, arith, append_assoc, append-nil, length-set, length-append, length-map, length-take-le, length-drop, take-append-drop, take_at, drop_at, set-get_or, nil_from_length, sum_by-cons, sum_by-append, flat_map, find, reverse, range_with_len, min, Some, None, IsTrue, eqb, eq-eqb, ne_eqb, bit_and, mask_of, Marker, Chained, without, with_fresh, with_joined, marker_total, first_from, last_up_to}
 use Rattle.std.specs.Prelude.{Option}
 use Rattle.std.proofs.lemmas.List.Sums.{length-filter, count_by-le-length}
 use Rattle.std.specs.Int.Bits.{and_zero_l}
@@ -7,9 +7,9 @@ use Rattle.ed_model.specs.Changes.{without_first, without_marker, is_of_number}
 use Rattle.split_vector.specs.Split.{inserted}
 use Rattle.marker_store.specs.Dropping.{is_dropped, kept, kept_rows, of_number}
 use Rattle.marker_store.specs.declared.drops.Drops.{Drops}
-use Rattle.marker_store.specs.declared.drops.Drops.TheVariants.{Each, Handle, Number}
+use Rattle.marker_store.specs.declared.drops.Drops.TheVariants.{Each}
 use Rattle.marker_store.specs.Store.{all_lines, IsStore}
-use Rattle.marker_store.proofs.Joins.{joined_parts, joined_more, joined_none}
+use Rattle.marker_store.proofs.Joins.{joined_parts, joined_more}
 use Rattle.marker_store.proofs.Finds.{find_none, last_none}
 
 abbrev Lists : Type 0
@@ -152,9 +152,14 @@ fresh_full n line count rows e =
 
 pub total_wider : (line count : ℕ) (rows : Lists) → marker_total (inserted rows line (none count)) ≡ marker_total rows
 total_wider line count rows =
-    omega
-    (arith, sum_by-append length (take line rows ++ none count) (drop line rows), sum_by-append length (take line rows) (none count), total_none count,
-    sum_by-append length (take line rows) (drop line rows), ap marker_total (take-append-drop line rows))
+    omega (
+      arith,
+      sum_by-append length (take line rows ++ none count) (drop line rows),
+      sum_by-append length (take line rows) (none count),
+      total_none count,
+      sum_by-append length (take line rows) (drop line rows),
+      ap marker_total (take-append-drop line rows),
+    )
 
 -- Lines are joined.
 
@@ -202,9 +207,16 @@ module _ (line count : ℕ) (rows : Lists) (h : line + count < length rows) wher
 
   pub total_joined : marker_total (with_joined line count rows) ≡ marker_total rows
   total_joined =
-      omega
-      (arith, ap marker_total is, sum_by-append length ps (flat_map (λ (ms : List Marker). ms) qs ∷ rs), sum_by-cons length (flat_map (λ (ms : List Marker). ms) qs) rs, flat_total qs,
-      ap marker_total whole, sum_by-append length ps (qs ++ rs), sum_by-append length qs rs)
+      omega (
+        arith,
+        ap marker_total is,
+        sum_by-append length ps (flat_map (λ (ms : List Marker). ms) qs ∷ rs),
+        sum_by-cons length (flat_map (λ (ms : List Marker). ms) qs) rs,
+        flat_total qs,
+        ap marker_total whole,
+        sum_by-append length ps (qs ++ rs),
+        sum_by-append length qs rs,
+      )
 
 pub joined_next : (line i : ℕ) (rows : Lists) → line + (i + 1) < length rows → with_joined line 1 (with_joined line i rows) ≡ with_joined line (i + 1) rows
 joined_next line i rows h = joined_more line 1 i rows h

@@ -1,5 +1,5 @@
 -- A walk along a chain.
-use Rattle.marker_store.proofs.Names.{subst, ◌≢◌, ◌≡◌, ℕ, ◌+◌, ◌*◌, ◌/◌, ◌%◌, ◌-◌, ◌^◌, ◌<◌, ◌≤◌, ◌||◌, Bool, true, false, zero, suc, List, [], ◌∷◌, ◌++◌, length, refl, sym, ap, ◌∙◌, arith, bit_or, fold, map, mask_of, list_any, Marker, Link, link_at, IsChain}
+use Rattle.marker_store.proofs.Names.{subst, ◌≢◌, ◌≡◌, ℕ, ◌+◌, ◌*◌, ◌/◌, ◌%◌, ◌^◌, ◌<◌, ◌≤◌, ◌||◌, Bool, true, false, zero, suc, List, [], ◌∷◌, ◌++◌, length, refl, sym, ap, ◌∙◌, arith, bit_or, fold, map, mask_of, list_any, Marker, Link, link_at, IsChain}
 use Rattle.std.proofs.lemmas.Nat.{or_comm, or_block, or_lt}
 use Rattle.std.specs.Int.Bits.{or_zero_r}
 use Rattle.std.proofs.lemmas.List.Folds.{list_any-append}
@@ -117,13 +117,16 @@ masked_next links at passed mask all l bit w ne q e = go w.rest w.chain w.few w.
         → (0 < at) × (at ≤ length links) × IsMasked links l.next (passed + 1) (bit_or mask bit) all
     go [] c f s = absurd (ne c)
     go (k ∷ ks) c f s =
-        let here : link_at links k ≡ l = ap (link_at links) (sym c.0) ∙ sym q in
-        (omega (arith, c.0, c.1), omega (arith, c.0, c.2), record {
-          rest = ks;
-          chain = subst (λ (x : Link). IsChain links x.next ks) here c.3;
-          few = omega arith;
-          so_far = ap (λ b. bit_or (bit_or mask b) (mask_of (row links ks))) (e ∙ ap (λ (x : Link). 2 ^ x.marker.number) (sym here)) ∙ sym (mask_step links mask k ks) ∙ s;
-        })
+        let here : link_at links k ≡ l = ap (link_at links) (sym c.0) ∙ sym q in (
+          omega (arith, c.0, c.1),
+          omega (arith, c.0, c.2),
+          record {
+            rest = ks;
+            chain = subst (λ (x : Link). IsChain links x.next ks) here c.3;
+            few = omega arith;
+            so_far = ap (λ b. bit_or (bit_or mask b) (mask_of (row links ks))) (e ∙ ap (λ (x : Link). 2 ^ x.marker.number) (sym here)) ∙ sym (mask_step links mask k ks) ∙ s;
+          },
+        )
 
 pub searched_all : (links : List Link) (test : Marker → Bool) (at passed : ℕ) (all : Bool) → IsSearched links test at passed all → at ≡ 0 → false ≡ all
 searched_all links test at passed all w e = go w.rest w.chain w.so_far

@@ -21,8 +21,8 @@ loop-edit-preserved c =
       lines = rw long fit.1;
       fits = omega (arith, c.loop-edit.invariant.fits);
       room = λ some.
-      let same = c.carry_one.ensures.rest in
-      let held = c.loop-edit.invariant.room (omega (arith, some, ap (λ (m : MarkedLines). m.capacity) same)) in
-      omega (arith, held, long, adds, fresh, ap (λ (m : MarkedLines). m.line_capacity) same);
+          let same = c.carry_one.ensures.rest in
+          let held = c.loop-edit.invariant.room (omega (arith, some, ap (λ (m : MarkedLines). m.capacity) same)) in
+          omega (arith, held, long, adds, fresh, ap (λ (m : MarkedLines). m.line_capacity) same);
       fewer = omega (arith, c.loop-edit.invariant.fewer, c.carry_one.ensures.fewer);
     }

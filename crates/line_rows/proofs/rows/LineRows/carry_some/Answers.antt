@@ -48,10 +48,10 @@ invariant_of-self c =
       zero_state = c.carry-2.ensures.default ∙ c.self.invariant.zero_state;
       for_states = omega (arith, c.carry.ensures.room, c.carry-2.ensures.room, c.self.invariant.for_states);
       for_lines = λ some.
-      let P : ℕ → Type 0 = λ n. FitLines n edits in
-      let fit = subst P (sym (parts_length d.markers.lines d.levels.values d.states.values d.markers.next_handle (row_room d.levels.room d.levels.reach d.states.reach d.marker_room) (row_blocks d.levels.stored d.levels.block d.states.stored d.states.block d.states.room d.markers.capacity d.markers.line_capacity) c.args.self.now c.self.invariant.levelled c.self.invariant.stated c.self.view_is)) c.requires.lines in
-      let held = c.self.invariant.for_lines (omega (arith, some, ap (λ (m : MarkedLines). m.capacity) c.carry_markers.ensures.rest)) in
-      omega (arith, held, ap length c.carry_markers.ensures.lines, edits_add markers_together edits d.markers.lines fit, c.carry.ensures.room, ap (λ (m : MarkedLines). m.line_capacity) c.carry_markers.ensures.rest);
+          let P : ℕ → Type 0 = λ n. FitLines n edits in
+          let fit = subst P (sym (parts_length d.markers.lines d.levels.values d.states.values d.markers.next_handle (row_room d.levels.room d.levels.reach d.states.reach d.marker_room) (row_blocks d.levels.stored d.levels.block d.states.stored d.states.block d.states.room d.markers.capacity d.markers.line_capacity) c.args.self.now c.self.invariant.levelled c.self.invariant.stated c.self.view_is)) c.requires.lines in
+          let held = c.self.invariant.for_lines (omega (arith, some, ap (λ (m : MarkedLines). m.capacity) c.carry_markers.ensures.rest)) in
+          omega (arith, held, ap length c.carry_markers.ensures.lines, edits_add markers_together edits d.markers.lines fit, c.carry.ensures.room, ap (λ (m : MarkedLines). m.line_capacity) c.carry_markers.ensures.rest);
       for_markers = omega (arith, c.self.invariant.for_markers, ap (λ (m : MarkedLines). m.capacity) c.carry_markers.ensures.rest, c.markers.ensures.markers, c.markers-markers.ensures.markers, c.carry_markers.ensures.fewer);
     }
 
@@ -69,6 +69,12 @@ returns-clause-markers_in_all c =
     let new = c.carry_markers.new.markers in
     let levelled : length new.lines ≡ length c.carry.new.self.values = ap length c.carry_markers.ensures.lines ∙ same_edits markers_together (first_or d.levels.default) edits d.markers.lines d.levels.values c.self.invariant.levelled ∙ sym (ap length c.carry.ensures.values) in
     let stated : length new.lines ≡ length c.carry-2.new.self.values = ap length c.carry_markers.ensures.lines ∙ same_edits markers_together (first_or d.states.default) edits d.markers.lines d.states.values c.self.invariant.stated ∙ sym (ap length c.carry-2.ensures.values) in
-    omega
-    (arith, rows_count new.lines c.carry.new.self.values c.carry-2.new.self.values levelled stated, rows_count d.markers.lines d.levels.values d.states.values c.self.invariant.levelled c.self.invariant.stated,
-    ap (λ (v : KeptRows). v.room.markers + marker_count v.rows) c.self.view_is, c.markers.ensures.markers, c.markers-markers.ensures.markers, c.carry_markers.ensures.fewer)
+    omega (
+      arith,
+      rows_count new.lines c.carry.new.self.values c.carry-2.new.self.values levelled stated,
+      rows_count d.markers.lines d.levels.values d.states.values c.self.invariant.levelled c.self.invariant.stated,
+      ap (λ (v : KeptRows). v.room.markers + marker_count v.rows) c.self.view_is,
+      c.markers.ensures.markers,
+      c.markers-markers.ensures.markers,
+      c.carry_markers.ensures.fewer,
+    )
