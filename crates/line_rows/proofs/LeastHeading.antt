@@ -1,5 +1,5 @@
 -- Edits of lines add no header.
-use Rattle.line_rows.proofs.Names.{◌≡◌, ℕ, ◌+◌, false, List, [], ◌∷◌, take, drop, replicate, refl, slice_range, base_level, heads, HeadFrom, LineEdit, Come, Join, Restart, after_edit, after_edits, first_or}
+use Rattle.line_rows.proofs.Names.{◌≡◌, ℕ, ◌+◌, false, List, [], ◌∷◌, take, replicate, refl, slice_range, base_level, heads, HeadFrom, LineEdit, Come, Join, Restart, after_edit, after_edits, first_or}
 use Rattle.std.proofs.lemmas.List.Elements.{All-nil, All-cons, All-head, All-append, All-replicate, All-take, All-drop}
 
 module _ (least : ℕ) where

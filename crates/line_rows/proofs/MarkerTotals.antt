@@ -1,5 +1,5 @@
 -- An edit of lines moves their markers, and removes none unless it removes all lines.
-use Rattle.line_rows.proofs.Names.{◌≤◌, LineEdit, FitLines, after_edit, after_edits, fresh_by, fresh_lines, length_after_edit, edit_adds, ◌≡◌, ◌+◌, ◌-◌, ℕ, zero, suc, List, [], ◌∷◌, ◌++◌, length, take, drop, replicate, refl, ap, ◌∙◌, arith, drop-drop, sum_by-cons, sum_by-append, sum_by-take-drop, Marker, marker_total, with_fresh, with_joined, markers_together}
+use Rattle.line_rows.proofs.Names.{◌≤◌, LineEdit, FitLines, after_edit, after_edits, fresh_lines, length_after_edit, edit_adds, ◌≡◌, ◌+◌, ◌-◌, ℕ, zero, suc, List, [], ◌∷◌, ◌++◌, length, take, drop, replicate, refl, ap, ◌∙◌, arith, drop-drop, sum_by-cons, sum_by-append, sum_by-take-drop, Marker, marker_total, with_fresh, with_joined, markers_together}
 use Rattle.std.proofs.Common.{slice_range}
 use Rattle.std.proofs.lemmas.List.Concat.{length-flat_map}
 

@@ -1,5 +1,5 @@
 -- Rows of lines, whose markers, levels and states are stored separately.
-use Rattle.std.specs.Prelude.{◌≡◌, ℕ, ℤ, pos, ◌+◌, List, [], ◌∷◌, length, flat_map}
+use Rattle.std.specs.Prelude.{◌≡◌, ℕ, ℤ, pos, List, [], ◌∷◌, length, flat_map}
 use Rattle.ed_model.specs.Rows.{Marker, Row, base_level, rows_together}
 use Rattle.line_index.specs.declared.edit.LineEdit.{LineEdit}
 use Rattle.line_index.specs.Edits.{after_edits}

@@ -1,7 +1,7 @@
 -- Changes of the markers of one line, link by link.
 use Rattle.split_vector.specs.Split.{deleted}
 use Rattle.marker_store.proofs.Joins.{joined_parts}
-use Rattle.marker_store.proofs.Names.{Bool, not, subst, take, drop, map, take_at, drop_at, set_at, drop_more, take-append-drop, length-take-le, length-map, get_or-set_other, with_joined, ◌≢◌, eq-eqb, ne_eqb, ◌≡◌, ℕ, ◌+◌, ◌-◌, ◌<◌, ◌≤◌, ◌==◌, inl, inr, true, false, zero, suc, List, [], ◌∷◌, ◌++◌, length, get_or, set, refl, sym, ap, ◌∙◌, arith, append_assoc, append-nil, length-set, length-append, get_or-set_same, set-set, set-get_or, nil_from_length, Marker, Chained, IsLaid, IsBack, IsFreed}
+use Rattle.marker_store.proofs.Names.{Bool, not, take, drop, map, take_at, drop_at, set_at, drop_more, take-append-drop, length-take-le, length-map, get_or-set_other, with_joined, ◌≢◌, eq-eqb, ne_eqb, ◌≡◌, ℕ, ◌+◌, ◌<◌, ◌≤◌, ◌==◌, true, false, zero, suc, List, [], ◌∷◌, ◌++◌, length, get_or, set, refl, sym, ap, ◌∙◌, arith, append_assoc, append-nil, length-set, length-append, get_or-set_same, set-set, set-get_or, nil_from_length, Marker, Chained, IsLaid, IsBack, IsFreed}
 use Rattle.ed_model.specs.Changes.{without_first}
 use Rattle.marker_store.specs.Dropping.{is_dropped, kept}
 use Rattle.marker_store.specs.declared.drops.Drops.{Drops}

@@ -1,6 +1,6 @@
 -- The calls that move one link, and what a contract sees of them.
-use Rattle.marker_store.proofs.Names.{subst, ◌≡◌, ℕ, ◌+◌, ◌-◌, ◌^◌, ◌<◌, ◌≤◌, ◌≢◌, zero, suc, List, [], ◌∷◌, ◌++◌, length, get_or, set, drop, refl, sym, ap, ◌∙◌, arith, map, length-set, length-append, Marker, Link, link, link_at, relinked, IsChain, AreLinked, AreSound, Chained, chained, chains_in, IsLaid, IsBack, IsFreed}
-use Rattle.marker_store.proofs.LinkMoves.{row, laid, as_many, chain_of, moved, moved_rows, moved_laid, cut_laid, other_laid}
+use Rattle.marker_store.proofs.Names.{subst, ◌≡◌, ℕ, ◌+◌, ◌-◌, ◌^◌, ◌<◌, ◌≤◌, suc, List, [], ◌∷◌, ◌++◌, length, get_or, set, drop, refl, sym, ap, ◌∙◌, arith, map, length-set, length-append, Marker, Link, link, link_at, relinked, IsChain, AreLinked, AreSound, Chained, chained, chains_in, IsLaid, IsBack, IsFreed}
+use Rattle.marker_store.proofs.LinkMoves.{row, laid, chain_of, moved, moved_rows, moved_laid, cut_laid, other_laid}
 use Rattle.marker_store.proofs.NewLinks.{new_linked, new_rows, laid_longer}
 use Rattle.marker_store.proofs.LinkViews.{seen, row_of, length-row, length-laid, begins, Begins}
 

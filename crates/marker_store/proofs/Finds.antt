@@ -1,5 +1,5 @@
 -- What a search of lines finds.
-use Rattle.marker_store.proofs.Names.{◌≡◌, ℕ, ◌+◌, ◌-◌, ◌<◌, ◌≤◌, ◌≢◌, inl, inr, Bool, true, false, zero, suc, List, [], ◌∷◌, ◌++◌, length, refl, sym, ap, ◌∙◌, arith, cases_eq, find, reverse, range_with_len, Some, None}
+use Rattle.marker_store.proofs.Names.{◌≡◌, ℕ, ◌+◌, ◌<◌, ◌≤◌, inl, inr, Bool, true, false, zero, suc, refl, ap, ◌∙◌, arith, cases_eq, find, reverse, range_with_len, Some, None}
 use Rattle.ed_model.specs.proved.Rising.{reverse_next}
 
 pub find_none : (p : ℕ → Bool) (a n : ℕ) → ((k : ℕ) → a ≤ k → k < a + n → p k ≡ false) → find p (range_with_len a n) ≡ None

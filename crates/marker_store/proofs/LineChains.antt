@@ -1,9 +1,9 @@
 -- Lines without markers come and go.
-use Rattle.marker_store.proofs.Names.{subst, ◌≡◌, ℕ, ◌+◌, ◌-◌, ◌<◌, ◌≤◌, zero, suc, List, [], ◌∷◌, ◌++◌, length, get_or, take, drop, replicate, refl, sym, ap, ◌∙◌, arith, map, map-append, take-map, drop-map, drop_more, take-append-drop, append-nil, sum_by, sum_by-cons, sum_by-append, Marker, Link, IsChain, AreChains, times, uses, AreLinked, AreSound, Chained, chained, chains_in}
+use Rattle.marker_store.proofs.Names.{◌≡◌, ℕ, ◌+◌, ◌<◌, ◌≤◌, zero, suc, List, [], ◌∷◌, ◌++◌, length, get_or, take, drop, replicate, refl, sym, ap, ◌∙◌, arith, map, map-append, take-map, drop-map, drop_more, take-append-drop, append-nil, sum_by, sum_by-cons, sum_by-append, Link, AreChains, times, AreLinked, AreSound, Chained, chained, chains_in}
 use Rattle.std.proofs.lemmas.List.{length-append, length-take-le, length-drop, take_all, length-replicate as replicated}
 use Rattle.std.proofs.Math.ListN.{drop_of_length-le}
 use Rattle.split_vector.specs.Split.{inserted, deleted}
-use Rattle.marker_store.proofs.LinkMoves.{row, laid, as_many}
+use Rattle.marker_store.proofs.LinkMoves.{row, laid}
 use Rattle.marker_store.proofs.LinkViews.{seen, length-row}
 
 chains-append : (links : List Link) (hs hs' : List ℕ) (cs cs' : List (List ℕ)) → AreChains links hs cs → AreChains links hs' cs' → AreChains links (hs ++ hs') (cs ++ cs')

@@ -1,6 +1,6 @@
 -- What a contract sees of sound chains.
-use Rattle.marker_store.proofs.Names.{subst, ◌≡◌, ℕ, ◌+◌, ◌-◌, ◌<◌, ◌≤◌, ◌≢◌, inl, inr, zero, suc, List, [], ◌∷◌, ◌++◌, length, get_or, set, refl, sym, ap, ◌∙◌, arith, map, length-set, length-map, length-append, cases_eq, sum_by, sum_by-cons, ◌==◌, ne_eqb, Marker, Link, link, no_link, link_at, relinked, row_from, laid_from, IsChain, AreChains, AreLinked, Chained, chained, chains_in, AreSound, held}
-use Rattle.marker_store.proofs.LinkMoves.{row, laid, row_is, laid_is, as_many, chain_of, length_of}
+use Rattle.marker_store.proofs.Names.{◌≡◌, ℕ, ◌+◌, ◌<◌, ◌≤◌, zero, suc, List, [], ◌∷◌, length, get_or, refl, sym, ap, ◌∙◌, arith, map, length-map, length-append, sum_by, sum_by-cons, ◌==◌, ne_eqb, Link, link_at, row_from, laid_from, IsChain, AreChains, AreLinked, chained, chains_in, AreSound, held}
+use Rattle.marker_store.proofs.LinkMoves.{row, laid, row_is, laid_is, length_of}
 
 pub length-row : (links : List Link) (c : List ℕ) → length (row links c) ≡ length c
 length-row links [] = refl

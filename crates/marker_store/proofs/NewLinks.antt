@@ -1,5 +1,5 @@
 -- A new link goes to the front of a chain.
-use Rattle.marker_store.proofs.Names.{subst, ◌≡◌, ℕ, ◌+◌, ◌-◌, ◌<◌, ◌≤◌, ◌≢◌, inl, inr, zero, suc, List, [], ◌∷◌, ◌++◌, length, get_or, set, refl, sym, ap, ◌∙◌, arith, map, length-set, length-append, cases_eq, get_or_append_left, get_or_at, map-set, sum_by-set, sum_by-cons, sum_by, Marker, Link, link, no_link, link_at, IsChain, AreChains, times, uses, AreLinked}
+use Rattle.marker_store.proofs.Names.{◌≡◌, ℕ, ◌+◌, ◌-◌, ◌<◌, ◌≤◌, inl, inr, List, [], ◌∷◌, ◌++◌, length, get_or, set, refl, ap, ◌∙◌, arith, map, length-append, cases_eq, get_or_append_left, get_or_at, map-set, sum_by-set, sum_by-cons, Marker, Link, link, no_link, link_at, IsChain, AreChains, times, uses, AreLinked}
 use Rattle.marker_store.proofs.LinkMoves.{row, laid, times-here, times-other, chain_of, chains_with, as_many}
 
 longer_link : (links ys : List Link) (k : ℕ) → 0 < k → k ≤ length links → link_at (links ++ ys) k ≡ link_at links k

@@ -1,5 +1,5 @@
 -- The lines of a store, of which the first have chains.
-use Rattle.marker_store.proofs.Names.{subst, ◌≡◌, ◌≢◌, ◌⊎◌, ℕ, ◌+◌, ◌-◌, ◌^◌, ◌<◌, ◌≤◌, ◌==◌, inl, inr, zero, suc, Bool, true, false, not, List, [], ◌∷◌, ◌++◌, length, get_or, set, take, drop, replicate, map, filter, refl, sym, ap, ◌∙◌, arith, append_assoc, append-nil, length-set, length-append, length-map, length-take-le, length-drop, take-append-drop, take_at, drop_at, set-get_or, nil_from_length, sum_by, sum_by-set, sum_by-cons, sum_by-append, flat_map, slice_range, find, reverse, range_with_len, min, Some, None, IsTrue, eqb, eq-eqb, ne_eqb, bit_and, mask_of, list_any, Marker, Chained, without, with_fresh, with_joined, marker_total, has_handle, first_from, is_met, last_up_to}
+use Rattle.marker_store.proofs.Names.{◌≡◌, ◌≢◌, ◌⊎◌, ℕ, ◌+◌, ◌-◌, ◌<◌, ◌≤◌, ◌==◌, inl, inr, zero, suc, Bool, true, false, not, List, [], ◌∷◌, ◌++◌, length, get_or, set, take, drop, replicate, filter, refl, sym, ap, ◌∙◌, arith, append_assoc, append-nil, length-set, length-append, length-map, length-take-le, length-drop, take-append-drop, take_at, drop_at, set-get_or, nil_from_length, sum_by-cons, sum_by-append, flat_map, find, reverse, range_with_len, min, Some, None, IsTrue, eqb, eq-eqb, ne_eqb, bit_and, mask_of, Marker, Chained, without, with_fresh, with_joined, marker_total, first_from, last_up_to}
 use Rattle.std.specs.Prelude.{Option}
 use Rattle.std.proofs.lemmas.List.Sums.{length-filter, count_by-le-length}
 use Rattle.std.specs.Int.Bits.{and_zero_l}
@@ -7,9 +7,9 @@ use Rattle.ed_model.specs.Changes.{without_first, without_marker, is_of_number}
 use Rattle.split_vector.specs.Split.{inserted}
 use Rattle.marker_store.specs.Dropping.{is_dropped, kept, kept_rows, of_number}
 use Rattle.marker_store.specs.declared.drops.Drops.{Drops}
-use Rattle.marker_store.specs.declared.drops.Drops.TheVariants.{Each, Handle, Number}
+use Rattle.marker_store.specs.declared.drops.Drops.TheVariants.{Each}
 use Rattle.marker_store.specs.Store.{all_lines, IsStore}
-use Rattle.marker_store.proofs.Joins.{joined_parts, joined_more, joined_none}
+use Rattle.marker_store.proofs.Joins.{joined_parts, joined_more}
 use Rattle.marker_store.proofs.Finds.{find_none, last_none}
 
 abbrev Lists : Type 0

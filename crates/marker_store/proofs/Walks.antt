@@ -1,5 +1,5 @@
 -- A walk along a chain.
-use Rattle.marker_store.proofs.Names.{subst, ◌≢◌, ◌≡◌, ℕ, ◌+◌, ◌*◌, ◌/◌, ◌%◌, ◌-◌, ◌^◌, ◌<◌, ◌≤◌, ◌||◌, Bool, true, false, zero, suc, List, [], ◌∷◌, ◌++◌, length, refl, sym, ap, ◌∙◌, arith, bit_or, fold, map, mask_of, list_any, Marker, Link, link_at, IsChain}
+use Rattle.marker_store.proofs.Names.{subst, ◌≢◌, ◌≡◌, ℕ, ◌+◌, ◌*◌, ◌/◌, ◌%◌, ◌^◌, ◌<◌, ◌≤◌, ◌||◌, Bool, true, false, zero, suc, List, [], ◌∷◌, ◌++◌, length, refl, sym, ap, ◌∙◌, arith, bit_or, fold, map, mask_of, list_any, Marker, Link, link_at, IsChain}
 use Rattle.std.proofs.lemmas.Nat.{or_comm, or_block, or_lt}
 use Rattle.std.specs.Int.Bits.{or_zero_r}
 use Rattle.std.proofs.lemmas.List.Folds.{list_any-append}

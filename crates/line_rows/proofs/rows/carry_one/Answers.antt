@@ -1,4 +1,4 @@
-use Rattle.line_rows.proofs.Names.{◌+◌, ap, arith, ◌∙◌, MarkedLines, marker_total}
+use Rattle.line_rows.proofs.Names.{ap, arith, MarkedLines, marker_total}
 use Rattle.line_rows.proofs.MarkerTotals.{total_with_fresh, total_with_joined}
 use Rattle.line_rows.proofs.rows.carry_one.Goals as goal
 

@@ -1,4 +1,4 @@
-use Rattle.line_rows.proofs.Names.{List, ℕ, sym, ap, subst, ◌∙◌, HeadFrom, after_edits, first_or}
+use Rattle.line_rows.proofs.Names.{sym, ap, subst, ◌∙◌, HeadFrom, after_edits, first_or}
 use Rattle.line_rows.proofs.LeastHeading.{edits_fine}
 use Rattle.line_rows.proofs.fold_levels.FoldLevels.carry.Goals as goal
 

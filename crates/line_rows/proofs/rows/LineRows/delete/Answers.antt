@@ -1,5 +1,5 @@
-use Rattle.line_rows.proofs.Names.{◌≡◌, ◌+◌, ◌==◌, List, length, sym, ap, ◌∙◌, arith, is_of_number, marker_count, marker_total, length-set, length-map, list_any, Marker, MarkedLines, row_room, row_blocks, KeptRows}
-use Rattle.line_rows.proofs.RowReads.{parts_length, went, rows_count, rows_deleted, rows_dropped, found_from}
+use Rattle.line_rows.proofs.Names.{◌≡◌, ◌+◌, List, length, ap, ◌∙◌, arith, marker_count, marker_total, length-set, Marker, MarkedLines, row_room, row_blocks, KeptRows}
+use Rattle.line_rows.proofs.RowReads.{parts_length, went, rows_count, rows_deleted}
 use Rattle.line_rows.proofs.rows.LineRows.delete.Goals as goal
 
 pub delete-went-requires : goal.delete-went-requires

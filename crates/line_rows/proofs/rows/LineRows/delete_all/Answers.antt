@@ -1,5 +1,5 @@
-use Rattle.line_rows.proofs.Names.{◌≡◌, ◌+◌, ◌==◌, List, length, sym, ap, ◌∙◌, arith, is_of_number, marker_count, marker_total, length-set, length-map, list_any, Marker, MarkedLines, row_room, row_blocks, KeptRows}
-use Rattle.line_rows.proofs.RowReads.{parts_length, went, rows_count, rows_deleted, rows_dropped, found_from}
+use Rattle.line_rows.proofs.Names.{◌≡◌, ◌+◌, List, length, ap, ◌∙◌, arith, is_of_number, marker_count, marker_total, length-map, Marker, MarkedLines, row_room, row_blocks, KeptRows}
+use Rattle.line_rows.proofs.RowReads.{went, rows_count, rows_dropped}
 use Rattle.line_rows.proofs.rows.LineRows.delete_all.Goals as goal
 
 pub invariant_of-self : goal.invariant_of-self

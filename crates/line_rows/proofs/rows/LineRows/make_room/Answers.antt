@@ -1,5 +1,5 @@
-use Rattle.line_rows.proofs.Names.{◌≡◌, ℕ, ℤ, ◌+◌, ◌≤◌, ap, arith, max, refl, sym, ◌∙◌, marker_total, length, MarkedLines, KeptRows, row_room, row_blocks, kept_rows, rows_of, Valued}
-use Rattle.line_rows.specs.Kept.{LinesFit, with_line_room, kept_in}
+use Rattle.line_rows.proofs.Names.{◌≡◌, ℕ, ℤ, ap, arith, max, refl, sym, ◌∙◌, length, MarkedLines, KeptRows, row_room, row_blocks, Valued}
+use Rattle.line_rows.specs.Kept.{with_line_room, kept_in}
 use Rattle.line_rows.proofs.RowReads.{parts_length}
 use Rattle.std.proofs.lemmas.Bool.{false≢true}
 use Rattle.line_rows.proofs.rows.LineRows.make_room.Goals as goal

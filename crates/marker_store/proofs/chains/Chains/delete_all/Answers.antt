@@ -1,4 +1,4 @@
-use Rattle.marker_store.proofs.Names.{◌≡◌, ℕ, ◌+◌, ◌-◌, ◌<◌, ◌≤◌, ◌++◌, List, [], length, get_or, set, map, take, drop, sym, refl, ap, subst, ◌∙◌, arith, length-set, Chained, Marker}
+use Rattle.marker_store.proofs.Names.{◌≡◌, ◌+◌, ◌-◌, ◌<◌, ◌++◌, List, [], length, get_or, set, map, take, drop, sym, refl, ap, ◌∙◌, arith, Chained, Marker}
 use Rattle.marker_store.specs.Dropping.{kept}
 use Rattle.marker_store.proofs.Changes.{row_at, kept_step, kept_past, kept_length}
 use Rattle.marker_store.proofs.chains.Chains.delete_all.Goals as goal

@@ -1,5 +1,5 @@
-use Rattle.marker_store.proofs.Names.{◌≡◌, ◌+◌, ◌<◌, [], length, get_or, ap, sym, ◌∙◌, arith, ◌==◌, subst, Chained, get_or_default, IsChain}
-use Rattle.marker_store.proofs.LinkMoves.{chain_of, row}
+use Rattle.marker_store.proofs.Names.{◌≡◌, ◌+◌, ◌<◌, [], length, get_or, ap, sym, ◌∙◌, arith, ◌==◌, Chained, get_or_default, IsChain}
+use Rattle.marker_store.proofs.LinkMoves.{chain_of}
 use Rattle.marker_store.proofs.LinkViews.{lines_seen, bare_is, length-row}
 use Rattle.marker_store.proofs.Deeds.{row_is}
 use Rattle.marker_store.proofs.chains.Chains.is_bare.Goals as goal

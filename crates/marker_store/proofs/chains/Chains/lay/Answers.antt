@@ -1,4 +1,4 @@
-use Rattle.marker_store.proofs.Names.{◌≡◌, ◌+◌, ◌<◌, List, [], length, get_or, ap, sym, ◌∙◌, arith, subst, Chained, Marker, get_or_default, length-set, link, link_at, ◌-◌}
+use Rattle.marker_store.proofs.Names.{◌≡◌, ◌+◌, ◌<◌, length, get_or, ap, ◌∙◌, arith, Chained, get_or_default, length-set, link, link_at, ◌-◌}
 use Rattle.marker_store.proofs.LinkViews.{lines_seen}
 use Rattle.marker_store.proofs.Deeds.{laid_at, laid_sound, is_laid}
 use Rattle.marker_store.proofs.chains.Chains.lay.Goals as goal

@@ -1,6 +1,6 @@
-use Rattle.marker_store.proofs.Names.{◌≡◌, ◌+◌, ◌-◌, ◌^◌, ◌<◌, ◌≤◌, ◌≢◌, ◌==◌, List, [], ◌∷◌, ◌++◌, length, get_or, set, ap, sym, refl, ◌∙◌, arith, subst, Chained, Marker, get_or_default, length-set, Link, link, link_at, no_link, IsChain, mask_of, bit_or, list_any, held, true, false, eqb}
-use Rattle.marker_store.proofs.LinkMoves.{row, laid, chain_of, length_of}
-use Rattle.marker_store.proofs.LinkViews.{lines_seen, bare_is, length-row, held_is, links_within}
+use Rattle.marker_store.proofs.Names.{◌≡◌, ◌+◌, ◌-◌, ◌^◌, ◌<◌, [], length, get_or, ap, sym, refl, ◌∙◌, arith, Chained, Marker, get_or_default, link_at, no_link, mask_of}
+use Rattle.marker_store.proofs.LinkMoves.{row, chain_of}
+use Rattle.marker_store.proofs.LinkViews.{lines_seen, links_within}
 use Rattle.marker_store.proofs.Deeds.{row_is}
 use Rattle.std.specs.Int.Bits.{or_zero_l}
 use Rattle.marker_store.proofs.Walks.{masked_all, masked_past, masked_next}

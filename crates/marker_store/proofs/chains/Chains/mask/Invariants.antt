@@ -1,7 +1,5 @@
 use Rattle.marker_store.proofs.Names.{get_or, [], mask_of}
 use Rattle.marker_store.proofs.Walks.{IsMasked}
-use Rattle.marker_store.proofs.NewLinks.{new_rows}
-use Rattle.marker_store.proofs.LineChains.{is_narrow}
 use Rattle.marker_store.proofs.chains.Chains.mask.Given as goal
 
 abbrev pub invariant-loop-passed : goal.invariant-loop-passed

@@ -1,4 +1,4 @@
-use Rattle.marker_store.proofs.Names.{◌≡◌, ℕ, ◌-◌, ◌<◌, ◌≤◌, false, length, has_handle, is_met}
+use Rattle.marker_store.proofs.Names.{◌≡◌, ℕ, ◌-◌, ◌<◌, ◌≤◌, false, length, is_met}
 use Rattle.marker_store.proofs.chains.Chains.next.Given as goal
 
 abbrev pub invariant-searching : goal.invariant-searching

@@ -1,4 +1,4 @@
-use Rattle.marker_store.proofs.Names.{◌≡◌, ℕ, ◌+◌, ◌<◌, ◌≤◌, false, is_met, length, min}
+use Rattle.marker_store.proofs.Names.{◌≡◌, ℕ, ◌<◌, ◌≤◌, false, is_met}
 use Rattle.marker_store.proofs.chains.Chains.previous.Given as goal
 
 abbrev pub invariant-passing : goal.invariant-passing

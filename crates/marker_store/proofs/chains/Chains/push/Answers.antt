@@ -1,7 +1,5 @@
-use Rattle.marker_store.proofs.Names.{◌≡◌, ◌+◌, ◌-◌, ◌^◌, ◌<◌, ◌≤◌, ◌≢◌, ◌==◌, zero, suc, List, [], ◌∷◌, ◌++◌, length, get_or, set, ap, sym, refl, ◌∙◌, arith, subst, Chained, Marker, get_or_default, length-set, length-append, Link, link, link_at, no_link, relinked, IsChain, mask_of, bit_or, list_any, held, true, false, eqb, eq-eqb, ne_eqb, take, drop, append-nil}
-use Rattle.marker_store.proofs.LinkMoves.{row, laid, chain_of, length_of, as_many}
-use Rattle.marker_store.proofs.LinkViews.{lines_seen, bare_is, length-row, length-laid, held_is, links_within}
-use Rattle.marker_store.proofs.Deeds.{row_is}
+use Rattle.marker_store.proofs.Names.{◌≡◌, ◌+◌, ◌-◌, ◌^◌, ◌<◌, [], ◌∷◌, ◌++◌, length, get_or, set, ap, ◌∙◌, arith, Chained, get_or_default, length-set, length-append, Link, link, link_at, no_link, relinked, held}
+use Rattle.marker_store.proofs.LinkViews.{lines_seen, held_is}
 use Rattle.marker_store.proofs.Deeds.{spare_at, taken_sound, is_taken, new_sound, is_new}
 use Rattle.marker_store.proofs.LineChains.{at_end}
 use Rattle.marker_store.proofs.chains.Chains.push.Goals as goal
