@@ -23,7 +23,7 @@ pub use Rattle.ed_model.specs.PlansFit.{EditStepsFit, PlansFit, UndoStepsFit, Re
 pub use Rattle.ed_model.specs.proved.Scenes.{edit_made_id}
 pub use Rattle.ed_model.specs.Requests.{Request, Planned, text, size, answer, answer_number}
 pub use Rattle.ed_model.specs.Steps.{Step, insertion, Insert, Delete, replacement, edited}
-pub use Rattle.notify.specs.Gathered.{Gathered}
+pub use Rattle.notify.specs.Gathered.{Gathered, CanPut}
 pub use Rattle.scene.specs.Scenes.{kept_scene, views_of, AreNamed, watchers, scene_in, StandsIfOn, IsWatched}
 pub use Rattle.ed_types.specs.declared.kind.Kind.{Kind}
 pub use Rattle.ed_types.specs.declared.message.Message.{Message}

@@ -26,7 +26,7 @@ impl Model for NoteList {
 
     ghost Value = { Gathered };
 
-    ghost use Rattle.std.specs.Prelude.{◌≤◌, length, drop, vec_capacity};
+    ghost use Rattle.std.specs.Prelude.{◌≤◌, length, drop, vec_len, vec_capacity};
     ghost use Rattle.ed_types.specs.Heard.{heard_in};
     ghost use Rattle.notify.specs.Ranges.{EndWithin};
 
@@ -37,6 +37,7 @@ impl Model for NoteList {
     ghost invariant = { λ l. record {
       texts : EndWithin (length l.pool.items) l.notes.items;
       shared : l.shared_from ≤ length l.pool.items;
+      notes : vec_len l.notes ≤ vec_capacity l.notes;
       held : length l.pool.items ≤ l.text_capacity;
       pool : l.text_capacity ≤ vec_capacity l.pool;
     } };
@@ -79,6 +80,16 @@ impl NoteList {
         };
         self.text_capacity = self.text_capacity.max(self.pool.len() + bytes);
         Ok(())
+    }
+
+    /// What the list holds fits in.
+    #[tactic(auto, using(crate::proofs::Pools::length_heard))]
+    pub fn fits_in(&self)
+        ensures notes { CanPut 0 self.now }
+        ensures texts { CanShare 0 self.now }
+    {
+        // A use of a field brings the invariant.
+        let _ = &self.notes;
     }
 
     /// Returns whether there is no room for a note: then no view listens, and no note has to be prepared.

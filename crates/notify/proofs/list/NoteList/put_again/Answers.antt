@@ -8,6 +8,7 @@ pub invariant_of-self : goal.invariant_of-self
 invariant_of-self c = record {
   texts = rw c.push_reserved.ensures.items (one_more_ends (length c.self.inside.pool.items) c.self.inside.notes.items _ c.self.invariant.texts (omega arith));
   shared = c.self.invariant.shared;
+  notes = omega arith;
   held = c.self.invariant.held;
   pool = c.self.invariant.pool;
 }

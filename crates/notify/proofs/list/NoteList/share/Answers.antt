@@ -11,6 +11,7 @@ invariant_of-self c =
     record {
       texts = ends_stay (length c.self.inside.pool.items) (length c.append-2.new.pool.items) c.self.inside.notes.items (omega arith) c.self.invariant.texts;
       shared = omega arith;
+      notes = c.self.invariant.notes;
       held = let room = rw (← c.self.view_is) at c.requires in omega (arith, longer, room);
       pool = omega (arith, c.append.ensures.capacity, c.append-2.ensures.capacity, c.self.invariant.pool);
     }
