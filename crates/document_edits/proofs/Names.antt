@@ -13,7 +13,7 @@ pub use Rattle.ed_model.specs.proved.Scenes.{edit_made_id}
 pub use Rattle.ed_model.specs.proved.Steps.{length_of_range}
 pub use Rattle.notify.specs.Gathered.{Gathered, NoteCapacity, CanPut, no_notes, with_room}
 pub use Rattle.scene.specs.Conversion.{room_of_step, room_of_steps, free_behind}
-pub use Rattle.scene.specs.Needs.{note_room, notes_of_step, bytes_of_step, leaving_count, notes_for, bytes_for, held_behind, CanHoldSteps, CanHoldEdit, NeedsAreEnough}
+pub use Rattle.scene.specs.Needs.{note_room, notes_of_step, bytes_of_step, leaving_count, notes_for, bytes_needed, held_behind, CanHoldSteps, CanHoldEdit, NeedsAreEnough}
 pub use Rattle.scene.specs.Telling.{CanHold}
 pub use Rattle.scene.specs.Scenes.{views_of, scene_in, IsWatched}
 pub use Rattle.scene.specs.Undoing.{capped, capped_room, bits_of, room_of_changes}

@@ -1,5 +1,5 @@
 -- Steps in turn, out of the room that was made for all of them.
-use Rattle.document_edits.proofs.Names.{◌≡◌, ℕ, ◌==◌, ap, sym, ◌∙◌, true, false, List, [], ◌∷◌, ◌++◌, length, refl, subst, Bool, cond, ◌+◌, arith, ◌<◌, ◌≤◌, slice_range, ◌-◌, ◌≢◌, zero, suc, eqb-true, eqb-false, nil_from_length, Document, text_of, watching, Scene, edit_made, step_made, sealed_scene, Step, insertion, Insert, Delete, replacement, step_bytes, deletion, TextStep, History, Transaction, sealed_outside_groups, with_last_sealed, length_of_range, Gathered, Kept, HasRoom, TakesRoom, bytes_out, step_in, need_of, views_of, scene_in, IsWatched, room_of_step, room_of_steps, notes_for, bytes_for, held_behind, CanHold, CanHoldSteps, CanHoldEdit, NeedsAreEnough, NoteCapacity, with_room, appended_collects, deletion_needs, first_room, next_room, first_held, next_held}
+use Rattle.document_edits.proofs.Names.{◌≡◌, ℕ, ◌==◌, ap, sym, ◌∙◌, true, false, List, [], ◌∷◌, ◌++◌, length, refl, subst, Bool, cond, ◌+◌, arith, ◌<◌, ◌≤◌, slice_range, ◌-◌, ◌≢◌, zero, suc, eqb-true, eqb-false, nil_from_length, Document, text_of, watching, Scene, edit_made, step_made, sealed_scene, Step, insertion, Insert, Delete, replacement, step_bytes, deletion, TextStep, History, Transaction, sealed_outside_groups, with_last_sealed, length_of_range, Gathered, Kept, HasRoom, TakesRoom, bytes_out, step_in, need_of, views_of, scene_in, IsWatched, room_of_step, room_of_steps, notes_for, bytes_needed, held_behind, CanHold, CanHoldSteps, CanHoldEdit, NeedsAreEnough, NoteCapacity, with_room, appended_collects, deletion_needs, first_room, next_room, first_held, next_held}
 use Rattle.id_table.specs.Entries.{Entries, Entry}
 use Rattle.document.specs.declared.text_step.TextStep.TheVariants as lent
 use Rattle.ed_view.specs.Kept.{KeptView}
@@ -128,18 +128,16 @@ ends_watched k3 k4 views e w = subst (λ x. IsWatched x.document views) (sym e) 
 
 -- What steps need does not depend on the notes before them.
 needs_alike : (steps : List Step) (scene : Scene) (g : Gathered)
-    → (notes_for steps (record scene { notes = g.notes }) ≡ notes_for steps scene) × (bytes_for steps (record scene { notes = g.notes }) ≡ bytes_for steps scene)
-needs_alike [] scene g = (refl, refl)
-needs_alike (step ∷ steps) scene g = (refl, refl)
+    → notes_for steps (record scene { notes = g.notes }) ≡ notes_for steps scene
+needs_alike [] scene g = refl
+needs_alike (step ∷ steps) scene g = refl
 
 -- After room for so many notes and bytes was made, the list can hold those of an edit that needs no more.
 pub edit_held : NeedsAreEnough → (steps : List Step) (d : Document) (views : List (Entry KeptView)) (g g' : Gathered) (notes bytes : ℕ) → g' ≡ with_room notes bytes g
-    → notes_for steps (scene_in d views []) ≤ notes → bytes_for steps (scene_in d views []) ≤ bytes → CanHoldEdit steps (scene_in d views g'.notes) g'
+    → notes_for steps (scene_in d views []) ≤ notes → bytes_needed (scene_in d views []) steps ≤ bytes → CanHoldEdit steps (scene_in d views g'.notes) g'
 edit_held law steps d views g g' notes bytes made few short =
     let scene = scene_in d views g'.notes in
     let alike = needs_alike steps (scene_in d views []) g' in
-    let a = alike.0 in
-    let b = alike.1 in
     let most = law steps scene g'.held in
     let n = most.0 in
     let t = most.1 in

@@ -11,7 +11,7 @@ use Rattle.document.specs.Kept.{Kept, HasRoom, no_room, amount_sum, room_sum}
 use Rattle.document.specs.TextSteps.{step_in, need_of}
 use Rattle.ed_view.specs.Kept.{KeptView}
 use Rattle.scene.specs.Conversion.{room_of_steps}
-use Rattle.scene.specs.Needs.{note_room, notes_for, bytes_for, notes_of_step, bytes_of_step, CanHoldEdit, IsCounted}
+use Rattle.scene.specs.Needs.{note_room, notes_for, bytes_needed, notes_of_step, bytes_of_step, CanHoldEdit, IsCounted}
 use Rattle.scene.specs.Scenes.{kept_scene, watchers}
 use Rattle.scene.specs.declared.need.SceneNeed.{SceneNeed}
 
@@ -54,5 +54,5 @@ NotesFit steps k views notes = CanHoldEdit steps (kept_scene k views notes) note
 -- What is told of a need: that it is enough, unless it is not counted.
 
 pub record NeedsSteps (steps : List Step) (scene : Scene) (need : SceneNeed) : Type 0 where
-  pub enough : IsCounted need → IsEnoughFor (notes_for steps scene) (bytes_for steps scene) (room_of_steps scene.document.line_end_types steps) need
+  pub enough : IsCounted need → IsEnoughFor (notes_for steps scene) (bytes_needed scene steps) (room_of_steps scene.document.line_end_types steps) need
   pub none : steps ≡ [] → need ≡ no_need

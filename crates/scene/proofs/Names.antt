@@ -48,7 +48,7 @@ pub use Rattle.selection.specs.declared.movements.Movement.{Movement}
 pub use Rattle.scene.specs.Conversion.{both_rooms, capped_room, deletions_of, room_of_many, room_of_step, room_of_steps, rooms_added, room_of_steps_beside, AreLeft, RoomsStay, changes_for, freed_by_all, conversion_room}
 pub use Rattle.scene.specs.Following.{with_followed, followed_at, CanFollow, CanFollowInTurn}
 pub use Rattle.scene.specs.Hearing.{hearers, before_kind, after_kind, audience_of, with_note_text, masks_from, masks_of, step_kinds, user_bits, bytes_shared, belongs, left_note, made_kinds}
-pub use Rattle.scene.specs.Needs.{note_room, leaving_count, notes_of_step, bytes_of_step, notes_of_steps, bytes_of_steps, user_kinds, notes_needed, bytes_needed, notes_for, bytes_for, held_behind, held_after, held_after_edit, CanHoldSteps, CanHoldEdit, NeedsAreEnough}
+pub use Rattle.scene.specs.Needs.{note_room, leaving_count, notes_of_step, bytes_of_step, notes_of_steps, bytes_of_steps, user_kinds, notes_needed, bytes_needed, notes_for, held_behind, held_after, held_after_edit, CanHoldSteps, CanHoldEdit, NeedsAreEnough}
 pub use Rattle.scene.specs.Scenes.{views_of, fold_room_in_all, AreNamed, scene_in, watchers, IsWatched, StandsIfOn}
 pub use Rattle.scene.specs.StepNotes.{IsSmallStep, CanTellMade, place_in, count_in, text_before}
 pub use Rattle.scene.specs.Telling.{with_notes, CanHold}

@@ -17,7 +17,7 @@ use Rattle.document.specs.declared.text_step.TextStep.{TextStep as Lent}
 use Rattle.document.specs.Kept.{Kept, document_room, no_room, with_freed, HasRoom, IsAtMost, TakesRoom, marker_room_in_all}
 use Rattle.scene.specs.declared.need.NoteRoom.{NoteRoom}
 use Rattle.scene.specs.Scenes.{scene_in, kept_scene, watchers, fold_room_in_all, IsWatched}
-use Rattle.scene.specs.Needs.{CanHoldSteps, CanHoldEdit, notes_for, bytes_for, notes_for_step, bytes_for_step, notes_of_steps, bytes_of_steps}
+use Rattle.scene.specs.Needs.{CanHoldSteps, CanHoldEdit, notes_for, bytes_needed, notes_for_step, bytes_for_step, notes_of_steps, bytes_of_steps}
 pub use Rattle.scene.specs.Undoing.{freed_by_all, fill_behind_all, SpareLeft, both_rooms, free_behind, capped, capped_room, capped_notes}
 
 -- the room that a step needs in its document
@@ -178,7 +178,7 @@ room_for_all steps k = capped_room (rooms_added k.document.line_end_types steps)
 abbrev pub notes_for_conversion : LineEnd → Kept → Entries KeptView → NoteRoom
 notes_for_conversion to k views =
     capped_notes (notes_for (conversion_of to k) (scene_in k.document views.entries []))
-    (bytes_for (conversion_of to k) (scene_in k.document views.entries []))
+    (bytes_needed (scene_in k.document views.entries []) (conversion_of to k))
 
 -- the room in the document for the conversion
 abbrev pub room_for_conversion : LineEnd → Kept → DocumentRoom

@@ -72,14 +72,10 @@ notes_needed scene steps = let views = watching scene.views scene.document in le
 abbrev pub bytes_needed : Scene → List Step → ℕ
 bytes_needed scene steps = bytes_of_steps (watching scene.views scene.document) steps
 
--- the same for the steps of an edit: nothing if there is none
+-- all notes that an edit needs: none if it has no step
 abbrev pub notes_for : List Step → Scene → ℕ
 notes_for [] scene = 0
 notes_for (step ∷ steps) scene = notes_needed scene (step ∷ steps)
-
-abbrev pub bytes_for : List Step → Scene → ℕ
-bytes_for [] scene = 0
-bytes_for (step ∷ steps) scene = bytes_needed scene (step ∷ steps)
 
 -- how many bytes of texts the list holds after a step, if it held so many before
 abbrev pub held_behind : Bool → Step → Scene → ℕ → ℕ
@@ -107,4 +103,4 @@ CanHoldEdit steps scene g = CanHold g (edit_made steps scene) (held_after_edit s
 abbrev pub NeedsAreEnough : Type 0
 NeedsAreEnough =
     (steps : List Step) (scene : Scene) (held : ℕ)
-    → (length (edit_made steps scene).notes ≤ length scene.notes + notes_for steps scene) × (held_after_edit steps scene held ≤ held + bytes_for steps scene)
+    → (length (edit_made steps scene).notes ≤ length scene.notes + notes_for steps scene) × (held_after_edit steps scene held ≤ held + bytes_needed scene steps)

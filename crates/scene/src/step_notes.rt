@@ -188,7 +188,8 @@ fn put_made(
     requires lines { (old_lines < 2 ^ 63) × (lines < 2 ^ 63) }
     requires named { AreNamed views.now.entries }
     requires can { CanTellStep true bits (growth old_lines lines) step document.now views.now notes.old }
-    ensures { IsStepTold true bits (growth old_lines lines) step.entry document.now views.now notes.old notes.new }
+    ensures told { IsStepTold true bits (growth old_lines lines) step.entry document.now views.now notes.old notes.new }
+    ensures rest { notes.new ≡ record notes.old { notes = notes.new.notes } }
 {
     let note = after_note(bits, old_lines, lines, step);
     tell(
@@ -217,7 +218,8 @@ pub(crate) fn tell_made(
     requires lines { (old_lines < 2 ^ 63) × (lines < 2 ^ 63) }
     requires named { AreNamed views.now.entries }
     requires can { CanTellStep hears bits (growth old_lines lines) step document.now views.now notes.old }
-    ensures { IsStepTold hears bits (growth old_lines lines) step.entry document.now views.now notes.old notes.new }
+    ensures told { IsStepTold hears bits (growth old_lines lines) step.entry document.now views.now notes.old notes.new }
+    ensures rest { notes.new ≡ record notes.old { notes = notes.new.notes } }
 {
     if hears {
         put_made(document, views, notes, bits, old_lines, lines, step);

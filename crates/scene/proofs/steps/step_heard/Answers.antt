@@ -83,7 +83,7 @@ returns-clause-scene c =
     let can = can_tell c.tell_before-hears.result c.args.bits.before c.args.bits.after c.args.bits.after grown c.args.step (text_of d) W c.tell_before-hears.new.notes
     (λ m h. h) on c.tell_before-hears.ensures.unheard c.tell_before-hears.ensures.shared fit in
     let told = heard_last earlier (heard W (after_note c.args.bits.after grown s)) c.tell_before-hears.new.notes c.tell_made.new.notes c.tell_before-hears.ensures.notes
-    ((rw (after, old_lines, lines) at c.tell_made.ensures) (text_of d) can) in
+    ((rw (after, old_lines, lines) at c.tell_made.ensures.told) (text_of d) can) in
     let M = c.movement_of.ensures (text_of d) on in
     let change = rw same at c.step-change.ensures.lines in
     let E : edits_of c.step-change.result ≡ step_edits s d = ap edits_of change in
@@ -109,40 +109,10 @@ returns-clause-watched c =
     (watched_again s d d.history c.args.views.now c.follow_change.new.views c.steps_keep_views_standing.ensures c.requires.watched views c.follow_change.ensures.named c.follow_change.ensures.next)
 
 pub returns-clause-capacity : goal.returns-clause-capacity
-returns-clause-capacity c =
-    let d = c.args.document.now.document in
-    let s = step_in c.args.step (text_of d) in
-    let on = on_text c.args.step d c.requires.fits in
-    let same = c.tell_before-hears.ensures.document in
-    let after = rw same at c.step-change.ensures.document in
-    let W = watchers d c.args.views.now in
-    let old_lines = rw same at c.line_count-old_lines.ensures.count in
-    let lines = rw after at c.line_count-lines.ensures.count in
-    let grown = growth (lines_in d) (lines_in (document_after s d)) in
-    let earlier = c.args.notes.now.notes ++ heard W (before_note c.args.bits.before s) ++ left_note c.args.is_left W in
-    let fit = last_fit earlier (heard W (after_note c.args.bits.after grown s)) c.args.notes.now c.tell_before-hears.new.notes c.tell_before-hears.ensures.notes c.tell_before-hears.ensures.capacity c.requires.notes.0 in
-    let can = can_tell c.tell_before-hears.result c.args.bits.before c.args.bits.after c.args.bits.after grown c.args.step (text_of d) W c.tell_before-hears.new.notes
-    (λ m h. h) on c.tell_before-hears.ensures.unheard c.tell_before-hears.ensures.shared fit in
-    let told = (rw (after, old_lines, lines) at c.tell_made.ensures) (text_of d) can in
-    ap (λ g. g.capacity) told ∙ c.tell_before-hears.ensures.capacity
+returns-clause-capacity c = ap (λ g. g.capacity) c.tell_made.ensures.rest ∙ c.tell_before-hears.ensures.capacity
 
 pub returns-clause-held : goal.returns-clause-held
-returns-clause-held c =
-    let d = c.args.document.now.document in
-    let s = step_in c.args.step (text_of d) in
-    let on = on_text c.args.step d c.requires.fits in
-    let same = c.tell_before-hears.ensures.document in
-    let after = rw same at c.step-change.ensures.document in
-    let W = watchers d c.args.views.now in
-    let old_lines = rw same at c.line_count-old_lines.ensures.count in
-    let lines = rw after at c.line_count-lines.ensures.count in
-    let grown = growth (lines_in d) (lines_in (document_after s d)) in
-    let earlier = c.args.notes.now.notes ++ heard W (before_note c.args.bits.before s) ++ left_note c.args.is_left W in
-    let fit = last_fit earlier (heard W (after_note c.args.bits.after grown s)) c.args.notes.now c.tell_before-hears.new.notes c.tell_before-hears.ensures.notes c.tell_before-hears.ensures.capacity c.requires.notes.0 in
-    let can = can_tell c.tell_before-hears.result c.args.bits.before c.args.bits.after c.args.bits.after grown c.args.step (text_of d) W c.tell_before-hears.new.notes
-    (λ m h. h) on c.tell_before-hears.ensures.unheard c.tell_before-hears.ensures.shared fit in
-    let told = (rw (after, old_lines, lines) at c.tell_made.ensures) (text_of d) can in
-    ap (λ g. g.held) told ∙ c.tell_before-hears.ensures.held
+returns-clause-held c = ap (λ g. g.held) c.tell_made.ensures.rest ∙ c.tell_before-hears.ensures.held
 
 pub returns-clause-fold_rooms : goal.returns-clause-fold_rooms
 returns-clause-fold_rooms c =
