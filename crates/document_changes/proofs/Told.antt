@@ -1,5 +1,5 @@
 -- The notes of changes.
-use Rattle.document_changes.proofs.Names.{◌≡◌, ℕ, true, false, List, [], ◌∷◌, ◌++◌, length, refl, ap, sym, subst, arith, ◌==◌, filter, bit_or, Option, Some, None, append-nil, length-map, eqb-true, cond_both, Notice, DocumentChange, Document, View, told, heard, range_note, performed_user, change_style, changed_range, styles_of, changed_document, change_told, range_notes, marker_count, document_row, Entries, Gathered, CanPut, is_full, KeptView, watchers, IsWatched, hearers, AreTold, IsChanged, level_notice, marker_notice, is_quiet, is_of_types, is_frequent, notes_of_change}
+use Rattle.document_changes.proofs.Names.{◌≡◌, ℕ, true, false, List, [], ◌∷◌, length, refl, ap, sym, subst, arith, ◌==◌, filter, bit_or, Option, Some, None, append-nil, eqb-true, cond_both, Notice, DocumentChange, Document, View, told, heard, range_note, performed_user, change_style, changed_range, styles_of, changed_document, change_told, range_notes, marker_count, document_row, Entries, Gathered, CanPut, is_full, KeptView, watchers, IsWatched, hearers, AreTold, IsChanged, level_notice, marker_notice, is_quiet, is_of_types, is_frequent, notes_of_change}
 use Rattle.ed_model.specs.declared.plan.DocumentChange.TheVariants as change
 use Rattle.ed_model.specs.Numbers.{meets}
 use Rattle.document_changes.proofs.Unmoved.{is_changed}

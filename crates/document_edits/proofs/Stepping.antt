@@ -1,5 +1,5 @@
 -- Steps in turn, out of the room that was made for all of them.
-use Rattle.document_edits.proofs.Names.{◌≡◌, ℕ, ◌==◌, ap, sym, ◌∙◌, true, false, List, [], ◌∷◌, ◌++◌, length, refl, subst, Bool, cond, ◌+◌, arith, ◌<◌, ◌≤◌, slice_range, ◌-◌, ◌≢◌, zero, suc, eqb-true, eqb-false, nil_from_length, Document, text_of, watching, Scene, edit_made, step_made, sealed_scene, Step, insertion, Insert, Delete, replacement, step_bytes, deletion, TextStep, History, Transaction, sealed_outside_groups, with_last_sealed, length_of_range, Gathered, Kept, HasRoom, TakesRoom, bytes_out, step_in, need_of, views_of, scene_in, IsWatched, room_of_step, room_of_steps, notes_for, bytes_needed, held_behind, CanHold, CanHoldSteps, CanHoldEdit, NeedsAreEnough, NoteCapacity, with_room, appended_collects, deletion_needs, first_room, next_room, first_held, next_held}
+use Rattle.document_edits.proofs.Names.{◌≡◌, ℕ, ◌==◌, ap, sym, ◌∙◌, true, false, List, [], ◌∷◌, ◌++◌, length, refl, subst, Bool, cond, ◌+◌, arith, ◌<◌, ◌≤◌, slice_range, ◌-◌, ◌≢◌, zero, suc, eqb-true, eqb-false, nil_from_length, Document, text_of, Scene, edit_made, step_made, sealed_scene, Step, insertion, Insert, Delete, replacement, deletion, TextStep, History, Transaction, sealed_outside_groups, with_last_sealed, length_of_range, Gathered, Kept, HasRoom, TakesRoom, bytes_out, step_in, need_of, scene_in, IsWatched, room_of_step, room_of_steps, notes_for, bytes_needed, held_behind, CanHold, CanHoldSteps, CanHoldEdit, NeedsAreEnough, with_room, appended_collects, deletion_needs, first_room, next_room, first_held, next_held}
 use Rattle.id_table.specs.Entries.{Entries, Entry}
 use Rattle.document.specs.declared.text_step.TextStep.TheVariants as lent
 use Rattle.ed_view.specs.Kept.{KeptView}

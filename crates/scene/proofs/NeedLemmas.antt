@@ -1,5 +1,5 @@
 -- The notes of steps are at most as many as the need says.
-use Rattle.scene.proofs.Names.{◌≡◌, ℕ, suc, ◌+◌, ◌<◌, ◌≤◌, Bool, true, false, cond, List, [], ◌∷◌, map, length, refl, ap, ◌∙◌, arith, ◌==◌, ◌&&◌, not, nat_lt, ℤ, Option, Some, None, filter, filter_map, option_map, cons_option, ltb-true, lt-ltb, meets, growth, is_number, Step, Insert, Delete, step_bytes, History, Change, Transaction, TextStep, at_save_point, appended, begins_transaction, joins, joins_last, with_change, reachable, sealed_outside_groups, with_last_sealed, told, heard, before_note, after_note, performed_user, View, Document, view_at, watching, lines_in, Scene, document_after, moved_view, view_after, leaving, step_made, view_after_id, hearers, before_kind, after_kind, step_kinds, user_bits, bytes_shared, user_kinds, leaving_count, notes_of_steps, bytes_of_steps, notes_needed, bytes_needed, notes_for, held_behind, held_after, held_after_edit, NeedsAreEnough, steps_made, sealed_scene, edit_made}
+use Rattle.scene.proofs.Names.{◌≡◌, ℕ, suc, ◌+◌, ◌<◌, ◌≤◌, Bool, true, false, cond, List, [], ◌∷◌, map, length, refl, ap, ◌∙◌, arith, ◌==◌, ◌&&◌, not, nat_lt, ℤ, Option, Some, None, filter, filter_map, option_map, cons_option, ltb-true, lt-ltb, meets, growth, is_number, Step, Insert, Delete, step_bytes, History, Change, Transaction, TextStep, at_save_point, appended, begins_transaction, joins, joins_last, with_change, reachable, sealed_outside_groups, with_last_sealed, told, heard, before_note, after_note, performed_user, View, Document, view_at, watching, lines_in, Scene, document_after, moved_view, view_after, leaving, step_made, view_after_id, hearers, before_kind, after_kind, step_kinds, user_bits, bytes_shared, user_kinds, leaving_count, notes_of_steps, bytes_of_steps, notes_needed, bytes_needed, held_behind, held_after, NeedsAreEnough, steps_made, sealed_scene}
 use Rattle.ed_model.specs.Notes as notes
 use Rattle.ed_model.specs.proved.Histories.{lower_save_point, other_save_point, sealed_length}
 use Rattle.scene.proofs.ToldSoFar.{length_told, length_parts}

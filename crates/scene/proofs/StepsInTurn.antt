@@ -1,5 +1,5 @@
 -- Steps in turn, from the room that was reserved for all of them.
-use Rattle.scene.proofs.Names.{zero, suc, ◌≡◌, ℕ, ◌+◌, ◌<◌, ◌≤◌, Bool, true, false, List, [], ◌∷◌, ◌++◌, length, map, take, drop, refl, ap, sym, ◌∙◌, subst, arith, slice_range, None, length-take, length-drop, LineEnd, Step, Insert, Delete, step_bytes, edited, after_steps, conversion_steps, unwanted_from, TextStep, Document, text_of, watching, Scene, step_made, steps_made, bytes_of_edited_cells, length_of_range, length_text, DocumentRoom, Kept, ChangeRoom, HasRoom, TakesRoom, no_room, AddsNoRoomBut, marker_room_in_all, bytes_out, need_of, Entries, KeptView, Gathered, IsNextMissing, IsNextUnwanted, completed, missing_in, unwanted_in, views_of, scene_in, fold_room_in_all, IsWatched, held_behind, CanHoldSteps, next_held, appended_collects, deletion_needs, next_room, AreLeft, RoomsStay, both_rooms, changes_for, freed_by_all, deletions_of, room_of_step, room_of_steps, rooms_added}
+use Rattle.scene.proofs.Names.{zero, suc, ◌≡◌, ℕ, ◌+◌, ◌<◌, ◌≤◌, Bool, true, false, List, [], ◌∷◌, ◌++◌, length, map, take, drop, refl, ap, sym, ◌∙◌, subst, arith, slice_range, None, length-take, length-drop, LineEnd, Step, Insert, Delete, edited, after_steps, conversion_steps, unwanted_from, TextStep, Document, text_of, Scene, step_made, steps_made, bytes_of_edited_cells, length_of_range, length_text, DocumentRoom, Kept, ChangeRoom, HasRoom, TakesRoom, no_room, AddsNoRoomBut, marker_room_in_all, bytes_out, need_of, Entries, KeptView, Gathered, IsNextMissing, IsNextUnwanted, completed, missing_in, unwanted_in, scene_in, fold_room_in_all, IsWatched, held_behind, next_held, appended_collects, deletion_needs, next_room, AreLeft, RoomsStay, both_rooms, changes_for, freed_by_all, deletions_of, room_of_step, room_of_steps, rooms_added}
 use Rattle.std.proofs.lemmas.List.{length-append}
 use Rattle.document.specs.declared.text_step.TextStep.TheVariants as lent
 use Rattle.scene.proofs.PerformedSoFar.{made_next, spare_next}

@@ -1,5 +1,5 @@
 -- The views that were notified of a note, and those that are still to be notified, while one after the other gets its note.
-use Rattle.scene.proofs.Names.{◌≡◌, ℕ, ◌+◌, ◌≤◌, ◌==◌, true, List, [], ◌∷◌, ◌++◌, length, refl, ap, sym, ◌∙◌, subst, arith, append_assoc, length-append, append-nil, length-map, eqb-true, Notice, with_text, Note, told, View, Gathered, NoteCapacity, CanPut, is_full, NoteText, Empty, Shared, with_note_text, with_notes}
+use Rattle.scene.proofs.Names.{◌≡◌, ℕ, ◌+◌, ◌≤◌, true, List, [], ◌∷◌, ◌++◌, length, refl, ap, sym, ◌∙◌, subst, arith, append_assoc, length-append, append-nil, length-map, eqb-true, Notice, with_text, Note, told, View, Gathered, NoteCapacity, CanPut, is_full, NoteText, Empty, Shared, with_note_text, with_notes}
 
 pub record IsToldSoFar (note : Notice) (whole rest : List View) (old now : Gathered) : Type 0 where
   pub notes : now.notes ++ told rest note ≡ old.notes ++ told whole note

@@ -6,7 +6,7 @@ use Rattle.ed_model.specs.Steps.{Step, Insert, Delete}
 use Rattle.ed_model.specs.LineEnds.{conversion_steps, missing_from, unwanted_from}
 use Rattle.ed_model.specs.History.{Change, TextStep}
 use Rattle.ed_model.specs.Session.{text_of}
-use Rattle.ed_model.specs.Performing.{Scene, edit_made, steps_made}
+use Rattle.ed_model.specs.Performing.{edit_made, steps_made}
 use Rattle.line_index.specs.RoomLaws.{lines_for_insertion, lines_for_deletion}
 use Rattle.line_ends.specs.Conversion.{IsNextMissing, IsNextUnwanted, completed, missing_in, unwanted_in}
 use Rattle.id_table.specs.Entries.{Entries}

@@ -1,7 +1,6 @@
 -- A list of notes that can hold all notes and texts of steps can hold those of the first step, and then those of the others.
-use Rattle.std.proofs.Common.{◌≡◌, ℕ, ◌+◌, ◌≤◌, Bool, true, List, [], ◌∷◌, ◌++◌, length, subst, ap, sym, ◌∙◌, arith, length-append}
+use Rattle.std.proofs.Common.{◌≡◌, ℕ, ◌≤◌, Bool, true, List, [], ◌∷◌, ◌++◌, length, subst, sym, arith, length-append}
 use Rattle.ed_types.specs.Notices.{Notice}
-use Rattle.ed_model.specs.Notes.{heard, before_note, after_note}
 use Rattle.ed_model.specs.Steps.{Step}
 use Rattle.ed_model.specs.Performing.{Scene, step_made, steps_made}
 use Rattle.notify.specs.Gathered.{Gathered, NoteCapacity}

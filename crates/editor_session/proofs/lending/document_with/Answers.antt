@@ -1,4 +1,4 @@
-use Rattle.editor_session.proofs.Names.{◌≡◌, ℕ, ◌+◌, ◌<◌, ◌≤◌, true, false, ap, ◌∙◌, arith, Some, length, Ok, Err, slice_range, nat_le, BadArgument, Session, Document, View, document_at, view_at, text_of, value_at, sym, subst, IfSome, session_in, lt-leb, le-leb}
+use Rattle.editor_session.proofs.Names.{◌≡◌, ℕ, ◌+◌, ◌<◌, ◌≤◌, ap, ◌∙◌, arith, Some, length, Ok, Err, slice_range, nat_le, BadArgument, Session, Document, View, document_at, view_at, text_of, value_at, sym, subst, IfSome, session_in, lt-leb, le-leb}
 use Rattle.editor_session.specs.Lent.{lent_range, lent_from, lent_of, lent_if}
 use Rattle.editor_session.proofs.lending.document_with.Goals as goal
 

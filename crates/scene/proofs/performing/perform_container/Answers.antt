@@ -1,4 +1,4 @@
-use Rattle.scene.proofs.Names.{◌≡◌, length, sym, ap, ◌∙◌, arith, refl, length-append, w64, to_z, of_z, ints, Notice, heard, container_note, Hearers, Empty, watchers, audience_of, with_note_text, bits_of, bits_behind}
+use Rattle.scene.proofs.Names.{◌≡◌, length, sym, ap, ◌∙◌, arith, w64, to_z, of_z, ints, Notice, container_note, Hearers, Empty, watchers, audience_of, with_note_text, bits_of, bits_behind}
 use Rattle.scene.proofs.ToldSoFar.{length_told}
 use Rattle.scene.proofs.KindLemmas.{told_as_heard}
 use Rattle.scene.proofs.ChangeNotes.{container_few, bits_more}

@@ -1,4 +1,4 @@
-use Rattle.scene.proofs.Names.{◌+◌, ◌≤◌, ◌∙◌, length, sym, subst, TextStep, appended, text_of, Scene, step_in}
+use Rattle.scene.proofs.Names.{◌≤◌, ◌∙◌, length, sym, subst, TextStep, appended, text_of, Scene, step_in}
 use Rattle.scene.specs.proved.Watched.{watched_with_history}
 use Rattle.scene.proofs.StepScenes.{made_as_heard}
 use Rattle.scene.proofs.steps.make_step.Goals as goal

@@ -1,4 +1,4 @@
-use Rattle.scene.proofs.Names.{◌++◌, ◌∙◌, ap, arith, length, length-append, text_of, heard, before_note, step_in, watchers, left_note, NoteCapacity}
+use Rattle.scene.proofs.Names.{◌∙◌, ap, arith, length, length-append, text_of, heard, before_note, step_in, watchers, left_note, NoteCapacity}
 use Rattle.scene.proofs.ToldSoFar.{heard_in_order}
 use Rattle.scene.proofs.KindLemmas.{unheard_before}
 use Rattle.scene.proofs.steps.tell_before.Goals as goal
