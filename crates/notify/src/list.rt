@@ -92,7 +92,7 @@ impl NoteList {
         let _ = &self.notes;
     }
 
-    /// Returns whether there is no room for a note: then no view listens, and no note has to be prepared.
+    /// Returns whether no more notes fit in: then no view listens, and no note has to be prepared.
     pub fn is_full(&self) -> bool
         ensures { result ≡ is_full self.now }
     {

@@ -52,6 +52,13 @@ hearers_more a b (v ∷ vs) h = go (meets v.mask a) refl (hearers_more a b vs h)
         either true = omega arith
         either false = le
 
+-- a note has at most as many hearers as kinds that it is among
+pub heard_few : (n : Notice) (kinds : ℕ) (views : List View) → ((m : ℕ) → meets m n.kind ≡ true → meets m kinds ≡ true) → length (heard views n) ≤ hearers kinds views
+heard_few n kinds views more =
+    let l = length_told (filter (λ (v : View). meets v.mask n.kind) views) n in
+    let le : hearers n.kind views ≤ hearers kinds views = hearers_more n.kind kinds views more in
+    omega arith
+
 empty_or_some : {X : Type 0} (xs : List X) (P : List X → Type 0) → P [] → (0 < length xs → P xs) → P xs
 empty_or_some [] P a b = a
 empty_or_some (x ∷ xs) P a b = b (omega arith)

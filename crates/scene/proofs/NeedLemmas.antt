@@ -3,7 +3,7 @@ use Rattle.scene.proofs.Names.{◌≡◌, ℕ, suc, ◌+◌, ◌<◌, ◌≤◌,
 use Rattle.ed_model.specs.Notes as notes
 use Rattle.ed_model.specs.proved.Histories.{lower_save_point, other_save_point, sealed_length}
 use Rattle.scene.proofs.ToldSoFar.{length_told, length_parts}
-use Rattle.scene.proofs.KindLemmas.{meets_left, meets_right, hearers_more, before_kind_is, after_kind_is}
+use Rattle.scene.proofs.KindLemmas.{meets_left, meets_right, heard_few, hearers_more, before_kind_is, after_kind_is}
 
 -- The kinds of a step are among `user_kinds`, whether it begins a transaction or not.
 
@@ -19,18 +19,10 @@ made_after : (begins : Bool) (s : Step) (m : ℕ) → meets m (after_kind (user_
 made_after begins s m h = made_more begins s m (meets_right m (after_kind (user_bits begins) s) (before_kind performed_user s) h)
 
 before_few : (s : Step) (views : List View) → length (heard views (before_note performed_user s)) ≤ hearers (user_kinds s) views
-before_few s views =
-    let n = before_note performed_user s in
-    let l = length_told (filter (λ (v : View). meets v.mask n.kind) views) n in
-    let le : hearers n.kind views ≤ hearers (user_kinds s) views = hearers_more n.kind (user_kinds s) views (λ m h. made_before s m (rw (before_kind_is performed_user s) at h)) in
-    omega arith
+before_few s views = heard_few (before_note performed_user s) (user_kinds s) views (λ m h. made_before s m (rw (before_kind_is performed_user s) at h))
 
 after_few : (begins : Bool) (lines : ℤ) (s : Step) (views : List View) → length (heard views (after_note (user_bits begins) lines s)) ≤ hearers (user_kinds s) views
-after_few begins lines s views =
-    let n = after_note (user_bits begins) lines s in
-    let l = length_told (filter (λ (v : View). meets v.mask n.kind) views) n in
-    let le : hearers n.kind views ≤ hearers (user_kinds s) views = hearers_more n.kind (user_kinds s) views (λ m h. made_after begins s m (rw (after_kind_is (user_bits begins) lines s) at h)) in
-    omega arith
+after_few begins lines s views = heard_few (after_note (user_bits begins) lines s) (user_kinds s) views (λ m h. made_after begins s m (rw (after_kind_is (user_bits begins) lines s) at h))
 
 -- The views that watch after a step are those that watched before, with the same masks.
 
