@@ -20,9 +20,10 @@ pub use Rattle.ed_types.specs.Heard.{with_text}
 pub use Rattle.ed_types.specs.Notices.{Notice}
 pub use Rattle.ed_view.specs.Kept.{KeptView}
 pub use Rattle.id_table.specs.Entries.{Entries}
-pub use Rattle.notify.specs.Gathered.{Gathered}
+pub use Rattle.notify.specs.Gathered.{Gathered, CanPut, is_full}
 pub use Rattle.scene.specs.Hearing.{hearers}
 pub use Rattle.scene.specs.Scenes.{watchers, IsWatched, views_of, StandsIfOn}
 pub use Rattle.document_changes.specs.Changed.{AreTold, IsChanged}
+pub use Rattle.scene.specs.Telling.{with_notes}
 pub use Rattle.document_changes.specs.Lines.{marker_notice, level_notice}
 pub use Rattle.document_changes.specs.Needs.{is_quiet, is_of_types, is_frequent, notes_of_change}

@@ -1,46 +1,37 @@
 -- The notes of changes.
-use Rattle.document_changes.proofs.Names.{◌≡◌, ℕ, ◌-◌, ◌<◌, ◌≤◌, true, false, List, [], ◌∷◌, ◌++◌, length, refl, ap, sym, subst, arith, ◌==◌, filter, bit_or, Option, Some, None, append-nil, length-map, eqb-true, cond_both, Notice, DocumentChange, Document, View, told, heard, range_note, performed_user, change_style, changed_range, styles_of, changed_document, change_told, range_notes, marker_count, document_row, Entries, Gathered, KeptView, watchers, IsWatched, hearers, AreTold, IsChanged, level_notice, marker_notice, is_quiet, is_of_types, is_frequent, notes_of_change}
+use Rattle.document_changes.proofs.Names.{◌≡◌, ℕ, true, false, List, [], ◌∷◌, length, refl, ap, sym, subst, arith, ◌==◌, filter, bit_or, Option, Some, None, append-nil, eqb-true, cond_both, Notice, DocumentChange, Document, View, told, heard, range_note, performed_user, change_style, changed_range, styles_of, changed_document, change_told, range_notes, marker_count, document_row, Entries, Gathered, CanPut, is_full, KeptView, watchers, IsWatched, hearers, AreTold, IsChanged, level_notice, marker_notice, is_quiet, is_of_types, is_frequent, notes_of_change}
 use Rattle.ed_model.specs.declared.plan.DocumentChange.TheVariants as change
 use Rattle.ed_model.specs.Numbers.{meets}
 use Rattle.document_changes.proofs.Unmoved.{is_changed}
 
 -- a change without notes
 pub told_nothing : (notes : Gathered) → AreTold [] notes notes
-told_nothing notes = record { notes = sym (append-nil notes.notes); note_room = omega arith; text_room = refl }
+told_nothing notes = ap (λ ns. record notes { notes = ns }) (sym (append-nil notes.notes))
 
 none_of : (views : List View) → length views ≡ 0 → views ≡ []
 none_of [] h = refl
 none_of (v ∷ views) h = absurd (omega arith)
 
--- no view hears a note if there is no room for one
-pub told_nobody : (views : List View) (n : Notice) (notes : Gathered) → hearers n.kind views ≤ notes.note_room → (notes.note_room == 0) ≡ true → AreTold (heard views n) notes notes
+-- no view hears a note if no more notes fit in
+pub told_nobody : (views : List View) (n : Notice) (notes : Gathered) → CanPut (hearers n.kind views) notes → is_full notes ≡ true → AreTold (heard views n) notes notes
 told_nobody views n notes room full =
-    let none : notes.note_room ≡ 0 = eqb-true notes.note_room 0 full in
-    let nobody : filter (λ (v : View). meets v.mask n.kind) views ≡ [] = none_of (filter (λ (v : View). meets v.mask n.kind) views) (omega (arith, room, none)) in
+    let none = eqb-true (length notes.notes) notes.capacity.notes full in
+    let nobody : filter (λ (v : View). meets v.mask n.kind) views ≡ [] = none_of (filter (λ (v : View). meets v.mask n.kind) views) (omega arith) in
     subst (λ (vs : List View). AreTold (told vs n) notes notes) (sym nobody) (told_nothing notes)
 
 -- the same for a note of a range
-pub told_no_range : (bits : ℕ) (changed : Option (ℕ × ℕ)) (views : List View) (notes : Gathered) → hearers (bit_or bits performed_user) views ≤ notes.note_room → (notes.note_room == 0) ≡ true
+pub told_no_range : (bits : ℕ) (changed : Option (ℕ × ℕ)) (views : List View) (notes : Gathered) → CanPut (hearers (bit_or bits performed_user) views) notes → is_full notes ≡ true
     → AreTold (range_notes bits changed views) notes notes
 told_no_range bits None views notes room full = told_nothing notes
 told_no_range bits (Some range) views notes room full = told_nobody views (range_note (bit_or bits performed_user) range.0 range.1) notes room full
 
--- a note for each of some views
-pub told_each : (views : List View) (n : Notice) (old new : Gathered)
-    → new ≡ record old { notes = old.notes ++ told views n; note_room = old.note_room - length views } → length views ≤ old.note_room → AreTold (told views n) old new
-told_each views n old new e le =
-    let l : length (told views n) ≡ length views = length-map views (λ (v : View). record n { view = v.id }) in
-    rw e (record { notes = refl; note_room = omega arith; text_room = refl })
-
--- the same, for an equal note
-pub told_as : (views : List View) (n m : Notice) (old new : Gathered)
-    → new ≡ record old { notes = old.notes ++ told views n; note_room = old.note_room - length views } → length views ≤ old.note_room → n ≡ m → AreTold (told views m) old new
-told_as views n m old new e le same = subst (λ (x : Notice). AreTold (told views x) old new) same (told_each views n old new e le)
+-- a note for each of some views, for an equal note
+pub told_as : (views : List View) (n m : Notice) (old new : Gathered) → AreTold (told views n) old new → n ≡ m → AreTold (told views m) old new
+told_as views n m old new e same = subst (λ (x : Notice). AreTold (told views x) old new) same e
 
 -- one note, for one view
-pub told_one : (x n : Notice) (old new : Gathered) → new ≡ record old { notes = old.notes ++ x ∷ []; note_room = old.note_room - 1 } → 0 < old.note_room → x ≡ n
-    → AreTold (n ∷ []) old new
-told_one x n old new e le same = rw e (record { notes = ap (λ (y : Notice). old.notes ++ y ∷ []) same; note_room = omega arith; text_room = refl })
+pub told_one : (x n : Notice) (old new : Gathered) → AreTold (x ∷ []) old new → x ≡ n → AreTold (n ∷ []) old new
+told_one x n old new e same = subst (λ (y : Notice). AreTold (y ∷ []) old new) same e
 
 -- a quiet change has no notes
 pub quiet_told : (v : View) (views : List View) (old new : Document) (what : DocumentChange) → is_quiet what ≡ true → change_told v views old new what ≡ []

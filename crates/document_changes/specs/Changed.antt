@@ -1,5 +1,5 @@
 -- The effect of a change on a document, its views and the notes.
-use Rattle.std.specs.Prelude.{◌≡◌, ◌+◌, ◌++◌, ℕ, List, length, map, bit_or, Option}
+use Rattle.std.specs.Prelude.{◌≡◌, ℕ, List, length, map, bit_or, Option}
 use Rattle.std.specs.List.{AllByRecursion}
 use Rattle.ed_types.specs.declared.reply.Note.{Note}
 use Rattle.ed_types.specs.Heard.{with_text}
@@ -13,6 +13,7 @@ use Rattle.document.specs.Kept.{Kept}
 use Rattle.id_table.specs.Entries.{Entries, id_of}
 use Rattle.notify.specs.Gathered.{Gathered}
 use Rattle.ed_view.specs.Kept.{KeptView}
+use Rattle.scene.specs.Telling.{with_notes}
 use Rattle.scene.specs.Scenes.{views_of, watchers, fold_room_in_all, IsWatched}
 
 -- each indicator has a value for each byte of the text
@@ -24,10 +25,8 @@ abbrev pub IsNoteOf : Note → Notice → Type 0
 IsNoteOf note notice = (text : List ℕ) → with_text note text ≡ record notice { text = text }
 
 -- these notes were appended, and no text was shared for them
-pub record AreTold (told : List Notice) (old new : Gathered) : Type 0 where
-  pub notes : new.notes ≡ old.notes ++ told
-  pub note_room : new.note_room + length told ≡ old.note_room
-  pub text_room : new.text_room ≡ old.text_room
+abbrev pub AreTold : List Notice → Gathered → Gathered → Type 0
+AreTold told old new = new ≡ with_notes told old
 
 -- each view that watches the document and hears the note was notified by it
 abbrev pub HearersAreTold : Kept → Entries KeptView → Notice → Gathered → Gathered → Type 0
@@ -45,7 +44,7 @@ FlagsFollow what d views views' = views_of views'.entries ≡ map (changed_lines
 -- the notes of the change were appended; `sender` is the id of the sending view
 abbrev pub NotesAreAppended : ℕ → DocumentChange → Kept → Kept → Entries KeptView → Gathered → Gathered → Type 0
 NotesAreAppended sender what old new views notes notes' =
-    (v : View) → v.id ≡ sender → notes'.notes ≡ notes.notes ++ change_told v (watchers old.document views) old.document new.document what
+    (v : View) → v.id ≡ sender → AreTold (change_told v (watchers old.document views) old.document new.document what) notes notes'
 
 -- the change was made, with its notes; `sender` is the id of the sending view
 pub record IsChanged (text : List ℕ) (what : DocumentChange) (sender : ℕ) (old new : Document) (views views' : Entries KeptView) (notes notes' : Gathered) : Type 0 where

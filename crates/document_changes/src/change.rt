@@ -3,8 +3,8 @@
 ghost use Rattle.std.specs.Prelude.{◌≡◌, ◌≤◌, map, length};
 ghost use Rattle.ed_model.specs.Changes.{changed_document};
 ghost use Rattle.id_table.specs.Entries.{id_of};
+ghost use Rattle.notify.specs.Gathered.{CanPut};
 ghost use Rattle.scene.specs.Scenes.{fold_room_in_all, IsWatched};
-ghost use Rattle.scene.specs.Telling.{note_room_in_all};
 ghost use Rattle.document_changes.specs.Changed.{Changes, FlagsFollow, NotesAreAppended};
 ghost use Rattle.document_changes.specs.Fit.{IsFitChange, bytes_read};
 ghost use Rattle.document_changes.specs.Needs.{IsReady, change_note_need};
@@ -40,7 +40,7 @@ fn perform(
     requires text { bytes_read change ≤ length text.now }
     requires ready { IsReady document.old change edits.now }
     requires watched { IsWatched document.old.document views.old }
-    requires room { change_note_need change document.old views.old ≤ notes.old.note_room }
+    requires room { CanPut (change_note_need change document.old views.old) notes.old }
     ensures changed { Changes text.now change sender document.old document.new views.old views.new notes.old notes.new }
     ensures room { LeavesRoom change document.old document.new }
 {
@@ -105,12 +105,10 @@ pub fn change_document(
     requires text { bytes_read change ≤ length text.now }
     requires ready { IsReady document.old change ready }
     requires watched { IsWatched document.old.document views.old }
-    requires room { change_note_need change document.old views.old ≤ notes.old.note_room }
+    requires room { CanPut (change_note_need change document.old views.old) notes.old }
     ensures document { document.new.document ≡ changed_document text.now change document.old.document }
     ensures views { FlagsFollow change document.old.document views.old views.new }
     ensures notes { NotesAreAppended sender change document.old document.new views.old notes.old notes.new }
-    ensures note_room_left { note_room_in_all notes.new ≡ note_room_in_all notes.old }
-    ensures text_room { notes.new.text_room ≡ notes.old.text_room }
     ensures watched { IsWatched document.new.document views.new }
     ensures ids { map id_of views.new.entries ≡ map id_of views.old.entries }
     ensures next { views.new.next ≡ views.old.next }

@@ -5,6 +5,7 @@ ghost use Rattle.ed_model.specs.declared.plan.DocumentChange.TheVariants.{SetSav
 ghost use Rattle.ed_model.specs.Changes.{changed_document};
 ghost use Rattle.document.specs.Kept.{HasHistoryRoom};
 ghost use Rattle.document.specs.Changes.{container_need};
+ghost use Rattle.notify.specs.Gathered.{CanPut};
 ghost use Rattle.scene.specs.Scenes.{watchers, IsWatched};
 ghost use Rattle.document_changes.specs.Changed.{IsMade, IsMadeForAnyViews};
 ghost use Rattle.document_changes.specs.Fit.{IsFitChange};
@@ -55,7 +56,7 @@ pub(crate) fn change_without_notes(document: &mut Document, change: DocumentChan
 #[inline(never)]
 pub(crate) fn set_save_point(document: &mut Document, views: &IdTable<View>, notes: &mut NoteList)
     requires watched { IsWatched document.old.document views.now }
-    requires room { length (watchers document.old.document views.now) ≤ notes.old.note_room }
+    requires room { CanPut (length (watchers document.old.document views.now)) notes.old }
     ensures changed { IsMade SetSavePoint document.old document.new views.now notes.old notes.new }
     ensures room { LeavesRoom SetSavePoint document.old document.new }
 {
@@ -75,7 +76,7 @@ pub(crate) fn append_container(
 )
     requires ready { HasHistoryRoom document.old container_need }
     requires watched { IsWatched document.old.document views.now }
-    requires room { change_note_need (AppendContainer token coalesce) document.old views.now ≤ notes.old.note_room }
+    requires room { CanPut (change_note_need (AppendContainer token coalesce) document.old views.now) notes.old }
     ensures changed { IsMade (AppendContainer token coalesce) document.old document.new views.now notes.old notes.new }
     ensures room { LeavesRoom (AppendContainer token coalesce) document.old document.new }
 {

@@ -5,6 +5,7 @@ ghost use Rattle.ed_model.specs.declared.plan.DocumentChange.TheVariants as chan
 ghost use Rattle.ed_model.specs.LinePlans.{numbers_in};
 ghost use Rattle.ed_model.specs.Notes.{change_marker};
 ghost use Rattle.ed_model.specs.Session.{lines_in};
+ghost use Rattle.notify.specs.Gathered.{CanPut};
 ghost use Rattle.scene.specs.Scenes.{watchers, AreNamed, IsWatched};
 ghost use Rattle.scene.specs.Hearing.{hearers};
 ghost use Rattle.document_changes.specs.Changed.{HearersAreTold, IsMade};
@@ -27,7 +28,7 @@ use scene::document_is_small;
 fn tell_start(document: &Document, views: &IdTable<View>, notes: &mut NoteList, line: usize)
     requires line { line < lines_in document.now.document }
     requires named { AreNamed views.now.entries }
-    requires room { hearers change_marker (watchers document.now.document views.now) ≤ notes.old.note_room }
+    requires room { CanPut (hearers change_marker (watchers document.now.document views.now)) notes.old }
     ensures { HearersAreTold document.now views.now (marker_notice document.now.document line) notes.old notes.new }
 {
     document_is_small(document);
@@ -41,7 +42,7 @@ fn tell_start(document: &Document, views: &IdTable<View>, notes: &mut NoteList, 
 fn tell_markers(document: &Document, views: &IdTable<View>, notes: &mut NoteList, line: usize)
     requires line { line < lines_in document.now.document }
     requires named { AreNamed views.now.entries }
-    requires room { hearers change_marker (watchers document.now.document views.now) ≤ notes.old.note_room }
+    requires room { CanPut (hearers change_marker (watchers document.now.document views.now)) notes.old }
     ensures { HearersAreTold document.now views.now (marker_notice document.now.document line) notes.old notes.new }
 {
     if notes.is_full() {
@@ -64,7 +65,7 @@ pub(crate) fn add_marker(
     requires handles { document.old.document.next_handle + 1 < 2 ^ 32 }
     requires ready { 0 < document.old.spare.markers }
     requires watched { IsWatched document.old.document views.now }
-    requires room { hearers change_marker (watchers document.old.document views.now) ≤ notes.old.note_room }
+    requires room { CanPut (hearers change_marker (watchers document.old.document views.now)) notes.old }
     ensures changed { IsMade (change.AddMarker line number) document.old document.new views.now notes.old notes.new }
     ensures room { LeavesRoom (change.AddMarker line number) document.old document.new }
 {
@@ -87,7 +88,7 @@ pub(crate) fn add_markers(
     requires handles { document.old.document.next_handle + length (numbers_in mask) < 2 ^ 32 }
     requires ready { HasMaskRoom document.old mask }
     requires watched { IsWatched document.old.document views.now }
-    requires room { hearers change_marker (watchers document.old.document views.now) ≤ notes.old.note_room }
+    requires room { CanPut (hearers change_marker (watchers document.old.document views.now)) notes.old }
     ensures changed { IsMade (change.AddMarkers line mask) document.old document.new views.now notes.old notes.new }
     ensures room { LeavesRoom (change.AddMarkers line mask) document.old document.new }
 {
@@ -110,7 +111,7 @@ pub(crate) fn delete_marker(
 )
     requires line { line < lines_in document.old.document }
     requires watched { IsWatched document.old.document views.now }
-    requires room { hearers change_marker (watchers document.old.document views.now) ≤ notes.old.note_room }
+    requires room { CanPut (hearers change_marker (watchers document.old.document views.now)) notes.old }
     ensures changed { IsMade (change.DeleteMarker line number) document.old document.new views.now notes.old notes.new }
     ensures room { LeavesRoom (change.DeleteMarker line number) document.old document.new }
 {
@@ -129,7 +130,7 @@ pub(crate) fn delete_markers(
     number: Option<u32>,
 )
     requires watched { IsWatched document.old.document views.now }
-    requires room { hearers change_marker (watchers document.old.document views.now) ≤ notes.old.note_room }
+    requires room { CanPut (hearers change_marker (watchers document.old.document views.now)) notes.old }
     ensures changed { IsMade (change.DeleteMarkers number) document.old document.new views.now notes.old notes.new }
     ensures room { LeavesRoom (change.DeleteMarkers number) document.old document.new }
 {
@@ -150,7 +151,7 @@ pub(crate) fn delete_handle(
 )
     requires handle { handle < document.old.document.next_handle }
     requires watched { IsWatched document.old.document views.now }
-    requires room { hearers change_marker (watchers document.old.document views.now) ≤ notes.old.note_room }
+    requires room { CanPut (hearers change_marker (watchers document.old.document views.now)) notes.old }
     ensures changed { IsMade (change.DeleteHandle handle) document.old document.new views.now notes.old notes.new }
     ensures room { LeavesRoom (change.DeleteHandle handle) document.old document.new }
 {

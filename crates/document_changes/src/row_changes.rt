@@ -5,6 +5,7 @@ ghost use Rattle.ed_model.specs.declared.plan.DocumentChange.TheVariants as chan
 ghost use Rattle.ed_model.specs.Changes.{line_note as note_of_line};
 ghost use Rattle.ed_model.specs.Notes.{change_fold, change_line_state};
 ghost use Rattle.ed_model.specs.Session.{lines_in};
+ghost use Rattle.notify.specs.Gathered.{CanPut};
 ghost use Rattle.scene.specs.Scenes.{watchers, AreNamed, IsWatched};
 ghost use Rattle.scene.specs.Hearing.{hearers};
 ghost use Rattle.document_changes.specs.Changed.{HearersAreTold, IsMade};
@@ -32,7 +33,7 @@ fn tell_level(
 )
     requires line { line < 2 ^ 63 }
     requires named { AreNamed views.now.entries }
-    requires room { hearers change_fold (watchers document.now.document views.now) ≤ notes.old.note_room }
+    requires room { CanPut (hearers change_fold (watchers document.now.document views.now)) notes.old }
     ensures { HearersAreTold document.now views.now (level_notice line level before) notes.old notes.new }
 {
     let mut note = line_note(CHANGE_FOLD, line);
@@ -53,7 +54,7 @@ pub(crate) fn set_level(
     requires line { line < lines_in document.old.document }
     requires ready { line < document.old.spare.levels }
     requires watched { IsWatched document.old.document views.now }
-    requires room { hearers change_fold (watchers document.old.document views.now) ≤ notes.old.note_room }
+    requires room { CanPut (hearers change_fold (watchers document.old.document views.now)) notes.old }
     ensures changed { IsMade (change.SetLevel line level) document.old document.new views.now notes.old notes.new }
     ensures room { LeavesRoom (change.SetLevel line level) document.old document.new }
 {
@@ -81,7 +82,7 @@ fn narrowed(state: i64) -> i32
 fn tell_state(document: &Document, views: &IdTable<View>, notes: &mut NoteList, line: usize)
     requires line { line < 2 ^ 63 }
     requires named { AreNamed views.now.entries }
-    requires room { hearers change_line_state (watchers document.now.document views.now) ≤ notes.old.note_room }
+    requires room { CanPut (hearers change_line_state (watchers document.now.document views.now)) notes.old }
     ensures { HearersAreTold document.now views.now (note_of_line change_line_state line) notes.old notes.new }
 {
     let note = line_note(CHANGE_LINE_STATE, line);
@@ -101,7 +102,7 @@ pub(crate) fn set_state(
     requires state { (int_le (negsuc (2 ^ 31 - 1)) state ≡ true) × (int_le state (pos (2 ^ 31 - 1)) ≡ true) }
     requires ready { line < document.old.spare.states }
     requires watched { IsWatched document.old.document views.now }
-    requires room { hearers change_line_state (watchers document.old.document views.now) ≤ notes.old.note_room }
+    requires room { CanPut (hearers change_line_state (watchers document.old.document views.now)) notes.old }
     ensures changed { IsMade (change.SetState line state) document.old document.new views.now notes.old notes.new }
     ensures room { LeavesRoom (change.SetState line state) document.old document.new }
 {

@@ -3,6 +3,7 @@
 ghost use Rattle.std.specs.Prelude.{◌≡◌, ◌≤◌, ◌<◌, ◌+◌, ◌^◌, length, IfSome, Some};
 ghost use Rattle.ed_model.specs.declared.plan.DocumentChange.TheVariants.{StyleRun, StyleBytes, NeedStyle, FillIndicator};
 ghost use Rattle.document.specs.Changes.{CanStyle};
+ghost use Rattle.notify.specs.Gathered.{CanPut};
 ghost use Rattle.scene.specs.Scenes.{watchers, AreNamed, IsWatched};
 ghost use Rattle.scene.specs.Hearing.{hearers};
 ghost use Rattle.document_changes.specs.Changed.{IsFilled, IsMade, IsMadeBy, IsMadeWith, RangeIsTold};
@@ -29,7 +30,7 @@ fn tell_changed(
 )
     requires small { IfSome changed (λ range. (range.0 < 2 ^ 63) × (range.1 < 2 ^ 63)) }
     requires named { AreNamed views.now.entries }
-    requires room { hearers kind (watchers document.now.document views.now) ≤ notes.old.note_room }
+    requires room { CanPut (hearers kind (watchers document.now.document views.now)) notes.old }
     ensures { RangeIsTold kind changed document.now views.now notes.old notes.new }
 {
     if let Some((start, count)) = changed {
@@ -49,7 +50,7 @@ fn tell_range(
 )
     requires small { IfSome changed (λ range. (range.0 < 2 ^ 63) × (range.1 < 2 ^ 63)) }
     requires named { AreNamed views.now.entries }
-    requires room { hearers kind (watchers document.now.document views.now) ≤ notes.old.note_room }
+    requires room { CanPut (hearers kind (watchers document.now.document views.now)) notes.old }
     ensures { RangeIsTold kind changed document.now views.now notes.old notes.new }
 {
     if notes.is_full() {
@@ -72,7 +73,7 @@ pub(crate) fn style_run(
     requires style { style ≤ 255 }
     requires ready { CanStyle document.old }
     requires watched { IsWatched document.old.document views.now }
-    requires room { hearers style_kind (watchers document.old.document views.now) ≤ notes.old.note_room }
+    requires room { CanPut (hearers style_kind (watchers document.old.document views.now)) notes.old }
     ensures changed { IsMade (StyleRun count style) document.old document.new views.now notes.old notes.new }
     ensures room { LeavesRoom (StyleRun count style) document.old document.new }
 {
@@ -93,7 +94,7 @@ pub(crate) fn style_bytes(
     requires text { count ≤ length text.now }
     requires ready { CanStyle document.old }
     requires watched { IsWatched document.old.document views.now }
-    requires room { hearers style_kind (watchers document.old.document views.now) ≤ notes.old.note_room }
+    requires room { CanPut (hearers style_kind (watchers document.old.document views.now)) notes.old }
     ensures changed { IsMadeWith text.now (StyleBytes count) document.old document.new views.now notes.old notes.new }
     ensures room { LeavesRoom (StyleBytes count) document.old document.new }
 {
@@ -114,7 +115,7 @@ pub(crate) fn need_style(
 )
     requires end { end ≤ length document.old.document.cells }
     requires watched { IsWatched document.old.document views.now }
-    requires room { 1 ≤ notes.old.note_room }
+    requires room { CanPut 1 notes.old }
     ensures changed { IsMadeBy sender (NeedStyle start end) document.old document.new views.now notes.old notes.new }
     ensures room { LeavesRoom (NeedStyle start end) document.old document.new }
 {
@@ -138,7 +139,7 @@ pub(crate) fn fill_indicator(
     requires within { start + count ≤ length document.old.document.cells }
     requires ready { document.old.spare.fill ≡ Some indicator }
     requires watched { IsWatched document.old.document views.now }
-    requires room { hearers indicator_kind (watchers document.old.document views.now) ≤ notes.old.note_room }
+    requires room { CanPut (hearers indicator_kind (watchers document.old.document views.now)) notes.old }
     ensures changed { IsFilled indicator start count value document.old document.new views.now notes.old notes.new }
     ensures room { LeavesRoom (FillIndicator indicator start count value) document.old document.new }
 {

@@ -5,6 +5,7 @@ ghost use Rattle.ed_types.specs.Heard.{with_text};
 ghost use Rattle.ed_model.specs.Session.{View as ModelView};
 ghost use Rattle.ed_model.specs.Notes.{told, blank as blank_note, change_note as note_of_change, range_note as note_of_range};
 ghost use Rattle.ed_model.specs.Changes.{line_note as note_of_line};
+ghost use Rattle.notify.specs.Gathered.{CanPut};
 ghost use Rattle.scene.specs.Scenes.{watchers, AreNamed};
 ghost use Rattle.scene.specs.Hearing.{hearers};
 ghost use Rattle.document_changes.specs.Changed.{AreTold, HearersAreTold, IsNoteOf};
@@ -58,7 +59,7 @@ pub(crate) fn range_note(kind: u32, start: usize, count: usize) -> Note
     note
 }
 
-/// Notifies the views that watch the document and hear notes of this kind. There must be room for as many.
+/// Notifies the views that watch the document and hear notes of this kind. As many must fit in.
 pub(crate) fn tell_heard(
     document: &Document,
     views: &IdTable<View>,
@@ -66,7 +67,7 @@ pub(crate) fn tell_heard(
     note: &Note,
 )
     requires named { AreNamed views.now.entries }
-    requires room { hearers note.now.kind (watchers document.now.document views.now) ≤ notes.old.note_room }
+    requires room { CanPut (hearers note.now.kind (watchers document.now.document views.now)) notes.old }
     ensures { HearersAreTold document.now views.now (with_text note.entry.now []) notes.old notes.new }
 {
     tell(
@@ -79,10 +80,10 @@ pub(crate) fn tell_heard(
     );
 }
 
-/// Notifies each view that watches the document by a note of this code. There must be room for as many.
+/// Notifies each view that watches the document by a note of this code. As many must fit in.
 pub(crate) fn tell_all(document: &Document, views: &IdTable<View>, notes: &mut NoteList, code: u32)
     requires named { AreNamed views.now.entries }
-    requires room { length (watchers document.now.document views.now) ≤ notes.old.note_room }
+    requires room { CanPut (length (watchers document.now.document views.now)) notes.old }
     ensures { AreTold (told (watchers document.now.document views.now) (blank_note code)) notes.old notes.new }
 {
     let note = blank(code);
@@ -96,11 +97,11 @@ pub(crate) fn tell_all(document: &Document, views: &IdTable<View>, notes: &mut N
     );
 }
 
-/// Asks the sending view alone to style the text up to `end`, in bytes from 0 (`SCN_STYLENEEDED`). There must be room
-/// for the note.
+/// Asks the sending view alone to style the text up to `end`, in bytes from 0 (`SCN_STYLENEEDED`). The note
+/// must fit in.
 pub(crate) fn tell_style_needed(notes: &mut NoteList, sender: u32, end: usize)
     requires end { end < 2 ^ 63 }
-    requires room { 0 < notes.old.note_room }
+    requires room { CanPut 1 notes.old }
     ensures { (v : ModelView) → v.id ≡ sender → AreTold (told (v ∷ []) (style_notice end)) notes.old notes.new }
 {
     let mut note = blank(STYLE_NEEDED);

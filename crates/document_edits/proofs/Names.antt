@@ -11,12 +11,13 @@ pub use Rattle.ed_model.specs.Session.{watching, Document, text_of, is_large}
 pub use Rattle.ed_model.specs.Steps.{Step, Insert, Delete, insertion, replacement, step_bytes, deletion}
 pub use Rattle.ed_model.specs.proved.Scenes.{edit_made_id}
 pub use Rattle.ed_model.specs.proved.Steps.{length_of_range}
-pub use Rattle.notify.specs.Gathered.{Gathered, gathered}
-pub use Rattle.scene.specs.Conversion.{room_of_step, room_of_steps, free_behind, notes_for, bytes_for}
-pub use Rattle.scene.specs.Needs.{note_room, notes_of_step, bytes_of_step, leaving_count, notes_needed, bytes_needed, NotesAreEnough, BytesAreEnough, SealingNeedsTheSame}
+pub use Rattle.notify.specs.Gathered.{Gathered, NoteCapacity, CanPut, no_notes, with_room}
+pub use Rattle.scene.specs.Conversion.{room_of_step, room_of_steps, free_behind}
+pub use Rattle.scene.specs.Needs.{note_room, notes_of_step, bytes_of_step, leaving_count, notes_for, bytes_needed, held_behind, CanHoldSteps, CanHoldEdit, NeedsAreEnough}
+pub use Rattle.scene.specs.Telling.{CanHold}
 pub use Rattle.scene.specs.Scenes.{views_of, scene_in, IsWatched}
 pub use Rattle.scene.specs.Undoing.{capped, capped_room, bits_of, room_of_changes}
 pub use Rattle.scene.specs.declared.need.SceneNeed.{SceneNeed}
-pub use Rattle.scene.specs.proved.Enough.{first_notes, next_notes, first_bytes, next_bytes}
+pub use Rattle.scene.specs.proved.Enough.{first_held, next_held}
 pub use Rattle.scene.specs.proved.Rooms.{same_room, appended_collects, deletion_needs, first_room, next_room}
 pub use Rattle.document_edits.specs.Needs.{no_need, need_sum, IsAtLeast, NeedsSteps}

@@ -1,9 +1,8 @@
 -- Steps in turn, out of the room that was made for all of them.
-use Rattle.document_edits.proofs.Names.{◌≡◌, ℕ, ◌==◌, ap, sym, ◌∙◌, true, false, List, [], ◌∷◌, ◌++◌, length, refl, subst, Bool, cond, ◌+◌, arith, ◌<◌, ◌≤◌, slice_range, ◌-◌, ◌≢◌, zero, suc, eqb-true, eqb-false, nil_from_length, Document, text_of, watching, Scene, edit_made, step_made, sealed_scene, Step, insertion, Insert, Delete, replacement, step_bytes, deletion, TextStep, History, Transaction, sealed_outside_groups, with_last_sealed, length_of_range, Gathered, Kept, HasRoom, TakesRoom, bytes_out, step_in, need_of, views_of, scene_in, IsWatched, room_of_step, room_of_steps, notes_for, bytes_for, notes_needed, bytes_needed, NotesAreEnough, BytesAreEnough, SealingNeedsTheSame, appended_collects, deletion_needs, first_room, next_room, first_notes, next_notes, first_bytes, next_bytes}
-use Rattle.id_table.specs.Entries.{Entries}
+use Rattle.document_edits.proofs.Names.{◌≡◌, ℕ, ◌==◌, ap, sym, ◌∙◌, true, false, List, [], ◌∷◌, ◌++◌, length, refl, subst, Bool, cond, ◌+◌, arith, ◌<◌, ◌≤◌, slice_range, ◌-◌, ◌≢◌, zero, suc, eqb-true, eqb-false, nil_from_length, Document, text_of, Scene, edit_made, step_made, sealed_scene, Step, insertion, Insert, Delete, replacement, deletion, TextStep, History, Transaction, sealed_outside_groups, with_last_sealed, length_of_range, Gathered, Kept, HasRoom, TakesRoom, bytes_out, step_in, need_of, scene_in, IsWatched, room_of_step, room_of_steps, notes_for, bytes_needed, held_behind, CanHold, CanHoldSteps, CanHoldEdit, NeedsAreEnough, with_room, appended_collects, deletion_needs, first_room, next_room, first_held, next_held}
+use Rattle.id_table.specs.Entries.{Entries, Entry}
 use Rattle.document.specs.declared.text_step.TextStep.TheVariants as lent
 use Rattle.ed_view.specs.Kept.{KeptView}
-use Rattle.scene.specs.Hearing.{bytes_shared, made_kinds}
 use Rattle.scene.specs.proved.Watched.{watched_with_history}
 
 -- The steps of a replacement.
@@ -74,48 +73,33 @@ module _ (start count : ℕ) (bytes : List ℕ) (k k1 : Kept) (views : Entries K
   pub are_two : replacement start count bytes (text_of k.document) ≡ gone ∷ come ∷ []
   are_two = deletes_some k.document start count range some.0 bytes ∙ ap (λ ss. gone ∷ ss) (inserts_some start bytes (λ e. omega (arith, e, some.1)))
 
-  pub notes_sealed : SealingNeedsTheSame → notes_for (replacement start count bytes (text_of k.document)) at_first ≤ notes.note_room → notes_needed (sealed_scene at_first) (gone ∷ come ∷ []) ≤ notes.note_room
-  notes_sealed law h = subst (λ n. n ≤ notes.note_room) (sym (law (gone ∷ come ∷ []) at_first).0) (subst (λ ss. notes_for ss at_first ≤ notes.note_room) are_two h)
-
-  pub bytes_sealed : SealingNeedsTheSame → bytes_for (replacement start count bytes (text_of k.document)) at_first ≤ notes.text_room → bytes_needed (sealed_scene at_first) (gone ∷ come ∷ []) ≤ notes.text_room
-  bytes_sealed law h = subst (λ n. n ≤ notes.text_room) (sym (law (gone ∷ come ∷ []) at_first).1) (subst (λ ss. bytes_for ss at_first ≤ notes.text_room) are_two h)
-
   -- the scene after the deletion
   pub scene_between : (between : Scene) → between ≡ step_made false (step_in (lent.Delete start count) (text_of k1.document)) (scene_in k1.document views.entries notes.notes) → between ≡ step_made false gone (sealed_scene at_first)
   scene_between between e = subst (λ x. between ≡ step_made false (step_in (lent.Delete start count) (text_of x.document)) (scene_in x.document views.entries notes.notes)) sealed e
 
-  pub first_of_two_notes : NotesAreEnough → SealingNeedsTheSame → notes_for (replacement start count bytes (text_of k.document)) at_first ≤ notes.note_room
-      → length (step_made false (step_in (lent.Delete start count) (text_of k1.document)) (scene_in k1.document views.entries notes.notes)).notes ≤ length notes.notes + notes.note_room
-  first_of_two_notes law same h =
-      subst (λ x. length (step_made false (step_in (lent.Delete start count) (text_of x.document)) (scene_in x.document views.entries notes.notes)).notes ≤ length notes.notes + notes.note_room) (sym sealed)
-      (first_notes law false gone (come ∷ []) (sealed_scene at_first) notes.note_room (notes_sealed same h))
+  -- the list of notes can hold those of both steps
+  both_held : CanHoldEdit (replacement start count bytes (text_of k.document)) at_first notes → CanHoldSteps false (gone ∷ come ∷ []) (sealed_scene at_first) notes
+  both_held h = subst (λ ss. CanHoldEdit ss at_first notes) are_two h
 
-  abbrev pub shared_first : Kept → ℕ
-  shared_first x = bytes_shared (made_kinds false (step_in (lent.Delete start count) (text_of x.document)) x.document.history) (watching (views_of views.entries) x.document) (length (step_bytes (step_in (lent.Delete start count) (text_of x.document))))
-
-  pub first_of_two_bytes : BytesAreEnough → SealingNeedsTheSame → bytes_for (replacement start count bytes (text_of k.document)) at_first ≤ notes.text_room → shared_first k1 ≤ notes.text_room
-  first_of_two_bytes law same h = subst (λ x. shared_first x ≤ notes.text_room) (sym sealed) (first_bytes law false gone (come ∷ []) (sealed_scene at_first) notes.text_room (bytes_sealed same h))
+  -- and those of the deletion, which is made on the sealed document
+  pub first_of_two : CanHoldEdit (replacement start count bytes (text_of k.document)) at_first notes
+      → let s = step_in (lent.Delete start count) (text_of k1.document) in let scene = scene_in k1.document views.entries notes.notes in CanHold notes (step_made false s scene) (held_behind false s scene notes.held)
+  first_of_two h =
+      subst (λ x. let s = step_in (lent.Delete start count) (text_of x.document) in let scene = scene_in x.document views.entries notes.notes in CanHold notes (step_made false s scene) (held_behind false s scene notes.held)) (sym sealed)
+      (first_held false gone (come ∷ []) (sealed_scene at_first) notes (both_held h))
 
   module _ (k2 : Kept) (views2 : Entries KeptView) (notes2 : Gathered)
       (made : scene_in k2.document views2.entries notes2.notes ≡ step_made false (step_in (lent.Delete start count) (text_of k1.document)) (scene_in k1.document views.entries notes.notes)) where
     abbrev pub between : Scene
     between = scene_in k2.document views2.entries notes2.notes
 
-    pub second_notes : NotesAreEnough → SealingNeedsTheSame → notes_for (replacement start count bytes (text_of k.document)) at_first ≤ notes.note_room → notes2.note_room + length notes2.notes ≡ notes.note_room + length notes.notes
-        → length (step_made true come between).notes ≤ length notes2.notes + notes2.note_room
-    second_notes law same h e =
-        let is = scene_between between made in
-        first_notes law true come [] between notes2.note_room
-        (subst (λ x. notes_needed x (come ∷ []) ≤ notes2.note_room) (sym is)
-        (next_notes law false gone (come ∷ []) (sealed_scene at_first) notes.note_room notes2.note_room (length notes2.notes) (notes_sealed same h) (ap (λ (x : Scene). length x.notes) is) e))
-
-    pub second_bytes : BytesAreEnough → SealingNeedsTheSame → bytes_for (replacement start count bytes (text_of k.document)) at_first ≤ notes.text_room → notes2.text_room + shared_first k1 ≡ notes.text_room
-        → bytes_shared (made_kinds true come k2.document.history) (watching (views_of views2.entries) k2.document) (length bytes) ≤ notes2.text_room
-    second_bytes law same h e =
-        let is = scene_between between made in
-        first_bytes law true come [] between notes2.text_room
-        (subst (λ x. bytes_needed x (come ∷ []) ≤ notes2.text_room) (sym is)
-        (next_bytes law false gone (come ∷ []) (sealed_scene at_first) notes.text_room notes2.text_room (bytes_sealed same h) (subst (λ x. notes2.text_room + shared_first x ≡ notes.text_room) sealed e)))
+    pub second_of_two : CanHoldEdit (replacement start count bytes (text_of k.document)) at_first notes → notes2.capacity ≡ notes.capacity
+        → notes2.held ≡ held_behind false (step_in (lent.Delete start count) (text_of k1.document)) (scene_in k1.document views.entries notes.notes) notes.held
+        → CanHoldSteps true (come ∷ []) between notes2
+    second_of_two h same held =
+        let held' : notes2.held ≡ held_behind false gone (sealed_scene at_first) notes.held =
+        subst (λ x. notes2.held ≡ held_behind false (step_in (lent.Delete start count) (text_of x.document)) (scene_in x.document views.entries notes.notes) notes.held) sealed held in
+        next_held false gone (come ∷ []) (sealed_scene at_first) between notes notes2 (both_held h) (scene_between between made) same held'
 
     pub second_room : HasRoom k (room_of_steps k.document.line_end_types (replacement start count bytes (text_of k.document))) → TakesRoom k1.room k2.room (need_of k1.document.line_end_types (lent.Delete start count))
         → k1.room.text + bytes_out (step_in (lent.Delete start count) (text_of k1.document)) ≤ k2.room.text + (need_of k1.document.line_end_types (lent.Delete start count)).text
@@ -141,3 +125,24 @@ module _ (start count : ℕ) (bytes : List ℕ) (k k1 : Kept) (views : Entries K
 
 pub ends_watched : (k3 k4 : Kept) (views : Entries KeptView) → k4 ≡ sealed_kept k3 → IsWatched k3.document views → IsWatched k4.document views
 ends_watched k3 k4 views e w = subst (λ x. IsWatched x.document views) (sym e) (watched_with_history k3.document (sealed_outside_groups k3.document.history) views w)
+
+-- What steps need does not depend on the notes before them.
+needs_alike : (steps : List Step) (scene : Scene) (g : Gathered)
+    → notes_for steps (record scene { notes = g.notes }) ≡ notes_for steps scene
+needs_alike [] scene g = refl
+needs_alike (step ∷ steps) scene g = refl
+
+-- After room for so many notes and bytes was made, the list can hold those of an edit that needs no more.
+pub edit_held : NeedsAreEnough → (steps : List Step) (d : Document) (views : List (Entry KeptView)) (g g' : Gathered) (notes bytes : ℕ) → g' ≡ with_room notes bytes g
+    → notes_for steps (scene_in d views []) ≤ notes → bytes_needed (scene_in d views []) steps ≤ bytes → CanHoldEdit steps (scene_in d views g'.notes) g'
+edit_held law steps d views g g' notes bytes made few short =
+    let scene = scene_in d views g'.notes in
+    let alike = needs_alike steps (scene_in d views []) g' in
+    let most = law steps scene g'.held in
+    let n = most.0 in
+    let t = most.1 in
+    let length_is = ap (λ (x : Gathered). length x.notes) made in
+    let held_is = ap (λ (x : Gathered). x.held) made in
+    let notes_are = ap (λ (x : Gathered). x.capacity.notes) made in
+    let bytes_are = ap (λ (x : Gathered). x.capacity.bytes) made in
+    (omega arith, omega arith)

@@ -10,8 +10,8 @@ use Rattle.document.specs.declared.room.DocumentRoom.{DocumentRoom}
 use Rattle.document.specs.Kept.{Kept, HasRoom, no_room, amount_sum, room_sum}
 use Rattle.document.specs.TextSteps.{step_in, need_of}
 use Rattle.ed_view.specs.Kept.{KeptView}
-use Rattle.scene.specs.Conversion.{room_of_steps, notes_for, bytes_for}
-use Rattle.scene.specs.Needs.{note_room, notes_of_step, bytes_of_step, IsCounted}
+use Rattle.scene.specs.Conversion.{room_of_steps}
+use Rattle.scene.specs.Needs.{note_room, notes_for, bytes_needed, notes_of_step, bytes_of_step, CanHoldEdit, IsCounted}
 use Rattle.scene.specs.Scenes.{kept_scene, watchers}
 use Rattle.scene.specs.declared.need.SceneNeed.{SceneNeed}
 
@@ -47,16 +47,12 @@ need_of_step step k views =
 abbrev pub StepsFit : List Step → Kept → Type 0
 StepsFit steps k = HasRoom k (room_of_steps k.document.line_end_types steps)
 
--- there is room for the notes of the steps
+-- the list of notes can hold all notes after an edit with these steps, and their texts
 abbrev pub NotesFit : List Step → Kept → Entries KeptView → Gathered → Type 0
-NotesFit steps k views notes = notes_for steps (kept_scene k views notes) ≤ notes.note_room
-
--- there is room for the texts of these notes
-abbrev pub TextsFit : List Step → Kept → Entries KeptView → Gathered → Type 0
-TextsFit steps k views notes = bytes_for steps (kept_scene k views notes) ≤ notes.text_room
+NotesFit steps k views notes = CanHoldEdit steps (kept_scene k views notes) notes
 
 -- What is told of a need: that it is enough, unless it is not counted.
 
 pub record NeedsSteps (steps : List Step) (scene : Scene) (need : SceneNeed) : Type 0 where
-  pub enough : IsCounted need → IsEnoughFor (notes_for steps scene) (bytes_for steps scene) (room_of_steps scene.document.line_end_types steps) need
+  pub enough : IsCounted need → IsEnoughFor (notes_for steps scene) (bytes_needed scene steps) (room_of_steps scene.document.line_end_types steps) need
   pub none : steps ≡ [] → need ≡ no_need

@@ -12,7 +12,7 @@ use ed_model::LineEnd;
 use ed_view::View;
 use id_table::IdTable;
 use notify::NoteList;
-use scene::{conversion_need, convert};
+use scene::{conversion_need, convert, needs_are_enough};
 use std::alloc::AllocError;
 
 /// Converts all line ends of the document to `to`, with room that it makes first.
@@ -42,6 +42,8 @@ pub fn convert_with_room(
     ensures next { views.new.next ≡ views.old.next }
     ensures free { conversion_steps to (text_of document.old.document) ≡ [] → IsOk result }
 {
+    // States that what the steps need is enough for their notes.
+    needs_are_enough();
     let need = conversion_need(document, views, to);
     if !need.is_counted() {
         return Err(AllocError);

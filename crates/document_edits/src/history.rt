@@ -5,7 +5,8 @@ ghost use Rattle.document.specs.Undoing.{changes_of};
 ghost use Rattle.scene.specs.Performed.{HistoryFits};
 ghost use Rattle.scene.specs.Scenes.{IsWatched, kept_scene};
 ghost use Rattle.scene.specs.Undoing.{history_caret};
-ghost use Rattle.document_edits.specs.History.{scene_gone, no_notes};
+ghost use Rattle.notify.specs.Gathered.{no_notes};
+ghost use Rattle.document_edits.specs.History.{scene_gone};
 ghost use Rattle.document_edits.specs.Widths.{ChangesFitWidth};
 
 use document::{Direction, Document};
@@ -55,5 +56,8 @@ pub fn go_with_room(
     let Ok(()) = document.reserve(need.document) else {
         return Err(AllocError);
     };
-    Ok(perform_history(document, views, notes, direction))
+    let place = perform_history(document, views, notes, direction);
+    // States that there are no notes where none fits in.
+    notes.fits_in();
+    Ok(place)
 }

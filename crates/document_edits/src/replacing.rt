@@ -3,7 +3,7 @@
 ghost use Rattle.std.specs.Prelude.{◌≡◌, ◌≤◌, ◌<◌, ◌+◌, [], length, OnOk, OnErr, IsOk};
 ghost use Rattle.scene.specs.Scenes.{IsWatched};
 ghost use Rattle.document_edits.specs.Edits.{replacement_in, MakesEdit};
-ghost use Rattle.document_edits.specs.Needs.{StepsFit, NotesFit, TextsFit};
+ghost use Rattle.document_edits.specs.Needs.{StepsFit, NotesFit};
 ghost use Rattle.document_edits.specs.Widths.{StepsFitWidth};
 
 use crate::need::replacement_need;
@@ -29,14 +29,11 @@ fn replace_some(
     requires watched { IsWatched document.old.document views.old }
     requires room { StepsFit (replacement_in start count bytes.now document.old) document.old }
     requires notes { NotesFit (replacement_in start count bytes.now document.old) document.old views.old notes.old }
-    requires texts { TextsFit (replacement_in start count bytes.now document.old) document.old views.old notes.old }
     ensures scene { let steps = replacement_in start count bytes.now document.old in
         MakesEdit steps document.old views.old notes.old document.new views.new notes.new }
     ensures watched { IsWatched document.new.document views.new }
     ensures next { views.new.next ≡ views.old.next }
 {
-    // States that the reserved room is enough for each step in turn.
-    needs_are_enough();
     let deletion = TextStep::Delete {
         place: start,
         count,
@@ -65,14 +62,11 @@ fn replace_bytes(
     requires watched { IsWatched document.old.document views.old }
     requires room { StepsFit (replacement_in start count bytes.now document.old) document.old }
     requires notes { NotesFit (replacement_in start count bytes.now document.old) document.old views.old notes.old }
-    requires texts { TextsFit (replacement_in start count bytes.now document.old) document.old views.old notes.old }
     ensures scene { let steps = replacement_in start count bytes.now document.old in
         MakesEdit steps document.old views.old notes.old document.new views.new notes.new }
     ensures watched { IsWatched document.new.document views.new }
     ensures next { views.new.next ≡ views.old.next }
 {
-    // States that the reserved room is enough.
-    needs_are_enough();
     if count == 0 {
         if bytes.is_empty() {
             return;
@@ -123,6 +117,8 @@ pub fn replace_with_room(
     ensures next { views.new.next ≡ views.old.next }
     ensures free { replacement_in start count bytes.now document.old ≡ [] → IsOk result }
 {
+    // States that what the steps need is enough for their notes.
+    needs_are_enough();
     let need = replacement_need(document, views, start, count, bytes);
     if !need.is_counted() {
         return Err(AllocError);

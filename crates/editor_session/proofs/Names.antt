@@ -23,7 +23,7 @@ pub use Rattle.ed_model.specs.PlansFit.{EditStepsFit, PlansFit, UndoStepsFit, Re
 pub use Rattle.ed_model.specs.proved.Scenes.{edit_made_id}
 pub use Rattle.ed_model.specs.Requests.{Request, Planned, text, size, answer, answer_number}
 pub use Rattle.ed_model.specs.Steps.{Step, insertion, Insert, Delete, replacement, edited}
-pub use Rattle.notify.specs.Gathered.{Gathered}
+pub use Rattle.notify.specs.Gathered.{Gathered, CanPut, no_notes}
 pub use Rattle.scene.specs.Scenes.{kept_scene, views_of, AreNamed, watchers, scene_in, StandsIfOn, IsWatched}
 pub use Rattle.ed_types.specs.declared.kind.Kind.{Kind}
 pub use Rattle.ed_types.specs.declared.message.Message.{Message}
@@ -53,7 +53,7 @@ pub use Rattle.ed_model.specs.Run.{Running, outcomes, run_to, after_command, aft
 pub use Rattle.ed_model.specs.proved.Steps.{length-inserted, length-deleted_within}
 pub use Rattle.ed_model.specs.Text.{Cell, styles_of, bytes_of}
 pub use Rattle.document_edits.specs.Edits.{MakesEdit}
-pub use Rattle.document_edits.specs.History.{scene_gone, no_notes}
+pub use Rattle.document_edits.specs.History.{scene_gone}
 pub use Rattle.document_edits.specs.Widths.{StepsFitWidth, ChangesFitWidth}
 pub use Rattle.editor_session.specs.Edited.{IsPastedFor, TakesWithin, is_turned, clipboard_need, taken_along, followed_views, followed_clipboard, Becomes, IsStoredIn, IsTurnedFor, IsEditWithin, stored_bytes}
 pub use Rattle.editor_session.specs.Edits.{CanEdit, Edits, edit_steps, scene_after, IfNoSteps}

@@ -6,7 +6,7 @@ ghost use Rattle.ed_types.specs.declared.message.Message.{Message};
 ghost use Rattle.std.specs.Prelude.{List, ℕ, ◌≡◌, pos, [], true, false, OnOk, OnErr, IfErr};
 ghost use Rattle.ed_types.specs.declared.refusal.Refusal.TheVariants.{OutOfMemory};
 ghost use Rattle.scene.specs.Scenes.{AreNamed};
-ghost use Rattle.document_edits.specs.History.{no_notes};
+ghost use Rattle.notify.specs.Gathered.{no_notes};
 ghost use Rattle.message_requests.specs.Requested.{session_in};
 ghost use Rattle.session_changes.specs.Kept.{IsKept, DocumentsAreNamed};
 ghost use Rattle.editor_session.specs.Doing.{Goes, CanGoOnceThereIsRoom};

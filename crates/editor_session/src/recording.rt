@@ -1,6 +1,7 @@
 //! The note of a message that is recorded.
 
-ghost use Rattle.std.specs.Prelude.{◌≡◌, ◌++◌, ◌<◌, ◌≤◌, length, true, false, OnOk, IsOk};
+ghost use Rattle.std.specs.Prelude.{◌≡◌, ◌++◌, length, true, false, OnOk, IsOk};
+ghost use Rattle.notify.specs.Gathered.{CanPut, CanShare};
 ghost use Rattle.editor_session.specs.Planned.{first_note};
 
 use ed_types::notification::MACRO_RECORD;
@@ -8,10 +9,10 @@ use message_requests::SentMessage;
 use notify::{NoteList, blank};
 use std::alloc::AllocError;
 
-/// Appends the note of `message`, which `view` records. There must be room for it.
+/// Appends the note of `message`, which `view` records. It must fit in.
 fn put_record(view: u32, message: &SentMessage, notes: &mut NoteList)
-    requires notes { 0 < notes.old.note_room }
-    requires texts { length message.now.text ≤ notes.old.text_room }
+    requires notes { CanPut 1 notes.old }
+    requires texts { CanShare (length message.now.text) notes.old }
     ensures { notes.new.notes ≡ notes.old.notes ++ first_note true view message.now }
 {
     let mut note = blank(MACRO_RECORD);

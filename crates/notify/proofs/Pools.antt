@@ -1,7 +1,7 @@
 -- Notes keep their texts while their pool grows.
 use Rattle.std.proofs.Common.{◌≡◌, ℕ, ◌-◌, ◌≤◌, drop, List, [], ◌∷◌, ◌++◌, length, slice_range, inl, inr, refl, ap, ◌∙◌, arith}
 use Rattle.std.proofs.lemmas.Bool.{cases_lt}
-use Rattle.std.proofs.lemmas.List.{append_assoc, length-drop, drop-append-le, take-append-le, take_rest, map-append, drop_at}
+use Rattle.std.proofs.lemmas.List.{append_assoc, length-map, length-drop, drop-append-le, take-append-le, take_rest, map-append, drop_at}
 use Rattle.ed_types.specs.declared.reply.Note.{Note}
 use Rattle.ed_types.specs.Heard.{with_text, noticed, heard_in}
 use Rattle.notify.specs.Ranges.{EndWithin}
@@ -15,6 +15,9 @@ range_stays xs ys i j h =
           let size : length (drop i xs) ≡ length xs - i = length-drop i xs in
           rw (drop-append-le i xs ys (omega arith)) (take-append-le (j - i) (drop i xs) ys (omega arith))
     ]
+
+pub length_heard : (pool : List ℕ) (notes : List Note) → length (heard_in pool notes) ≡ length notes
+length_heard pool notes = length-map notes (noticed pool)
 
 pub heard_stay : (xs ys : List ℕ) (notes : List Note) → EndWithin (length xs) notes → heard_in (xs ++ ys) notes ≡ heard_in xs notes
 heard_stay xs ys [] h = refl

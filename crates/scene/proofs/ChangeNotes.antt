@@ -3,7 +3,7 @@ use Rattle.scene.proofs.Names.{◌≡◌, ℕ, zero, suc, ◌+◌, ◌*◌, ◌�
 use Rattle.ed_model.specs.Notes as notes
 use Rattle.document.specs.declared.undoing.Direction.TheVariants.{Undo, Redo}
 use Rattle.scene.proofs.ToldSoFar.{length_told}
-use Rattle.scene.proofs.KindLemmas.{meets_left, meets_right, meets_more, after_more, hearers_more, before_kind_is, after_kind_is}
+use Rattle.scene.proofs.KindLemmas.{meets_left, meets_right, meets_more, after_more, heard_few, hearers_more, before_kind_is, after_kind_is}
 use Rattle.scene.proofs.NeedLemmas.{hear_same, watch_after}
 
 -- The bits of the note after a change are among all bits.
@@ -53,30 +53,17 @@ none_of_all direction (ContainerStep token coalesce ∷ cs) views none =
 
 pub before_few : (who : ℕ) (s : Step) (views : List View) → length (heard views (before_note who s)) ≤ hearers (performed_kinds who s) views
 before_few who s views =
-    let n = before_note who s in
-    let l = length_told (filter (λ (v : View). meets v.mask n.kind) views) n in
-    let le : hearers n.kind views ≤ hearers (performed_kinds who s) views =
-    hearers_more n.kind (performed_kinds who s) views (λ m h. meets_left m (before_kind who s) (after_kind (all_bits who) s) (rw (before_kind_is who s) at h)) in
-    omega arith
+    heard_few (before_note who s) (performed_kinds who s) views (λ m h. meets_left m (before_kind who s) (after_kind (all_bits who) s) (rw (before_kind_is who s) at h))
 
-pub after_few : (who bits : ℕ) (lines : ℤ) (s : Step) (views : List View) → ((m : ℕ) → meets m bits ≡ true → meets m (all_bits who) ≡ true)
+after_few : (who bits : ℕ) (lines : ℤ) (s : Step) (views : List View) → ((m : ℕ) → meets m bits ≡ true → meets m (all_bits who) ≡ true)
     → length (heard views (after_note bits lines s)) ≤ hearers (performed_kinds who s) views
 after_few who bits lines s views more =
-    let n = after_note bits lines s in
-    let l = length_told (filter (λ (v : View). meets v.mask n.kind) views) n in
-    let le : hearers n.kind views ≤ hearers (performed_kinds who s) views =
-    hearers_more n.kind (performed_kinds who s) views
-    (λ m h. meets_right m (after_kind (all_bits who) s) (before_kind who s) (after_more bits (all_bits who) s m (more m) (rw (after_kind_is bits lines s) at h))) in
-    omega arith
+    heard_few (after_note bits lines s) (performed_kinds who s) views
+    (λ m h. meets_right m (after_kind (all_bits who) s) (before_kind who s) (after_more bits (all_bits who) s m (more m) (rw (after_kind_is bits lines s) at h)))
 
 pub container_few : (who bits : ℕ) (token : ℤ) (views : List View) → ((m : ℕ) → meets m bits ≡ true → meets m (all_bits who) ≡ true)
     → length (heard views (container_note bits token)) ≤ hearers (container_kinds who) views
-container_few who bits token views more =
-    let n = container_note bits token in
-    let l = length_told (filter (λ (v : View). meets v.mask n.kind) views) n in
-    let le : hearers n.kind views ≤ hearers (container_kinds who) views =
-    hearers_more n.kind (container_kinds who) views (λ m h. meets_more m notes.container bits (all_bits who) (more m) h) in
-    omega arith
+container_few who bits token views more = heard_few (container_note bits token) (container_kinds who) views (λ m h. meets_more m notes.container bits (all_bits who) (more m) h)
 
 -- At most this many notes are appended for a change.
 

@@ -1,5 +1,5 @@
 -- What the steps of a conversion need: the same for each that inserts a byte, and the same for each that deletes one.
-use Rattle.scene.proofs.Names.{suc, ◌≡◌, ℕ, ◌+◌, ◌-◌, ◌*◌, ◌^◌, ◌==◌, min, Bool, true, false, cond, List, [], ◌∷◌, ◌++◌, length, refl, ap, sym, ◌∙◌, arith, nat_lt, if◌then◌else◌, lt-ltb, LineEnd, LineEndTypes, Default, Unicode, Step, Insert, Delete, lacks_return, lacks_feed, missing_at, missing_from, is_unwanted, unwanted_at, place_after, unwanted_from, TextStep, View, watching, Scene, completed, lines_for_insertion, DocumentRoom, document_room, amount_sum, room_sum, NoteRoom, note_room, leaving_count, notes_of_step, bytes_of_step, notes_of_steps, bytes_of_steps, both_rooms, bytes_for, capped_room, deletions_of, notes_for, room_of_many, room_of_step, room_of_steps, rooms_added, room_of_steps_beside, same_room}
+use Rattle.scene.proofs.Names.{suc, ◌≡◌, ℕ, ◌+◌, ◌-◌, ◌*◌, ◌^◌, ◌==◌, min, Bool, true, false, cond, List, [], ◌∷◌, ◌++◌, length, refl, ap, sym, ◌∙◌, arith, nat_lt, if◌then◌else◌, lt-ltb, LineEnd, LineEndTypes, Default, Unicode, Step, Insert, Delete, lacks_return, lacks_feed, missing_at, missing_from, is_unwanted, unwanted_at, place_after, unwanted_from, TextStep, View, watching, Scene, completed, lines_for_insertion, DocumentRoom, document_room, amount_sum, room_sum, NoteRoom, note_room, leaving_count, notes_of_step, bytes_of_step, notes_of_steps, bytes_of_steps, both_rooms, bytes_needed, capped_room, deletions_of, notes_for, room_of_many, room_of_step, room_of_steps, rooms_added, room_of_steps_beside, same_room}
 use Rattle.std.proofs.Math.Nat.{mul-suc}
 use Rattle.scene.specs.Conversion.{free_behind, capped, capped_notes}
 
@@ -86,16 +86,17 @@ take_as types views (x ∷ y ∷ more) e p b = absurd (omega (arith, e))
 
 -- What this many steps need, as the code adds it up.
 
+counted_notes : (types : LineEndTypes) (views : List View) (one : Step) (steps : List Step) (count : ℕ) → AllNeedAs types views one steps → count ≡ length steps
+    → capped_notes (notes_of_step views one * count) (bytes_of_step views one * count) ≡ capped_notes (notes_of_steps views steps) (bytes_of_steps views steps)
+counted_notes types views one steps count all e =
+    ap (λ k. capped_notes (notes_of_step views one * k) (bytes_of_step views one * k)) e
+    ∙ ap (λ k. capped_notes k (bytes_of_step views one * length steps)) (sym (many_notes types views one steps all))
+    ∙ ap (capped_notes (notes_of_steps views steps)) (sym (many_bytes types views one steps all))
+
 pub puts_notes : (types : LineEndTypes) (views : List View) (to : LineEnd) (text : List ℕ) (count : ℕ) → count ≡ length (missing_from 0 false to text)
     → capped_notes (notes_of_step views a_put * count) (bytes_of_step views a_put * count)
     ≡ capped_notes (notes_of_steps views (missing_from 0 false to text)) (bytes_of_steps views (missing_from 0 false to text))
-puts_notes types views to text count e =
-    let all = puts_as types views to text false 0 in
-    let n : notes_of_step views a_put * count ≡ notes_of_steps views (missing_from 0 false to text) =
-    ap (λ k. notes_of_step views a_put * k) e ∙ sym (many_notes types views a_put (missing_from 0 false to text) all) in
-    let b : bytes_of_step views a_put * count ≡ bytes_of_steps views (missing_from 0 false to text) =
-    ap (λ k. bytes_of_step views a_put * k) e ∙ sym (many_bytes types views a_put (missing_from 0 false to text) all) in
-    ap (λ k. capped_notes k (bytes_of_step views a_put * count)) n ∙ ap (λ k. capped_notes (notes_of_steps views (missing_from 0 false to text)) k) b
+puts_notes types views to text count e = counted_notes types views a_put (missing_from 0 false to text) count (puts_as types views to text false 0) e
 
 pub puts_room : (types : LineEndTypes) (views : List View) (to : LineEnd) (text : List ℕ) (count : ℕ) → count ≡ length (missing_from 0 false to text)
     → capped_room (room_of_many count (room_of_step types a_put)) ≡ capped_room (rooms_added types (missing_from 0 false to text))
@@ -107,12 +108,7 @@ pub takes_notes : (types : LineEndTypes) (views : List View) (to : LineEnd) (tex
     → capped_notes (notes_of_step views (Delete 0 bytes) * count) (bytes_of_step views (Delete 0 bytes) * count)
     ≡ capped_notes (notes_of_steps views (deletions_of to text)) (bytes_of_steps views (deletions_of to text))
 takes_notes types views to text bytes count one e =
-    let all = takes_as types views (Delete 0 bytes) (take_as types views bytes one) to (completed to text) false 0 in
-    let n : notes_of_step views (Delete 0 bytes) * count ≡ notes_of_steps views (deletions_of to text) =
-    ap (λ k. notes_of_step views (Delete 0 bytes) * k) e ∙ sym (many_notes types views (Delete 0 bytes) (deletions_of to text) all) in
-    let b : bytes_of_step views (Delete 0 bytes) * count ≡ bytes_of_steps views (deletions_of to text) =
-    ap (λ k. bytes_of_step views (Delete 0 bytes) * k) e ∙ sym (many_bytes types views (Delete 0 bytes) (deletions_of to text) all) in
-    ap (λ k. capped_notes k (bytes_of_step views (Delete 0 bytes) * count)) n ∙ ap (λ k. capped_notes (notes_of_steps views (deletions_of to text)) k) b
+    counted_notes types views (Delete 0 bytes) (deletions_of to text) count (takes_as types views (Delete 0 bytes) (take_as types views bytes one) to (completed to text) false 0) e
 
 pub takes_room : (types : LineEndTypes) (views : List View) (to : LineEnd) (text bytes : List ℕ) (count : ℕ) → length bytes ≡ 1 → count ≡ length (deletions_of to text)
     → capped_room (room_of_many count (room_of_step types (Delete 0 bytes))) ≡ capped_room (rooms_added types (deletions_of to text))
@@ -204,24 +200,20 @@ leaving_first scene (s ∷ steps) =
     let l = leaving_count (watching scene.views scene.document) scene.document.history in
     ap (λ b. cond b l 0 + notes_of_steps (watching scene.views scene.document) (s ∷ steps)) (sym (lt-ltb 0 (suc (length steps)) (omega arith)))
 
-bytes_are : (scene : Scene) (steps : List Step) → bytes_for steps scene ≡ bytes_of_steps (watching scene.views scene.document) steps
-bytes_are scene [] = refl
-bytes_are scene (s ∷ steps) = refl
-
 pub both_notes : (scene : Scene) (a b : List Step) (leaving : ℕ) (first second : NoteRoom) → let views = watching scene.views scene.document in
     leaving ≡ (if nat_lt 0 (length (a ++ b)) then leaving_count views scene.document.history else 0)
     → first ≡ capped_notes (notes_of_steps views a) (bytes_of_steps views a) → second ≡ capped_notes (notes_of_steps views b) (bytes_of_steps views b)
-    → note_room (amount_sum (amount_sum first.notes second.notes) leaving) (amount_sum (amount_sum first.bytes second.bytes) 0) ≡ capped_notes (notes_for (a ++ b) scene) (bytes_for (a ++ b) scene)
+    → note_room (amount_sum (amount_sum first.notes second.notes) leaving) (amount_sum (amount_sum first.bytes second.bytes) 0) ≡ capped_notes (notes_for (a ++ b) scene) (bytes_needed scene (a ++ b))
 both_notes scene a b leaving first second e f g =
     let views = watching scene.views scene.document in
     let n : amount_sum (amount_sum first.notes second.notes) leaving ≡ capped (notes_for (a ++ b) scene) =
     ap (λ (x : NoteRoom). amount_sum (amount_sum x.notes second.notes) leaving) f ∙ ap (λ (x : NoteRoom). amount_sum (amount_sum (capped (notes_of_steps views a)) x.notes) leaving) g
     ∙ capped_three (notes_of_steps views a) (notes_of_steps views b) leaving
     ∙ ap (λ k. capped (leaving + k)) (sym (notes_of_both views a b)) ∙ ap (λ k. capped (k + notes_of_steps views (a ++ b))) e ∙ ap capped (sym (leaving_first scene (a ++ b))) in
-    let m : amount_sum (amount_sum first.bytes second.bytes) 0 ≡ capped (bytes_for (a ++ b) scene) =
+    let m : amount_sum (amount_sum first.bytes second.bytes) 0 ≡ capped (bytes_needed scene (a ++ b)) =
     ap (λ (x : NoteRoom). amount_sum (amount_sum x.bytes second.bytes) 0) f ∙ ap (λ (x : NoteRoom). amount_sum (amount_sum (capped (bytes_of_steps views a)) x.bytes) 0) g
     ∙ capped_three (bytes_of_steps views a) (bytes_of_steps views b) 0
-    ∙ ap (λ k. capped k) (none (bytes_of_steps views a + bytes_of_steps views b)) ∙ ap capped (sym (bytes_of_both views a b) ∙ sym (bytes_are scene (a ++ b))) in
+    ∙ ap (λ k. capped k) (none (bytes_of_steps views a + bytes_of_steps views b)) ∙ ap capped (sym (bytes_of_both views a b)) in
     ap (λ k. note_room k (amount_sum (amount_sum first.bytes second.bytes) 0)) n ∙ ap (λ k. note_room (capped (notes_for (a ++ b) scene)) k) m
   where
     none : (x : ℕ) → 0 + x ≡ x

@@ -1,5 +1,5 @@
 -- Kinds of notes, and the views that hear them.
-use Rattle.scene.proofs.Names.{◌≡◌, ℕ, ◌+◌, ◌<◌, ◌≤◌, Bool, true, false, cond, List, [], ◌∷◌, length, refl, ap, sym, ◌∙◌, subst, arith, ◌==◌, ◌||◌, not, filter, bit_and, bit_or, ℤ, eqb-true, eq-eqb, Notice, Note, meets, Step, Insert, Delete, step_bytes, told, heard, before_note, after_note, insert_text, delete_text, step_in, IsStepOn, Gathered, View, Hearers, NoteText, audience_of, with_note_text, hearers, masks_from, masks_of, before_kind, after_kind, step_kinds, CanTellMade}
+use Rattle.scene.proofs.Names.{◌≡◌, ℕ, ◌+◌, ◌<◌, ◌≤◌, Bool, true, false, cond, List, [], ◌∷◌, length, refl, ap, sym, ◌∙◌, subst, arith, ◌==◌, ◌||◌, not, filter, bit_and, bit_or, ℤ, eqb-true, eq-eqb, Notice, Note, meets, Step, Insert, Delete, step_bytes, told, heard, before_note, after_note, insert_text, delete_text, step_in, IsStepOn, Gathered, CanPut, View, Hearers, NoteText, audience_of, with_note_text, hearers, masks_from, masks_of, before_kind, after_kind, step_kinds, CanTellMade}
 use Rattle.std.specs.Int.Bits.{and_zero_l}
 use Rattle.std.proofs.lemmas.Nat.{and_assoc, and_comm, and_or_self, and_or_apart, or_comm}
 use Rattle.document.specs.declared.text_step.TextStep.{TextStep}
@@ -51,6 +51,13 @@ hearers_more a b (v ∷ vs) h = go (meets v.mask a) refl (hearers_more a b vs h)
         either : (c : Bool) → hearers a vs ≤ length (cond c (v ∷ filter (λ (v : View). meets v.mask b) vs) (filter (λ (v : View). meets v.mask b) vs))
         either true = omega arith
         either false = le
+
+-- a note has at most as many hearers as kinds that it is among
+pub heard_few : (n : Notice) (kinds : ℕ) (views : List View) → ((m : ℕ) → meets m n.kind ≡ true → meets m kinds ≡ true) → length (heard views n) ≤ hearers kinds views
+heard_few n kinds views more =
+    let l = length_told (filter (λ (v : View). meets v.mask n.kind) views) n in
+    let le : hearers n.kind views ≤ hearers kinds views = hearers_more n.kind kinds views more in
+    omega arith
 
 empty_or_some : {X : Type 0} (xs : List X) (P : List X → Type 0) → P [] → (0 < length xs → P xs) → P xs
 empty_or_some [] P a b = a
@@ -153,7 +160,7 @@ none_by_notes views s before after lines none_before none_after =
 pub can_tell : (hears : Bool) (before all after : ℕ) (lines : ℤ) (step : TextStep) (text : List ℕ) (views : List View) (g : Gathered)
     → ((m : ℕ) → meets m after ≡ true → meets m all ≡ true) → IsStepOn step (length text)
     → (hears ≡ false → hearers (step_kinds before all (step_in step text)) views ≡ 0) → (hears ≡ true → g.shared ≡ step_bytes (step_in step text))
-    → length (heard views (after_note after lines (step_in step text))) ≤ g.note_room → CanTellMade hears after lines step text views g
+    → CanPut (length (heard views (after_note after lines (step_in step text)))) g → CanTellMade hears after lines step text views g
 can_tell hears before all after lines step text views g more on none shared room = record {
   on = on;
   unheard = λ no. unheard_after views (step_in step text) before all after lines more (none no);

@@ -16,7 +16,7 @@ pub use Rattle.ed_model.specs.LineEnds.{lacks_return, lacks_feed, missing_at, mi
 pub use Rattle.ed_model.specs.MergeLaws.{end_of, JoinsRows}
 pub use Rattle.ed_model.specs.Notes.{told, heard, before_note, after_note, insert_text, delete_text, performed_user, range_note, bit_if, multi_step, blank, save_point_reached, save_point_left, modify_attempt}
 pub use Rattle.ed_model.specs.Numbers.{meets, growth, is_number}
-pub use Rattle.ed_model.specs.Performing.{Scene, document_after, view_after, last_bits, container_note, change_performed, moved_view, leaving, step_made, is_last, changes_performed, save_point_change, step_heard, steps_made}
+pub use Rattle.ed_model.specs.Performing.{Scene, document_after, view_after, last_bits, container_note, change_performed, moved_view, leaving, step_made, is_last, changes_performed, save_point_change, step_heard, steps_made, sealed_scene, edit_made}
 pub use Rattle.ed_model.specs.Session.{View, view_at, watching, lines_in, Document, text_of, with_view, is_large}
 pub use Rattle.ed_model.specs.SoundLaws.{AreStepsOf, Rise, StandsOn, IsViewOn, occurrences}
 pub use Rattle.ed_model.specs.StepLaws.{CellsFollowBytes}
@@ -42,20 +42,21 @@ pub use Rattle.line_index.specs.Edits.{after_edit, after_edits, fresh_lines}
 pub use Rattle.line_index.specs.RoomLaws.{lines_for_insertion, lines_for_step}
 pub use Rattle.line_index.specs.StepEdits.{EditsBringFewLines, edits_of}
 pub use Rattle.line_index.specs.declared.edit.LineEdit.{LineEdit}
-pub use Rattle.notify.specs.Gathered.{Gathered, gathered}
+pub use Rattle.notify.specs.Gathered.{Gathered, NoteCapacity, CanPut, CanShare, is_full}
 pub use Rattle.selection.specs.Positions.{movement_of, count_of}
 pub use Rattle.selection.specs.declared.movements.Movement.{Movement}
-pub use Rattle.scene.specs.Conversion.{both_rooms, bytes_for, capped_room, deletions_of, notes_for, room_of_many, room_of_step, room_of_steps, rooms_added, room_of_steps_beside, AreLeft, RoomsStay, changes_for, freed_by_all, conversion_room}
+pub use Rattle.scene.specs.Conversion.{both_rooms, capped_room, deletions_of, room_of_many, room_of_step, room_of_steps, rooms_added, room_of_steps_beside, AreLeft, RoomsStay, changes_for, freed_by_all, conversion_room}
 pub use Rattle.scene.specs.Following.{with_followed, followed_at, CanFollow, CanFollowInTurn}
 pub use Rattle.scene.specs.Hearing.{hearers, before_kind, after_kind, audience_of, with_note_text, masks_from, masks_of, step_kinds, user_bits, bytes_shared, belongs, left_note, made_kinds}
-pub use Rattle.scene.specs.Needs.{note_room, leaving_count, notes_of_step, bytes_of_step, notes_of_steps, bytes_of_steps, user_kinds, NotesAreEnough, BytesAreEnough, SealingNeedsTheSame, notes_needed, bytes_needed}
+pub use Rattle.scene.specs.Needs.{note_room, leaving_count, notes_of_step, bytes_of_step, notes_of_steps, bytes_of_steps, user_kinds, notes_needed, bytes_needed, notes_for, held_behind, held_after, held_after_edit, CanHoldSteps, CanHoldEdit, NeedsAreEnough}
 pub use Rattle.scene.specs.Scenes.{views_of, fold_room_in_all, AreNamed, scene_in, watchers, IsWatched, StandsIfOn}
 pub use Rattle.scene.specs.StepNotes.{IsSmallStep, CanTellMade, place_in, count_in, text_before}
+pub use Rattle.scene.specs.Telling.{with_notes, CanHold}
 pub use Rattle.scene.specs.Turns.{ChangeFits, several_bits, CanPerform, IsPerformed, bits_behind, CanTellAfter, IsToldBefore, turn_of}
 pub use Rattle.scene.specs.Undoing.{bits_of, all_bits, every_kind, performed_kinds, container_kinds, notes_of_change, bytes_of_change, notes_of_changes, bytes_of_changes, free_behind, freed_by, outline_kinds, outline_movement, room_beside, place_behind_any, place_by, room_of_changes, rooms_beside, capped, capped_notes, fill_behind, fill_behind_all, SpareLeft, save_point_notes}
 pub use Rattle.scene.specs.declared.need.NoteRoom.{NoteRoom}
 pub use Rattle.scene.specs.declared.telling.Audience.TheVariants.{Hearers, Everyone}
 pub use Rattle.scene.specs.declared.telling.NoteText.{NoteText}
 pub use Rattle.scene.specs.declared.telling.NoteText.TheVariants.{Empty, Shared}
-pub use Rattle.scene.specs.proved.Enough.{next_notes, next_bytes, first_notes, first_bytes}
+pub use Rattle.scene.specs.proved.Enough.{first_held, next_held}
 pub use Rattle.scene.specs.proved.Rooms.{same_room, appended_collects, deletion_needs, next_room}

@@ -1,9 +1,9 @@
 -- The notes of steps are at most as many as the need says.
-use Rattle.scene.proofs.Names.{◌≡◌, ℕ, suc, ◌+◌, ◌<◌, ◌≤◌, Bool, true, false, cond, List, [], ◌∷◌, map, length, refl, ap, ◌∙◌, arith, ◌==◌, ◌&&◌, not, nat_lt, ℤ, Option, Some, None, filter, filter_map, option_map, cons_option, ltb-true, lt-ltb, meets, growth, is_number, Step, Insert, Delete, step_bytes, History, Change, Transaction, TextStep, at_save_point, appended, begins_transaction, joins, joins_last, with_change, reachable, sealed_outside_groups, with_last_sealed, told, heard, before_note, after_note, performed_user, View, Document, view_at, watching, lines_in, document_after, moved_view, view_after, leaving, step_made, view_after_id, hearers, before_kind, after_kind, step_kinds, user_bits, bytes_shared, user_kinds, leaving_count, notes_of_steps, bytes_of_steps, NotesAreEnough, BytesAreEnough, SealingNeedsTheSame}
+use Rattle.scene.proofs.Names.{◌≡◌, ℕ, suc, ◌+◌, ◌<◌, ◌≤◌, Bool, true, false, cond, List, [], ◌∷◌, map, length, refl, ap, ◌∙◌, arith, ◌==◌, ◌&&◌, not, nat_lt, ℤ, Option, Some, None, filter, filter_map, option_map, cons_option, ltb-true, lt-ltb, meets, growth, is_number, Step, Insert, Delete, step_bytes, History, Change, Transaction, TextStep, at_save_point, appended, begins_transaction, joins, joins_last, with_change, reachable, sealed_outside_groups, with_last_sealed, told, heard, before_note, after_note, performed_user, View, Document, view_at, watching, lines_in, Scene, document_after, moved_view, view_after, leaving, step_made, view_after_id, hearers, before_kind, after_kind, step_kinds, user_bits, bytes_shared, user_kinds, leaving_count, notes_of_steps, bytes_of_steps, notes_needed, bytes_needed, held_behind, held_after, NeedsAreEnough, steps_made, sealed_scene}
 use Rattle.ed_model.specs.Notes as notes
 use Rattle.ed_model.specs.proved.Histories.{lower_save_point, other_save_point, sealed_length}
 use Rattle.scene.proofs.ToldSoFar.{length_told, length_parts}
-use Rattle.scene.proofs.KindLemmas.{meets_left, meets_right, hearers_more, before_kind_is, after_kind_is}
+use Rattle.scene.proofs.KindLemmas.{meets_left, meets_right, heard_few, hearers_more, before_kind_is, after_kind_is}
 
 -- The kinds of a step are among `user_kinds`, whether it begins a transaction or not.
 
@@ -19,18 +19,10 @@ made_after : (begins : Bool) (s : Step) (m : ℕ) → meets m (after_kind (user_
 made_after begins s m h = made_more begins s m (meets_right m (after_kind (user_bits begins) s) (before_kind performed_user s) h)
 
 before_few : (s : Step) (views : List View) → length (heard views (before_note performed_user s)) ≤ hearers (user_kinds s) views
-before_few s views =
-    let n = before_note performed_user s in
-    let l = length_told (filter (λ (v : View). meets v.mask n.kind) views) n in
-    let le : hearers n.kind views ≤ hearers (user_kinds s) views = hearers_more n.kind (user_kinds s) views (λ m h. made_before s m (rw (before_kind_is performed_user s) at h)) in
-    omega arith
+before_few s views = heard_few (before_note performed_user s) (user_kinds s) views (λ m h. made_before s m (rw (before_kind_is performed_user s) at h))
 
 after_few : (begins : Bool) (lines : ℤ) (s : Step) (views : List View) → length (heard views (after_note (user_bits begins) lines s)) ≤ hearers (user_kinds s) views
-after_few begins lines s views =
-    let n = after_note (user_bits begins) lines s in
-    let l = length_told (filter (λ (v : View). meets v.mask n.kind) views) n in
-    let le : hearers n.kind views ≤ hearers (user_kinds s) views = hearers_more n.kind (user_kinds s) views (λ m h. made_after begins s m (rw (after_kind_is (user_bits begins) lines s) at h)) in
-    omega arith
+after_few begins lines s views = heard_few (after_note (user_bits begins) lines s) (user_kinds s) views (λ m h. made_after begins s m (rw (after_kind_is (user_bits begins) lines s) at h))
 
 -- The views that watch after a step are those that watched before, with the same masks.
 
@@ -119,10 +111,11 @@ leaving_length views h = go (h.collecting && at_save_point h)
     go true = length_told views (notes.blank notes.save_point_left)
     go false = refl
 
--- Laws.
+-- Steps in turn, and an edit.
 
-pub notes_enough : NotesAreEnough
-notes_enough later step steps scene =
+step_notes : (later : Bool) (step : Step) (steps : List Step) (scene : Scene)
+    → length (step_made later step scene).notes + notes_needed (step_made later step scene) steps ≤ length scene.notes + notes_needed scene (step ∷ steps)
+step_notes later step steps scene =
     let d = scene.document in
     let h = d.history in
     let W = watching scene.views d in
@@ -136,7 +129,14 @@ notes_enough later step steps scene =
     let same = notes_same step d scene.views steps in
     omega arith
 
-pub shared_more : (a b : ℕ) (views : List View) (n : ℕ) → ((m : ℕ) → meets m a ≡ true → meets m b ≡ true) → bytes_shared a views n ≤ bytes_shared b views n
+steps_notes : (later : Bool) (steps : List Step) (scene : Scene) → length (steps_made later steps scene).notes ≤ length scene.notes + notes_needed scene steps
+steps_notes later [] scene = omega arith
+steps_notes later (step ∷ steps) scene =
+    let first = step_notes later step steps scene in
+    let rest = steps_notes true steps (step_made later step scene) in
+    omega arith
+
+shared_more : (a b : ℕ) (views : List View) (n : ℕ) → ((m : ℕ) → meets m a ≡ true → meets m b ≡ true) → bytes_shared a views n ≤ bytes_shared b views n
 shared_more a b views n more = go (nat_lt 0 (hearers a views)) refl
   where
     go : (c : Bool) → nat_lt 0 (hearers a views) ≡ c → cond c n 0 ≤ bytes_shared b views n
@@ -147,14 +147,18 @@ shared_more a b views n more = go (nat_lt 0 (hearers a views)) refl
         rw there (omega arith)
     go false t = omega arith
 
-pub bytes_enough : BytesAreEnough
-bytes_enough later step steps scene =
+steps_bytes : (later : Bool) (steps : List Step) (scene : Scene) (held : ℕ) → held_after later steps scene held ≤ held + bytes_needed scene steps
+steps_bytes later [] scene held = omega arith
+steps_bytes later (step ∷ steps) scene held =
     let d = scene.document in
     let W = watching scene.views d in
     let begins = begins_transaction later (TextStep step) d.history in
-    let le = shared_more (step_kinds performed_user (user_bits begins) step) (user_kinds step) W (length (step_bytes step)) (made_more begins step) in
+    let first = shared_more (step_kinds performed_user (user_bits begins) step) (user_kinds step) W (length (step_bytes step)) (made_more begins step) in
     let same = bytes_same step d scene.views steps in
+    let rest = steps_bytes true steps (step_made later step scene) (held_behind later step scene held) in
     omega arith
+
+-- Sealing a transaction does not change the need.
 
 sealed_leaves : (h : History) (views : List View) → leaving_count views (sealed_outside_groups h) ≡ leaving_count views h
 sealed_leaves h views = go (h.depth == 0)
@@ -163,7 +167,14 @@ sealed_leaves h views = go (h.depth == 0)
     go true = let l = sealed_length h.past in rw l refl
     go false = refl
 
-pub sealing_same : SealingNeedsTheSame
-sealing_same steps scene =
+pub needs_enough : NeedsAreEnough
+needs_enough [] scene held = (omega arith, omega arith)
+needs_enough (step ∷ []) scene held = (steps_notes false (step ∷ []) scene, steps_bytes false (step ∷ []) scene held)
+needs_enough (step ∷ next ∷ steps) scene held =
     let W = watching scene.views scene.document in
-    (ap (λ n. n + notes_of_steps W steps) (sealed_leaves scene.document.history W), refl)
+    let all = step ∷ next ∷ steps in
+    let several : nat_lt 1 (length all) ≡ true = lt-ltb 1 (length all) (omega arith) in
+    let same = sealed_leaves scene.document.history W in
+    let notes = steps_notes false all (sealed_scene scene) in
+    let bytes = steps_bytes false all (sealed_scene scene) held in
+    rw several (omega arith, bytes)

@@ -1,5 +1,5 @@
 -- The changes of undo or redo that were performed, and those that are still to be performed.
-use Rattle.scene.proofs.Names.{◌≡◌, ℕ, ◌+◌, ◌-◌, ◌<◌, ◌≤◌, Bool, true, false, List, [], ◌∷◌, map, length, drop, get_or, refl, ap, sym, ◌∙◌, subst, arith, inl, inr, ◌==◌, ◌&&◌, ◌||◌, bit_and, not, nat_lt, slice_get, Some, length-drop, and_parts, eq-eqb, ne_eqb, eqb-true, or_cases, slice_get-get_or, bit_if, multi_step, told, blank, save_point_reached, save_point_left, CellsFollowBytes, Change, TextStep, ContainerStep, Document, View, text_of, watching, AreStepsOf, text_steps, Scene, is_last, change_performed, changes_performed, save_point_change, Entries, id_of, Gathered, KeptView, Direction, DocumentRoom, Kept, ChangeRoom, HasTextRoom, TakesRoom, IsAtMost, no_room, with_freed, marker_room_in_all, changes_of, room_of_change, save_point_told, scene_in, watchers, fold_room_in_all, IsWatched, hearers, masks_of, bits_of, every_kind, notes_of_changes, notes_of_change, bytes_of_changes, free_behind, freed_by, fill_behind, fill_behind_all, SpareLeft, room_of_changes, rooms_beside, save_point_notes, several_bits, CanPerform, IsPerformed}
+use Rattle.scene.proofs.Names.{◌≡◌, ℕ, ◌+◌, ◌-◌, ◌<◌, ◌≤◌, Bool, true, false, List, [], ◌∷◌, map, length, drop, get_or, refl, ap, sym, ◌∙◌, subst, arith, inl, inr, ◌==◌, ◌&&◌, ◌||◌, bit_and, not, nat_lt, slice_get, Some, length-drop, and_parts, eq-eqb, ne_eqb, eqb-true, or_cases, slice_get-get_or, bit_if, multi_step, told, blank, save_point_reached, save_point_left, CellsFollowBytes, Change, TextStep, ContainerStep, Document, View, text_of, watching, AreStepsOf, text_steps, Scene, is_last, change_performed, changes_performed, save_point_change, Entries, id_of, Gathered, NoteCapacity, CanPut, is_full, KeptView, Direction, DocumentRoom, Kept, ChangeRoom, HasTextRoom, TakesRoom, IsAtMost, no_room, with_freed, marker_room_in_all, changes_of, room_of_change, save_point_told, scene_in, watchers, fold_room_in_all, IsWatched, hearers, masks_of, bits_of, every_kind, notes_of_changes, notes_of_change, bytes_of_changes, free_behind, freed_by, fill_behind, fill_behind_all, SpareLeft, room_of_changes, rooms_beside, save_point_notes, several_bits, CanPerform, IsPerformed}
 use Rattle.scene.specs.declared.performing.Turn.{Turn}
 use Rattle.scene.specs.Undoing.{freed_by_all}
 use Rattle.scene.specs.Performed.{CanPerformAll, AreAllPerformed}
@@ -42,12 +42,12 @@ pub record IsPerformedSoFar (direction : Direction) (rest : List Change) (change
   pub free : ℕ
   pub room : LeavesRoom old.room now.room free (room_of_changes old.document.line_end_types (changes_of direction old.document.history))
       (rooms_beside old.document.line_end_types free rest)
-  pub notes : notes_of_changes (watchers now.document views') (bits_of direction) rest
-      + save_point_notes (save_point_told direction old.document.history) (length (watchers now.document views')) ≤ gathered'.note_room
+  pub notes : CanPut (notes_of_changes (watchers now.document views') (bits_of direction) rest
+      + save_point_notes (save_point_told direction old.document.history) (length (watchers now.document views'))) gathered'
   pub hear : (k : ℕ) → hearers k (watchers now.document views') ≡ hearers k (watchers old.document views)
-  pub note_room : gathered'.note_room + length gathered'.notes ≡ gathered.note_room + length gathered.notes
-  pub text_room : gathered'.text_room + bytes_of_changes (watchers old.document views) (bits_of direction) (changes_of direction old.document.history)
-      ≡ gathered.text_room + bytes_of_changes (watchers now.document views') (bits_of direction) rest
+  pub capacity : gathered'.capacity ≡ gathered.capacity
+  pub held : gathered'.held + bytes_of_changes (watchers now.document views') (bits_of direction) rest
+      ≡ gathered.held + bytes_of_changes (watchers old.document views) (bits_of direction) (changes_of direction old.document.history)
   pub ids : map id_of views'.entries ≡ map id_of views.entries
   pub next : views'.next ≡ views.next
   pub view_capacity : views'.capacity ≡ views.capacity
@@ -68,8 +68,8 @@ performed_none direction old views gathered can = record {
   room = leaves_all old.room (room_of_changes old.document.line_end_types (changes_of direction old.document.history));
   notes = can.notes;
   hear = λ k. refl;
-  note_room = refl;
-  text_room = refl;
+  capacity = refl;
+  held = refl;
   ids = refl;
   next = refl;
   view_capacity = refl;
@@ -81,16 +81,16 @@ performed_none direction old views gathered can = record {
 
 -- if it is known that no view hears any change, the changes need no notes
 pub quiet_notes : (direction : Direction) (k : Kept) (views : Entries KeptView) (gathered : Gathered) (several quiet : Bool) → CanPerformAll direction k views gathered
-    → quiet ≡ (gathered.note_room == 0 || (several && (bit_and (masks_of (watchers k.document views)) (every_kind (bits_of direction)) == 0))) → quiet ≡ true
+    → quiet ≡ (is_full gathered || (several && (bit_and (masks_of (watchers k.document views)) (every_kind (bits_of direction)) == 0))) → quiet ≡ true
     → notes_of_changes (watchers k.document views) (bits_of direction) (changes_of direction k.document.history) ≡ 0
 quiet_notes direction k views gathered several quiet can e is =
     let W = watchers k.document views in
     let who = bits_of direction in
     let all = changes_of direction k.document.history in
-    elim (or_cases (gathered.note_room == 0) (several && (bit_and (masks_of W) (every_kind who) == 0)) (sym e ∙ is)) [
+    elim (or_cases (is_full gathered) (several && (bit_and (masks_of W) (every_kind who) == 0)) (sym e ∙ is)) [
       | inl full ↦
-          let none = eqb-true gathered.note_room 0 full in
-          let there : notes_of_changes W who all + save_point_notes (save_point_told direction k.document.history) (length W) ≤ gathered.note_room = can.notes in
+          let none = eqb-true (length gathered.notes) gathered.capacity.notes full in
+          let there : CanPut (notes_of_changes W who all + save_point_notes (save_point_told direction k.document.history) (length W)) gathered = can.notes in
           omega arith
       | inr apart ↦ none_of_all direction all W (none_by_masks (every_kind who) W (eqb-true _ 0 (and_parts several (bit_and (masks_of W) (every_kind who) == 0) apart).1))
     ]
@@ -123,9 +123,10 @@ module _ (turn : Turn) (c : Change) (rest after : List Change) (changed : Bool) 
       → CanPerform turn now views' gathered' c
   next_can can at =
       let room = subst (λ cs. LeavesRoom old.room now.room so.free (room_of_changes old.document.line_end_types (changes_of turn.direction old.document.history)) (rooms_beside old.document.line_end_types so.free cs)) e so.room in
-      let notes = subst (λ cs. notes_of_changes (watchers now.document views') (bits_of turn.direction) cs + save_point_notes (save_point_told turn.direction old.document.history) (length (watchers now.document views')) ≤ gathered'.note_room) e so.notes in
-      let texts = so.text_room ∙ ap (λ cs. gathered.text_room + bytes_of_changes (watchers now.document views') (bits_of turn.direction) cs) e in
+      let notes = subst (λ cs. CanPut (notes_of_changes (watchers now.document views') (bits_of turn.direction) cs + save_point_notes (save_point_told turn.direction old.document.history) (length (watchers now.document views'))) gathered') e so.notes in
+      let texts = sym (ap (λ cs. gathered'.held + bytes_of_changes (watchers now.document views') (bits_of turn.direction) cs) e) ∙ so.held in
       let there = can.texts in
+      let fit = ap (λ (c : NoteCapacity). c.bytes) so.capacity in
       let text = room.text in
       let lines = room.lines in
       let insertions = room.insertions in
@@ -184,10 +185,10 @@ module _ (turn : Turn) (c : Change) (rest after : List Change) (changed : Bool) 
         let put : length gathered''.notes ≡ length performed.notes = ap (λ (s : Scene). length s.notes) p.scene in
         let few = performed_few turn.direction turn.several turn.last changed' c before in
         let told = save_point_told turn.direction old.document.history in
-        let notes = subst (λ cs. notes_of_changes W who cs + save_point_notes told (length W) ≤ gathered'.note_room) e so.notes in
-        let texts = so.text_room ∙ ap (λ cs. gathered.text_room + bytes_of_changes W who cs) e in
-        let room = p.note_room in
-        let text_room = p.text_room in
+        let notes = subst (λ cs. CanPut (notes_of_changes W who cs + save_point_notes told (length W)) gathered') e so.notes in
+        let texts = sym (ap (λ cs. gathered'.held + bytes_of_changes W who cs) e) ∙ so.held in
+        let fit = ap (λ (c : NoteCapacity). c.notes) p.capacity in
+        let held = p.held in
         let same_notes = notes_alike who after (watchers new.document views'') W alike in
         let same_bytes = bytes_alike who after (watchers new.document views'') W alike in
         let same_told = ap (save_point_notes told) alike.count in
@@ -205,8 +206,8 @@ module _ (turn : Turn) (c : Change) (rest after : List Change) (changed : Bool) 
               (subst (λ t. now.room.text + freed_by c ≤ new.room.text + (room_of_change t c).text) so.types p.freed);
           notes = omega arith;
           hear = λ k. alike.hear k ∙ so.hear k;
-          note_room = p.note_room ∙ so.note_room;
-          text_room = omega arith;
+          capacity = p.capacity ∙ so.capacity;
+          held = omega arith;
           ids = p.ids ∙ so.ids;
           next = p.next ∙ so.next;
           view_capacity = p.view_capacity ∙ so.view_capacity;
@@ -223,8 +224,8 @@ performed_all direction rest changed old now views views' gathered gathered' so 
     let who = bits_of direction in
     let all = changes_of direction old.document.history in
     let bits = bit_if (nat_lt 1 (length all)) multi_step in
-    let notes = subst (λ cs. notes_of_changes (watchers now.document views') who cs + save_point_notes (save_point_told direction old.document.history) (length (watchers now.document views')) ≤ gathered'.note_room) e so.notes in
-    let texts = so.text_room ∙ ap (λ cs. gathered.text_room + bytes_of_changes (watchers now.document views') who cs) e in
+    let notes = subst (λ cs. CanPut (notes_of_changes (watchers now.document views') who cs + save_point_notes (save_point_told direction old.document.history) (length (watchers now.document views'))) gathered') e so.notes in
+    let texts = sym (ap (λ cs. gathered'.held + bytes_of_changes (watchers now.document views') who cs) e) ∙ so.held in
     record {
       scene = ap (λ cs. changes_performed who bits changed cs (scene_in now.document views'.entries gathered'.notes)) (sym e) ∙ so.scene;
       history = so.history;
@@ -232,8 +233,8 @@ performed_all direction rest changed old now views views' gathered gathered' so 
       room = leaves_none old.room now.room so.free (room_of_changes old.document.line_end_types all)
           (subst (λ cs. LeavesRoom old.room now.room so.free (room_of_changes old.document.line_end_types all) (rooms_beside old.document.line_end_types so.free cs)) e so.room);
       left = omega arith;
-      note_room = so.note_room;
-      text_room = omega arith;
+      capacity = so.capacity;
+      held = omega arith;
       ids = so.ids;
       next = so.next;
       view_capacity = so.view_capacity;

@@ -1,18 +1,8 @@
 -- Steps in turn, from the room that was reserved for all of them.
-use Rattle.scene.proofs.Names.{zero, suc, ◌≡◌, ℕ, ◌+◌, ◌<◌, ◌≤◌, Bool, true, false, List, [], ◌∷◌, ◌++◌, length, map, take, drop, refl, ap, sym, ◌∙◌, subst, arith, slice_range, None, length-take, length-drop, LineEnd, Step, Insert, Delete, step_bytes, edited, after_steps, conversion_steps, unwanted_from, TextStep, Document, text_of, watching, Scene, step_made, steps_made, bytes_of_edited_cells, length_of_range, length_text, DocumentRoom, Kept, ChangeRoom, HasRoom, TakesRoom, no_room, AddsNoRoomBut, marker_room_in_all, bytes_out, need_of, Entries, KeptView, Gathered, IsNextMissing, IsNextUnwanted, completed, missing_in, unwanted_in, views_of, scene_in, fold_room_in_all, IsWatched, bytes_shared, made_kinds, notes_needed, bytes_needed, NotesAreEnough, BytesAreEnough, next_notes, next_bytes, appended_collects, deletion_needs, next_room, AreLeft, RoomsStay, both_rooms, changes_for, freed_by_all, bytes_for, deletions_of, notes_for, room_of_step, room_of_steps, rooms_added}
+use Rattle.scene.proofs.Names.{zero, suc, ◌≡◌, ℕ, ◌+◌, ◌<◌, ◌≤◌, Bool, true, false, List, [], ◌∷◌, ◌++◌, length, map, take, drop, refl, ap, sym, ◌∙◌, subst, arith, slice_range, None, length-take, length-drop, LineEnd, Step, Insert, Delete, edited, after_steps, conversion_steps, unwanted_from, TextStep, Document, text_of, Scene, step_made, steps_made, bytes_of_edited_cells, length_of_range, length_text, DocumentRoom, Kept, ChangeRoom, HasRoom, TakesRoom, no_room, AddsNoRoomBut, marker_room_in_all, bytes_out, need_of, Entries, KeptView, Gathered, IsNextMissing, IsNextUnwanted, completed, missing_in, unwanted_in, scene_in, fold_room_in_all, IsWatched, held_behind, next_held, appended_collects, deletion_needs, next_room, AreLeft, RoomsStay, both_rooms, changes_for, freed_by_all, deletions_of, room_of_step, room_of_steps, rooms_added}
 use Rattle.std.proofs.lemmas.List.{length-append}
 use Rattle.document.specs.declared.text_step.TextStep.TheVariants as lent
 use Rattle.scene.proofs.PerformedSoFar.{made_next, spare_next}
-
--- Notes, and the bytes of their texts.
-
-few_notes : (steps : List Step) (scene : Scene) (room : ℕ) → notes_needed scene steps ≤ room → notes_for steps scene ≤ room
-few_notes [] scene room h = omega arith
-few_notes (s ∷ steps) scene room h = h
-
-few_bytes : (steps : List Step) (scene : Scene) (room : ℕ) → bytes_needed scene steps ≤ room → bytes_for steps scene ≤ room
-few_bytes [] scene room h = omega arith
-few_bytes (s ∷ steps) scene room h = h
 
 -- The text after a step.
 
@@ -59,10 +49,10 @@ left_all old new all so = record {
   bytes_left = omega (arith, so.bytes_left);
 }
 
-rooms_next : (s : Step) (rest steps : List Step) (k0 k k' : Kept) (v0 v v' : Entries KeptView) (n0 n n' : Gathered) (texts : ℕ) → RoomsStay (s ∷ rest) steps k0 k v0 v n0 n → StepLeaves s k k' v v'
+rooms_next : (s : Step) (rest steps : List Step) (k0 k k' : Kept) (v0 v v' : Entries KeptView) (n0 n n' : Gathered) → RoomsStay (s ∷ rest) steps k0 k v0 v n0 n → StepLeaves s k k' v v'
     → k'.document.line_end_types ≡ k.document.line_end_types → TakesRoom k.room k'.room (room_of_step k.document.line_end_types s)
-    → n'.note_room + length n'.notes ≡ n.note_room + length n.notes → n'.text_room + texts ≡ n.text_room → RoomsStay rest steps k0 k' v0 v' n0 n'
-rooms_next s rest steps k0 k k' v0 v v' n0 n n' texts so p types takes put shared = record {
+    → n'.capacity ≡ n.capacity → RoomsStay rest steps k0 k' v0 v' n0 n'
+rooms_next s rest steps k0 k k' v0 v v' n0 n n' so p types takes same = record {
   types = types ∙ so.types;
   room_left = left_next k0.room k.room k'.room (room_of_step k0.document.line_end_types s) (rooms_added k0.document.line_end_types rest) (rooms_added k0.document.line_end_types steps)
       so.room_left (subst (λ t. TakesRoom k.room k'.room (room_of_step t s)) so.types takes);
@@ -71,12 +61,8 @@ rooms_next s rest steps k0 k k' v0 v v' n0 n n' texts so p types takes put share
   markers_in_all = p.markers_in_all ∙ so.markers_in_all;
   fold_rooms = p.fold_rooms ∙ so.fold_rooms;
   view_capacity = p.view_capacity ∙ so.view_capacity;
-  note_room = put ∙ so.note_room;
-  text_room = less n'.text_room texts n.text_room n0.text_room shared so.text_room;
+  capacity = same ∙ so.capacity;
 }
-  where
-    less : (a b c d : ℕ) → a + b ≡ c → c ≤ d → a ≤ d
-    less a b c d e l = omega arith
 
 -- room after some of the steps, and then after the rest
 rooms_both : (rest steps : List Step) (k0 k k' : Kept) (v0 v v' : Entries KeptView) (n0 n n' : Gathered) → RoomsStay rest steps k0 k v0 v n0 n → RoomsStay [] rest k k' v v' n n'
@@ -84,7 +70,6 @@ rooms_both : (rest steps : List Step) (k0 k k' : Kept) (v0 v v' : Entries KeptVi
 rooms_both rest steps k0 k k' v0 v v' n0 n n' so then =
     let a = so.none_made.text in let b = so.none_made.lines in let d = so.none_made.insertions in let f = so.none_made.steps in let g = so.none_made.bytes in
     let a' = then.none_made.text in let b' = then.none_made.lines in let d' = then.none_made.insertions in let f' = then.none_made.steps in let g' = then.none_made.bytes in
-    let h = so.text_room in let h' = then.text_room in
     record {
       types = then.types ∙ so.types;
       room_left = left_both k0.room k.room k'.room (rooms_added k0.document.line_end_types rest) (rooms_added k0.document.line_end_types steps) so.room_left
@@ -94,8 +79,7 @@ rooms_both rest steps k0 k k' v0 v v' n0 n n' so then =
       markers_in_all = then.markers_in_all ∙ so.markers_in_all;
       fold_rooms = then.fold_rooms ∙ so.fold_rooms;
       view_capacity = then.view_capacity ∙ so.view_capacity;
-      note_room = then.note_room ∙ so.note_room;
-      text_room = omega arith;
+      capacity = then.capacity ∙ so.capacity;
     }
 
 -- room after the insertions of a conversion, and then after its deletions
@@ -108,33 +92,28 @@ rooms_of_all to k0 k k' v0 v v' n0 n n' put text took =
 
 -- One of the steps is made.
 pub made_left :
-    NotesAreEnough → BytesAreEnough → (s : Step) (rest steps : List Step) (later was : Bool) (k0 k k' : Kept) (v0 v v' : Entries KeptView) (n0 n n' : Gathered)
+    (s : Step) (rest steps : List Step) (later was : Bool) (k0 k k' : Kept) (v0 v v' : Entries KeptView) (n0 n n' : Gathered)
     → AreLeft (s ∷ rest) later steps was k0 k v0 v n0 n
     → scene_in k'.document v'.entries n'.notes ≡ step_made later s (scene_in k.document v.entries n.notes)
     → IsWatched k'.document v' → TakesRoom k.room k'.room (room_of_step k.document.line_end_types s)
-    → n'.note_room + length n'.notes ≡ n.note_room + length n.notes
-    → n'.text_room + bytes_shared (made_kinds later s k.document.history) (watching (views_of v.entries) k.document) (length (step_bytes s)) ≡ n.text_room
+    → n'.capacity ≡ n.capacity → n'.held ≡ held_behind later s (scene_in k.document v.entries n.notes) n.held
     → StepLeaves s k k' v v' → v'.next ≡ v.next → AreLeft rest true steps was k0 k' v0 v' n0 n'
-made_left notes_law bytes_law s rest steps later was k0 k k' v0 v v' n0 n n' left made watched takes notes texts leaves next =
+made_left s rest steps later was k0 k k' v0 v v' n0 n n' left made watched takes same held leaves next =
     let scene = scene_in k.document v.entries n.notes in
     let after = scene_in k'.document v'.entries n'.notes in
     let types : k'.document.line_end_types ≡ k.document.line_end_types = ap (λ (x : Scene). x.document.line_end_types) made in
     let collects : k'.document.history.collecting ≡ k.document.history.collecting =
     ap (λ (x : Scene). x.document.history.collecting) made ∙ appended_collects later (TextStep s) k.document.history in
     let room : HasRoom k' (room_of_steps k.document.line_end_types rest) = next_room k k' k.document.line_end_types s rest left.can.room takes leaves.text_freed collects in
-    let few : notes_needed (step_made later s scene) rest ≤ n'.note_room =
-    next_notes notes_law later s rest scene n.note_room n'.note_room (length n'.notes) left.can.notes_there (ap (λ (x : Scene). length x.notes) made) notes in
-    let short : bytes_needed (step_made later s scene) rest ≤ n'.text_room = next_bytes bytes_law later s rest scene n.text_room n'.text_room left.can.texts_there texts in
     record {
       scene = ap (steps_made true rest) made ∙ left.scene;
       can = record {
         watched = watched;
         room = subst (λ t. HasRoom k' (room_of_steps t rest)) (sym types) room;
-        notes_there = few_notes rest after n'.note_room (subst (λ x. notes_needed x rest ≤ n'.note_room) (sym made) few);
-        texts_there = few_bytes rest after n'.text_room (subst (λ x. bytes_needed x rest ≤ n'.text_room) (sym made) short);
+        holds = next_held later s rest scene after n n' left.can.holds made same held;
       };
       next = next ∙ left.next;
-      rooms = rooms_next s rest steps k0 k k' v0 v v' n0 n n' (bytes_shared (made_kinds later s k.document.history) (watching (views_of v.entries) k.document) (length (step_bytes s))) left.rooms leaves types takes notes texts;
+      rooms = rooms_next s rest steps k0 k k' v0 v v' n0 n n' left.rooms leaves types takes same;
     }
 
 -- The insertions of a conversion.
@@ -160,18 +139,17 @@ put_next to start place byte later k0 k v0 v n0 n so next =
 
 -- after the next insertion is made, the others remain
 pub put_made :
-    NotesAreEnough → BytesAreEnough → (to : LineEnd) (start place byte : ℕ) (later : Bool) (k0 k k' : Kept) (v0 v v' : Entries KeptView) (n0 n n' : Gathered)
+    (to : LineEnd) (start place byte : ℕ) (later : Bool) (k0 k k' : Kept) (v0 v v' : Entries KeptView) (n0 n n' : Gathered)
     → PutsLeft to start later k0 k v0 v n0 n → IsNextMissing to (text_of k.document) start place byte
     → scene_in k'.document v'.entries n'.notes ≡ step_made later (put_of place byte) (scene_in k.document v.entries n.notes)
     → IsWatched k'.document v' → TakesRoom k.room k'.room (room_of_step k.document.line_end_types (put_of place byte))
-    → n'.note_room + length n'.notes ≡ n.note_room + length n.notes
-    → n'.text_room + bytes_shared (made_kinds later (put_of place byte) k.document.history) (watching (views_of v.entries) k.document) 1 ≡ n.text_room
+    → n'.capacity ≡ n.capacity → n'.held ≡ held_behind later (put_of place byte) (scene_in k.document v.entries n.notes) n.held
     → StepLeaves (put_of place byte) k k' v v' → v'.next ≡ v.next → PutsLeft to (place + 1) true k0 k' v0 v' n0 n'
-put_made notes_law bytes_law to start place byte later k0 k k' v0 v v' n0 n n' so next made watched takes notes texts leaves same =
+put_made to start place byte later k0 k k' v0 v v' n0 n n' so next made watched takes fit held leaves same =
     let s = put_of place byte in
     let text : text_of k'.document ≡ edited s (text_of k.document) = text_after later s (scene_in k.document v.entries n.notes) (scene_in k'.document v'.entries n'.notes) made in
-    let left = made_left notes_law bytes_law s (puts_behind to place byte k0 k) (conversion_steps to (text_of k0.document)) later false k0 k k' v0 v v' n0 n n'
-    (put_next to start place byte later k0 k v0 v n0 n so next) made watched takes notes texts leaves same in
+    let left = made_left s (puts_behind to place byte k0 k) (conversion_steps to (text_of k0.document)) later false k0 k k' v0 v v' n0 n n'
+    (put_next to start place byte later k0 k v0 v n0 n so next) made watched takes fit held leaves same in
     let done : after_steps (missing_in to (edited s (text_of k.document)) (place + 1)) (edited s (text_of k.document)) ≡ completed to (text_of k0.document) =
     sym (ap (λ l. after_steps l (text_of k.document)) next.steps) ∙ so.text in
     let size : length (text_of k'.document) ≡ length (text_of k.document) + 1 = ap length text ∙ one_longer place byte (text_of k.document) in
@@ -216,19 +194,18 @@ pub take_room : (to : LineEnd) (start place : ℕ) (k : Kept) (P : DocumentRoom 
 take_room to start place k P next h = subst P (sym (deletion_needs k.document.line_end_types k.document place 1 (take_within to start place k next))) h
 
 pub take_made :
-    NotesAreEnough → BytesAreEnough → (to : LineEnd) (start place : ℕ) (later was : Bool) (k0 k k' : Kept) (v0 v v' : Entries KeptView) (n0 n n' : Gathered)
+    (to : LineEnd) (start place : ℕ) (later was : Bool) (k0 k k' : Kept) (v0 v v' : Entries KeptView) (n0 n n' : Gathered)
     → TakesLeft to start later was k0 k v0 v n0 n → IsNextUnwanted to (text_of k.document) start place
     → scene_in k'.document v'.entries n'.notes ≡ step_made later (take_of place k) (scene_in k.document v.entries n.notes)
     → IsWatched k'.document v' → TakesRoom k.room k'.room (need_of k.document.line_end_types (lent.Delete place 1))
-    → n'.note_room + length n'.notes ≡ n.note_room + length n.notes
-    → n'.text_room + bytes_shared (made_kinds later (take_of place k) k.document.history) (watching (views_of v.entries) k.document) (length (step_bytes (take_of place k))) ≡ n.text_room
+    → n'.capacity ≡ n.capacity → n'.held ≡ held_behind later (take_of place k) (scene_in k.document v.entries n.notes) n.held
     → StepLeaves (take_of place k) k k' v v' → v'.next ≡ v.next → TakesLeft to place true was k0 k' v0 v' n0 n'
-take_made notes_law bytes_law to start place later was k0 k k' v0 v v' n0 n n' so next made watched takes notes texts leaves same =
+take_made to start place later was k0 k k' v0 v v' n0 n n' so next made watched takes fit held leaves same =
     let s = take_of place k in
     let text : text_of k'.document ≡ edited s (text_of k.document) = text_after later s (scene_in k.document v.entries n.notes) (scene_in k'.document v'.entries n'.notes) made in
-    let left = made_left notes_law bytes_law s (unwanted_in to (edited s (text_of k.document)) place) (unwanted_from 0 false to (text_of k0.document)) later was k0 k k' v0 v v' n0 n n'
+    let left = made_left s (unwanted_in to (edited s (text_of k.document)) place) (unwanted_from 0 false to (text_of k0.document)) later was k0 k k' v0 v v' n0 n n'
     (take_next to start place later was k0 k v0 v n0 n so next) made watched
-    (take_room to start place k (λ need. TakesRoom k.room k'.room need) next takes) notes texts leaves same in
+    (take_room to start place k (λ need. TakesRoom k.room k'.room need) next takes) fit held leaves same in
     let w = next.within in
     let one : length (slice_range (text_of k.document) place (place + 1)) ≡ 1 = length_of_range k.document.cells place 1 (take_within to start place k next) in
     let size : length (text_of k'.document) + 1 ≡ length (text_of k.document) =

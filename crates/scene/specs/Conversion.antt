@@ -1,12 +1,12 @@
 -- Converting the line ends of a document's text to one kind: what the steps need, and how many of them are made.
-use Rattle.std.specs.Prelude.{◌≡◌, ℕ, ◌+◌, ◌-◌, ◌*◌, ◌≤◌, nat_lt, Bool, false, List, [], ◌∷◌, length, map, Option}
+use Rattle.std.specs.Prelude.{◌≡◌, ℕ, ◌-◌, ◌*◌, nat_lt, Bool, false, List, [], ◌∷◌, length, map, Option}
 use Rattle.ed_model.specs.declared.plan.LineEnd.{LineEnd}
 use Rattle.ed_model.specs.declared.plan.LineEndTypes.{LineEndTypes}
 use Rattle.ed_model.specs.Steps.{Step, Insert, Delete}
 use Rattle.ed_model.specs.LineEnds.{conversion_steps, missing_from, unwanted_from}
 use Rattle.ed_model.specs.History.{Change, TextStep}
 use Rattle.ed_model.specs.Session.{text_of}
-use Rattle.ed_model.specs.Performing.{Scene, edit_made, steps_made}
+use Rattle.ed_model.specs.Performing.{edit_made, steps_made}
 use Rattle.line_index.specs.RoomLaws.{lines_for_insertion, lines_for_deletion}
 use Rattle.line_ends.specs.Conversion.{IsNextMissing, IsNextUnwanted, completed, missing_in, unwanted_in}
 use Rattle.id_table.specs.Entries.{Entries}
@@ -17,7 +17,7 @@ use Rattle.document.specs.declared.text_step.TextStep.{TextStep as Lent}
 use Rattle.document.specs.Kept.{Kept, document_room, no_room, with_freed, HasRoom, IsAtMost, TakesRoom, marker_room_in_all}
 use Rattle.scene.specs.declared.need.NoteRoom.{NoteRoom}
 use Rattle.scene.specs.Scenes.{scene_in, kept_scene, watchers, fold_room_in_all, IsWatched}
-use Rattle.scene.specs.Needs.{notes_needed, bytes_needed, notes_for_step, bytes_for_step, notes_of_steps, bytes_of_steps}
+use Rattle.scene.specs.Needs.{CanHoldSteps, CanHoldEdit, notes_for, bytes_needed, notes_for_step, bytes_for_step, notes_of_steps, bytes_of_steps}
 pub use Rattle.scene.specs.Undoing.{freed_by_all, fill_behind_all, SpareLeft, both_rooms, free_behind, capped, capped_room, capped_notes}
 
 -- the room that a step needs in its document
@@ -41,27 +41,23 @@ abbrev pub rooms_added : LineEndTypes → List Step → DocumentRoom
 rooms_added types [] = no_room
 rooms_added types (step ∷ steps) = both_rooms (room_of_step types step) (rooms_added types steps)
 
--- the notes and the bytes of texts that the steps of a message need; none if there is no step
-abbrev pub notes_for : List Step → Scene → ℕ
-notes_for [] scene = 0
-notes_for (step ∷ steps) scene = notes_needed scene (step ∷ steps)
-
-abbrev pub bytes_for : List Step → Scene → ℕ
-bytes_for [] scene = 0
-bytes_for (step ∷ steps) scene = bytes_needed scene (step ∷ steps)
-
--- there is room for the steps
-pub record CanMakeSteps (steps : List Step) (k : Kept) (views : Entries KeptView) (notes : Gathered) : Type 0 where
+-- there is room for the steps, and for their notes; `later` says that the first of them is a later step of its message
+pub record CanMakeSteps (later : Bool) (steps : List Step) (k : Kept) (views : Entries KeptView) (notes : Gathered) : Type 0 where
   pub watched : IsWatched k.document views
   pub room : HasRoom k (room_of_steps k.document.line_end_types steps)
-  pub notes_there : notes_for steps (scene_in k.document views.entries notes.notes) ≤ notes.note_room
-  pub texts_there : bytes_for steps (scene_in k.document views.entries notes.notes) ≤ notes.text_room
+  pub holds : CanHoldSteps later steps (scene_in k.document views.entries notes.notes) notes
+
+-- there is room for the steps of an edit, and for their notes
+pub record CanMakeEdit (steps : List Step) (k : Kept) (views : Entries KeptView) (notes : Gathered) : Type 0 where
+  pub watched : IsWatched k.document views
+  pub room : HasRoom k (room_of_steps k.document.line_end_types steps)
+  pub holds : CanHoldEdit steps (scene_in k.document views.entries notes.notes) notes
 
 abbrev pub changes_for : List Step → List Change
 changes_for steps = map (λ (step : Step). TextStep step) steps
 
 -- While the steps `rest` are still to be made, the others have used at most what they need, and no room was added except what deleted
--- bytes leave. Each view has kept its room, there is as much room for more views, and none was added for notes and their texts.
+-- bytes leave. Each view has kept its room, there is as much room for more views, and as many notes and texts fit in.
 pub record RoomsStay (rest steps : List Step) (before after : Kept) (views views' : Entries KeptView) (notes notes' : Gathered) : Type 0 where
   pub types : after.document.line_end_types ≡ before.document.line_end_types
   pub room_left : TakesRoom (both_rooms before.room (rooms_added before.document.line_end_types rest)) after.room (rooms_added before.document.line_end_types steps)
@@ -70,14 +66,13 @@ pub record RoomsStay (rest steps : List Step) (before after : Kept) (views views
   pub markers_in_all : marker_room_in_all after ≡ marker_room_in_all before
   pub fold_rooms : map fold_room_in_all views'.entries ≡ map fold_room_in_all views.entries
   pub view_capacity : views'.capacity ≡ views.capacity
-  pub note_room : notes'.note_room + length notes'.notes ≡ notes.note_room + length notes.notes
-  pub text_room : notes'.text_room ≤ notes.text_room
+  pub capacity : notes'.capacity ≡ notes.capacity
 
 -- of the steps on the old scene, those of `rest` remain to be made on the new one, and there is room for them; for both scenes a flag
 -- says whether the first of the steps is a later one of its message
 pub record AreLeft (rest : List Step) (later : Bool) (steps : List Step) (was_later : Bool) (before after : Kept) (views views' : Entries KeptView) (notes notes' : Gathered) : Type 0 where
   pub scene : steps_made later rest (scene_in after.document views'.entries notes'.notes) ≡ steps_made was_later steps (scene_in before.document views.entries notes.notes)
-  pub can : CanMakeSteps rest after views' notes'
+  pub can : CanMakeSteps later rest after views' notes'
   pub next : views'.next ≡ views.next
   pub rooms : RoomsStay rest steps before after views views' notes notes'
 
@@ -183,7 +178,7 @@ room_for_all steps k = capped_room (rooms_added k.document.line_end_types steps)
 abbrev pub notes_for_conversion : LineEnd → Kept → Entries KeptView → NoteRoom
 notes_for_conversion to k views =
     capped_notes (notes_for (conversion_of to k) (scene_in k.document views.entries []))
-    (bytes_for (conversion_of to k) (scene_in k.document views.entries []))
+    (bytes_needed (scene_in k.document views.entries []) (conversion_of to k))
 
 -- the room in the document for the conversion
 abbrev pub room_for_conversion : LineEnd → Kept → DocumentRoom

@@ -1,11 +1,12 @@
--- How many notes steps append at most, and how many bytes of texts are shared for them.
-use Rattle.std.specs.Prelude.{ℕ, ◌+◌, ◌-◌, ◌*◌, ◌^◌, ◌<◌, ◌≤◌, ◌≡◌, ◌&&◌, if◌then◌else◌, Bool, true, List, [], ◌∷◌, length}
+-- How many notes steps append and how many bytes of texts are shared for them: exactly, and at most.
+use Rattle.std.specs.Prelude.{ℕ, ◌+◌, ◌-◌, ◌*◌, ◌^◌, ◌<◌, ◌≤◌, ◌&&◌, nat_lt, if◌then◌else◌, Bool, true, false, List, [], ◌∷◌, length}
 use Rattle.ed_model.specs.Steps.{Step, step_bytes}
 use Rattle.ed_model.specs.History.{History, at_save_point}
 use Rattle.ed_model.specs.Session.{View, watching}
 use Rattle.ed_model.specs.Notes.{performed_user}
-use Rattle.ed_model.specs.Performing.{Scene, step_made, sealed_scene}
+use Rattle.ed_model.specs.Performing.{Scene, step_made, steps_made, edit_made, sealed_scene}
 use Rattle.id_table.specs.Entries.{Entries}
+use Rattle.notify.specs.Gathered.{Gathered}
 use Rattle.ed_view.specs.Kept.{KeptView}
 use Rattle.document.specs.declared.text_step.TextStep.{TextStep}
 use Rattle.document.specs.Kept.{Kept}
@@ -14,6 +15,7 @@ use Rattle.scene.specs.declared.need.NoteRoom.{NoteRoom}
 use Rattle.scene.specs.declared.need.SceneNeed.{SceneNeed}
 use Rattle.scene.specs.Scenes.{watchers}
 use Rattle.scene.specs.Hearing.{step_kinds, user_bits, made_kinds, hearers, bytes_shared}
+use Rattle.scene.specs.Telling.{CanHold}
 
 abbrev pub note_room : ℕ → ℕ → NoteRoom
 note_room notes bytes = record { notes = notes; bytes = bytes }
@@ -70,22 +72,35 @@ notes_needed scene steps = let views = watching scene.views scene.document in le
 abbrev pub bytes_needed : Scene → List Step → ℕ
 bytes_needed scene steps = bytes_of_steps (watching scene.views scene.document) steps
 
--- the first of the steps uses at most as many notes as the need falls by
-abbrev pub NotesAreEnough : Type 0
-NotesAreEnough =
-    (later : Bool) (step : Step) (steps : List Step) (scene : Scene)
-    → length (step_made later step scene).notes + notes_needed (step_made later step scene) steps ≤ length scene.notes + notes_needed scene (step ∷ steps)
+-- all notes that an edit needs: none if it has no step
+abbrev pub notes_for : List Step → Scene → ℕ
+notes_for [] scene = 0
+notes_for (step ∷ steps) scene = notes_needed scene (step ∷ steps)
 
--- the same for the bytes of texts
-abbrev pub BytesAreEnough : Type 0
-BytesAreEnough =
-    (later : Bool) (step : Step) (steps : List Step) (scene : Scene)
-    → bytes_shared (made_kinds later step scene.document.history) (watching scene.views scene.document) (length (step_bytes step))
-    + bytes_needed (step_made later step scene) steps
-    ≤ bytes_needed scene (step ∷ steps)
+-- how many bytes of texts the list holds after a step, if it held so many before
+abbrev pub held_behind : Bool → Step → Scene → ℕ → ℕ
+held_behind later step scene held =
+    held + bytes_shared (made_kinds later step scene.document.history) (watching scene.views scene.document) (length (step_bytes step))
 
--- sealing a transaction changes neither need
-abbrev pub SealingNeedsTheSame : Type 0
-SealingNeedsTheSame =
-    (steps : List Step) (scene : Scene)
-    → (notes_needed (sealed_scene scene) steps ≡ notes_needed scene steps) × (bytes_needed (sealed_scene scene) steps ≡ bytes_needed scene steps)
+-- the same after steps in turn
+abbrev pub held_after : Bool → List Step → Scene → ℕ → ℕ
+held_after later [] scene held = held
+held_after later (step ∷ steps) scene held = held_after true steps (step_made later step scene) (held_behind later step scene held)
+
+-- the same after an edit
+abbrev pub held_after_edit : List Step → Scene → ℕ → ℕ
+held_after_edit steps scene held = held_after false steps (if nat_lt 1 (length steps) then sealed_scene scene else scene) held
+
+-- the list can hold all notes and texts after the steps
+abbrev pub CanHoldSteps : Bool → List Step → Scene → Gathered → Type 0
+CanHoldSteps later steps scene g = CanHold g (steps_made later steps scene) (held_after later steps scene g.held)
+
+-- the same after an edit
+abbrev pub CanHoldEdit : List Step → Scene → Gathered → Type 0
+CanHoldEdit steps scene g = CanHold g (edit_made steps scene) (held_after_edit steps scene g.held)
+
+-- an edit appends at most as many notes as it needs, and shares at most as many bytes
+abbrev pub NeedsAreEnough : Type 0
+NeedsAreEnough =
+    (steps : List Step) (scene : Scene) (held : ℕ)
+    → (length (edit_made steps scene).notes ≤ length scene.notes + notes_for steps scene) × (held_after_edit steps scene held ≤ held + bytes_needed scene steps)

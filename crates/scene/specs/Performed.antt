@@ -1,26 +1,27 @@
 -- All changes of undo or redo, one after the other.
-use Rattle.std.specs.Prelude.{◌≡◌, ◌+◌, ◌≤◌, ◌++◌, nat_lt, Bool, false, length, map}
+use Rattle.std.specs.Prelude.{◌≡◌, ◌+◌, nat_lt, Bool, false, length, map}
 use Rattle.ed_model.specs.Session.{text_of}
 use Rattle.ed_model.specs.SoundLaws.{AreStepsOf}
 use Rattle.ed_model.specs.UndoPlans.{text_steps}
 use Rattle.ed_model.specs.Notes.{bit_if, multi_step}
 use Rattle.ed_model.specs.Performing.{changes_performed, save_point_change, transaction_performed}
 use Rattle.id_table.specs.Entries.{Entries, id_of}
-use Rattle.notify.specs.Gathered.{Gathered}
+use Rattle.notify.specs.Gathered.{Gathered, CanPut, CanShare}
 use Rattle.ed_view.specs.Kept.{KeptView}
 use Rattle.document.specs.declared.undoing.Direction.{Direction}
 use Rattle.document.specs.Kept.{Kept, HasTextRoom, TakesRoom, AddsNoRoomBut, marker_room_in_all}
 use Rattle.document.specs.Undoing.{changes_of, history_behind, save_point_told}
 use Rattle.scene.specs.Scenes.{scene_in, kept_scene, watchers, fold_room_in_all, IsWatched}
+use Rattle.scene.specs.Telling.{with_notes}
 use Rattle.scene.specs.Undoing.{bits_of, freed_by_all, fill_behind_all, bytes_of_changes, notes_of_history, room_of_changes, save_point_notes}
 
--- the changes are steps of the text that fit one after another, and there is room for them and for the notes about the save point
+-- the changes are steps of the text that fit one after another, and there is room for them and for all notes
 pub record CanPerformAll (direction : Direction) (k : Kept) (views : Entries KeptView) (gathered : Gathered) : Type 0 where
   pub steps : AreStepsOf (text_of k.document) (text_steps (changes_of direction k.document.history))
   pub room : HasTextRoom k (room_of_changes k.document.line_end_types (changes_of direction k.document.history))
   pub watched : IsWatched k.document views
-  pub notes : notes_of_history (watchers k.document views) direction k.document.history ≤ gathered.note_room
-  pub texts : bytes_of_changes (watchers k.document views) (bits_of direction) (changes_of direction k.document.history) ≤ gathered.text_room
+  pub notes : CanPut (notes_of_history (watchers k.document views) direction k.document.history) gathered
+  pub texts : CanShare (bytes_of_changes (watchers k.document views) (bits_of direction) (changes_of direction k.document.history)) gathered
 
 -- all changes are performed, the history is unchanged, and there is room for the notes about the save point
 pub record AreAllPerformed (direction : Direction) (k : Kept) (views : Entries KeptView) (gathered : Gathered)
@@ -31,10 +32,9 @@ pub record AreAllPerformed (direction : Direction) (k : Kept) (views : Entries K
   pub history : k'.document.history ≡ k.document.history
   pub watched : IsWatched k'.document views'
   pub room : TakesRoom k.room k'.room (room_of_changes k.document.line_end_types (changes_of direction k.document.history))
-  pub left : save_point_notes (save_point_told direction k.document.history) (length (watchers k'.document views')) ≤ gathered'.note_room
-  pub note_room : gathered'.note_room + length gathered'.notes ≡ gathered.note_room + length gathered.notes
-  pub text_room : gathered'.text_room + bytes_of_changes (watchers k.document views) (bits_of direction) (changes_of direction k.document.history)
-      ≡ gathered.text_room
+  pub left : CanPut (save_point_notes (save_point_told direction k.document.history) (length (watchers k'.document views'))) gathered'
+  pub capacity : gathered'.capacity ≡ gathered.capacity
+  pub held : gathered'.held ≡ gathered.held + bytes_of_changes (watchers k.document views) (bits_of direction) (changes_of direction k.document.history)
   pub ids : map id_of views'.entries ≡ map id_of views.entries
   pub next : views'.next ≡ views.next
   pub view_capacity : views'.capacity ≡ views.capacity
@@ -57,4 +57,4 @@ HistoryIsPerformed direction k views gathered k' views' gathered' =
 -- behind the earlier notes, each view that watches is told if the save point is reached or left
 abbrev pub IsSavePointTold : Bool → Bool → Kept → Entries KeptView → Gathered → Gathered → Type 0
 IsSavePointTold was_there is_there k views old new =
-    new.notes ≡ old.notes ++ save_point_change (watchers k.document views) was_there is_there
+    new ≡ with_notes (save_point_change (watchers k.document views) was_there is_there) old

@@ -1,5 +1,5 @@
 -- Steps as notes describe them: by the range of their bytes.
-use Rattle.std.specs.Prelude.{◌≡◌, ℕ, ◌<◌, ◌≤◌, ◌^◌, Bool, true, false, ℤ, List, [], length}
+use Rattle.std.specs.Prelude.{◌≡◌, ℕ, ◌<◌, ◌^◌, Bool, true, false, ℤ, List, [], length}
 use Rattle.ed_types.specs.Notices.{Notice}
 use Rattle.ed_types.specs.declared.reply.Note.{Note}
 use Rattle.ed_types.specs.Heard.{with_text}
@@ -13,7 +13,7 @@ use Rattle.document.specs.declared.text_step.TextStep.{TextStep}
 use Rattle.document.specs.declared.text_step.TextStep.TheVariants.{Insert, Delete}
 use Rattle.document.specs.Kept.{Kept}
 use Rattle.document.specs.TextSteps.{step_in, step_on, IsStepOn}
-use Rattle.notify.specs.Gathered.{Gathered}
+use Rattle.notify.specs.Gathered.{Gathered, CanPut}
 use Rattle.scene.specs.declared.telling.NoteText.{NoteText}
 use Rattle.scene.specs.declared.telling.NoteText.TheVariants.{Empty, Shared}
 use Rattle.scene.specs.Scenes.{watchers}
@@ -61,13 +61,12 @@ IsNoteAfter bits lines step note =
 abbrev pub notes_before : ℕ → TextStep → Kept → Entries KeptView → List Notice
 notes_before bits step k views = heard (watchers k.document views) (before_note bits (step_on k step))
 
--- The step was made on this text. If no view hears it, there is no note after it; otherwise its bytes are shared. There is room for its
--- notes.
+-- The step was made on this text. If no view hears it, there is no note after it; otherwise its bytes are shared. Its notes fit in.
 pub record CanTellMade (hears : Bool) (bits : ℕ) (lines : ℤ) (step : TextStep) (text : List ℕ) (views : List View) (g : Gathered) : Type 0 where
   pub on : IsStepOn step (length text)
   pub unheard : hears ≡ false → heard views (after_note bits lines (step_in step text)) ≡ []
   pub shared : hears ≡ true → g.shared ≡ step_bytes (step_in step text)
-  pub room : length (heard views (after_note bits lines (step_in step text))) ≤ g.note_room
+  pub room : CanPut (length (heard views (after_note bits lines (step_in step text)))) g
 
 -- the step was made on some text, and the views that watch can be notified after it
 abbrev pub CanTellStep : Bool → ℕ → ℤ → TextStep → Kept → Entries KeptView → Gathered → Type 0

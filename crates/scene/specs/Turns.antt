@@ -8,7 +8,7 @@ use Rattle.ed_model.specs.Session.{View, text_of}
 use Rattle.ed_model.specs.Notes.{bit_if, multi_step, heard, before_note, after_note}
 use Rattle.ed_model.specs.Performing.{last_bits, changes_lines, change_performed, container_note}
 use Rattle.id_table.specs.Entries.{Entries, id_of}
-use Rattle.notify.specs.Gathered.{Gathered}
+use Rattle.notify.specs.Gathered.{Gathered, CanPut, CanShare}
 use Rattle.ed_view.specs.Kept.{KeptView}
 use Rattle.document.specs.declared.text_step.TextStep.{TextStep as Lent}
 use Rattle.document.specs.declared.undoing.ChangeOutline.{ChangeOutline}
@@ -59,14 +59,14 @@ several_bits turn = bit_if turn.several multi_step
 abbrev pub bits_behind : Turn → Bool → ℕ
 bits_behind turn lines_changed = bit_or (bit_or (bits_of turn.direction) (several_bits turn)) (last_bits turn.last lines_changed)
 
--- the change whose turn it is fits, and there is room for it
+-- the change whose turn it is fits, and there is room for it and for its notes
 pub record CanPerform (turn : Turn) (k : Kept) (views : Entries KeptView) (gathered : Gathered) (change : Change) : Type 0 where
   pub at : change_at turn k.document.history ≡ Some change
   pub fits : ChangeFits change (text_of k.document)
   pub room : HasTextRoom k (room_of_change k.document.line_end_types change)
   pub watched : IsWatched k.document views
-  pub notes : notes_of_change (watchers k.document views) (bits_of turn.direction) change ≤ gathered.note_room
-  pub texts : bytes_of_change (watchers k.document views) (bits_of turn.direction) change ≤ gathered.text_room
+  pub notes : CanPut (notes_of_change (watchers k.document views) (bits_of turn.direction) change) gathered
+  pub texts : CanShare (bytes_of_change (watchers k.document views) (bits_of turn.direction) change) gathered
 
 -- that change is performed; `changed` says whether the number of lines has changed by then
 pub record IsPerformed (turn : Turn) (lines_changed changed : Bool) (k : Kept) (views : Entries KeptView) (gathered : Gathered)
@@ -77,8 +77,8 @@ pub record IsPerformed (turn : Turn) (lines_changed changed : Bool) (k : Kept) (
   pub watched : IsWatched k'.document views'
   pub room : TakesRoom k.room k'.room (room_of_change k.document.line_end_types change)
   pub freed : k.room.text + freed_by change ≤ k'.room.text + (room_of_change k.document.line_end_types change).text
-  pub note_room : gathered'.note_room + length gathered'.notes ≡ gathered.note_room + length gathered.notes
-  pub text_room : gathered'.text_room + bytes_of_change (watchers k.document views) (bits_of turn.direction) change ≡ gathered.text_room
+  pub capacity : gathered'.capacity ≡ gathered.capacity
+  pub held : gathered'.held ≡ gathered.held + bytes_of_change (watchers k.document views) (bits_of turn.direction) change
   pub ids : map id_of views'.entries ≡ map id_of views.entries
   pub next : views'.next ≡ views.next
   pub view_capacity : views'.capacity ≡ views.capacity
@@ -90,20 +90,20 @@ pub record IsPerformed (turn : Turn) (lines_changed changed : Bool) (k : Kept) (
 -- the views that hear the step are notified before it is made, and its bytes are shared if any view hears it, which `hears` says
 pub record IsToldBefore (who : ℕ) (views : List View) (hears : Bool) (old new : Gathered) (step : Step) : Type 0 where
   pub notes : new.notes ≡ old.notes ++ heard views (before_note who step)
-  pub note_room : new.note_room + length (heard views (before_note who step)) ≡ old.note_room
-  pub text_room : new.text_room + bytes_of_change views who (TextStep step) ≡ old.text_room
+  pub capacity : new.capacity ≡ old.capacity
+  pub held : new.held ≡ old.held + bytes_of_change views who (TextStep step)
   pub unheard : hears ≡ false → hearers (performed_kinds who step) views ≡ 0
   pub shared : hears ≡ true → new.shared ≡ step_bytes step
 
 -- the step was made on this text: if no view hears it, there is no note after it, and otherwise its bytes are shared; its numbers are
--- small, and there is room for its notes
+-- small, and its notes fit in
 pub record CanTellAfter (hears : Bool) (bits : ℕ) (lines : ℤ) (step : Step) (text : List ℕ) (views : List View) (g : Gathered) : Type 0 where
   pub fits : Fits step text
   pub place : place_of step < 2 ^ 63
   pub count : length (step_bytes step) < 2 ^ 63
   pub unheard : hears ≡ false → heard views (after_note bits lines step) ≡ []
   pub shared : hears ≡ true → g.shared ≡ step_bytes step
-  pub room : length (heard views (after_note bits lines step)) ≤ g.note_room
+  pub room : CanPut (length (heard views (after_note bits lines step))) g
 
 -- no view that watches hears the change whose turn it is
 abbrev pub IsUnheard : Turn → Kept → Entries KeptView → Type 0

@@ -1,17 +1,16 @@
 //! Converts the line ends of a document's text to one kind, by a step for each byte inserted or deleted.
 
-ghost use Rattle.std.specs.Prelude.{◌≡◌, ◌≤◌, if◌then◌else◌, nat_lt, length, MatchOption};
+ghost use Rattle.std.specs.Prelude.{◌≡◌, ◌≤◌, false, if◌then◌else◌, nat_lt, length, MatchOption};
 ghost use Rattle.ed_model.specs.Session.{text_of};
 ghost use Rattle.document.specs.Kept.{AddsNoRoomBut, TakesRoom, marker_room_in_all};
 ghost use Rattle.document.specs.TextSteps.{IsStepOn, need_on};
 ghost use Rattle.line_ends.specs.Conversion.{completed};
 ghost use Rattle.scene.specs.Scenes.{AreNamed, IsWatched, KeepFoldRooms};
 ghost use Rattle.scene.specs.RoomLeft.{KeepsSpare};
-ghost use Rattle.scene.specs.Telling.{note_room_in_all};
 ghost use Rattle.scene.specs.Needs.{leaving_notes};
-ghost use Rattle.scene.specs.Conversion.{CanMakeSteps, capped_room, room_of_many, ConversionIsMade, DeletionsAreLeft, DeletionsAreMade, DeletionsKeepRooms, IsConverted, IsFirstMissing, IsFirstUnwanted, NoneMissing, NoneUnwanted, conversion_fill, conversion_freed, conversion_of, conversion_room, deletions_in, has_steps, insertions_in, notes_for_all, notes_for_conversion, notes_for_many, room_for_all, room_for_conversion, unwanted_steps};
+ghost use Rattle.scene.specs.Conversion.{CanMakeEdit, CanMakeSteps, capped_room, room_of_many, ConversionIsMade, DeletionsAreLeft, DeletionsAreMade, DeletionsKeepRooms, IsConverted, IsFirstMissing, IsFirstUnwanted, NoneMissing, NoneUnwanted, conversion_fill, conversion_freed, conversion_of, conversion_room, deletions_in, has_steps, insertions_in, notes_for_all, notes_for_conversion, notes_for_many, room_for_all, room_for_conversion, unwanted_steps};
 
-use crate::laws::{document_is_small, needs_are_enough};
+use crate::laws::document_is_small;
 use crate::need::{NoteRoom, SceneNeed, leaving_need, note_need};
 use crate::steps::make_step;
 use document::{Document, DocumentRoom, TextStep};
@@ -48,12 +47,10 @@ fn put_missing(
     notes: &mut NoteList,
     to: LineEnd,
 ) -> bool
-    requires { CanMakeSteps (conversion_of to document.old) document.old views.old notes.old }
+    requires { CanMakeSteps false (conversion_of to document.old) document.old views.old notes.old }
     ensures left { DeletionsAreLeft to result document.old document.new views.old views.new notes.old notes.new }
     ensures text { text_of document.new.document ≡ completed to (text_of document.old.document) }
 {
-    // States that the room reserved for all steps is enough for each in its turn.
-    needs_are_enough();
     let mut later = false;
     let mut place = 0;
     'putting: while let Some((found, byte)) = missing_behind(document, place, to) {
@@ -77,14 +74,12 @@ fn take_unwanted(
     to: LineEnd,
     mut later: bool,
 )
-    requires { CanMakeSteps (unwanted_steps to document.old) document.old views.old notes.old }
+    requires { CanMakeSteps later (unwanted_steps to document.old) document.old views.old notes.old }
     ensures scene { DeletionsAreMade to later document.old document.new views.old views.new notes.old notes.new }
     ensures watched { IsWatched document.new.document views.new }
     ensures next { views.new.next ≡ views.old.next }
     ensures rooms { DeletionsKeepRooms to document.old document.new views.old views.new notes.old notes.new }
 {
-    // States that the room reserved for all steps is enough for each in its turn.
-    needs_are_enough();
     let mut place = 0;
     'taking: while let Some(found) = unwanted_behind(document, place, to) {
         let step = TextStep::Delete {
@@ -99,7 +94,7 @@ fn take_unwanted(
 
 // Makes all steps, one after the other.
 fn make_all(document: &mut Document, views: &mut IdTable<View>, notes: &mut NoteList, to: LineEnd)
-    requires { CanMakeSteps (conversion_of to document.old) document.old views.old notes.old }
+    requires { CanMakeSteps false (conversion_of to document.old) document.old views.old notes.old }
     ensures scene { ConversionIsMade to document.old document.new views.old views.new notes.old notes.new }
     ensures watched { IsWatched document.new.document views.new }
     ensures next { views.new.next ≡ views.old.next }
@@ -109,8 +104,7 @@ fn make_all(document: &mut Document, views: &mut IdTable<View>, notes: &mut Note
     ensures markers_in_all { marker_room_in_all document.new ≡ marker_room_in_all document.old }
     ensures fold_rooms { KeepFoldRooms views.old views.new }
     ensures view_capacity { views.new.capacity ≡ views.old.capacity }
-    ensures note_room_left { note_room_in_all notes.new ≡ note_room_in_all notes.old }
-    ensures text_room { notes.new.text_room ≤ notes.old.text_room }
+    ensures capacity { notes.new.capacity ≡ notes.old.capacity }
 {
     let later = put_missing(document, views, notes, to);
     take_unwanted(document, views, notes, to, later);
@@ -149,7 +143,7 @@ pub fn convert(
     notes: &mut NoteList,
     to: LineEnd,
 )
-    requires can { CanMakeSteps (conversion_of to document.old) document.old views.old notes.old }
+    requires can { CanMakeEdit (conversion_of to document.old) document.old views.old notes.old }
     ensures scene { IsConverted to document.old document.new views.old views.new notes.old notes.new }
     ensures watched { IsWatched document.new.document views.new }
     ensures next { views.new.next ≡ views.old.next }
@@ -159,14 +153,11 @@ pub fn convert(
     ensures markers_in_all { marker_room_in_all document.new ≡ marker_room_in_all document.old }
     ensures fold_rooms { KeepFoldRooms views.old views.new }
     ensures view_capacity { views.new.capacity ≡ views.old.capacity }
-    ensures note_room_left { note_room_in_all notes.new ≡ note_room_in_all notes.old }
-    ensures text_room { notes.new.text_room ≤ notes.old.text_room }
+    ensures capacity { notes.new.capacity ≡ notes.old.capacity }
 {
     if !is_several(document, to) {
         return make_all(document, views, notes, to);
     }
-    // States that sealing does not change what the steps need.
-    needs_are_enough();
     document.seal_outside_groups();
     make_all(document, views, notes, to);
     document.seal_outside_groups();

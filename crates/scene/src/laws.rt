@@ -3,16 +3,13 @@
 ghost use Rattle.std.specs.Prelude.{◌<◌, ◌+◌, ◌^◌, length};
 ghost use Rattle.ed_model.specs.Session.{lines_in};
 ghost use Rattle.document.specs.Kept.{FitsWidth};
-ghost use Rattle.scene.specs.Needs.{NotesAreEnough, BytesAreEnough, SealingNeedsTheSame};
+ghost use Rattle.scene.specs.Needs.{NeedsAreEnough};
 
 use document::Document;
 
-/// The need of steps for notes and bytes of texts, computed on the scene before them, is enough for each step in its
-/// turn. Sealing the last transaction does not change the need.
+/// An edit appends at most as many notes as its steps need on the scene before them, and shares at most as many bytes.
 pub fn needs_are_enough()
-    ensures notes { NotesAreEnough }
-    ensures bytes { BytesAreEnough }
-    ensures sealing { SealingNeedsTheSame }
+    ensures { NeedsAreEnough }
 {}
 
 /// The text and the lines of a document, with the room that it has for more, are few enough that no sum of places wraps,

@@ -15,7 +15,7 @@ use ed_types::modification::{PERFORMED_USER, START_ACTION};
 use ed_view::View;
 use id_table::IdTable;
 
-/// Room for notes: how many more, and how many bytes of the texts that they share.
+/// What notes need: their number, and the bytes of the texts that they share.
 #[derive(Clone, Copy, Debug, PartialEq, Eq)]
 pub struct NoteRoom {
     /// The number of notes.

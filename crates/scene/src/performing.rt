@@ -1,13 +1,14 @@
 //! Performs the changes of undo or redo one by one, with their notes and the views that follow.
 
-ghost use Rattle.std.specs.Prelude.{◌≡◌, ◌≤◌, ◌<◌, ◌^◌, ◌++◌, ◌==◌, not, true, if◌then◌else◌, [], Some};
+ghost use Rattle.std.specs.Prelude.{◌≡◌, ◌<◌, ◌^◌, ◌==◌, not, true, if◌then◌else◌, [], Some};
 ghost use Rattle.ed_types.specs.Heard.{with_text};
 ghost use Rattle.ed_model.specs.Steps.{Step};
 ghost use Rattle.ed_model.specs.History.{Change, TextStep as Text};
 ghost use Rattle.ed_model.specs.Numbers.{growth};
 ghost use Rattle.ed_model.specs.Performing.{container_note};
 ghost use Rattle.scene.specs.Scenes.{AreNamed};
-ghost use Rattle.scene.specs.Telling.{note_room_in_all};
+ghost use Rattle.notify.specs.Gathered.{CanPut};
+ghost use Rattle.scene.specs.Telling.{with_notes};
 ghost use Rattle.scene.specs.Undoing.{bits_of, all_bits as every_bit, every_kind, outline_kinds, outline_movement};
 ghost use Rattle.scene.specs.Turns.{change_at, bits_behind, CanPerform, CanTellHeardStep, CanTellTurn, IsOutlineAt, IsStepAt, IsTurnTold, IsTurnToldBefore, IsUnheard, PerformsStep, PerformsTurn, container_hearers, token_notes};
 
@@ -242,10 +243,8 @@ fn perform_container(
     lines_changed: bool,
 )
     requires named { AreNamed views.now.entries }
-    requires room { container_hearers turn document.now views.now ≤ notes.old.note_room }
-    ensures notes { notes.new.notes ≡ notes.old.notes ++ token_notes turn lines_changed token document.now views.now }
-    ensures note_room { note_room_in_all notes.new ≡ note_room_in_all notes.old }
-    ensures text_room { notes.new.text_room ≡ notes.old.text_room }
+    requires room { CanPut (container_hearers turn document.now views.now) notes.old }
+    ensures { notes.new ≡ with_notes (token_notes turn lines_changed token document.now views.now) notes.old }
 {
     let note = note_of_container(bits_after(turn, lines_changed), token);
     tell(

@@ -1,10 +1,11 @@
 //! The notes of a step.
 
-ghost use Rattle.std.specs.Prelude.{◌≡◌, ◌≤◌, ◌<◌, ◌^◌, true, false, [], List, ℕ, length};
+ghost use Rattle.std.specs.Prelude.{◌≡◌, ◌<◌, ◌^◌, true, false, [], List, ℕ, length};
 ghost use Rattle.ed_model.specs.Steps.{step_bytes};
 ghost use Rattle.ed_model.specs.Numbers.{growth};
 ghost use Rattle.selection.specs.Positions.{movement_of as movement};
 ghost use Rattle.document.specs.TextSteps.{step_in, IsStepOn, step_on};
+ghost use Rattle.notify.specs.Gathered.{CanPut, CanShare};
 ghost use Rattle.scene.specs.Scenes.{AreNamed};
 ghost use Rattle.scene.specs.Hearing.{before_kind, after_kind};
 ghost use Rattle.scene.specs.Telling.{with_notes, with_shared};
@@ -114,10 +115,10 @@ fn after_note(bits: u32, old_lines: usize, lines: usize, step: TextStep) -> Note
     note
 }
 
-/// Shares the bytes that the step inserts or deletes among the next notes. There must be room for them.
+/// Shares the bytes that the step inserts or deletes among the next notes. They must fit in.
 pub(crate) fn share_bytes(document: &mut Document, notes: &mut NoteList, step: TextStep)
     requires fits { IsStepOn step (length document.old.document.cells) }
-    requires room { length (step_bytes (step_on document.old step)) ≤ notes.old.text_room }
+    requires room { CanShare (length (step_bytes (step_on document.old step))) notes.old }
     ensures document { document.new ≡ document.old }
     ensures notes { notes.new ≡ with_shared (step_bytes (step_on document.old step.entry)) notes.old }
 {
@@ -141,7 +142,7 @@ fn put_coming(
     requires small { IsSmallStep step }
     requires named { AreNamed views.now.entries }
     requires shared { notes.old.shared ≡ step_bytes (step_on document.now step) }
-    requires room { length (notes_before bits step document.now views.now) ≤ notes.old.note_room }
+    requires room { CanPut (length (notes_before bits step document.now views.now)) notes.old }
     ensures { notes.new ≡ with_notes (notes_before bits step.entry document.now views.now) notes.old }
 {
     let note = before_note(bits, step);
@@ -163,7 +164,7 @@ pub(crate) fn tell_coming(
     requires named { AreNamed views.now.entries }
     requires unheard { hears ≡ false → notes_before bits step document.now views.now ≡ [] }
     requires shared { hears ≡ true → notes.old.shared ≡ step_bytes (step_on document.now step) }
-    requires room { length (notes_before bits step document.now views.now) ≤ notes.old.note_room }
+    requires room { CanPut (length (notes_before bits step document.now views.now)) notes.old }
     ensures { notes.new ≡ with_notes (notes_before bits step.entry document.now views.now) notes.old }
 {
     if hears {
@@ -187,7 +188,8 @@ fn put_made(
     requires lines { (old_lines < 2 ^ 63) × (lines < 2 ^ 63) }
     requires named { AreNamed views.now.entries }
     requires can { CanTellStep true bits (growth old_lines lines) step document.now views.now notes.old }
-    ensures { IsStepTold true bits (growth old_lines lines) step.entry document.now views.now notes.old notes.new }
+    ensures told { IsStepTold true bits (growth old_lines lines) step.entry document.now views.now notes.old notes.new }
+    ensures rest { notes.new ≡ record notes.old { notes = notes.new.notes } }
 {
     let note = after_note(bits, old_lines, lines, step);
     tell(
@@ -216,7 +218,8 @@ pub(crate) fn tell_made(
     requires lines { (old_lines < 2 ^ 63) × (lines < 2 ^ 63) }
     requires named { AreNamed views.now.entries }
     requires can { CanTellStep hears bits (growth old_lines lines) step document.now views.now notes.old }
-    ensures { IsStepTold hears bits (growth old_lines lines) step.entry document.now views.now notes.old notes.new }
+    ensures told { IsStepTold hears bits (growth old_lines lines) step.entry document.now views.now notes.old notes.new }
+    ensures rest { notes.new ≡ record notes.old { notes = notes.new.notes } }
 {
     if hears {
         put_made(document, views, notes, bits, old_lines, lines, step);

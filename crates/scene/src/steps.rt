@@ -1,16 +1,17 @@
 //! Makes a step of a document's text, with its notes and the views that follow.
 
-ghost use Rattle.std.specs.Prelude.{◌≡◌, ◌≤◌, ◌&&◌, true, false, map, length, None};
+ghost use Rattle.std.specs.Prelude.{◌≡◌, ◌+◌, ◌&&◌, true, false, map, length, None};
 ghost use Rattle.ed_model.specs.Steps.{step_bytes};
 ghost use Rattle.ed_model.specs.History.{at_save_point};
 ghost use Rattle.ed_model.specs.Notes.{performed_user};
 ghost use Rattle.id_table.specs.Entries.{id_of};
+ghost use Rattle.notify.specs.Gathered.{CanPut, CanShare, is_full};
 ghost use Rattle.document.specs.Kept.{HasRoom, HasTextRoom, TakesRoom, text_part, AddsNoRoomBut, marker_room_in_all};
 ghost use Rattle.document.specs.TextSteps.{bytes_out, IsStepOn, need_on, step_on, FreesDeletedBytes};
 ghost use Rattle.scene.specs.Scenes.{watchers, AreNamed, IsWatched, KeepFoldRooms};
 ghost use Rattle.scene.specs.Hearing.{left_note, user_bits as bits_of_user};
 ghost use Rattle.scene.specs.RoomLeft.{KeepsSpare};
-ghost use Rattle.scene.specs.Telling.{HasNoteRoomFor, TakesNoteRoom, TakesTextRoom, note_room_in_all, with_notes};
+ghost use Rattle.scene.specs.Telling.{CanHold, with_notes};
 ghost use Rattle.scene.specs.StepNotes.{IsSmallStep};
 ghost use Rattle.scene.specs.Steps.{IsHeard, IsMade, count_ahead, heard_bytes, made_bytes, notes_ahead, scene_heard, scene_made, step_hearers};
 
@@ -38,8 +39,8 @@ pub struct StepBits {
     pub after: u32,
 }
 
-// Shares the step's bytes if a view that watches hears it, and returns whether one does. If there is no room for a
-// note, no view listens, and none is asked.
+// Shares the step's bytes if a view that watches hears it, and returns whether one does. If no more notes fit in, no
+// view listens, and none is asked.
 fn share_if_heard(
     document: &mut Document,
     views: &IdTable<View>,
@@ -49,12 +50,12 @@ fn share_if_heard(
 ) -> bool
     requires fits { IsStepOn step (length document.old.document.cells) }
     requires named { AreNamed views.now.entries }
-    requires full { notes.old.note_room ≡ 0 → step_hearers bits step document.old views.now ≡ 0 }
-    requires texts { heard_bytes bits step document.old views.now ≤ notes.old.text_room }
+    requires full { is_full notes.old ≡ true → step_hearers bits step document.old views.now ≡ 0 }
+    requires texts { CanShare (heard_bytes bits step document.old views.now) notes.old }
     ensures document { document.new ≡ document.old }
     ensures notes { notes.new.notes ≡ notes.old.notes }
-    ensures note_room { notes.new.note_room ≡ notes.old.note_room }
-    ensures text_room { TakesTextRoom (heard_bytes bits step.entry document.old views.now) notes.old notes.new }
+    ensures capacity { notes.new.capacity ≡ notes.old.capacity }
+    ensures held { notes.new.held ≡ notes.old.held + heard_bytes bits step.entry document.old views.now }
     ensures unheard { result ≡ false → step_hearers bits step.entry document.old views.now ≡ 0 }
     ensures shared { result ≡ true → notes.new.shared ≡ step_bytes (step_on document.old step.entry) }
 {
@@ -74,7 +75,7 @@ fn share_if_heard(
 #[inline(never)]
 fn put_left(document: &Document, views: &IdTable<View>, notes: &mut NoteList)
     requires named { AreNamed views.now.entries }
-    requires room { length (left_note true (watchers document.now.document views.now)) ≤ notes.old.note_room }
+    requires room { CanPut (length (left_note true (watchers document.now.document views.now))) notes.old }
     ensures { notes.new ≡ with_notes (left_note true (watchers document.now.document views.now)) notes.old }
 {
     let note = blank(SAVE_POINT_LEFT);
@@ -91,7 +92,7 @@ fn put_left(document: &Document, views: &IdTable<View>, notes: &mut NoteList)
 // Tells each view that watches that the save point is left, if `is_left`.
 fn tell_left(document: &Document, views: &IdTable<View>, notes: &mut NoteList, is_left: bool)
     requires named { AreNamed views.now.entries }
-    requires room { length (left_note is_left (watchers document.now.document views.now)) ≤ notes.old.note_room }
+    requires room { CanPut (length (left_note is_left (watchers document.now.document views.now))) notes.old }
     ensures { notes.new ≡ with_notes (left_note is_left (watchers document.now.document views.now)) notes.old }
 {
     if is_left {
@@ -112,13 +113,13 @@ fn tell_before(
     requires fits { IsStepOn step (length document.old.document.cells) }
     requires small { IsSmallStep step }
     requires named { AreNamed views.now.entries }
-    requires notes { count_ahead bits is_left step document.old views.now ≤ notes.old.note_room }
-    requires full { notes.old.note_room ≡ 0 → step_hearers bits step document.old views.now ≡ 0 }
-    requires texts { heard_bytes bits step document.old views.now ≤ notes.old.text_room }
+    requires notes { CanPut (count_ahead bits is_left step document.old views.now) notes.old }
+    requires full { is_full notes.old ≡ true → step_hearers bits step document.old views.now ≡ 0 }
+    requires texts { CanShare (heard_bytes bits step document.old views.now) notes.old }
     ensures document { document.new ≡ document.old }
     ensures notes { notes.new.notes ≡ notes_ahead bits is_left step.entry document.old views.now notes.old.notes }
-    ensures note_room { TakesNoteRoom (count_ahead bits is_left step.entry document.old views.now) notes.old notes.new }
-    ensures text_room { TakesTextRoom (heard_bytes bits step.entry document.old views.now) notes.old notes.new }
+    ensures capacity { notes.new.capacity ≡ notes.old.capacity }
+    ensures held { notes.new.held ≡ notes.old.held + heard_bytes bits step.entry document.old views.now }
     ensures unheard { result ≡ false → step_hearers bits step.entry document.old views.now ≡ 0 }
     ensures shared { result ≡ true → notes.new.shared ≡ step_bytes (step_on document.old step.entry) }
 {
@@ -143,8 +144,7 @@ pub(crate) fn step_heard(
     requires fits { IsStepOn step (length document.old.document.cells) }
     requires room { HasTextRoom document.old (need_on document.old step) }
     requires watched { IsWatched document.old.document views.old }
-    requires notes { HasNoteRoomFor notes.old (scene_heard bits is_left step document.old views.old notes.old) }
-    requires texts { heard_bytes bits step document.old views.old ≤ notes.old.text_room }
+    requires notes { let held = notes.old.held + heard_bytes bits step document.old views.old in CanHold notes.old (scene_heard bits is_left step document.old views.old notes.old) held }
     ensures scene { IsHeard bits is_left step.entry document.old views.old notes.old document.new views.new notes.new }
     ensures watched { IsWatched document.new.document views.new }
     ensures room_left { TakesRoom document.old.room document.new.room (text_part (need_on document.old step.entry)) }
@@ -152,8 +152,8 @@ pub(crate) fn step_heard(
     ensures none_made { AddsNoRoomBut (bytes_out (step_on document.old step.entry)) document.old document.new }
     ensures spare { KeepsSpare None document.old document.new }
     ensures markers_in_all { marker_room_in_all document.new ≡ marker_room_in_all document.old }
-    ensures note_room_left { note_room_in_all notes.new ≡ note_room_in_all notes.old }
-    ensures text_room_left { TakesTextRoom (heard_bytes bits step.entry document.old views.old) notes.old notes.new }
+    ensures capacity { notes.new.capacity ≡ notes.old.capacity }
+    ensures held { notes.new.held ≡ notes.old.held + heard_bytes bits step.entry document.old views.old }
     ensures ids { map id_of views.new.entries ≡ map id_of views.old.entries }
     ensures fold_rooms { KeepFoldRooms views.old views.new }
     ensures next { views.new.next ≡ views.old.next }
@@ -211,8 +211,7 @@ pub fn make_step(
     requires fits { IsStepOn step (length document.old.document.cells) }
     requires room { HasRoom document.old (need_on document.old step) }
     requires watched { IsWatched document.old.document views.old }
-    requires notes { HasNoteRoomFor notes.old (scene_made later step document.old views.old notes.old) }
-    requires texts { made_bytes later step document.old views.old ≤ notes.old.text_room }
+    requires notes { let held = notes.old.held + made_bytes later step document.old views.old in CanHold notes.old (scene_made later step document.old views.old notes.old) held }
     ensures scene { IsMade later step.entry document.old views.old notes.old document.new views.new notes.new }
     ensures watched { IsWatched document.new.document views.new }
     ensures room_left { TakesRoom document.old.room document.new.room (need_on document.old step.entry) }
@@ -220,8 +219,8 @@ pub fn make_step(
     ensures none_made { AddsNoRoomBut (bytes_out (step_on document.old step.entry)) document.old document.new }
     ensures spare { KeepsSpare None document.old document.new }
     ensures markers_in_all { marker_room_in_all document.new ≡ marker_room_in_all document.old }
-    ensures note_room_left { note_room_in_all notes.new ≡ note_room_in_all notes.old }
-    ensures text_room_left { TakesTextRoom (made_bytes later step.entry document.old views.old) notes.old notes.new }
+    ensures capacity { notes.new.capacity ≡ notes.old.capacity }
+    ensures held { notes.new.held ≡ notes.old.held + made_bytes later step.entry document.old views.old }
     ensures ids { map id_of views.new.entries ≡ map id_of views.old.entries }
     ensures fold_rooms { KeepFoldRooms views.old views.new }
     ensures next { views.new.next ≡ views.old.next }

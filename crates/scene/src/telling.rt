@@ -1,12 +1,12 @@
 //! Notifies views: appends a note for each view in the audience.
 
-ghost use Rattle.std.specs.Prelude.{◌≡◌, ◌≤◌, ◌<◌, ◌^◌, List, ℕ, length};
+ghost use Rattle.std.specs.Prelude.{◌≡◌, ◌<◌, ◌^◌, List, ℕ, length};
 ghost use Rattle.ed_types.specs.Heard.{with_text};
-ghost use Rattle.ed_model.specs.Notes.{modify_attempt, blank as blank_note};
-ghost use Rattle.notify.specs.Gathered.{with_note};
+ghost use Rattle.ed_model.specs.Notes.{modify_attempt, blank as blank_note, told};
+ghost use Rattle.notify.specs.Gathered.{CanPut, with_note};
 ghost use Rattle.scene.specs.Scenes.{watchers, AreNamed};
 ghost use Rattle.scene.specs.Hearing.{belongs, with_note_text, hearers, masks_of};
-ghost use Rattle.scene.specs.Telling.{watching_audience, with_audience_told, with_told};
+ghost use Rattle.scene.specs.Telling.{watching_audience, with_audience_told, with_notes};
 
 use document::Document;
 use ed_types::Note;
@@ -56,7 +56,7 @@ fn is_told(view: &View, audience: Audience, kind: u32) -> bool
 
 // Appends a note with its text.
 fn put(notes: &mut NoteList, note: Note, text: NoteText)
-    requires { 0 < notes.old.note_room }
+    requires { CanPut 1 notes.old }
     ensures { notes.new ≡ with_note (with_note_text text note notes.old.shared) notes.old }
 {
     match text {
@@ -66,8 +66,7 @@ fn put(notes: &mut NoteList, note: Note, text: NoteText)
 }
 
 /// Appends a note for each view that watches the document and is in the audience, in the order in which the views were
-/// attached. There must be room for as many notes. If there is no room at all, no view is in the audience, and none is
-/// asked.
+/// attached. As many notes must fit in. If no more notes fit in, no view is in the audience, and none is asked.
 pub fn tell(
     document: &Document,
     views: &IdTable<View>,
@@ -77,7 +76,7 @@ pub fn tell(
     text: NoteText,
 )
     requires named { AreNamed views.now.entries }
-    requires room { length (watching_audience audience note.now.kind document.now views.now) ≤ notes.old.note_room }
+    requires room { CanPut (length (watching_audience audience note.now.kind document.now views.now)) notes.old }
     ensures { notes.new ≡ with_audience_told audience text note.entry.now document.now views.now notes.old }
 {
     if notes.is_full() {
@@ -93,11 +92,11 @@ pub fn tell(
 }
 
 /// Tells each view that watches the document that a message tried to change its text, which is read-only
-/// (`SCN_MODIFYATTEMPTRO`). There must be room for as many notes.
+/// (`SCN_MODIFYATTEMPTRO`). As many notes must fit in.
 pub fn attempt(document: &Document, views: &IdTable<View>, notes: &mut NoteList)
     requires named { AreNamed views.now.entries }
-    requires room { length (watchers document.now.document views.now) ≤ notes.old.note_room }
-    ensures { notes.new ≡ with_told (watchers document.now.document views.now) (blank_note modify_attempt) notes.old }
+    requires room { CanPut (length (watchers document.now.document views.now)) notes.old }
+    ensures { notes.new ≡ with_notes (told (watchers document.now.document views.now) (blank_note modify_attempt)) notes.old }
 {
     let note = blank(MODIFY_ATTEMPT);
     tell(

@@ -1,14 +1,14 @@
 //! Undo and redo: performs a transaction, and computes what that needs.
 
-ghost use Rattle.std.specs.Prelude.{◌≡◌, ◌≤◌, ◌<◌, ◌-◌, ◌==◌, ◌&&◌, ◌||◌, nat_lt, length, map, not};
+ghost use Rattle.std.specs.Prelude.{◌≡◌, ◌+◌, ◌<◌, ◌-◌, ◌&&◌, ◌||◌, nat_lt, length, map, not};
 ghost use Rattle.ed_model.specs.History.{Change};
 ghost use Rattle.id_table.specs.Entries.{id_of};
+ghost use Rattle.notify.specs.Gathered.{CanPut, CanShare, is_full};
 ghost use Rattle.document.specs.Kept.{HasTextRoom, TakesRoom, AddsNoRoomBut, marker_room_in_all};
 ghost use Rattle.document.specs.Undoing.{changes_of, outline_of, save_point_told};
 ghost use Rattle.scene.specs.Scenes.{watchers, AreNamed, IsWatched, KeepFoldRooms};
 ghost use Rattle.scene.specs.Hearing.{masks_of};
 ghost use Rattle.scene.specs.RoomLeft.{KeepsSpare};
-ghost use Rattle.scene.specs.Telling.{TakesTextRoom, note_room_in_all};
 ghost use Rattle.scene.specs.Undoing.{free_behind, save_point_notes, capped_room, place_by, IsNoteNeed, history_bytes, history_caret, history_fill, history_freed, history_note_need, history_notes, history_room, none_hears, save_point_count};
 ghost use Rattle.scene.specs.Turns.{turn_of, CanMakeOutlined};
 ghost use Rattle.scene.specs.Performed.{CanPerformAll, AreAllPerformed, HistoryFits, HistoryIsPerformed, IsSavePointTold};
@@ -38,8 +38,7 @@ fn turn_at(direction: Direction, index: usize, count: usize) -> Turn
 }
 
 // Returns whether no view that watches is known to hear any of the changes, so that none has to be asked at each
-// change. It is so if there is no room for a note, or if there are several changes and no mask has a bit of their
-// kinds. For one change the masks are not read.
+// change. It is so if no more notes fit in, or if there are several changes and no mask has a bit of their kinds. For one change the masks are not read.
 fn is_quiet(
     document: &Document,
     views: &IdTable<View>,
@@ -48,7 +47,7 @@ fn is_quiet(
     count: usize,
 ) -> bool
     requires named { AreNamed views.now.entries }
-    ensures { result ≡ (notes.now.note_room == 0 || (nat_lt 1 count && none_hears direction document.now views.now)) }
+    ensures { result ≡ (is_full notes.now || (nat_lt 1 count && none_hears direction document.now views.now)) }
 {
     notes.is_full() || (count > 1 && survey(document, views).masks & kinds_of_all(direction) == 0)
 }
@@ -98,10 +97,8 @@ fn perform_changes(
 #[inline(never)]
 fn put_save_point(document: &Document, views: &IdTable<View>, notes: &mut NoteList, is_there: bool)
     requires named { AreNamed views.now.entries }
-    requires room { length (watchers document.now.document views.now) ≤ notes.old.note_room }
-    ensures notes { IsSavePointTold (not is_there) is_there document.now views.now notes.old notes.new }
-    ensures note_room { note_room_in_all notes.new ≡ note_room_in_all notes.old }
-    ensures text_room { notes.new.text_room ≡ notes.old.text_room }
+    requires room { CanPut (length (watchers document.now.document views.now)) notes.old }
+    ensures { IsSavePointTold (not is_there) is_there document.now views.now notes.old notes.new }
 {
     let code = if is_there {
         SAVE_POINT_REACHED
@@ -128,10 +125,8 @@ fn tell_save_point(
     is_there: bool,
 )
     requires named { AreNamed views.now.entries }
-    requires room { save_point_count was_there is_there document.now views.now ≤ notes.old.note_room }
-    ensures notes { IsSavePointTold was_there is_there document.now views.now notes.old notes.new }
-    ensures note_room { note_room_in_all notes.new ≡ note_room_in_all notes.old }
-    ensures text_room { notes.new.text_room ≡ notes.old.text_room }
+    requires room { CanPut (save_point_count was_there is_there document.now views.now) notes.old }
+    ensures { IsSavePointTold was_there is_there document.now views.now notes.old notes.new }
 {
     if was_there == is_there {
         return;
@@ -156,8 +151,8 @@ pub fn perform_history(
     requires steps { HistoryFits direction document.old }
     requires room { HasTextRoom document.old (history_room direction document.old) }
     requires watched { IsWatched document.old.document views.old }
-    requires notes { history_notes direction document.old views.old ≤ notes.old.note_room }
-    requires texts { history_bytes direction document.old views.old ≤ notes.old.text_room }
+    requires notes { CanPut (history_notes direction document.old views.old) notes.old }
+    requires texts { CanShare (history_bytes direction document.old views.old) notes.old }
     ensures scene { HistoryIsPerformed direction document.old views.old notes.old document.new views.new notes.new }
     ensures caret { result ≡ history_caret direction document.old }
     ensures watched { IsWatched document.new.document views.new }
@@ -165,8 +160,8 @@ pub fn perform_history(
     ensures none_made { AddsNoRoomBut (history_freed direction document.old) document.old document.new }
     ensures spare { KeepsSpare (history_fill direction document.old) document.old document.new }
     ensures markers_in_all { marker_room_in_all document.new ≡ marker_room_in_all document.old }
-    ensures note_room_left { note_room_in_all notes.new ≡ note_room_in_all notes.old }
-    ensures text_room_left { TakesTextRoom (history_bytes direction document.old views.old) notes.old notes.new }
+    ensures capacity { notes.new.capacity ≡ notes.old.capacity }
+    ensures held { notes.new.held ≡ notes.old.held + history_bytes direction document.old views.old }
     ensures ids { map id_of views.new.entries ≡ map id_of views.old.entries }
     ensures next { views.new.next ≡ views.old.next }
     ensures view_capacity { views.new.capacity ≡ views.old.capacity }

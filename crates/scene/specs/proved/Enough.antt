@@ -1,38 +1,41 @@
--- Room for the notes of steps and their bytes is enough for the first step, and what is left then is enough for the others.
-use Rattle.std.proofs.Common.{◌≡◌, ℕ, ◌+◌, ◌≤◌, Bool, List, ◌∷◌, length, arith}
-use Rattle.ed_model.specs.Steps.{Step, step_bytes}
-use Rattle.ed_model.specs.Session.{watching}
-use Rattle.ed_model.specs.Performing.{Scene, step_made}
-use Rattle.scene.specs.Hearing.{bytes_shared, made_kinds}
-use Rattle.scene.specs.Needs.{notes_needed, bytes_needed, NotesAreEnough, BytesAreEnough}
+-- A list of notes that can hold all notes and texts of steps can hold those of the first step, and then those of the others.
+use Rattle.std.proofs.Common.{◌≡◌, ℕ, ◌≤◌, Bool, true, List, [], ◌∷◌, ◌++◌, length, subst, sym, arith, length-append}
+use Rattle.ed_types.specs.Notices.{Notice}
+use Rattle.ed_model.specs.Steps.{Step}
+use Rattle.ed_model.specs.Performing.{Scene, step_made, steps_made}
+use Rattle.notify.specs.Gathered.{Gathered, NoteCapacity}
+use Rattle.scene.specs.Needs.{held_behind, held_after, CanHoldSteps}
+use Rattle.scene.specs.Telling.{CanHold}
 
-pub first_notes : NotesAreEnough → (later : Bool) (step : Step) (steps : List Step) (scene : Scene) (room : ℕ) → notes_needed scene (step ∷ steps) ≤ room
-    → length (step_made later step scene).notes ≤ length scene.notes + room
-first_notes law later step steps scene room h = from (length (step_made later step scene).notes) (notes_needed (step_made later step scene) steps) (length scene.notes) (notes_needed scene (step ∷ steps)) (law later step steps scene) h
-  where
-    from : (put left had need : ℕ) → put + left ≤ had + need → need ≤ room → put ≤ had + room
-    from put left had need a b = omega arith
+-- Notes are only appended, and texts only added.
 
-pub next_notes : NotesAreEnough → (later : Bool) (step : Step) (steps : List Step) (scene : Scene) (room room' put : ℕ) → notes_needed scene (step ∷ steps) ≤ room
-    → put ≡ length (step_made later step scene).notes → room' + put ≡ room + length scene.notes → notes_needed (step_made later step scene) steps ≤ room'
-next_notes law later step steps scene room room' put h is e = from (length (step_made later step scene).notes) (notes_needed (step_made later step scene) steps) (length scene.notes) (notes_needed scene (step ∷ steps)) (law later step steps scene) h is e
-  where
-    from : (made left had need : ℕ) → made + left ≤ had + need → need ≤ room → put ≡ made → room' + put ≡ room + had → left ≤ room'
-    from made left had need a b is c = omega arith
+longer : (a b c d : List Notice) → length a ≤ length (a ++ b ++ c ++ d)
+longer a b c d = simp length-append (omega arith)
 
-pub first_bytes : BytesAreEnough → (later : Bool) (step : Step) (steps : List Step) (scene : Scene) (room : ℕ) → bytes_needed scene (step ∷ steps) ≤ room
-    → bytes_shared (made_kinds later step scene.document.history) (watching scene.views scene.document) (length (step_bytes step)) ≤ room
-first_bytes law later step steps scene room h =
-    from (bytes_shared (made_kinds later step scene.document.history) (watching scene.views scene.document) (length (step_bytes step))) (bytes_needed (step_made later step scene) steps) (bytes_needed scene (step ∷ steps)) (law later step steps scene) h
-  where
-    from : (shared left need : ℕ) → shared + left ≤ need → need ≤ room → shared ≤ room
-    from shared left need a b = omega arith
+notes_grow : (later : Bool) (steps : List Step) (scene : Scene) → length scene.notes ≤ length (steps_made later steps scene).notes
+notes_grow later [] scene = omega arith
+notes_grow later (step ∷ steps) scene =
+    let rest = notes_grow true steps (step_made later step scene) in
+    let first : length scene.notes ≤ length (step_made later step scene).notes = longer scene.notes _ _ _ in
+    omega arith
 
-pub next_bytes : BytesAreEnough → (later : Bool) (step : Step) (steps : List Step) (scene : Scene) (room room' : ℕ) → bytes_needed scene (step ∷ steps) ≤ room
-    → room' + bytes_shared (made_kinds later step scene.document.history) (watching scene.views scene.document) (length (step_bytes step)) ≡ room
-    → bytes_needed (step_made later step scene) steps ≤ room'
-next_bytes law later step steps scene room room' h e =
-    from (bytes_shared (made_kinds later step scene.document.history) (watching scene.views scene.document) (length (step_bytes step))) (bytes_needed (step_made later step scene) steps) (bytes_needed scene (step ∷ steps)) (law later step steps scene) h e
-  where
-    from : (shared left need : ℕ) → shared + left ≤ need → need ≤ room → room' + shared ≡ room → left ≤ room'
-    from shared left need a b e = omega arith
+texts_grow : (later : Bool) (steps : List Step) (scene : Scene) (held : ℕ) → held ≤ held_after later steps scene held
+texts_grow later [] scene held = omega arith
+texts_grow later (step ∷ steps) scene held =
+    let rest = texts_grow true steps (step_made later step scene) (held_behind later step scene held) in
+    omega arith
+
+pub first_held : (later : Bool) (step : Step) (steps : List Step) (scene : Scene) (g : Gathered) → CanHoldSteps later (step ∷ steps) scene g
+    → CanHold g (step_made later step scene) (held_behind later step scene g.held)
+first_held later step steps scene g h =
+    let notes = notes_grow true steps (step_made later step scene) in
+    let texts = texts_grow true steps (step_made later step scene) (held_behind later step scene g.held) in
+    let a = h.0 in
+    let b = h.1 in (omega arith, omega arith)
+
+pub next_held : (later : Bool) (step : Step) (steps : List Step) (scene after : Scene) (g g' : Gathered) → CanHoldSteps later (step ∷ steps) scene g → after ≡ step_made later step scene
+    → g'.capacity ≡ g.capacity → g'.held ≡ held_behind later step scene g.held → CanHoldSteps true steps after g'
+next_held later step steps scene after g g' h made same held =
+    subst (λ (c : NoteCapacity). (length (steps_made true steps after).notes ≤ c.notes) × (held_after true steps after g'.held ≤ c.bytes)) (sym same)
+    (subst (λ n. (length (steps_made true steps after).notes ≤ g.capacity.notes) × (held_after true steps after n ≤ g.capacity.bytes)) (sym held)
+    (subst (λ x. (length (steps_made true steps x).notes ≤ g.capacity.notes) × (held_after true steps x (held_behind later step scene g.held) ≤ g.capacity.bytes)) (sym made) h))

@@ -1,5 +1,7 @@
-use Rattle.document_edits.proofs.Names.{◌≡◌, ap, ◌∙◌, rules, Document, text_of, Scene, edit_made, edit_made_id, scene_in, room_of_steps}
+use Rattle.document_edits.proofs.Names.{◌≡◌, ap, sym, ◌∙◌, subst, arith, rules, CanHoldEdit, Document, text_of, Scene, edit_made, edit_made_id, scene_in, room_of_steps}
 use Rattle.ed_model.specs.LineEnds.{conversion_steps}
+use Rattle.scene.specs.declared.need.NoteRoom.{NoteRoom}
+use Rattle.document_edits.proofs.Stepping.{edit_held}
 use Rattle.document_edits.proofs.Widths.{capped_fits}
 use Rattle.document_edits.proofs.converting.convert_with_room.Goals as goal
 
@@ -7,6 +9,26 @@ pub reserve-requires-2 : goal.reserve-requires-2
 reserve-requires-2 c =
     let a = c.args in let d = a.document.now.document in
     record { wide = capped_fits d (room_of_steps d.line_end_types (conversion_steps a.to (text_of d))) c.conversion_need-need.result.document c.conversion_need-need.ensures.document c.requires.wide }
+
+pub convert-requires : goal.convert-requires
+convert-requires c =
+    let a = c.args in let d = a.document.now.document in
+    let same = c.reserve-2.ensures.same in
+    let need = c.conversion_need-need.result.notes in
+    let is = c.conversion_need-need.ensures.notes in
+    let notes_are = ap (λ (n : NoteRoom). n.notes) is in
+    let bytes_are = ap (λ (n : NoteRoom). n.bytes) is in
+    let counted = c.is_counted.ensures.counted c.if-not-is_counted.false in
+    let few = counted.notes in
+    let short = counted.note_bytes in
+    let holds = edit_held c.needs_are_enough.ensures (conversion_steps a.to (text_of d)) d a.views.now.entries a.notes.now c.reserve.new.self need.notes need.bytes (search rules) (omega arith) (omega arith) in
+    record {
+      can = record {
+        watched = search rules;
+        room = search rules;
+        holds = subst (λ (x : Document). CanHoldEdit (conversion_steps a.to (text_of x)) (scene_in x a.views.now.entries c.reserve.new.self.notes) c.reserve.new.self) (sym same) holds;
+      };
+    }
 
 pub returns-clause-scene : goal.returns-clause-scene
 returns-clause-scene c =

@@ -12,7 +12,7 @@ reserve-requires-2 c =
 pub returns-clause-id : goal.returns-clause-id
 returns-clause-id c =
     let a = c.args in let d = c.reserve-2.new.self.document in
-    ap (λ (x : Scene). x.document.id) c.perform_history.ensures.scene
+    ap (λ (x : Scene). x.document.id) c.perform_history-place.ensures.scene
     ∙ transaction_keeps_id (bits_of a.direction) (changes_of a.direction d.history) (history_behind a.direction d.history) (scene_in d a.views.now.entries c.reserve.new.self.notes)
     ∙ ap (λ (x : Document). x.id) c.reserve-2.ensures.same
 
@@ -20,4 +20,4 @@ pub returns-clause-unheard : goal.returns-clause-unheard
 returns-clause-unheard c = λ most empty.
     let need = c.history_need-need.result in
     let few : need.notes.notes ≡ 0 = search rules in
-    none_told c.args.notes.now c.reserve.new.self c.perform_history.new.notes need.notes.notes need.notes.bytes (search rules) c.perform_history.ensures.note_room_left few empty
+    none_told c.args.notes.now c.reserve.new.self c.perform_history-place.new.notes need.notes.notes need.notes.bytes (search rules) c.fits_in.ensures.notes c.perform_history-place.ensures.capacity few empty

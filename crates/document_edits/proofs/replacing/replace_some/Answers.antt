@@ -1,15 +1,10 @@
-use Rattle.document_edits.proofs.Stepping.{first_of_two_notes, first_of_two_bytes, second_notes, second_bytes, second_room, two_made, ends_watched}
+use Rattle.document_edits.proofs.Stepping.{first_of_two, second_of_two, second_room, two_made, ends_watched}
 use Rattle.document_edits.proofs.replacing.replace_some.Goals as goal
 
 pub make_step-requires-clause-notes : goal.make_step-requires-clause-notes
 make_step-requires-clause-notes c =
-    let a = c.args in let law = c.needs_are_enough.ensures in
-    first_of_two_notes a.start a.count a.bytes.now a.document.now c.seal_outside_groups.new.self a.views.now a.notes.now c.requires.range c.requires.some c.seal_outside_groups.ensures law.notes law.sealing c.requires.notes
-
-pub make_step-requires-clause-texts : goal.make_step-requires-clause-texts
-make_step-requires-clause-texts c =
-    let a = c.args in let law = c.needs_are_enough.ensures in
-    first_of_two_bytes a.start a.count a.bytes.now a.document.now c.seal_outside_groups.new.self a.views.now a.notes.now c.requires.range c.requires.some c.seal_outside_groups.ensures law.bytes law.sealing c.requires.texts
+    let a = c.args in
+    first_of_two a.start a.count a.bytes.now a.document.now c.seal_outside_groups.new.self a.views.now a.notes.now c.requires.range c.requires.some c.seal_outside_groups.ensures c.requires.notes
 
 pub make_step-requires-2-clause-room : goal.make_step-requires-2-clause-room
 make_step-requires-2-clause-room c =
@@ -19,15 +14,9 @@ make_step-requires-2-clause-room c =
 
 pub make_step-requires-2-clause-notes : goal.make_step-requires-2-clause-notes
 make_step-requires-2-clause-notes c =
-    let a = c.args in let n = c.make_step.new in let law = c.needs_are_enough.ensures in
-    second_notes a.start a.count a.bytes.now a.document.now c.seal_outside_groups.new.self a.views.now a.notes.now c.requires.range c.requires.some c.seal_outside_groups.ensures n.document n.views n.notes c.make_step.ensures.scene
-    law.notes law.sealing c.requires.notes c.make_step.ensures.note_room_left
-
-pub make_step-requires-2-clause-texts : goal.make_step-requires-2-clause-texts
-make_step-requires-2-clause-texts c =
-    let a = c.args in let n = c.make_step.new in let law = c.needs_are_enough.ensures in
-    second_bytes a.start a.count a.bytes.now a.document.now c.seal_outside_groups.new.self a.views.now a.notes.now c.requires.range c.requires.some c.seal_outside_groups.ensures n.document n.views n.notes c.make_step.ensures.scene
-    law.bytes law.sealing c.requires.texts c.make_step.ensures.text_room_left
+    let a = c.args in let n = c.make_step.new in
+    second_of_two a.start a.count a.bytes.now a.document.now c.seal_outside_groups.new.self a.views.now a.notes.now c.requires.range c.requires.some c.seal_outside_groups.ensures n.document n.views n.notes c.make_step.ensures.scene
+    c.requires.notes c.make_step.ensures.capacity c.make_step.ensures.held
 
 pub returns-clause-scene : goal.returns-clause-scene
 returns-clause-scene c =

@@ -1,4 +1,4 @@
-use Rattle.editor_session.proofs.Names.{rules, ℕ, ◌≡◌, ◌≤◌, ◌++◌, List, [], ◌∷◌, length, filter_map, cons_option, max, sym, ap, subst, ◌∙◌, arith, Option, Some, None, IfSome, option_copied, told, modify_attempt, blank, View, view_at, watching, Gathered, views_of}
+use Rattle.editor_session.proofs.Names.{rules, ℕ, ◌≡◌, ◌≤◌, ◌++◌, List, [], ◌∷◌, length, filter_map, cons_option, sym, ap, subst, ◌∙◌, arith, Option, Some, None, IfSome, option_copied, told, modify_attempt, blank, View, view_at, watching, Gathered, CanPut, views_of}
 use Rattle.editor_session.proofs.changing.perform_attempt.Goals as goal
 
 -- no more views watch than the document lists
@@ -14,7 +14,7 @@ pub attempt-requires-clause-room : goal.attempt-requires-clause-room
 attempt-requires-clause-room c =
     let d = c.in-Some.document.now.document in
     let few = watched_few (views_of c.args.state.now.views.entries) d.views in
-    let room : c.reserve.new.self.note_room ≡ max c.args.notes.now.note_room (length d.views) = search rules in
+    let room : CanPut (length d.views) c.reserve.new.self = search rules in
     omega (arith, few, room)
 
 pub returns-clause-told : goal.returns-clause-told

@@ -1,4 +1,4 @@
-use Rattle.editor_session.proofs.Names.{◌++◌, List, [], ℕ, refl, sym, ap, subst, ◌∙◌, IsSomeAnd, option_copied_mut, change_told, Kept, watchers, CanBeMade, Changes, no_notes, ◌≡◌, true, false}
+use Rattle.editor_session.proofs.Names.{◌++◌, List, [], ℕ, refl, sym, ap, subst, ◌∙◌, IsSomeAnd, option_copied_mut, change_told, Kept, watchers, CanBeMade, Changes, Gathered, no_notes, ◌≡◌, true, false}
 use Rattle.editor_session.proofs.DocumentChanges.{can_be_made, made_for, made_unheard, same_id, kept_unheard, change_made}
 use Rattle.editor_session.proofs.OneDocument.{with_scene, said_of_it, still_named, same_session}
 use Rattle.editor_session.proofs.frequent.perform_change_unheard.Goals as goal
@@ -25,7 +25,7 @@ returns c =
     (λ text sender.
     let e = u.made so text sender no_notes in
     change_made s c.requires.kept a.change a.document sender text old new s.views no_notes no_notes at e.document e.lines
-    (λ v own. (e.told v own).notes ∙ ap (λ x. no_notes.notes ++ change_told v (watchers old.document s.views) old.document x a.change) e.document) refl) in
+    (λ v own. ap (λ (g : Gathered). g.notes) (e.told v own) ∙ ap (λ x. no_notes.notes ++ change_told v (watchers old.document s.views) old.document x a.change) e.document) refl) in
     let same = λ (not : c.change_unheard.result ≡ false). same_session s c.requires.kept a.document old new at s.views (ap (λ (k : Kept). k.document) (u.same not)) refl in
     record {
       answer = λ so. made_unheard s c.requires.kept a.document a.view a.change s' (made so);

@@ -51,18 +51,10 @@ returns-clause-view_capacity c =
     let all = rooms_of_all a.to a.document.now put.new.document took.new.document a.views.now put.new.views took.new.views a.notes.now put.new.notes took.new.notes put.ensures.left.rooms put.ensures.text took.ensures.rooms in
     all.view_capacity
 
-pub returns-clause-note_room_left : goal.returns-clause-note_room_left
-returns-clause-note_room_left c =
+pub returns-clause-capacity : goal.returns-clause-capacity
+returns-clause-capacity c =
     let a = c.args in
     let put = c.put_missing-later in
     let took = c.take_unwanted in
     let all = rooms_of_all a.to a.document.now put.new.document took.new.document a.views.now put.new.views took.new.views a.notes.now put.new.notes took.new.notes put.ensures.left.rooms put.ensures.text took.ensures.rooms in
-    all.note_room
-
-pub returns-clause-text_room : goal.returns-clause-text_room
-returns-clause-text_room c =
-    let a = c.args in
-    let put = c.put_missing-later in
-    let took = c.take_unwanted in
-    let all = rooms_of_all a.to a.document.now put.new.document took.new.document a.views.now put.new.views took.new.views a.notes.now put.new.notes took.new.notes put.ensures.left.rooms put.ensures.text took.ensures.rooms in
-    all.text_room
+    all.capacity

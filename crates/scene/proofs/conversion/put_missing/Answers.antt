@@ -1,4 +1,4 @@
-use Rattle.scene.proofs.Names.{text_of, scene_in, first_notes, first_bytes}
+use Rattle.scene.proofs.Names.{text_of, scene_in, first_held}
 use Rattle.scene.proofs.StepsInTurn.{text_after, put_of, puts_behind, put_next, put_made, fewer_puts}
 use Rattle.scene.proofs.conversion.put_missing.Goals as goal
 
@@ -7,16 +7,8 @@ make_step-requires-clause-notes c =
     let a = c.args in
     let p = c.putting in
     let left = put_next a.to p.place c.in-Some.found c.in-Some.byte p.later a.document.now p.document a.views.now p.views a.notes.now p.notes p.invariant c.in-Some.ensures in
-    first_notes c.needs_are_enough.ensures.notes p.later (put_of c.in-Some.found c.in-Some.byte) (puts_behind a.to c.in-Some.found c.in-Some.byte a.document.now p.document)
-    (scene_in p.document.document p.views.entries p.notes.notes) p.notes.note_room left.can.notes_there
-
-pub make_step-requires-clause-texts : goal.make_step-requires-clause-texts
-make_step-requires-clause-texts c =
-    let a = c.args in
-    let p = c.putting in
-    let left = put_next a.to p.place c.in-Some.found c.in-Some.byte p.later a.document.now p.document a.views.now p.views a.notes.now p.notes p.invariant c.in-Some.ensures in
-    first_bytes c.needs_are_enough.ensures.bytes p.later (put_of c.in-Some.found c.in-Some.byte) (puts_behind a.to c.in-Some.found c.in-Some.byte a.document.now p.document)
-    (scene_in p.document.document p.views.entries p.notes.notes) p.notes.text_room left.can.texts_there
+    first_held p.later (put_of c.in-Some.found c.in-Some.byte) (puts_behind a.to c.in-Some.found c.in-Some.byte a.document.now p.document)
+    (scene_in p.document.document p.views.entries p.notes.notes) p.notes left.can.holds
 
 pub putting-smaller : goal.putting-smaller
 putting-smaller c =
@@ -32,6 +24,6 @@ putting-preserved c =
     let p = c.putting in
     let n = c.make_step.new in
     let e = c.make_step.ensures in
-    put_made c.needs_are_enough.ensures.notes c.needs_are_enough.ensures.bytes a.to p.place c.in-Some.found c.in-Some.byte p.later a.document.now p.document n.document
-    a.views.now p.views n.views a.notes.now p.notes n.notes p.invariant c.in-Some.ensures e.scene e.watched e.room_left e.note_room_left e.text_room_left
+    put_made a.to p.place c.in-Some.found c.in-Some.byte p.later a.document.now p.document n.document
+    a.views.now p.views n.views a.notes.now p.notes n.notes p.invariant c.in-Some.ensures e.scene e.watched e.room_left e.capacity e.held
     (record { text_freed = e.text_freed; none_made = e.none_made; spare = e.spare; markers_in_all = e.markers_in_all; fold_rooms = e.fold_rooms; view_capacity = e.view_capacity }) e.next

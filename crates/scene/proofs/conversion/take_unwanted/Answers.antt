@@ -1,4 +1,4 @@
-use Rattle.scene.proofs.Names.{text_of, edited, unwanted_in, scene_in, first_notes, first_bytes}
+use Rattle.scene.proofs.Names.{text_of, edited, unwanted_in, scene_in, first_held}
 use Rattle.scene.proofs.StepsInTurn.{text_after, take_of, take_next, take_made, fewer_takes}
 use Rattle.scene.proofs.conversion.take_unwanted.Goals as goal
 
@@ -8,17 +8,8 @@ make_step-requires-clause-notes c =
     let p = c.taking in
     let s = take_of c.in-Some.found p.document in
     let left = take_next a.to p.place c.in-Some.found p.later a.later a.document.now p.document a.views.now p.views a.notes.now p.notes p.invariant c.in-Some.ensures in
-    first_notes c.needs_are_enough.ensures.notes p.later s (unwanted_in a.to (edited s (text_of p.document.document)) c.in-Some.found)
-    (scene_in p.document.document p.views.entries p.notes.notes) p.notes.note_room left.can.notes_there
-
-pub make_step-requires-clause-texts : goal.make_step-requires-clause-texts
-make_step-requires-clause-texts c =
-    let a = c.args in
-    let p = c.taking in
-    let s = take_of c.in-Some.found p.document in
-    let left = take_next a.to p.place c.in-Some.found p.later a.later a.document.now p.document a.views.now p.views a.notes.now p.notes p.invariant c.in-Some.ensures in
-    first_bytes c.needs_are_enough.ensures.bytes p.later s (unwanted_in a.to (edited s (text_of p.document.document)) c.in-Some.found)
-    (scene_in p.document.document p.views.entries p.notes.notes) p.notes.text_room left.can.texts_there
+    first_held p.later s (unwanted_in a.to (edited s (text_of p.document.document)) c.in-Some.found)
+    (scene_in p.document.document p.views.entries p.notes.notes) p.notes left.can.holds
 
 pub taking-smaller : goal.taking-smaller
 taking-smaller c =
@@ -34,6 +25,6 @@ taking-preserved c =
     let p = c.taking in
     let n = c.make_step.new in
     let e = c.make_step.ensures in
-    take_made c.needs_are_enough.ensures.notes c.needs_are_enough.ensures.bytes a.to p.place c.in-Some.found p.later a.later a.document.now p.document n.document
-    a.views.now p.views n.views a.notes.now p.notes n.notes p.invariant c.in-Some.ensures e.scene e.watched e.room_left e.note_room_left e.text_room_left
+    take_made a.to p.place c.in-Some.found p.later a.later a.document.now p.document n.document
+    a.views.now p.views n.views a.notes.now p.notes n.notes p.invariant c.in-Some.ensures e.scene e.watched e.room_left e.capacity e.held
     (record { text_freed = e.text_freed; none_made = e.none_made; spare = e.spare; markers_in_all = e.markers_in_all; fold_rooms = e.fold_rooms; view_capacity = e.view_capacity }) e.next

@@ -1,4 +1,4 @@
-use Rattle.scene.proofs.Names.{◌≡◌, length, sym, ap, ◌∙◌, arith, refl, length-append, w64, to_z, of_z, ints, Notice, heard, container_note, Hearers, Empty, watchers, audience_of, with_note_text, bits_of, bits_behind}
+use Rattle.scene.proofs.Names.{◌≡◌, length, sym, ap, ◌∙◌, arith, w64, to_z, of_z, ints, Notice, container_note, Hearers, Empty, watchers, audience_of, with_note_text, bits_of, bits_behind}
 use Rattle.scene.proofs.ToldSoFar.{length_told}
 use Rattle.scene.proofs.KindLemmas.{told_as_heard}
 use Rattle.scene.proofs.ChangeNotes.{container_few, bits_more}
@@ -29,9 +29,4 @@ returns c =
     let z : to_z w64 (of_z w64 c.args.token) ≡ c.args.token = omega (arith, ints) in
     let is = (rw c.bits_after.ensures at c.note_of_container-note.ensures) ∙ ap (container_note bits) z in
     let e = told_as_heard W note Empty c.args.notes.now.shared n (ap (λ (x : Notice). x.kind) is) (λ some. is) in
-    let l = sym (length_told (audience_of Hearers note.kind W) (with_note_text Empty note c.args.notes.now.shared)) ∙ ap length e in
-    let few = container_few (bits_of turn.direction) bits c.args.token W (bits_more turn.direction turn.several turn.last c.args.lines_changed) in
-    let r = c.requires.room in
-    let put = rw e at c.tell.ensures in
-    let a = length-append c.args.notes.now.notes (heard W n) in
-    rw put (record { notes = refl; note_room = omega arith; text_room = refl })
+    rw e at c.tell.ensures

@@ -1,6 +1,6 @@
 use Rattle.scene.proofs.Names.{◌≡◌, ◌++◌, ◌∙◌, sym, ap, arith, subst, [], append-nil, edits_of, movement_of, growth, TextStep, Document, text_of, lines_in, heard, before_note, after_note, document_after, Rise, length_text, step_edits, watchers, scene_in, IsWatched, bits_of, all_bits, outline_movement, bits_behind, CanTellAfter, IsPerformed}
 use Rattle.scene.proofs.Followed.{named_ids}
-use Rattle.scene.proofs.ToldSoFar.{heard_last, length_parts}
+use Rattle.scene.proofs.ToldSoFar.{heard_last, last_fit}
 use Rattle.scene.proofs.KindLemmas.{unheard_after}
 use Rattle.scene.proofs.StepScenes.{same_scene, few_for_step, watched_can, stands_can, watched_after, watched_again}
 use Rattle.scene.proofs.ChangeNotes.{bits_more, performed_few}
@@ -27,15 +27,16 @@ tell_after_change-requires-clause-can c =
     let grown = growth (lines_in d) (lines_in (document_after s d)) in
     let few = performed_few turn.direction turn.several turn.last changed (TextStep s) (scene_in d c.args.views.now.entries c.args.notes.now.notes) in
     let n = can.notes in
-    let p = length_parts c.args.notes.now.notes (heard W (before_note who s)) [] (heard W (after_note bits grown s)) in
-    let r = tb.note_room in
+    let earlier = c.args.notes.now.notes ++ heard W (before_note who s) ++ [] in
+    let before = tb.notes ∙ sym (append-nil (c.args.notes.now.notes ++ heard W (before_note who s))) in
+    let fit = last_fit earlier (heard W (after_note bits grown s)) c.args.notes.now c.tell_before_change-hears.new.notes before tb.capacity (omega arith) in
     let able : CanTellAfter c.tell_before_change-hears.result bits grown s (text_of d) W c.tell_before_change-hears.new.notes = record {
       fits = can.fits;
       place = numbers.0;
       count = numbers.1;
       unheard = λ no. unheard_after W s who (all_bits who) bits grown (bits_more turn.direction turn.several turn.last changed) (tb.unheard no);
       shared = tb.shared;
-      room = omega arith;
+      room = fit;
     } in
     rw (after, old_lines, lines) (s, text_of d, can.at, able)
 
@@ -81,15 +82,16 @@ returns c =
     let grown = growth (lines_in d) (lines_in (document_after s d)) in
     let few = performed_few turn.direction turn.several turn.last changed (TextStep s) (scene_in d c.args.views.now.entries c.args.notes.now.notes) in
     let n = can.notes in
-    let p = length_parts c.args.notes.now.notes (heard W (before_note who s)) [] (heard W (after_note bits grown s)) in
-    let r = tb.note_room in
+    let earlier = c.args.notes.now.notes ++ heard W (before_note who s) ++ [] in
+    let before = tb.notes ∙ sym (append-nil (c.args.notes.now.notes ++ heard W (before_note who s))) in
+    let fit = last_fit earlier (heard W (after_note bits grown s)) c.args.notes.now c.tell_before_change-hears.new.notes before tb.capacity (omega arith) in
     let able : CanTellAfter c.tell_before_change-hears.result bits grown s (text_of d) W c.tell_before_change-hears.new.notes = record {
       fits = can.fits;
       place = numbers.0;
       count = numbers.1;
       unheard = λ no. unheard_after W s who (all_bits who) bits grown (bits_more turn.direction turn.several turn.last changed) (tb.unheard no);
       shared = tb.shared;
-      room = omega arith;
+      room = fit;
     } in
     let O = some_has _ _ (TextStep s) can.at c.requires.outline in
     let M = c.movement_of_change-movement.ensures ∙ ap outline_movement O ∙ outline_movement_is s in
@@ -98,19 +100,17 @@ returns c =
     let V : c.views.result.now ≡ d.views = c.views.ensures ∙ ap (λ (x : Document). x.views) after in
     let within = ends_in_text s (text_of d) can.fits in
     let put = (rw (after, old_lines, lines) at c.tell_after_change.ensures) s can.at in
-    let told = heard_last (heard W (before_note who s)) [] (heard W (after_note bits grown s))
-    c.args.notes.now c.tell_before_change-hears.new.notes c.tell_after_change.new.notes (tb.notes ∙ sym (append-nil (c.args.notes.now.notes ++ heard W (before_note who s)))) (omega arith)
-    put (omega arith) in
+    let told = heard_last earlier (heard W (after_note bits grown s)) c.tell_before_change-hears.new.notes c.tell_after_change.new.notes before put in
     let views = (rw (M, E, V) at c.follow_change.ensures.views) ∙ watched_after s d c.args.views.now can.watched c.moves_are_those_of_steps.ensures.view within in
     λ step e. subst (λ x. IsPerformed turn c.args.lines_changed changed c.args.document.now c.args.views.now c.args.notes.now c.make_change-change.new.self c.follow_change.new.views c.tell_after_change.new.notes (TextStep x)) (step_same _ s step can.at e) (record {
       lines = rw (old_lines, lines) at c.is_changed-changed.ensures;
-      scene = same_scene _ _ _ _ _ _ after views told.notes;
+      scene = same_scene _ _ _ _ _ _ after views told;
       watched = subst (λ x. IsWatched x c.follow_change.new.views) (sym after)
           (watched_again s d d.history c.args.views.now c.follow_change.new.views c.steps_keep_views_standing.ensures can.watched views c.follow_change.ensures.named c.follow_change.ensures.next);
       room = c.make_change-change.ensures.room_left s can.at;
       freed = c.make_change-change.ensures.text_freed s can.at;
-      note_room = told.note_room;
-      text_room = rw told.text_room tb.text_room;
+      capacity = ap (λ g. g.capacity) put ∙ tb.capacity;
+      held = ap (λ g. g.held) put ∙ tb.held;
       ids = c.follow_change.ensures.ids;
       next = c.follow_change.ensures.next;
       view_capacity = c.follow_change.ensures.view_capacity;

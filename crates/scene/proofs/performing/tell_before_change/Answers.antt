@@ -1,4 +1,4 @@
-use Rattle.scene.proofs.Names.{◌≡◌, ◌*◌, ℕ, List, false, ap, sym, ◌∙◌, arith, subst, append-nil, Step, TextStep, View, Gathered, watchers, hearers, bits_of, all_bits, outline_kinds, performed_kinds, IsToldBefore}
+use Rattle.scene.proofs.Names.{◌≡◌, ◌*◌, ℕ, List, false, refl, ap, sym, ◌∙◌, arith, subst, append-nil, Step, TextStep, View, Gathered, watchers, hearers, bits_of, all_bits, outline_kinds, performed_kinds, IsToldBefore}
 use Rattle.scene.proofs.KindLemmas.{unheard_before}
 use Rattle.scene.proofs.ChangeSteps.{some_has, step_same, outline_kinds_are}
 use Rattle.scene.proofs.performing.tell_before_change.Goals as goal
@@ -9,8 +9,8 @@ untold who s W notes none =
     let quiet = unheard_before W s who (all_bits who) none in
     record {
       notes = rw quiet (sym (append-nil notes.notes));
-      note_room = rw quiet (omega arith);
-      text_room = rw none (omega arith);
+      capacity = refl;
+      held = rw none (omega arith);
       unheard = λ no. none;
       shared = λ yes. absurd (cc);
     }

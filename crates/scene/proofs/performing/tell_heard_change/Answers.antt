@@ -1,4 +1,4 @@
-use Rattle.scene.proofs.Names.{◌≡◌, true, refl, ap, ◌∙◌, arith, subst, nat_lt, lt-ltb, append-nil, TextStep, text_of, watchers, hearers, bits_of, performed_kinds, IsToldBefore}
+use Rattle.scene.proofs.Names.{◌≡◌, length, true, refl, ap, ◌∙◌, arith, subst, nat_lt, lt-ltb, append-nil, TextStep, text_of, watchers, hearers, bits_of, performed_kinds, IsToldBefore}
 use Rattle.scene.proofs.ChangeNotes.{before_few}
 use Rattle.scene.proofs.ChangeSteps.{some_has, step_same}
 use Rattle.scene.proofs.performing.tell_heard_change.Goals as goal
@@ -29,7 +29,8 @@ tell_coming-requires-clause-room c =
     let at = c.step_at-step.ensures s (text_of c.args.document.now.document) can.at can.fits in
     let few = before_few who s W in
     let r = can.notes in
-    let n = ap (λ g. g.note_room) c.share.ensures in
+    let n = ap (λ g. length g.notes) c.share.ensures in
+    let m = ap (λ g. g.capacity.notes) c.share.ensures in
     rw (at.0, c.bit_of-who.ensures) (omega arith)
 
 pub returns : goal.returns
@@ -47,8 +48,8 @@ returns c =
     let r = can.notes in
     λ step e. subst (λ x. IsToldBefore who W true c.args.notes.now c.tell_coming.new.notes x) (step_same _ s step can.at e) (rw put (record {
       notes = refl;
-      note_room = omega arith;
-      text_room = rw (some, B) (omega arith);
+      capacity = refl;
+      held = rw (some, B) (omega arith);
       unheard = λ none. absurd (cc);
       shared = λ heard. append-nil _ ∙ B;
     }))

@@ -1,6 +1,6 @@
-use Rattle.scene.proofs.Names.{◌≡◌, ◌∙◌, length, sym, ap, arith, subst, edits_of, movement_of, growth, Document, text_of, lines_in, heard, before_note, after_note, document_after, Rise, step_in, step_edits, watchers, IsWatched, left_note}
+use Rattle.scene.proofs.Names.{◌≡◌, ◌++◌, ◌∙◌, eqb-true, length, sym, ap, arith, subst, edits_of, movement_of, growth, Document, text_of, lines_in, heard, before_note, after_note, document_after, Rise, step_in, step_edits, watchers, IsWatched, left_note}
 use Rattle.scene.proofs.Followed.{named_ids}
-use Rattle.scene.proofs.ToldSoFar.{heard_last, length_parts}
+use Rattle.scene.proofs.ToldSoFar.{heard_last, last_fit, length_parts}
 use Rattle.scene.proofs.KindLemmas.{can_tell, none_by_notes}
 use Rattle.scene.proofs.StepScenes.{on_text, end_within, small_step, count_is, lines_of_need, same_scene, few_for_lent, watched_can, stands_can, watched_after, watched_again}
 use Rattle.scene.proofs.steps.step_heard.Goals as goal
@@ -12,14 +12,16 @@ tell_before-hears-requires c =
     let W = watchers d c.args.views.now in
     let p = length_parts c.args.notes.now.notes (heard W (before_note c.args.bits.before s)) (left_note c.args.is_left W)
     (heard W (after_note c.args.bits.after (growth (lines_in d) (lines_in (document_after s d))) s)) in
-    let r = c.requires.notes in
+    let r = c.requires.notes.0 in
     record {
       fits = c.requires.fits;
       small = small_step d.line_end_types c.args.step (length d.cells) c.args.document.now.room.text c.requires.fits c.requires.room.0 c.document_is_small.ensures.text;
       named = c.requires.watched.named;
       notes = omega arith;
-      full = λ full. none_by_notes W s c.args.bits.before c.args.bits.after (growth (lines_in d) (lines_in (document_after s d))) (omega arith) (omega arith);
-      texts = c.requires.texts;
+      full = λ full.
+          let e = eqb-true (length c.args.notes.now.notes) c.args.notes.now.capacity.notes full in
+          none_by_notes W s c.args.bits.before c.args.bits.after (growth (lines_in d) (lines_in (document_after s d))) (omega arith) (omega arith);
+      texts = c.requires.notes.1;
     }
 
 pub tell_made-requires-clause-can : goal.tell_made-requires-clause-can
@@ -33,11 +35,10 @@ tell_made-requires-clause-can c =
     let old_lines = rw same at c.line_count-old_lines.ensures.count in
     let lines = rw after at c.line_count-lines.ensures.count in
     let grown = growth (lines_in d) (lines_in (document_after s d)) in
-    let p = length_parts c.args.notes.now.notes (heard W (before_note c.args.bits.before s)) (left_note c.args.is_left W) (heard W (after_note c.args.bits.after grown s)) in
-    let r = c.requires.notes in
-    let n = c.tell_before-hears.ensures.note_room in
+    let earlier = c.args.notes.now.notes ++ heard W (before_note c.args.bits.before s) ++ left_note c.args.is_left W in
+    let fit = last_fit earlier (heard W (after_note c.args.bits.after grown s)) c.args.notes.now c.tell_before-hears.new.notes c.tell_before-hears.ensures.notes c.tell_before-hears.ensures.capacity c.requires.notes.0 in
     let can = can_tell c.tell_before-hears.result c.args.bits.before c.args.bits.after c.args.bits.after grown c.args.step (text_of d) W c.tell_before-hears.new.notes
-    (λ m h. h) on c.tell_before-hears.ensures.unheard c.tell_before-hears.ensures.shared (omega arith) in
+    (λ m h. h) on c.tell_before-hears.ensures.unheard c.tell_before-hears.ensures.shared fit in
     rw (after, old_lines, lines) (text_of d, can)
 
 pub follow_change-requires : goal.follow_change-requires
@@ -77,21 +78,19 @@ returns-clause-scene c =
     let old_lines = rw same at c.line_count-old_lines.ensures.count in
     let lines = rw after at c.line_count-lines.ensures.count in
     let grown = growth (lines_in d) (lines_in (document_after s d)) in
-    let p = length_parts c.args.notes.now.notes (heard W (before_note c.args.bits.before s)) (left_note c.args.is_left W) (heard W (after_note c.args.bits.after grown s)) in
-    let r = c.requires.notes in
-    let n = c.tell_before-hears.ensures.note_room in
+    let earlier = c.args.notes.now.notes ++ heard W (before_note c.args.bits.before s) ++ left_note c.args.is_left W in
+    let fit = last_fit earlier (heard W (after_note c.args.bits.after grown s)) c.args.notes.now c.tell_before-hears.new.notes c.tell_before-hears.ensures.notes c.tell_before-hears.ensures.capacity c.requires.notes.0 in
     let can = can_tell c.tell_before-hears.result c.args.bits.before c.args.bits.after c.args.bits.after grown c.args.step (text_of d) W c.tell_before-hears.new.notes
-    (λ m h. h) on c.tell_before-hears.ensures.unheard c.tell_before-hears.ensures.shared (omega arith) in
-    let told = heard_last (heard W (before_note c.args.bits.before s)) (left_note c.args.is_left W) (heard W (after_note c.args.bits.after grown s))
-    c.args.notes.now c.tell_before-hears.new.notes c.tell_made.new.notes c.tell_before-hears.ensures.notes c.tell_before-hears.ensures.note_room
-    ((rw (after, old_lines, lines) at c.tell_made.ensures) (text_of d) can) c.requires.notes in
+    (λ m h. h) on c.tell_before-hears.ensures.unheard c.tell_before-hears.ensures.shared fit in
+    let told = heard_last earlier (heard W (after_note c.args.bits.after grown s)) c.tell_before-hears.new.notes c.tell_made.new.notes c.tell_before-hears.ensures.notes
+    ((rw (after, old_lines, lines) at c.tell_made.ensures.told) (text_of d) can) in
     let M = c.movement_of.ensures (text_of d) on in
     let change = rw same at c.step-change.ensures.lines in
     let E : edits_of c.step-change.result ≡ step_edits s d = ap edits_of change in
     let V : c.views.result.now ≡ d.views = c.views.ensures ∙ ap (λ (x : Document). x.views) after in
     let views = (rw (M, E, V) at c.follow_change.ensures.views)
     ∙ watched_after s d c.args.views.now c.requires.watched c.moves_are_those_of_steps.ensures.view (end_within c.args.step (text_of d) on) in
-    same_scene _ _ _ _ _ _ after views told.notes
+    same_scene _ _ _ _ _ _ after views told
 
 pub returns-clause-watched : goal.returns-clause-watched
 returns-clause-watched c =
@@ -109,47 +108,11 @@ returns-clause-watched c =
     subst (λ x. IsWatched x c.follow_change.new.views) (sym after)
     (watched_again s d d.history c.args.views.now c.follow_change.new.views c.steps_keep_views_standing.ensures c.requires.watched views c.follow_change.ensures.named c.follow_change.ensures.next)
 
-pub returns-clause-note_room_left : goal.returns-clause-note_room_left
-returns-clause-note_room_left c =
-    let d = c.args.document.now.document in
-    let s = step_in c.args.step (text_of d) in
-    let on = on_text c.args.step d c.requires.fits in
-    let same = c.tell_before-hears.ensures.document in
-    let after = rw same at c.step-change.ensures.document in
-    let W = watchers d c.args.views.now in
-    let old_lines = rw same at c.line_count-old_lines.ensures.count in
-    let lines = rw after at c.line_count-lines.ensures.count in
-    let grown = growth (lines_in d) (lines_in (document_after s d)) in
-    let p = length_parts c.args.notes.now.notes (heard W (before_note c.args.bits.before s)) (left_note c.args.is_left W) (heard W (after_note c.args.bits.after grown s)) in
-    let r = c.requires.notes in
-    let n = c.tell_before-hears.ensures.note_room in
-    let can = can_tell c.tell_before-hears.result c.args.bits.before c.args.bits.after c.args.bits.after grown c.args.step (text_of d) W c.tell_before-hears.new.notes
-    (λ m h. h) on c.tell_before-hears.ensures.unheard c.tell_before-hears.ensures.shared (omega arith) in
-    let told = heard_last (heard W (before_note c.args.bits.before s)) (left_note c.args.is_left W) (heard W (after_note c.args.bits.after grown s))
-    c.args.notes.now c.tell_before-hears.new.notes c.tell_made.new.notes c.tell_before-hears.ensures.notes c.tell_before-hears.ensures.note_room
-    ((rw (after, old_lines, lines) at c.tell_made.ensures) (text_of d) can) c.requires.notes in
-    told.note_room
+pub returns-clause-capacity : goal.returns-clause-capacity
+returns-clause-capacity c = ap (λ g. g.capacity) c.tell_made.ensures.rest ∙ c.tell_before-hears.ensures.capacity
 
-pub returns-clause-text_room_left : goal.returns-clause-text_room_left
-returns-clause-text_room_left c =
-    let d = c.args.document.now.document in
-    let s = step_in c.args.step (text_of d) in
-    let on = on_text c.args.step d c.requires.fits in
-    let same = c.tell_before-hears.ensures.document in
-    let after = rw same at c.step-change.ensures.document in
-    let W = watchers d c.args.views.now in
-    let old_lines = rw same at c.line_count-old_lines.ensures.count in
-    let lines = rw after at c.line_count-lines.ensures.count in
-    let grown = growth (lines_in d) (lines_in (document_after s d)) in
-    let p = length_parts c.args.notes.now.notes (heard W (before_note c.args.bits.before s)) (left_note c.args.is_left W) (heard W (after_note c.args.bits.after grown s)) in
-    let r = c.requires.notes in
-    let n = c.tell_before-hears.ensures.note_room in
-    let can = can_tell c.tell_before-hears.result c.args.bits.before c.args.bits.after c.args.bits.after grown c.args.step (text_of d) W c.tell_before-hears.new.notes
-    (λ m h. h) on c.tell_before-hears.ensures.unheard c.tell_before-hears.ensures.shared (omega arith) in
-    let told = heard_last (heard W (before_note c.args.bits.before s)) (left_note c.args.is_left W) (heard W (after_note c.args.bits.after grown s))
-    c.args.notes.now c.tell_before-hears.new.notes c.tell_made.new.notes c.tell_before-hears.ensures.notes c.tell_before-hears.ensures.note_room
-    ((rw (after, old_lines, lines) at c.tell_made.ensures) (text_of d) can) c.requires.notes in
-    rw told.text_room c.tell_before-hears.ensures.text_room
+pub returns-clause-held : goal.returns-clause-held
+returns-clause-held c = ap (λ g. g.held) c.tell_made.ensures.rest ∙ c.tell_before-hears.ensures.held
 
 pub returns-clause-fold_rooms : goal.returns-clause-fold_rooms
 returns-clause-fold_rooms c =

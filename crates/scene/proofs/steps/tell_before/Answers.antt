@@ -1,4 +1,4 @@
-use Rattle.scene.proofs.Names.{◌∙◌, ap, arith, text_of, heard, before_note, step_in, watchers, left_note}
+use Rattle.scene.proofs.Names.{◌∙◌, ap, arith, length, length-append, text_of, heard, before_note, step_in, watchers, left_note, NoteCapacity}
 use Rattle.scene.proofs.ToldSoFar.{heard_in_order}
 use Rattle.scene.proofs.KindLemmas.{unheard_before}
 use Rattle.scene.proofs.steps.tell_before.Goals as goal
@@ -14,16 +14,19 @@ pub tell_coming-requires-clause-room : goal.tell_coming-requires-clause-room
 tell_coming-requires-clause-room c =
     let d = c.share_if_heard-hears.ensures.document in
     let r = c.requires.notes in
-    let s = c.share_if_heard-hears.ensures.note_room in
+    let n = ap length c.share_if_heard-hears.ensures.notes in
+    let s = ap (λ (c : NoteCapacity). c.notes) c.share_if_heard-hears.ensures.capacity in
     rw d (omega arith)
 
 pub tell_left-requires : goal.tell_left-requires
 tell_left-requires c =
     let d = c.share_if_heard-hears.ensures.document in
     let e = rw d at c.tell_coming.ensures in
-    let n = ap (λ g. g.note_room) e in
+    let n = ap length c.share_if_heard-hears.ensures.notes in
+    let m = ap (λ g. length g.notes) e in
+    let l = length-append c.share_if_heard-hears.new.notes.notes (heard (watchers c.args.document.now.document c.args.views.now) (before_note c.args.bits.before (step_in c.args.step (text_of c.args.document.now.document)))) in
     let r = c.requires.notes in
-    let s = c.share_if_heard-hears.ensures.note_room in
+    let s = ap (λ (c : NoteCapacity). c.notes) (ap (λ g. g.capacity) e ∙ c.share_if_heard-hears.ensures.capacity) in
     record { named = c.requires.named; room = rw d (omega arith) }
 
 pub returns : goal.returns
@@ -33,12 +36,12 @@ returns c =
     let s = step_in c.args.step (text_of c.args.document.now.document) in
     let told = heard_in_order (heard W (before_note c.args.bits.before s)) (left_note c.args.is_left W)
     c.args.notes.now c.share_if_heard-hears.new.notes c.tell_coming.new.notes c.tell_left.new.notes
-    c.share_if_heard-hears.ensures.notes c.share_if_heard-hears.ensures.note_room (rw d at c.tell_coming.ensures) (rw d at c.tell_left.ensures) c.requires.notes in
+    c.share_if_heard-hears.ensures.notes (rw d at c.tell_coming.ensures) (rw d at c.tell_left.ensures) in
     record {
       document = c.share_if_heard-hears.ensures.document;
-      notes = told.notes;
-      note_room = told.note_room;
-      text_room = rw told.text_room c.share_if_heard-hears.ensures.text_room;
+      notes = ap (λ g. g.notes) told;
+      capacity = ap (λ g. g.capacity) told ∙ c.share_if_heard-hears.ensures.capacity;
+      held = ap (λ g. g.held) told ∙ c.share_if_heard-hears.ensures.held;
       unheard = c.share_if_heard-hears.ensures.unheard;
-      shared = λ some. told.text ∙ c.share_if_heard-hears.ensures.shared some;
+      shared = λ some. ap (λ g. g.shared) told ∙ c.share_if_heard-hears.ensures.shared some;
     }

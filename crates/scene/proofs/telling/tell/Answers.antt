@@ -1,11 +1,11 @@
-use Rattle.scene.proofs.Names.{sym, ap, ◌∙◌, option_copied, eqb-true, with_note_text}
+use Rattle.scene.proofs.Names.{sym, ap, ◌∙◌, option_copied, with_note_text}
 use Rattle.scene.proofs.Pending.{next_told, next_passed, next_missing, nothing_pending}
 use Rattle.scene.proofs.ToldSoFar.{told_nobody, told_none, told_one, told_same, told_all, room_for_one, note_for_text}
 use Rattle.scene.proofs.telling.tell.Goals as goal
 use Rattle.scene.proofs.telling.tell.Goals.{in-Some+then-is_told, in-Some+else-is_told, in_default}
 
 pub returns-then-is_full : goal.returns-then-is_full
-returns-then-is_full c = told_nobody (with_note_text c.args.text c.args.note.now c.args.notes.now.shared) _ c.args.notes.now (eqb-true c.args.notes.now.note_room 0 (sym c.is_full.ensures ∙ c.if-is_full.true)) c.requires.room
+returns-then-is_full c = told_nobody (with_note_text c.args.text c.args.note.now c.args.notes.now.shared) _ c.args.notes.now (sym c.is_full.ensures ∙ c.if-is_full.true) c.requires.room
 
 pub loop-id-init : goal.loop-id-init
 loop-id-init c = told_none _ _ _
@@ -19,7 +19,7 @@ loop-id-preserved c =
           (sym c.get.ensures ∙ ap option_copied w.in-Some.is) (sym w.is_told.ensures ∙ w.if-is_told.true) in
           let e = rw c.views-id-items.ensures at e in
           told_one _ _ _ _ _ k.view _ _ _ c.loop-id.invariant e
-          (note_for_text c.args.text c.args.note.now w.note_for.result w.id.result k.view.id c.loop-id.notes.shared c.args.notes.now.shared w.note_for.ensures w.id.ensures c.loop-id.invariant.shared) (w.notes-is ∙ w.put.ensures) c.requires.room
+          (note_for_text c.args.text c.args.note.now w.note_for.result w.id.result k.view.id c.loop-id.notes.shared c.args.notes.now.shared w.note_for.ensures w.id.ensures (ap (λ g. g.shared) c.loop-id.invariant.others)) (w.notes-is ∙ w.put.ensures)
       | in-Some+else-is_told w ↦
           let k = w.in-Some.view.now in
           let e = next_passed c.args.audience c.args.note.now.kind c.args.views.now.entries c.views-id-items.result.now c.loop-id.id-index k c.requires.named c.loop-id-test.true
@@ -45,4 +45,4 @@ pub returns : goal.returns
 returns c =
     let e = nothing_pending c.args.audience c.args.note.now.kind c.args.views.now.entries c.views-id-items.result.now c.loop-id.id-index c.loop-id-test.false in
     let e = rw c.views-id-items.ensures at e in
-    told_all _ _ _ _ _ c.loop-id.invariant e c.requires.room
+    told_all _ _ _ _ _ c.loop-id.invariant e

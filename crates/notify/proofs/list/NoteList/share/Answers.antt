@@ -12,7 +12,8 @@ invariant_of-self c =
       texts = ends_stay (length c.self.inside.pool.items) (length c.append-2.new.pool.items) c.self.inside.notes.items (omega arith) c.self.invariant.texts;
       shared = omega arith;
       notes = c.self.invariant.notes;
-      pool = omega (arith, c.append.ensures.capacity, c.append-2.ensures.capacity);
+      held = let room = rw (← c.self.view_is) at c.requires in omega (arith, longer, room);
+      pool = omega (arith, c.append.ensures.capacity, c.append-2.ensures.capacity, c.self.invariant.pool);
     }
 
 pub returns : goal.returns
@@ -22,4 +23,6 @@ returns c =
     let from : c.len-from.result ≡ length pool = omega arith in
     let texts : heard_in c.append-2.new.pool.items c.self.inside.notes.items ≡ heard_in pool c.self.inside.notes.items = rw all (heard_stay_twice pool c.args.first.now c.args.second.now c.self.inside.notes.items c.self.invariant.texts) in
     let shared : drop c.len-from.result c.append-2.new.pool.items ≡ c.args.first.now ++ c.args.second.now = rw (all, from) (two_behind pool c.args.first.now c.args.second.now) in
-    rw (← c.self.view_is, texts, shared) refl
+    let longer : length c.append-2.new.pool.items ≡ length pool + (length c.args.first.now + length c.args.second.now) =
+    rw all (simp length-append (omega arith)) in
+    rw (← c.self.view_is, texts, shared, longer) refl
