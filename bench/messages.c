@@ -1,7 +1,7 @@
-/* The same work through this library and, where its shared library is named, through Scintilla's message call: bench [LIBSCINTILLA].
- * Each row's runs alternate; the table has the least and the median of processor times, in nanoseconds for each operation. */
+/* The same work through this library, the Scintilla-compatible interface over it and, where its shared library is named, Scintilla's message call.
+ * Each row's runs alternate; the tables have the least and the median of processor times, in nanoseconds for each operation. `main` says how it is called. */
 #define _POSIX_C_SOURCE 200809L
-#include <hongpilas.h>
+#include <hongpilas_scintilla.h>
 
 #include <dlfcn.h>
 #include <math.h>
@@ -18,124 +18,11 @@
 
 enum { RUNS = BENCH_RUNS, SIZES = BENCH_SIZES, LINE = 40, MEBIBYTE = 1 << 20 };
 
-/* One of the two. A text is closed by a NUL that its length does not count. */
-typedef struct side {
-  int64_t (*send)(uint32_t number, int64_t w, int64_t l, const char *text, size_t length);
-  void (*text_range)(int64_t from, int64_t to);
-  void (*lent_range)(int64_t from, int64_t to);
-  void (*whole_text)(void);
-} side;
+#include "sides.h"
 
-static char *text;       /* lines of 40 bytes, with their ends */
-static size_t room;      /* how many bytes of it there are */
-static size_t size;      /* how many of them the document has at first */
-static char *buffer;     /* where texts come back to */
-static int64_t notified; /* the sum of the lengths of all notifications, so that each is read */
-
-/* ---- Ours ---- */
-
-static hongpilas_session *session;
-static uint32_t view;
-
-static void must(bool holds, const char *what) {
-  if (holds) return;
-  fprintf(stderr, "bench: %s\n", what);
-  exit(1);
-}
-
-static int64_t send_ours(uint32_t number, int64_t w, int64_t l, const char *bytes, size_t length) {
-  int64_t value = 0;
-  const uint8_t *text = bytes == NULL ? (const uint8_t *)"" : (const uint8_t *)bytes;
-  must(hongpilas_send_unchecked(session, view, number, w, l, text, length, &value) == HONGPILAS_DONE, "a message was refused");
-  return value;
-}
-
-/* Reads all notifications of the last reply, as a program does whose view listens. */
-static int64_t send_ours_and_read(uint32_t number, int64_t w, int64_t l, const char *bytes, size_t length) {
-  int64_t value = send_ours(number, w, l, bytes, length);
-  size_t count = hongpilas_note_count_unchecked(session);
-  hongpilas_note_data note;
-  for (size_t i = 0; i < count; i++) {
-    must(hongpilas_note_unchecked(session, i, &note), "no such notification");
-    notified += note.length;
-  }
-  return value;
-}
-
-static void text_range_ours(int64_t from, int64_t to) { send_ours(SCI_GETTEXTRANGE, from, to, NULL, 0); }
-static void whole_text_ours(void) { send_ours(SCI_GETTEXT, 0, 0, NULL, 0); }
-static void lent_range_ours(int64_t from, int64_t to) {
-  const uint8_t *bytes;
-  must(hongpilas_lend_range_unchecked(session, view, (size_t)from, (size_t)(to - from), &bytes) == HONGPILAS_DONE, "no bytes lent");
-}
-
-/* ---- Scintilla's ---- */
-
-/* Its Sci_TextRange. */
-typedef struct scintilla_range {
-  long from, to;
-  char *into;
-} scintilla_range;
-
-enum { SCI_GETRANGEPOINTER = 2643 };
-
-static intptr_t (*scintilla_send)(void *widget, unsigned number, uintptr_t w, intptr_t l);
-static void *widget;
-
-static int64_t send_theirs(uint32_t number, int64_t w, int64_t l, const char *bytes, size_t length) {
-  (void)length;
-  return scintilla_send(widget, number, (uintptr_t)w, bytes == NULL ? (intptr_t)l : (intptr_t)bytes);
-}
-
-static void text_range_theirs(int64_t from, int64_t to) {
-  scintilla_range range = {(long)from, (long)to, buffer};
-  scintilla_send(widget, SCI_GETTEXTRANGE, 0, (intptr_t)&range);
-}
-
-static void lent_range_theirs(int64_t from, int64_t to) { scintilla_send(widget, SCI_GETRANGEPOINTER, (uintptr_t)from, (intptr_t)(to - from)); }
-
-static void whole_text_theirs(void) { scintilla_send(widget, SCI_GETTEXT, (uintptr_t)scintilla_send(widget, SCI_GETLENGTH, 0, 0) + 1, (intptr_t)buffer); }
-
-/* The start of its SCNotification, up to the length. */
-typedef struct scintilla_notification {
-  struct {
-    void *from;
-    uintptr_t id;
-    unsigned code;
-  } head;
-  intptr_t position;
-  int character, modifiers, kind;
-  const char *text;
-  intptr_t length;
-} scintilla_notification;
-
-/* What its signal "sci-notify" calls. */
-static void take_theirs(void *sender, int id, const scintilla_notification *notification, void *data) {
-  (void)sender;
-  (void)id;
-  (void)data;
-  notified += notification->length;
-}
-
-static unsigned long (*connect_signal)(void *sender, const char *signal, void (*called)(void), void *data, void *destroy, int flags);
-
-/* Connects the widget's signal, which calls nothing before. */
-static void listen_to_theirs(void) { must(connect_signal(widget, "sci-notify", (void (*)(void))take_theirs, NULL, NULL, 0) != 0, "no signal connected"); }
-
-/* Opens Scintilla's widget, which is shown nowhere but wants a display all the same. */
-static bool open_theirs(const char *library) {
-  void *toolkit = dlopen("libgtk-3.so.0", RTLD_NOW | RTLD_GLOBAL), *scintilla = dlopen(library, RTLD_NOW | RTLD_GLOBAL);
-  int (*start)(int *, char ***);
-  void *(*make)(void);
-  if (toolkit == NULL || scintilla == NULL) return false;
-  *(void **)&start = dlsym(toolkit, "gtk_init_check");
-  *(void **)&make = dlsym(scintilla, "scintilla_new");
-  *(void **)&scintilla_send = dlsym(scintilla, "scintilla_send_message");
-  *(void **)&connect_signal = dlsym(toolkit, "g_signal_connect_data");
-  if (start == NULL || make == NULL || scintilla_send == NULL || connect_signal == NULL || !start(NULL, NULL)) return false;
-  widget = make();
-  return widget != NULL;
-}
+static char *text;  /* lines of 40 bytes, with their ends */
+static size_t room; /* how many bytes of it there are */
+static size_t size; /* how many of them the document has at first */
 
 /* ---- The work ---- */
 
@@ -446,7 +333,11 @@ static const row notified_rows[] = {
     {"SETFOLDLEVEL, notified", {26000, 26000}, load_listening, set_levels},
 };
 
-/* ---- The table ---- */
+#include "more.h"
+
+#include "jobs.h"
+
+/* ---- The tables ---- */
 
 static double now(void) {
   struct timespec time;
@@ -459,6 +350,14 @@ static int by_size(const void *a, const void *b) {
   return left < right ? -1 : left > right;
 }
 
+/* What is wanted: the sides that are there, and a part of the name of rows, or `=` and a whole one. */
+static const side *present[SIDES];
+static int side_count;
+static bool has_theirs;
+static const char *wanted = "";
+
+static bool is_wanted(const char *name) { return wanted[0] == '=' ? strcmp(name, wanted + 1) == 0 : strstr(name, wanted) != NULL; }
+
 static double timed(const side *s, const row *r, long count) {
   seed = 88172645463325252u;
   r->prepare(s, count);
@@ -467,76 +366,148 @@ static double timed(const side *s, const row *r, long count) {
   return (now() - before) / (double)count;
 }
 
+static double timed_job(const side *s, const job *j, long *count) {
+  seed = 88172645463325252u;
+  j->prepare(s, j->text);
+  double before = now();
+  *count = j->run(s, j->text);
+  return (now() - before) / (double)*count;
+}
+
 static double log_sum;
 static int compared;
 
-static void print_row(const row *r, const side *sides, int side_count, int mebibytes, long count) {
-  double times[2][RUNS];
-  for (int run = 0; run < RUNS; run++)
-    for (int k = 0; k < side_count; k++) {
-      int i = (run + k) % side_count;
-      times[i][run] = timed(&sides[i], r, count);
-    }
-  for (int i = 0; i < side_count; i++) qsort(times[i], RUNS, sizeof times[i][0], by_size);
-  printf("| %-31s | %2d | %11.1f (%11.1f) |", r->name, mebibytes, times[0][0], times[0][RUNS / 2]);
-  if (side_count == 2) {
-    double ratio = times[0][0] / times[1][0];
-    printf(" %11.1f (%11.1f) | %5.2f |", times[1][0], times[1][RUNS / 2], ratio);
-    log_sum += log(ratio);
+/* The cells of each side, and then the ratios to Scintilla's time, which is the last. */
+static void print_times(double times[SIDES][RUNS], int runs) {
+  for (int i = 0; i < side_count; i++) {
+    qsort(times[i], (size_t)runs, sizeof times[i][0], by_size);
+    printf(" %11.1f (%11.1f) |", times[i][0], times[i][runs / 2]);
+  }
+  for (int i = 0; has_theirs && i < side_count - 1; i++) printf(" %5.2f |", times[i][0] / times[side_count - 1][0]);
+  if (has_theirs) {
+    log_sum += log(times[0][0] / times[side_count - 1][0]);
     compared++;
   }
   putchar('\n');
   fflush(stdout);
 }
 
-/* Whether a row is wanted by a part of its name, or by `=` and its whole name. */
-static bool is_wanted(const char *name, const char *wanted) { return wanted[0] == '=' ? strcmp(name, wanted + 1) == 0 : strstr(name, wanted) != NULL; }
-
-static void print_rows(const row *rows, size_t count, const side *sides, int side_count, const char *wanted) {
-  for (size_t i = 0; i < count; i++)
-    for (int large = 0; large < SIZES; large++) {
-      size = (size_t)(large ? 16 : 1) * MEBIBYTE;
-      if (rows[i].counts[large] > 0 && is_wanted(rows[i].name, wanted)) print_row(&rows[i], sides, side_count, large ? 16 : 1, rows[i].counts[large]);
+static void print_row(const row *r, int mebibytes, long count) {
+  double times[SIDES][RUNS];
+  for (int run = 0; run < RUNS; run++)
+    for (int k = 0; k < side_count; k++) {
+      int i = (run + k) % side_count;
+      times[i][run] = timed(present[i], r, count);
     }
+  printf("| %-31s | %2d |", r->name, mebibytes);
+  print_times(times, RUNS);
 }
 
-/* The mean is that of the rows without notifications. */
-static void print_table(int side_count, const char *wanted) {
-  static const side quiet[] = {
-      {send_ours, text_range_ours, lent_range_ours, whole_text_ours},
-      {send_theirs, text_range_theirs, lent_range_theirs, whole_text_theirs},
-  };
-  static const side notified_sides[] = {
-      {send_ours_and_read, text_range_ours, lent_range_ours, whole_text_ours},
-      {send_theirs, text_range_theirs, lent_range_theirs, whole_text_theirs},
-  };
-  printf("| Work, ns an operation           | MiB | ours: least (median)      |%s\n", side_count == 2 ? " Scintilla                 | ratio |" : "");
-  printf("|---|---|---|%s\n", side_count == 2 ? "---|---|" : "");
-  print_rows(quiet_rows, sizeof quiet_rows / sizeof *quiet_rows, quiet, side_count, wanted);
+static void print_sizes(const row *r) {
+  for (int large = 0; large < SIZES; large++) {
+    size = (size_t)(large ? 16 : 1) * MEBIBYTE;
+    if (r->counts[large] > 0 && is_wanted(r->name)) print_row(r, large ? 16 : 1, r->counts[large]);
+  }
+}
+
+static void print_rows(const row *rows, size_t count) {
+  for (size_t i = 0; i < count; i++) print_sizes(&rows[i]);
+}
+
+static void print_jobs(const job *list, size_t count) {
+  for (size_t at = 0; at < count; at++) {
+    const job *j = &list[at];
+    double times[SIDES][RUNS];
+    long units = 0;
+    if (!is_wanted(j->name)) continue;
+    bytes_of(j->text);
+    for (int run = 0; run < JOB_RUNS; run++)
+      for (int k = 0; k < side_count; k++) {
+        int i = (run + k) % side_count;
+        times[i][run] = timed_job(present[i], j, &units);
+      }
+    printf("| %-37s | %8ld %-6s |", j->name, units, j->unit);
+    print_times(times, JOB_RUNS);
+    if (at + 1 == count || list[at + 1].text != j->text) forget(j->text);
+  }
+}
+
+/* Whether each view listens, and what it hears is read. Scintilla's signal stays connected: a mask of 0 lets nothing through. */
+static void listen(bool on) {
+  static bool is_connected = false;
+  for (int i = 0; i < side_count; i++)
+    if (present[i] == &sides[OURS] || present[i] == &ours_notified) present[i] = on ? &ours_notified : &sides[OURS];
+  listen_to_compatible(on);
+  if (on && has_theirs && !is_connected) listen_to_theirs();
+  is_connected = is_connected || on;
+}
+
+/* The head of a table, whose first two columns are named. */
+static void print_head(const char *columns) {
+  printf("| %s |", columns);
+  for (int i = 0; i < side_count; i++) printf(" %s: least (median)%*s |", present[i]->name, (int)(9 - strlen(present[i]->name)), "");
+  for (int i = 0; has_theirs && i < side_count - 1; i++) printf(side_count == 2 ? " ratio |" : " %s/S |", present[i]->name);
+  printf("\n|---|---|");
+  for (int i = 0; i < side_count + (has_theirs ? side_count - 1 : 0); i++) printf("---|");
+  putchar('\n');
+}
+
+/* The rows of the page, whose mean is that of the rows without notifications. With `all`, those that the page has not, too. */
+static void print_messages(bool all) {
+  print_head("Work, ns an operation           | MiB");
+  print_rows(quiet_rows, sizeof quiet_rows / sizeof *quiet_rows);
   double quiet_sum = log_sum;
   int quiet_count = compared;
-  if (side_count == 2) listen_to_theirs();
-  print_rows(notified_rows, sizeof notified_rows / sizeof *notified_rows, notified_sides, side_count, wanted);
+  for (size_t i = 0; all && i < sizeof more_rows / sizeof *more_rows; i++) {
+    asked = more_rows[i].number;
+    print_sizes(&more_rows[i].row);
+  }
+  listen(true);
+  print_rows(notified_rows, sizeof notified_rows / sizeof *notified_rows);
+  listen(false);
   if (quiet_count > 0) printf("Geometric mean of %d ratios without notifications: %.2f\n", quiet_count, exp(quiet_sum / quiet_count));
 }
 
-static void make_text(void) {
-  room = 16 * MEBIBYTE + 1;
-  text = malloc(room);
-  buffer = malloc(room + 16);
-  must(text != NULL && buffer != NULL, "out of memory");
-  for (size_t i = 0; i < room; i++) text[i] = line_text[i % LINE];
+static void print_both_jobs(void) {
+  print_head("Jobs, ns a unit                       | how many");
+  print_jobs(jobs, sizeof jobs / sizeof *jobs);
+  listen(true);
+  print_jobs(notified_jobs, sizeof notified_jobs / sizeof *notified_jobs);
 }
 
-/* bench [LIBSCINTILLA [WORK]]: an empty name is none, and WORK is a part of the name of the rows wanted, or `=` and the
- * whole name of one. */
-int main(int argument_count, char **arguments) {
-  bool is_named = argument_count > 1 && arguments[1][0] != '\0';
+static void make_text(void) {
+  size_t most = log_50.size + 1; /* the longest text that comes back */
+  room = 16 * MEBIBYTE + 1;
+  text = malloc(room);
+  buffer = malloc(most);
+  must(text != NULL && buffer != NULL, "out of memory");
+  for (size_t i = 0; i < room; i++) text[i] = line_text[i % LINE];
+  memset(buffer, 0, most); /* its memory is there before it is timed */
+}
+
+static bool is_option(const char *word, const char *option) { return word != NULL && strcmp(word, option) == 0; }
+
+/* bench [--all | --jobs | --ours | --compatible] [LIBSCINTILLA [WORK]]: the page's table; with the Scintilla-compatible interface all rows and the jobs, or the
+ * jobs alone; or all of them by one side alone. An empty name is no library, and WORK is a part of the name of the rows wanted, or `=` and the whole
+ * name of one. */
+int main(int count, char **words) {
+  bool all = is_option(words[1], "--all"), only_jobs = is_option(words[1], "--jobs"), only_ours = is_option(words[1], "--ours"),
+       only_compatible = is_option(words[1], "--compatible"), is_page = !all && !only_jobs && !only_ours && !only_compatible;
+  if (!is_page) words++, count--;
+  bool is_named = count > 1 && words[1][0] != '\0';
+  wanted = count > 2 ? words[2] : "";
   must(hongpilas_new(&session) == HONGPILAS_DONE && hongpilas_new_view(session, &view) == HONGPILAS_DONE, "no session");
+  open_compatible();
   make_text();
-  bool is_open = is_named && open_theirs(arguments[1]);
-  if (!is_open) puts(is_named ? "Scintilla's library could not be used: ours alone." : "No library of Scintilla: ours alone.");
-  print_table(is_open ? 2 : 1, argument_count > 2 ? arguments[2] : "");
+  has_theirs = is_named && open_theirs(words[1]);
+  if (!has_theirs) puts(is_named ? "Scintilla's library could not be used: without it." : "No library of Scintilla: without it.");
+  if (!only_compatible) present[side_count++] = &sides[OURS];
+  if (!is_page && !only_ours) present[side_count++] = &sides[COMPATIBLE];
+  if (has_theirs) present[side_count++] = &sides[THEIRS];
+  if (!only_jobs) print_messages(!is_page);
+  if (!is_page) print_both_jobs();
+  must(hongpilas_direct(compatible_view, SCI_GETSTATUS, 0, 0) == SC_STATUS_OK, "a message through the Scintilla-compatible interface was refused");
+  hongpilas_scintilla_free(component);
   hongpilas_free(session);
   return 0;
 }

@@ -1,7 +1,7 @@
 /* Hongpilas with Scintilla's own interface, over the library's calls: hongpilas_scintilla.h says what each call does. */
 #include "scintilla_manners.h"
+#include "scintilla_stack.h"
 
-#include <errno.h>
 #include <stdlib.h>
 #include <string.h>
 
@@ -9,17 +9,25 @@ typedef struct scintilla_view scintilla_view;
 typedef struct batch batch;
 typedef struct delivery delivery;
 
-/* In bytes. The place for a text that is not short stays for the next one, up to the second of these. */
-enum { SHORT_TEXT = 256, MOST_KEPT = 64 * 1024 };
+/* An id is never given twice, and each is greater than those before. */
+typedef struct open_view {
+  uint32_t id;
+  scintilla_view *view;
+} open_view;
+
+/* In bytes. The place for a text that is not short stays for the next one, up to the second of these. A long range is copied in pieces of the third. */
+enum { SHORT_TEXT = 256, MOST_KEPT = 64 * 1024, PIECE = 16 * 1024 };
 
 struct hongpilas_scintilla {
   hongpilas_session *session;
-  scintilla_view **views; /* those that are open, in the order of their ids */
+  open_view *views; /* in the order of their ids */
   size_t view_count, view_room;
+  size_t notified;  /* where the view stood that was notified last */
   size_t listeners; /* how many of them have a notify function */
-  /* The queue: what stands in batches, and then the notifications of the last reply from `next` on. */
+  /* The queue: what stands in batches, and then the notifications of the last reply from `next` on; of a reply that came when no view had a notify function
+   * it has none. */
   batch *first, *last;
-  size_t next;
+  size_t next, count;
   uptr_t w; /* of the call whose reply it is */
   sptr_t l;
   bool is_late;       /* that call has returned: a text that l led to may be gone */
@@ -28,6 +36,8 @@ struct hongpilas_scintilla {
   const void *thread; /* in which that call was made */
   uint8_t *held;      /* the text of the notification that is delivered, if it is long */
   size_t held_room;
+  const uint8_t *held_from; /* where the last reply has the text that is held; NULL if it was replaced */
+  size_t held_length;
   uint8_t held_short[SHORT_TEXT];
 };
 
@@ -47,16 +57,27 @@ static size_t place_of(const hongpilas_scintilla *it, uint32_t id) {
   size_t from = 0, to = it->view_count;
   while (from < to) {
     size_t middle = (from + to) / 2;
-    if (it->views[middle]->id < id) from = middle + 1;
+    if (it->views[middle].id < id) from = middle + 1;
     else to = middle;
   }
   return from;
 }
 
-/* The view with this id; NULL if it is closed. */
-static scintilla_view *view_of(const hongpilas_scintilla *it, uint32_t id) {
-  size_t place = place_of(it, id);
-  return place < it->view_count && it->views[place]->id == id ? it->views[place] : NULL;
+static bool is_at(const hongpilas_scintilla *it, size_t place, uint32_t id) { return place < it->view_count && it->views[place].id == id; }
+
+/* The view with this id; NULL if it is closed. The views of a document are mostly notified in the order of their ids, so the one behind the last comes first. */
+static scintilla_view *view_of(hongpilas_scintilla *it, uint32_t id) {
+  size_t place = it->notified + 1;
+  if (!is_at(it, place, id)) place = place_of(it, id);
+  if (!is_at(it, place, id)) return NULL;
+  it->notified = place;
+  return it->views[place].view;
+}
+
+/* The same if it has a notify function. */
+static const scintilla_view *listener_of(hongpilas_scintilla *it, uint32_t id) {
+  const scintilla_view *view = view_of(it, id);
+  return view == NULL || view->notify == NULL ? NULL : view;
 }
 
 /* ---- The queue ---- */
@@ -79,16 +100,16 @@ static bool is_record(const hongpilas_note_data *note) { return note->code == SC
 
 /* Whether l of a recorded message was a text. */
 static bool has_text(unsigned int message) {
-  takes taken = manner_of(message).taken;
+  takes taken = message_of(message, 0, 0).way->taken;
   return taken == COUNTED || taken == OFFERED || taken == CLOSED || taken == EITHER;
 }
 
-static bool has_undelivered(const hongpilas_scintilla *it) { return it->next < hongpilas_note_count_unchecked(it->session); }
+static bool has_undelivered(const hongpilas_scintilla *it) { return it->next < it->count; }
 
 /* Copies what is left of the last reply's notifications into a batch. Each text gets a NUL behind it, for a recorded message. */
 static batch *copy_of_rest(const hongpilas_scintilla *it) {
   hongpilas_note_data note;
-  size_t count = hongpilas_note_count_unchecked(it->session) - it->next, size = 0, i;
+  size_t count = it->count - it->next, size = 0, i;
   batch *made;
   uint8_t *texts;
   for (i = 0; i < count; i++)
@@ -122,7 +143,7 @@ static bool keep_rest(hongpilas_scintilla *it) {
   if (it->first == NULL) it->first = made;
   else it->last->later = made;
   it->last = made;
-  it->next = (size_t)-1;
+  it->next = it->count;
   return true;
 }
 
@@ -134,62 +155,13 @@ static void drop_first(hongpilas_scintilla *it) {
 
 /* ---- Delivering ---- */
 
-/* Stands on the stack of the call that notifies. A notify function that is left by longjmp leaves it behind, and nobody says so; whether it still stands is seen
- * in two ways. First, a call from inside is made in the same thread, farther down the same stack, and finds all seals as they were. That is quick, but another
- * function may have left them as they were, too, by a large local that it did not write. So where it matters the stack is walked, by the tables that compilers
- * write for exceptions: the frame in which a delivery stands is that of `deliver`. Where they end before that frame, the first way decides alone.
- * The stack of another thread may be gone, so its seals are not read. A later thread may have its errno where that thread had it; but a thread's errno stands above
- * its stack, and so the seals, which lie between errno and the frame of the call, are in the stack of that call. */
-enum { SEALS = 4 };
+/* Stands on the stack of the call that notifies, and is left behind by a notify function that is left by longjmp. */
 struct delivery {
   hongpilas_scintilla *of; /* NULL once that is freed */
-  uintptr_t seals[SEALS];
+  seals marks;
 };
 
 static void deliver(hongpilas_scintilla *it);
-
-static uintptr_t seal_of(const delivery *at, int i) { return ((uintptr_t)at ^ (uintptr_t)0x9E3779B97F4A7C15) * (uintptr_t)(2 * i + 3); }
-
-#if defined(__GNUC__) || defined(__clang__)
-#include <unwind.h>
-#if defined(__clang__)
-#define APART __attribute__((noinline, no_sanitize_address))
-#else
-#define APART __attribute__((noinline, noclone, no_sanitize_address))
-#endif
-#define ENDS_BY(function) __attribute__((cleanup(function)))
-#define STACK()           ((uintptr_t)__builtin_frame_address(0))
-
-/* A walk to the frame that has an address: the function of the frame that was seen last, and whether that frame was found. */
-typedef struct walk {
-  uintptr_t wanted, function;
-  bool is_found;
-} walk;
-
-static _Unwind_Reason_Code look_at_frame(struct _Unwind_Context *frame, void *data) {
-  walk *w = (walk *)data;
-  if ((uintptr_t)_Unwind_GetCFA(frame) > w->wanted) {
-    w->is_found = true;
-    return _URC_END_OF_STACK;
-  }
-  w->function = (uintptr_t)_Unwind_GetRegionStart(frame);
-  return _URC_NO_REASON;
-}
-
-static bool is_in_frame_of_deliver(const delivery *at) {
-  walk w = {(uintptr_t)at, 0, false};
-  _Unwind_Backtrace(look_at_frame, &w);
-  return !w.is_found || w.function == (uintptr_t)&deliver;
-}
-#else
-#define APART
-#define ENDS_BY(function)
-#define STACK() ((uintptr_t) & (volatile char){0})
-static bool is_in_frame_of_deliver(const delivery *at) { return at != NULL; }
-#endif
-
-/* Each thread has an errno of its own: where it stands tells threads apart. */
-static const void *this_thread(void) { return &errno; }
 
 /* No notify function runs any more. */
 static bool forget_delivery(hongpilas_scintilla *it) {
@@ -201,14 +173,13 @@ static bool forget_delivery(hongpilas_scintilla *it) {
 /* Whether this call is made from inside a notify function, as far as the seals tell. */
 static APART bool is_inside(hongpilas_scintilla *it) {
   const volatile delivery *at = it->running;
-  bool stands = at != NULL && it->thread == this_thread() && STACK() < (uintptr_t)at && at->of == it;
-  int i;
-  for (i = 0; stands && i < SEALS; i++) stands = at->seals[i] == seal_of(it->running, i);
-  return stands || forget_delivery(it);
+  return (at != NULL && are_above(&at->marks, it->thread) && at->of == it) || forget_delivery(it);
 }
 
 /* The same for sure. */
-static bool is_surely_inside(hongpilas_scintilla *it) { return is_inside(it) && (is_in_frame_of_deliver(it->running) || forget_delivery(it)); }
+static bool is_surely_inside(hongpilas_scintilla *it) {
+  return is_inside(it) && (is_in_frame_of((uintptr_t)&deliver, &it->running->marks) || forget_delivery(it));
+}
 
 /* The end of a delivery, by return or by an exception. */
 static void end_delivery(delivery *at) {
@@ -219,12 +190,15 @@ static void end_delivery(delivery *at) {
   free(it->held);
   it->held = NULL;
   it->held_room = 0;
+  it->held_from = NULL;
 }
 
 /* The text of a notification of the last reply, for as long as it is delivered: a message that is sent meanwhile replaces the reply. If there is no memory for
- * the copy, none may. A NUL closes it. */
+ * the copy, none may. A NUL closes it. Notifications of one change have one text in the reply: it is copied once. */
 static const uint8_t *hold_text(hongpilas_scintilla *it, const uint8_t *text, size_t length) {
   uint8_t *into = it->held_short;
+  if (text == it->held_from && length == it->held_length) return length < SHORT_TEXT ? it->held_short : it->held;
+  it->held_from = NULL;
   if (length >= SHORT_TEXT) {
     if (length >= it->held_room) {
       free(it->held);
@@ -239,19 +213,25 @@ static const uint8_t *hold_text(hongpilas_scintilla *it, const uint8_t *text, si
   }
   if (length > 0) memcpy(into, text, length);
   into[length] = 0;
+  it->held_from = text;
+  it->held_length = length;
   return into;
 }
 
-/* Takes the next notification out of the queue. Its text stands until the next is taken. */
-static bool take_note(hongpilas_scintilla *it, kept_note *taken) {
+/* Takes the next notification out of the queue, and sets *view to the view that is notified: to NULL if that is closed, or has no notify function. The text
+ * stands until the next is taken. */
+static bool take_note(hongpilas_scintilla *it, kept_note *taken, const scintilla_view **view) {
   it->is_pinned = false;
   while (it->first != NULL && it->first->next == it->first->count) drop_first(it);
   if (it->first != NULL) {
     *taken = it->first->notes[it->first->next++];
+    *view = listener_of(it, taken->note.view);
     return true;
   }
-  if (it->next == (size_t)-1 || !hongpilas_note_unchecked(it->session, it->next, &taken->note)) return false;
-  it->next++;
+  if (!has_undelivered(it)) return false;
+  hongpilas_note_unchecked(it->session, it->next++, &taken->note);
+  *view = listener_of(it, taken->note.view);
+  if (*view == NULL) return true;
   taken->w = it->w;
   taken->l = it->l;
   if (taken->note.text_length > 0 || is_record(&taken->note)) taken->note.text = hold_text(it, taken->note.text, taken->note.text_length);
@@ -281,16 +261,15 @@ static void fill_notification(SCNotification *to, const scintilla_view *view, co
 /* Delivers what stands in the queue, and what joins it meanwhile. A notify function may free all of it, or close views. */
 static APART void deliver(hongpilas_scintilla *it) {
   ENDS_BY(end_delivery) delivery here;
+  const scintilla_view *view;
   kept_note taken;
   SCNotification told;
-  int i;
   here.of = it;
-  for (i = 0; i < SEALS; i++) here.seals[i] = seal_of(&here, i);
+  set_seals(&here.marks);
   it->running = &here;
   it->thread = this_thread();
-  while (take_note(it, &taken)) {
-    const scintilla_view *view = view_of(it, taken.note.view);
-    if (view == NULL || view->notify == NULL) continue;
+  while (take_note(it, &taken, &view)) {
+    if (view == NULL) continue;
     fill_notification(&told, view, &taken);
     view->notify(&told, view->data);
     if (here.of == NULL || it->running != &here) return;
@@ -319,15 +298,18 @@ typedef struct span {
   int64_t start, count;
 } span;
 
-/* The range, or one of -1 bytes where it does not lie in the text. */
+/* The range, or one of -1 bytes where it does not lie in the text. The library sees whether a short range ends behind the text, when it copies it. */
 static span span_of_range(scintilla_view *view, const struct Sci_TextRange *range) {
   span none = {0, -1}, found = {0, 0};
-  int64_t length = ask(view, SCI_GETLENGTH, 0), end;
+  int64_t end;
+  bool is_copied;
   if (range == NULL) return none;
-  end = range->chrg.cpMax == -1 ? length : range->chrg.cpMax;
+  end = range->chrg.cpMax == -1 ? ask(view, SCI_GETLENGTH, 0) : range->chrg.cpMax;
   found.start = range->chrg.cpMin;
-  if (found.start < 0 || found.start > end || end > length) return none;
+  if (found.start < 0 || found.start > end) return none;
   found.count = end - found.start;
+  is_copied = range->lpstrText != NULL && found.count > 0 && found.count <= PIECE;
+  if (!is_copied && end > ask(view, SCI_GETLENGTH, 0)) return none;
   return found;
 }
 
@@ -345,33 +327,56 @@ static span span_of_line(scintilla_view *view, int64_t line) {
   return found;
 }
 
-/* The bytes of the document that a message asks for. */
-static span span_of(scintilla_view *view, unsigned int message, uptr_t w, sptr_t l) {
-  switch (message) {
-    case SCI_GETLINE: return span_of_line(view, (sptr_t)w);
+/* The bytes of the document that a message asks for without a range. */
+static span span_of(scintilla_view *view, const sent_message *m) {
+  switch (m->number) {
+    case SCI_GETLINE: return span_of_line(view, (sptr_t)m->w);
     case SCI_GETCURLINE: return span_of_line(view, ask(view, SCI_LINEFROMPOSITION, ask(view, SCI_GETCURRENTPOS, 0)));
     case SCI_GETSELTEXT: return span_between(ask(view, SCI_GETANCHOR, 0), ask(view, SCI_GETCURRENTPOS, 0));
     case SCI_GETTARGETTEXT: return span_between(ask(view, SCI_GETTARGETSTART, 0), ask(view, SCI_GETTARGETEND, 0));
-    case SCI_GETTEXTRANGE: return span_of_range(view, (const struct Sci_TextRange *)l);
     default: return span_between(0, ask(view, SCI_GETLENGTH, 0));
   }
 }
 
+/* Copies bytes of the document, in pieces: a piece that has the gap of the text inside moves it to one of its ends, and so not far. */
+static hongpilas_answer copy_span(scintilla_view *view, span from, char *into) {
+  hongpilas_answer answer;
+  do {
+    int64_t count = from.count < PIECE ? from.count : (int64_t)PIECE;
+    answer = hongpilas_copy_range_unchecked(view->of->session, view->id, (size_t)from.start, (uint8_t *)into, (size_t)count);
+    from.start += count;
+    from.count -= count;
+    into += count;
+  } while (answer == HONGPILAS_DONE && from.count > 0);
+  return answer;
+}
+
 /* Writes the text that is asked for into the caller's buffer, if there is one. Two messages take how many bytes there may be, and two close no
  * text, as in Scintilla. Takes no memory. */
-static hongpilas_answer give_text(scintilla_view *view, unsigned int message, uptr_t w, sptr_t l, int64_t *value) {
-  span found = span_of(view, message, w, l);
-  char *into = message != SCI_GETTEXTRANGE ? (char *)l : l == 0 ? NULL : ((const struct Sci_TextRange *)l)->lpstrText;
-  bool is_bounded = message == SCI_GETTEXT || message == SCI_GETCURLINE;
-  bool is_closed = message != SCI_GETLINE && message != SCI_GETTARGETTEXT;
+static hongpilas_answer give_text(scintilla_view *view, const sent_message *m, int64_t *value) {
+  span found = span_of(view, m);
+  char *into = (char *)m->l;
+  bool is_bounded = m->number == SCI_GETTEXT || m->number == SCI_GETCURLINE;
+  bool is_closed = m->number != SCI_GETLINE && m->number != SCI_GETTARGETTEXT;
+  hongpilas_answer answer = HONGPILAS_DONE;
+  *value = found.count;
+  if (into == NULL) return HONGPILAS_DONE;
+  if (is_bounded && (uptr_t)found.count > m->w) *value = found.count = (int64_t)m->w;
+  if (found.count > 0) answer = copy_span(view, found, into);
+  if (answer == HONGPILAS_DONE && is_closed) into[found.count] = '\0';
+  if (m->number == SCI_GETCURLINE) *value = ask(view, SCI_GETCURRENTPOS, 0) - found.start;
+  return answer;
+}
+
+/* The same for a range. */
+static hongpilas_answer give_range(scintilla_view *view, const struct Sci_TextRange *range, int64_t *value) {
+  span found = span_of_range(view, range);
   hongpilas_answer answer = HONGPILAS_DONE;
   if (found.count < 0) return HONGPILAS_BAD_ARGUMENT;
   *value = found.count;
-  if (into == NULL) return HONGPILAS_DONE;
-  if (is_bounded && (uptr_t)found.count > w) *value = found.count = (int64_t)w;
-  if (found.count > 0) answer = hongpilas_copy_range_unchecked(view->of->session, view->id, (size_t)found.start, (uint8_t *)into, (size_t)found.count);
-  if (answer == HONGPILAS_DONE && is_closed) into[found.count] = '\0';
-  if (message == SCI_GETCURLINE) *value = ask(view, SCI_GETCURRENTPOS, 0) - found.start;
+  if (range->lpstrText == NULL) return HONGPILAS_DONE;
+  if (found.count > 0) answer = copy_span(view, found, range->lpstrText);
+  if (answer == HONGPILAS_DONE) range->lpstrText[found.count] = '\0';
   return answer;
 }
 
@@ -402,54 +407,45 @@ static hongpilas_answer lend_span(scintilla_view *view, sptr_t start, sptr_t cou
 
 /* ---- The call ---- */
 
-/* Sends a message with a text, or with l where there is none. A query replaces no reply; before all others the queue is kept. */
-static hongpilas_answer send_text(scintilla_view *view, unsigned int message, uptr_t w, sptr_t l, const char *text, size_t length, int64_t *value) {
+/* Sends a message with its text, if it takes one. Before that the queue is kept. */
+static hongpilas_answer send_text(scintilla_view *view, const sent_message *m, int64_t *value) {
   hongpilas_scintilla *it = view->of;
-  bool is_queued = it->next != (size_t)-1 && (it->is_pinned || has_undelivered(it));
+  const char *text = takes_numbers(m) ? NULL : (const char *)m->l;
+  size_t length = takes_numbers(m) ? 0 : length_of_text(m, text);
   hongpilas_answer answer;
-  if (is_queued && (hongpilas_message_marks(message) & HONGPILAS_MARK_Q) != 0)
-    return hongpilas_ask_unchecked(it->session, view->id, message, (sptr_t)w, l, value);
-  if (is_queued && !keep_rest(it)) return HONGPILAS_OUT_OF_MEMORY;
-  answer = hongpilas_send(it->session, view->id, message, (sptr_t)w, text == NULL ? l : 0, text, length, value);
+  it->is_late = true;
+  if (!keep_rest(it)) return HONGPILAS_OUT_OF_MEMORY;
+  if (text == NULL && length > 0) return HONGPILAS_BAD_ARGUMENT;
+  answer = hongpilas_send_unchecked(it->session, view->id, m->number, first_of(m), text == NULL ? second_of(m) : 0, (const uint8_t *)(text == NULL ? "" : text),
+                                    length, value);
   if (answer != HONGPILAS_DONE) return answer;
-  it->next = it->listeners > 0 ? 0 : (size_t)-1;
-  it->w = w;
-  it->l = l;
+  it->next = 0;
+  it->count = it->listeners > 0 ? hongpilas_note_count_unchecked(it->session) : 0;
+  it->w = m->w;
+  it->l = m->l;
   it->is_late = false;
+  it->held_from = NULL;
   return answer;
 }
 
-/* How long the text is that l leads to. Of what is none, or of a negative length, no byte is read. */
-static size_t length_of_text(const manner *way, uptr_t w, const char *text) {
-  bool is_closed = way->taken == CLOSED || (way->taken == EITHER && (sptr_t)w == -1);
-  if (text == NULL) return (sptr_t)w == 0 ? 0 : 1;
-  if (is_closed) return strlen(text);
-  return (sptr_t)w < 0 ? 0 : w;
-}
-
-static hongpilas_answer send_as(scintilla_view *view, const manner *way, uptr_t w, sptr_t l, int64_t *value) {
-  const char *text = (const char *)l;
-  switch (way->taken) {
-    case INT_W: return send_text(view, way->message, (uptr_t)(sptr_t)(int)w, l, NULL, 0, value);
-    case INT_L: return send_text(view, way->message, w, (int)l, NULL, 0, value);
-    case INTS: return send_text(view, way->message, (uptr_t)(sptr_t)(int)w, (int)l, NULL, 0, value);
-    case BITS_L: return send_text(view, way->message, w, (sptr_t)(unsigned int)l, NULL, 0, value);
-    case ASKED: return give_text(view, way->message, w, l, value);
-    case STYLED: return give_styled(view, (const struct Sci_TextRange *)l, value);
-    case LENT: return lend_span(view, (sptr_t)w, l, value);
-    case OFFERED:
-    case CLOSED:
-    case COUNTED:
-    case EITHER: return send_text(view, way->message, w, l, text, length_of_text(way, w, text), value);
-    default: return send_text(view, way->message, w, l, NULL, 0, value);
+/* Answers a query by bytes of the document. */
+static hongpilas_answer give_bytes(scintilla_view *view, sent_message m, int64_t *value) {
+  switch (m.way->taken) {
+    case ASKED: return give_text(view, &m, value);
+    case RANGE: return give_range(view, (const struct Sci_TextRange *)m.l, value);
+    case STYLED: return give_styled(view, (const struct Sci_TextRange *)m.l, value);
+    default: return lend_span(view, (sptr_t)m.w, m.l, value);
   }
 }
 
-static sptr_t answer_as(answers answered, int64_t value) {
-  if (answered == AS_INT) return (int)(uint32_t)value;
-  if (answered == AS_CHAR) return (char)(uint8_t)value;
-  if (answered == AS_TRUE) return 1;
-  return (sptr_t)value;
+/* Answers any query. No reply is replaced, and nothing is delivered, whether a notify function runs or not. */
+static inline sptr_t answer_query(scintilla_view *view, const sent_message *m, int *status) {
+  int64_t value = 0;
+  hongpilas_answer answer =
+      takes_numbers(m) ? hongpilas_ask_unchecked(view->of->session, view->id, m->number, first_of(m), second_of(m), &value) : give_bytes(view, *m, &value);
+  note_refusal(view, answer);
+  *status = view->status;
+  return answer == HONGPILAS_DONE ? answer_as(m->way->answered, value) : m->way->refused;
 }
 
 /* Refuses a message that edits the text inside a notify function. */
@@ -458,61 +454,68 @@ static void refuse_edit(scintilla_view *view) {
   view->status = SC_STATUS_FAILURE;
 }
 
-static bool is_marked(const manner *way, uint32_t mark) { return (hongpilas_message_marks(way->message) & mark) != 0; }
-static bool is_query(const manner *way) { return way->taken == LENT || is_marked(way, HONGPILAS_MARK_Q); }
-
-/* Whether a message that is no query is sent from inside a notify function. It is made sure where it matters before the message is done. */
-static bool is_sent_inside(hongpilas_scintilla *it, const manner *way) {
-  if (it->running == NULL || is_query(way)) return false;
-  return is_marked(way, HONGPILAS_MARK_E) || it->is_pinned ? is_surely_inside(it) : is_inside(it);
+/* Whether a message is sent from inside a notify function. It is made sure where it matters before the message is done. */
+static bool is_sent_inside(hongpilas_scintilla *it, const sent_message *m) {
+  if (it->running == NULL) return false;
+  return is_edit(m) || it->is_pinned ? is_surely_inside(it) : is_inside(it);
 }
 
-/* Delivers what stands in the queue behind a message, unless that is a query, or a notify function runs. */
-static void deliver_behind(hongpilas_scintilla *it, const manner *way) {
-  if (it->first == NULL && (it->next == (size_t)-1 || !has_undelivered(it))) return;
-  if (is_query(way) || (it->running != NULL && is_surely_inside(it))) return;
+/* Delivers what stands in the queue behind a message, unless a notify function runs. */
+static void deliver_behind(hongpilas_scintilla *it) {
+  if (it->first == NULL && !has_undelivered(it)) return;
+  if (it->running != NULL && is_surely_inside(it)) return;
   deliver(it);
 }
 
-/* Sends a message. The view may be closed by what is delivered behind it: its status is looked at before. */
-static sptr_t perform(scintilla_view *view, const manner *way, uptr_t w, sptr_t l, int *status) {
+/* Sends a message that is no query. The view may be closed by what is delivered behind it: its status is looked at before. */
+static sptr_t perform(scintilla_view *view, const sent_message *m, int *status) {
   hongpilas_scintilla *it = view->of;
-  bool inside = is_sent_inside(it, way);
+  bool inside = is_sent_inside(it, m);
   hongpilas_answer answer;
   int64_t value = 0;
-  sptr_t answered = way->refused;
-  if (inside && is_marked(way, HONGPILAS_MARK_E)) {
+  sptr_t answered = m->way->refused;
+  if (inside && is_edit(m)) {
     refuse_edit(view);
     *status = view->status;
     return answered;
   }
-  it->is_late = true;
-  answer = send_as(view, way, w, l, &value);
+  answer = send_text(view, m, &value);
   note_refusal(view, answer);
   *status = view->status;
-  if (answer == HONGPILAS_DONE) answered = answer_as(way->answered, value);
+  if (answer == HONGPILAS_DONE) answered = answer_as(m->way->answered, value);
   if (inside) it->is_late = true;
-  deliver_behind(it, way);
+  deliver_behind(it);
   return answered;
 }
 
-sptr_t hongpilas_direct_status(sptr_t ptr, unsigned int message, uptr_t w, sptr_t l, int *status) {
-  scintilla_view *view = (scintilla_view *)ptr;
-  manner way = manner_of(message);
-  int unasked = 0;
-  if (status == NULL) status = &unasked;
+/* Sends a message to no view, or one that is no query. */
+static sptr_t send_other(scintilla_view *view, sent_message m, int *status) {
   *status = view == NULL ? SC_STATUS_FAILURE : view->status;
-  if (message == SCI_GETSTATUS) return *status;
-  if (view == NULL) return way.refused;
-  if (message == SCI_SETSTATUS) {
-    *status = view->status = (int)w;
+  if (m.number == SCI_GETSTATUS) return *status;
+  if (view == NULL) return m.way->refused;
+  if (m.number == SCI_SETSTATUS) {
+    *status = view->status = (int)m.w;
     return 0;
   }
-  if (l == 0 && (way.taken == OFFERED || way.taken == CLOSED)) return 0;
-  return perform(view, &way, w, l, status);
+  if (m.l == 0 && (m.way->taken == OFFERED || m.way->taken == CLOSED)) return 0;
+  return perform(view, &m, status);
 }
 
-sptr_t hongpilas_direct(sptr_t view, unsigned int message, uptr_t w, sptr_t l) { return hongpilas_direct_status(view, message, w, l, NULL); }
+/* The message is a value, which stands in registers where a query is answered by a number. */
+static inline sptr_t send_message(scintilla_view *view, sent_message m, int *status) {
+  return view != NULL && is_query(&m) ? answer_query(view, &m, status) : send_other(view, m, status);
+}
+
+sptr_t hongpilas_direct_status(sptr_t view, unsigned int message, uptr_t w, sptr_t l, int *status) {
+  int unasked = 0;
+  if (status == NULL) status = &unasked;
+  return send_message((scintilla_view *)view, message_of(message, w, l), status);
+}
+
+sptr_t hongpilas_direct(sptr_t view, unsigned int message, uptr_t w, sptr_t l) {
+  int unasked = 0;
+  return send_message((scintilla_view *)view, message_of(message, w, l), &unasked);
+}
 
 const char *hongpilas_refusal(sptr_t view) { return view == 0 ? "no such view" : ((const scintilla_view *)view)->refusal; }
 
@@ -535,7 +538,6 @@ hongpilas_scintilla *hongpilas_scintilla_new_with_limits(const hongpilas_limits 
   hongpilas_scintilla *it = (hongpilas_scintilla *)malloc(sizeof *it);
   if (it == NULL) return NULL;
   memset(it, 0, sizeof *it);
-  it->next = (size_t)-1;
   if (hongpilas_new_with_limits(&it->session, limits, size) == HONGPILAS_DONE) return it;
   free(it);
   return NULL;
@@ -545,7 +547,7 @@ void hongpilas_scintilla_free(hongpilas_scintilla *it) {
   if (it == NULL) return;
   if (it->running != NULL && is_surely_inside(it)) it->running->of = NULL;
   while (it->first != NULL) drop_first(it);
-  while (it->view_count > 0) free(it->views[--it->view_count]);
+  while (it->view_count > 0) free(it->views[--it->view_count].view);
   free(it->views);
   free(it->held);
   hongpilas_free(it->session);
@@ -555,9 +557,9 @@ void hongpilas_scintilla_free(hongpilas_scintilla *it) {
 /* Makes room for one view more. */
 static bool has_room(hongpilas_scintilla *it) {
   size_t room = it->view_room == 0 ? 4 : 2 * it->view_room;
-  scintilla_view **views;
+  open_view *views;
   if (it->view_count < it->view_room) return true;
-  views = (scintilla_view **)realloc(it->views, room * sizeof *views);
+  views = (open_view *)realloc(it->views, room * sizeof *views);
   if (views == NULL) return false;
   it->views = views;
   it->view_room = room;
@@ -575,7 +577,8 @@ sptr_t hongpilas_scintilla_open(hongpilas_scintilla *it) {
     return 0;
   }
   view->of = it;
-  it->views[it->view_count++] = view;
+  it->views[it->view_count].id = view->id;
+  it->views[it->view_count++].view = view;
   return (sptr_t)view;
 }
 

@@ -1,7 +1,8 @@
 /* Hongpilas: an editing component with the messages of Scintilla 5.
  *
  * A session has documents and views on them. Its calls are proved: docs/MESSAGES.md,
- * which is installed in share/doc/hongpilas, states what each returns and changes.
+ * which is installed in share/doc/hongpilas, states what each returns and changes. The
+ * profile is the set of Scintilla's messages and notifications that are implemented here.
  *
  * Answers. A call of type hongpilas_answer returns HONGPILAS_DONE, or the number of a
  * refusal. A refused call changes nothing: neither the session, nor the last reply, nor
@@ -27,8 +28,8 @@
  *  - borrowed bytes are only read, and only while they are valid (below). Never pass them
  *    back, as a text to send or a buffer to fill: copy them first. If their length is 0, the
  *    address means nothing;
- *  - during a call nobody changes a text that it is sent, nor reads or changes a buffer that
- *    it fills, in another thread either;
+ *  - while a call runs, no thread modifies the text that is passed to it, or touches the
+ *    buffer that it fills;
  *  - the unchecked forms add duties, which are stated there.
  *
  * Borrowed bytes. The last reply, with its text and its notifications, is valid until the
@@ -100,8 +101,8 @@ enum {
 
 /* Names, as strings that are never freed: of an answer, such as "no such view" ("unknown
  * refusal" if there is no such answer); of a message, such as "SCI_GETLENGTH"; and of a
- * notification's code, such as "SCN_MODIFIED". The last two return NULL if the profile
- * does not have that message or code: so they show whether it has. */
+ * notification's code, such as "SCN_MODIFIED". The last two return NULL for what the profile
+ * does not have: test for NULL to see whether a message is supported. */
 const char *hongpilas_answer_name(hongpilas_answer answer);
 const char *hongpilas_message_name(uint32_t number);
 const char *hongpilas_note_name(uint32_t code);
@@ -146,7 +147,8 @@ typedef struct hongpilas_limits {
  * and sets *session to it. `size` is sizeof(hongpilas_limits): later versions of that struct
  * may have more members. A limit that an older caller's struct lacks is at its greatest.
  * Refused: OUT_OF_MEMORY; BAD_ARGUMENT if a limit is 0 or above the greatest, if `session`
- * is null, or if `size` is below that of this version or above that of the library. */
+ * is null, or if `size` is smaller than the struct of version 2.0 or larger than the
+ * library's. */
 HONGPILAS_MUST_USE hongpilas_answer hongpilas_new(hongpilas_session **session);
 HONGPILAS_MUST_USE hongpilas_answer hongpilas_new_with_limits(hongpilas_session **session, const hongpilas_limits *limits, size_t size);
 
@@ -215,8 +217,8 @@ typedef struct hongpilas_note_data {
  * *note to the one with this index, from 0, in the order of notification. `size` is
  * sizeof(hongpilas_note_data): later versions of that struct may have more members. Those
  * that the library does not have are set to 0.
- * Refused: BAD_ARGUMENT if there is no such notification, or if `size` is below that of this
- * version. */
+ * Refused: BAD_ARGUMENT if there is no such notification, or if `size` is smaller than the
+ * struct of version 2.0. */
 HONGPILAS_MUST_USE hongpilas_answer hongpilas_note_count(const hongpilas_session *session, size_t *count);
 HONGPILAS_MUST_USE hongpilas_answer hongpilas_note(const hongpilas_session *session, size_t index, hongpilas_note_data *note, size_t size);
 
@@ -411,8 +413,8 @@ HONGPILAS_MUST_USE hongpilas_answer hongpilas_copy_range_unchecked(hongpilas_ses
 #define SCI_GETPASTECONVERTENDINGS 2468 /* Q: Returns whether this view converts line ends in what it pastes. */
 #define SCI_SETINDICATORCURRENT    2500 /* (number): Sets the view's current indicator. */
 #define SCI_GETINDICATORCURRENT    2501 /* Q: Returns the view's current indicator. */
-#define SCI_SETINDICATORVALUE      2502 /* (value): Sets the value that this view fills in; 0 stands for 1. */
-#define SCI_GETINDICATORVALUE      2503 /* Q: Returns the value that this view fills in. */
+#define SCI_SETINDICATORVALUE      2502 /* (value): Sets the value that this view's INDICATORFILLRANGE writes; 0 counts as 1. */
+#define SCI_GETINDICATORVALUE      2503 /* Q: Returns the value that this view's INDICATORFILLRANGE writes. */
 #define SCI_INDICATORFILLRANGE     2504 /* (start, length): Gives the view's current indicator the view's value over the `length` bytes from `start` on. */
 #define SCI_INDICATORCLEARRANGE    2505 /* (start, length): Gives the view's current indicator the value 0 over the `length` bytes from `start` on. */
 #define SCI_INDICATORALLONFOR      2506 /* Q (position): Returns a mask in which bit k is set if indicator k is not 0 at the byte at `position`; 0 if there is
@@ -437,8 +439,8 @@ HONGPILAS_MUST_USE hongpilas_answer hongpilas_copy_range_unchecked(hongpilas_ses
 #define SCI_TARGETWHOLEDOCUMENT    2690 /* Sets the target's start to 0 and its end to the end of the text. */
 #define SCI_STARTRECORD            3001 /* Starts recording in this view: it is notified by SCN_MACRORECORD of each message marked R, before all else. */
 #define SCI_STOPRECORD             3002 /* Stops recording in this view. */
-#define SCI_COLOURISE              4003 /* (start, end): Asks for styles up to `end`: moves end styled back to `start` if it is greater, and sends the view
-                                           SCN_STYLENEEDED with the position `end`, even for an empty range. */
+#define SCI_COLOURISE              4003 /* (start, end): Asks for styles up to `end`: if end styled is after `start`, moves it back to `start`; then sends the
+                                           view SCN_STYLENEEDED with the position `end`, even for an empty range. */
 /* clang-format on */
 
 /* Notifications. */

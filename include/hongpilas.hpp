@@ -914,10 +914,10 @@ class BasicView {
   Answer<void> SetIndicatorCurrent(std::int64_t number) noexcept(nothrow) { return as_done(SCI_SETINDICATORCURRENT, number, 0); }
   /// Returns the view's current indicator. Message: `SCI_GETINDICATORCURRENT`.
   [[nodiscard]] Answer<std::int64_t> GetIndicatorCurrent() const noexcept(nothrow) { return ask_number(SCI_GETINDICATORCURRENT, 0, 0); }
-  /// Sets the value that this view fills in; 0 stands for 1. Refused with `Refusal::BadArgument` unless `value` is 0
-  /// to 2^31-1. Message: `SCI_SETINDICATORVALUE`.
+  /// Sets the value that this view's `IndicatorFillRange` writes; 0 counts as 1. Refused with `Refusal::BadArgument`
+  /// unless `value` is 0 to 2^31-1. Message: `SCI_SETINDICATORVALUE`.
   Answer<void> SetIndicatorValue(std::int64_t value) noexcept(nothrow) { return as_done(SCI_SETINDICATORVALUE, value, 0); }
-  /// Returns the value that this view fills in. Message: `SCI_GETINDICATORVALUE`.
+  /// Returns the value that this view's `IndicatorFillRange` writes. Message: `SCI_GETINDICATORVALUE`.
   [[nodiscard]] Answer<std::int64_t> GetIndicatorValue() const noexcept(nothrow) { return ask_number(SCI_GETINDICATORVALUE, 0, 0); }
   /// Gives the view's current indicator the view's value over the `length` bytes from `start` on. If a value changed,
   /// sends SCN_MODIFIED (`SC_MOD_CHANGEINDICATOR`). Refused with `Refusal::BadArgument` unless these are a range of
@@ -985,7 +985,7 @@ class BasicView {
   Answer<void> StartRecord() noexcept(nothrow) { return as_done(SCI_STARTRECORD, 0, 0); }
   /// Stops recording in this view. Message: `SCI_STOPRECORD`.
   Answer<void> StopRecord() noexcept(nothrow) { return as_done(SCI_STOPRECORD, 0, 0); }
-  /// Asks for styles up to `end`: moves end styled back to `start` if it is greater, and sends the view
+  /// Asks for styles up to `end`: if end styled is after `start`, moves it back to `start`; then sends the view
   /// SCN_STYLENEEDED with the position `end`, even for an empty range. Refused with `Refusal::BadArgument` unless
   /// `start` and `end` are a range of the text; an `end` of -1 is its end. Message: `SCI_COLOURISE`.
   Answer<void> Colourise(std::int64_t start, std::int64_t end) noexcept(nothrow) { return as_done(SCI_COLOURISE, start, end); }

@@ -1,5 +1,6 @@
 /* Hongpilas with Scintilla's own interface: a program that calls Scintilla by SciFnDirect calls a view of Hongpilas by
- * hongpilas_direct, with the same messages, texts, structs and notifications. Two things differ, and a port has to know them:
+ * hongpilas_direct, with the same messages, texts, structs and notifications. The two differences that matter most
+ * (docs/FROM_SCINTILLA.md has all):
  *
  *  1. Notifications come when their message is done, and not in the middle of it. Inside a notify function every message is
  *     performed, except those that edit the text (marked E in docs/MESSAGES.md): they are refused, and the view's status
@@ -24,12 +25,11 @@
  * A null component and the view 0 are harmless in every call below, which says what it does with them. The duties of
  * the caller in hongpilas.h hold here, too: calls on one component must not overlap, and none is made from a signal
  * handler; a component may be passed to another thread, but not while one of its notify functions runs; a component
- * that was freed, and a view that was closed or whose component was freed, is used by no call. A text and a buffer
- * belong to the caller: copy the text of a notification before you send it. During a call nobody changes a text that it
- * is sent, nor reads or changes a buffer that it fills, in another thread either. Two duties are added, for notify
- * functions:
- *  - a call from inside one is made on the stack on which it runs, and not on that of another coroutine;
- *  - if one ran on the stack of a coroutine and was left by longjmp, that stack is kept until a message that is no query was
+ * that was freed, and a view that was closed or whose component was freed, is used by no call. Never pass memory of the
+ * component as a text or a buffer: copy a notification's text first. While a call runs, no thread modifies the text that
+ * is passed to it, or touches the buffer that it fills. Two duties are added, for notify functions:
+ *  - make calls from inside one on the stack on which it runs, and not on that of another coroutine;
+ *  - if you longjmp out of one that ran on a coroutine's stack, do not free that stack until a message that is no query was
  *    sent from outside, or the component was freed. The stack of a thread that ended need not be kept. */
 #ifndef HONGPILAS_SCINTILLA_H
 #define HONGPILAS_SCINTILLA_H
@@ -141,8 +141,8 @@ void hongpilas_scintilla_close(sptr_t view);
 /* Sends a message to a view: a SciFnDirect. w, l and the result are Scintilla's:
  *  - a text is a pointer: to bytes that end with a NUL for INSERTTEXT, REPLACESEL and SETTEXT, and for REPLACETARGET if
  *    w is -1; otherwise to w bytes. Any other negative length is refused, and no byte of the text is read;
- *  - of a null text, ADDTEXT, INSERTTEXT, REPLACESEL, SETTEXT and SETSTYLINGEX do nothing, whatever w is: they return 0
- *    and leave the status, as in Scintilla. To APPENDTEXT, COPYTEXT, REPLACETARGET and SEARCHINTARGET it is an empty
+ *  - given a null text, ADDTEXT, INSERTTEXT, REPLACESEL, SETTEXT and SETSTYLINGEX do nothing, whatever w is: they return
+ *    0 and leave the status, as in Scintilla. To APPENDTEXT, COPYTEXT, REPLACETARGET and SEARCHINTARGET it is an empty
  *    text if w is 0, and refused otherwise;
  *  - a text that the message returns is written to the caller's buffer, and closed as in Scintilla: by GETTEXT and
  *    GETCURLINE at most w bytes and a NUL, so the buffer has w + 1, by GETSELTEXT and GETTEXTRANGE all bytes and a NUL,
@@ -180,17 +180,17 @@ const char *hongpilas_refusal(sptr_t view);
  *  - It is performed at once, and its notifications join the end of the queue: they are delivered after the function has
  *    returned. If a message is recorded there, lParam of SCN_MACRORECORD is a copy of its text, which a NUL closes.
  *  - A message that edits the text is refused as "edit inside a notify function", with SC_STATUS_FAILURE.
- *  - A message that is no query is refused as "out of memory", with SC_STATUS_BADALLOC, if the rest of the queue cannot be
- *    kept for it. Nothing is lost: what stands in the queue is delivered.
+ *  - A message that is no query is refused as "out of memory", with SC_STATUS_BADALLOC, if there is no memory to save the
+ *    pending notifications while it runs. Nothing is lost: they are delivered.
  *
  * A notify function may be left by a C++ exception or by longjmp. Its message has been done, and the notification counts as
  * delivered. The rest of the queue stays until the next message from outside that is no query, to any view of the
- * component: it is delivered when that message is done or refused. That message too is refused as "out of memory" if the
- * rest of the queue cannot be kept for it. SCI_SETSTATUS, and a message that does nothing for its null text, deliver nothing.
- * An exception passes through the interface if that was built with -fexceptions, as `make` builds it. The interface sees that
- * a function was left by longjmp by the tables for exceptions that compilers write (-funwind-tables). If a later call comes
- * through frames without such tables, such as those of a JIT compiler, it has only marks on the stack to judge by. These may
- * have outlived the jump: then the call counts as one from inside. */
+ * component: it is delivered when that message is done or refused. That message too is refused as "out of memory" if there
+ * is no memory to save the pending notifications while it runs. SCI_SETSTATUS, and a message that does nothing for its null
+ * text, deliver nothing.
+ * An exception passes through the interface if that was built with -fexceptions, as `make` builds it. To detect a longjmp out
+ * of a notify function, the interface unwinds the stack, which needs the tables of compilers (-funwind-tables). If frames of a
+ * later call lack them, such as those of a JIT compiler, it may wrongly take that call as one from inside the notify function. */
 typedef void (*hongpilas_notify)(SCNotification *notification, void *data);
 void hongpilas_set_notify(sptr_t view, hongpilas_notify notify, void *data);
 

@@ -277,6 +277,39 @@ static void try_ints(void) {
   must(blocks == 0, "all blocks are given back");
 }
 
+/* ---- Long texts ---- */
+
+/* A text that is copied in pieces, with an insertion in the midst of it: each way to copy it gives all of it, and nothing behind. */
+static void try_long_texts(void) {
+  enum { LENGTH = 100000, START = 16383, END = 82000 };
+  static char text[LENGTH + 1], copy[LENGTH + 3];
+  struct Sci_TextRange all = {{0, -1}, copy}, part = {{START, END}, copy}, behind = {{START, LENGTH + 1}, copy},
+                       short_behind = {{LENGTH - 1, LENGTH + 1}, copy};
+  hongpilas_scintilla *component = hongpilas_scintilla_new();
+  sptr_t view = hongpilas_scintilla_open(component);
+  for (int i = 0; i < LENGTH; i++) text[i] = (char)('a' + i * 7 % 23);
+  hongpilas_direct(view, SCI_APPENDTEXT, LENGTH, (sptr_t)text);
+  for (int place = 0; place < LENGTH; place += 9973) {
+    memset(copy, UNWRITTEN, sizeof copy);
+    hongpilas_direct(view, SCI_DELETERANGE, (uptr_t)place, 1);
+    hongpilas_direct(view, SCI_UNDO, 0, 0);
+    must(hongpilas_direct(view, SCI_GETTEXT, LENGTH, (sptr_t)copy) == LENGTH && strcmp(copy, text) == 0, "all is copied");
+    must(copy[LENGTH + 1] == UNWRITTEN, "and a NUL behind it");
+    must(hongpilas_direct(view, SCI_GETTEXTRANGE, 0, (sptr_t)&all) == LENGTH && strcmp(copy, text) == 0, "as a range, too");
+    must(hongpilas_direct(view, SCI_GETTEXTRANGE, 0, (sptr_t)&part) == END - START && memcmp(copy, text + START, END - START) == 0, "a part is copied");
+    must(copy[END - START] == '\0' && copy[END - START + 1] == text[END - START + 1], "and a NUL behind that");
+  }
+  memset(copy, UNWRITTEN, sizeof copy);
+  must(hongpilas_direct(view, SCI_GETTEXTRANGE, 0, (sptr_t)&behind) == 0 && hongpilas_direct(view, SCI_GETSTATUS, 0, 0) == SC_STATUS_FAILURE,
+       "a range ends in the text");
+  hongpilas_direct(view, SCI_SETSTATUS, SC_STATUS_OK, 0);
+  must(hongpilas_direct(view, SCI_GETTEXTRANGE, 0, (sptr_t)&short_behind) == 0 && hongpilas_direct(view, SCI_GETSTATUS, 0, 0) == SC_STATUS_FAILURE,
+       "also a short one");
+  must(copy[0] == UNWRITTEN && copy[2] == UNWRITTEN, "and nothing is written for others");
+  hongpilas_scintilla_free(component);
+  must(blocks == 0, "all blocks are given back");
+}
+
 /* ---- Messages inside a notify function; notify.c has more ---- */
 
 typedef struct meddler {
@@ -384,6 +417,7 @@ int main(int count, char **words) {
   try_nulls();
   try_edges();
   try_ints();
+  try_long_texts();
   try_meddling();
   try_growths();
   printf("refusals, messages inside a notify function, and each growth refused in turn\n");

@@ -134,7 +134,7 @@ def of_tutorial():
     rows = [[name, *(readable(found[work].get(size, found[work][SIZES[0]])[0]) for size in SIZES)] for name, work in named.items()]
     sums = [sum(count * found[work][size][0] for count, work in ASKED_BY_ROW.values()) * WINDOW / 1000 for size in SIZES]
     window = " and ".join(f"{it:.0f} µs in {size}" for it, size in zip(sums, SIZES))
-    return table(["What is asked", *SIZES], rows) + f"\nSo the queries for a window of {WINDOW} rows take {window}.\n"
+    return table(["What is asked", *SIZES], rows) + f"\nSo the queries for a window of {WINDOW} rows take {window}, without the fold levels, which were not measured.\n"
 
 
 def on_memory():
@@ -143,10 +143,10 @@ def on_memory():
     if not loaded or not worked_on:
         sys.exit(f"{FIGURES}: no sentence on a loaded text, or no row of 64 MiB, under *Memory*")
     commit = re.search(r"By `out/load` \(`TESTING.md`\), at commit (\w+):", page)[1]
-    kept = ", when a forgotten history was not yet freed" if "In these runs a forgotten history kept its memory" in page else ""
-    return (f"**Memory.** Loading {loaded['size']} took {loaded['times']} times the bytes of text and line starts. A text of 64 MiB took "
-            f"{float(worked_on['held']):.0f} MiB after minutes of random edits, styling and undo; {float(worked_on['alive']):.0f} MiB of that was in use. "
-            f"Measured at {commit}{kept}.")
+    since = "; since then, clearing the undo history frees its memory" if "In these runs a forgotten history kept its memory" in page else ""
+    return (f"**Memory.** While loading {loaded['size']}, the heap held {loaded['times']} times the size of text and line index. After minutes "
+            f"of random edits, a text of 64 MiB held {float(worked_on['held']):.0f} MiB, {float(worked_on['alive']):.0f} MiB of it in use "
+            f"({commit}{since}).")
 
 
 def of_readme():
@@ -156,7 +156,7 @@ def of_readme():
     mean = math.exp(sum(math.log(ours / theirs) for ours, theirs in pairs.values()) / len(pairs))
     quick = sum(float(ratio(pair)) <= 1 for pair in pairs.values())
     (name, size), greatest = max(pairs.items(), key=lambda row: row[1][0] / row[1][1])
-    on_all = (f"Of {len(pairs)} ratios (less is better) {quick} are at most 1; the geometric mean is {mean:.2f}, the greatest {ratio(greatest)} ({name}). "
+    on_all = (f"Of {len(pairs)} ratios {quick} are at most 1 (less is better); geometric mean {mean:.2f}, greatest {ratio(greatest)} ({name}). "
               f"By `{BENCH}`, commit {commit_of(head)} ([`FIGURES`]({FIGURES})).")
     cited = [(name, all_times[work][CITED_SIZE]) for name, work in CITED.items()]
     rows = [[name, short(ours), short(theirs), ratio((ours, theirs))] for name, (ours, theirs) in cited]

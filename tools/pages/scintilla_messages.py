@@ -1,7 +1,10 @@
 #!/usr/bin/env python3
-"""Writes docs/scintilla_left_out.txt, the list of Scintilla's messages that are not here: scintilla_messages.py SCINTILLA_H, a Scintilla.h.
+"""Writes what hangs on the list of messages beside Scintilla's: scintilla_messages.py [SCINTILLA_H].
 
-With --check it writes nothing and needs no Scintilla.h: it fails where the list names a message of the definitions.
+In c/scintilla_manners.h it writes the table that finds a message's row and marks by its number, from the rows above it and the definitions. Where
+a Scintilla.h is named, it also writes docs/scintilla_left_out.txt, the list of Scintilla's messages that are not here.
+With --check it writes nothing and needs no Scintilla.h: it fails where the table is not that of the rows and the definitions, or where the list names
+a message of the definitions.
 """
 import os
 import re
@@ -19,6 +22,26 @@ instead. Written by tools/pages/scintilla_messages.py.
 """
 BY_INTERFACE = {"GETRANGEPOINTER", "GETSTATUS", "SETSTATUS"}
 
+MANNERS = "c/scintilla_manners.h"
+BEGIN = "/* Written by tools/pages/scintilla_messages.py: begin */\n"
+END = "/* Written by tools/pages/scintilla_messages.py: end */\n"
+ROW = re.compile(r"^    \{(\w+), \w+, \w+, -?\d+\},", re.M)
+# The marks that the interface asks for, with their bits: HONGPILAS_MARK_Q and HONGPILAS_MARK_E. An entry has four bits for marks.
+MARKS = {"Q": 1, "E": 4}
+# The query that the interface alone has.
+LENT = "SCI_GETRANGEPOINTER"
+# The table ends before groups of numbers that lie far behind the others.
+FIRST, LAST = 2000, 2999
+TABLE = f"""/* clang-format off */
+/* The first entry is that of the message {FIRST}. An entry is 16 times the message's row of `manners`, with the bits of its marks Q and E. A message
+ * behind the last entry has the first row, and neither mark. */
+enum {{ FIRST_MESSAGE = {FIRST} }};
+static const uint16_t entries[] = {{
+%s
+}};
+/* clang-format on */
+"""
+
 
 def names_here():
     return sorted(name.removeprefix("SCI_") for name, _ in header.messages())
@@ -28,19 +51,56 @@ def wrapped(names):
     return textwrap.fill(", ".join(names), 160, break_long_words=False) + "\n"
 
 
+def numbers():
+    """The number of each message of the definitions, and of those that the interface alone has."""
+    own = re.findall(r"^#define (SCI_\w+) +(\d+)", header.read("include/hongpilas_scintilla.h"), re.M)
+    return {**dict(header.messages()), **{name: int(number) for name, number in own}}
+
+
+def entries(manners):
+    """The entry of each number from the first on, up to the last that is not 0."""
+    number_of, found = numbers(), {}
+    for name, number, marks in (*header.rows(), (LENT, number_of[LENT], "Q")):
+        found[number] = sum(bit for mark, bit in MARKS.items() if mark in marks)
+    for place, name in enumerate(ROW.findall(manners)):
+        if place > 0:
+            found[number_of[name]] += 16 * place
+    needed = {number: entry for number, entry in found.items() if entry != 0}
+    if not all(FIRST <= number <= LAST for number in needed):
+        sys.exit(f"{MANNERS}: a message outside of {FIRST} to {LAST} has a row, or the mark Q or E: the table has to reach farther")
+    return [needed.get(number, 0) for number in range(FIRST, max(needed) + 1)]
+
+
+def written(manners):
+    """The header with the table of its rows."""
+    head, rest = manners.split(BEGIN)
+    lines = textwrap.fill(", ".join(f"0x{entry:03X}" for entry in entries(head)) + ",", 160, initial_indent="    ", subsequent_indent="    ")
+    return head + BEGIN + TABLE % lines + END + rest.split(END)[1]
+
+
+def check(manners):
+    told = set(re.findall(r"[A-Z]+", header.read(PAGE).removeprefix(HEAD))) & set(names_here())
+    if told:
+        sys.exit(f"{PAGE} has messages of the definitions: run tools/pages/scintilla_messages.py: {', '.join(sorted(told))}")
+    if written(manners) != manners:
+        sys.exit(f"{MANNERS}: the table is not that of its rows and of the definitions: run tools/pages/scintilla_messages.py")
+    print(f"{PAGE} has no message of the definitions; the table of {MANNERS} is that of its rows")
+
+
 def main():
-    here = names_here()
+    manners = header.read(MANNERS)
     if sys.argv[1:] == ["--check"]:
-        told = set(re.findall(r"[A-Z]+", header.read(PAGE).removeprefix(HEAD))) & set(here)
-        if told:
-            sys.exit(f"{PAGE} has messages of the definitions: run tools/pages/scintilla_messages.py: {', '.join(sorted(told))}")
-        print(f"{PAGE} has no message of the definitions")
+        check(manners)
         return
-    if len(sys.argv) != 2:
+    if len(sys.argv) > 2:
         sys.exit(__doc__)
+    with open(os.path.join(header.TOP, MANNERS), "w", encoding="utf-8") as file:
+        file.write(written(manners))
+    if len(sys.argv) == 1:
+        return
     with open(sys.argv[1], encoding="utf-8") as file:
         theirs = set(re.findall(r"^#define SCI_(\w+) \d+$", file.read(), re.M)) - NO_MESSAGES
-    missing = sorted(theirs - set(here) - BY_INTERFACE)
+    missing = sorted(theirs - set(names_here()) - BY_INTERFACE)
     with open(os.path.join(header.TOP, PAGE), "w", encoding="utf-8") as file:
         file.write(HEAD + wrapped(missing))
 

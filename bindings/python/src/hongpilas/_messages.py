@@ -717,13 +717,13 @@ class Messages:
         return self.ask(constants.SCI_GETINDICATORCURRENT)
 
     def set_indicator_value(self, value: int) -> None:
-        """Sets the value that this view fills in; 0 stands for 1. Raises `Refused` with `Refusal.BAD_ARGUMENT`
-        unless `value` is 0 to 2^31-1. Message: `SCI_SETINDICATORVALUE`.
+        """Sets the value that this view's `indicator_fill_range` writes; 0 counts as 1. Raises `Refused` with
+        `Refusal.BAD_ARGUMENT` unless `value` is 0 to 2^31-1. Message: `SCI_SETINDICATORVALUE`.
         """
         self.send(constants.SCI_SETINDICATORVALUE, value)
 
     def get_indicator_value(self) -> int:
-        """Returns the value that this view fills in. Message: `SCI_GETINDICATORVALUE`."""
+        """Returns the value that this view's `indicator_fill_range` writes. Message: `SCI_GETINDICATORVALUE`."""
         return self.ask(constants.SCI_GETINDICATORVALUE)
 
     def indicator_fill_range(self, start: int, length: int) -> None:
@@ -835,8 +835,8 @@ class Messages:
         self.send(constants.SCI_STOPRECORD)
 
     def colourise(self, start: int, end: int) -> None:
-        """Asks for styles up to `end`: moves end styled back to `start` if it is greater, and sends the view
-        SCN_STYLENEEDED with the position `end`, even for an empty range. Raises `Refused` with
+        """Asks for styles up to `end`: if end styled is after `start`, moves it back to `start`; then sends the
+        view SCN_STYLENEEDED with the position `end`, even for an empty range. Raises `Refused` with
         `Refusal.BAD_ARGUMENT` unless `start` and `end` are a range of the text; an `end` of -1 is its end.
         Message: `SCI_COLOURISE`.
         """

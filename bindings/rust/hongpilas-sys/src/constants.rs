@@ -249,9 +249,9 @@ pub const SCI_GETPASTECONVERTENDINGS: u32 = 2468;
 pub const SCI_SETINDICATORCURRENT: u32 = 2500;
 /// Q: Returns the view's current indicator.
 pub const SCI_GETINDICATORCURRENT: u32 = 2501;
-/// (value): Sets the value that this view fills in; 0 stands for 1.
+/// (value): Sets the value that this view's INDICATORFILLRANGE writes; 0 counts as 1.
 pub const SCI_SETINDICATORVALUE: u32 = 2502;
-/// Q: Returns the value that this view fills in.
+/// Q: Returns the value that this view's INDICATORFILLRANGE writes.
 pub const SCI_GETINDICATORVALUE: u32 = 2503;
 /// (start, length): Gives the view's current indicator the view's value over the `length` bytes from `start` on.
 pub const SCI_INDICATORFILLRANGE: u32 = 2504;
@@ -289,7 +289,7 @@ pub const SCI_TARGETWHOLEDOCUMENT: u32 = 2690;
 pub const SCI_STARTRECORD: u32 = 3001;
 /// Stops recording in this view.
 pub const SCI_STOPRECORD: u32 = 3002;
-/// (start, end): Asks for styles up to `end`: moves end styled back to `start` if it is greater, and sends the view SCN_STYLENEEDED with the position `end`, even for an empty range.
+/// (start, end): Asks for styles up to `end`: if end styled is after `start`, moves it back to `start`; then sends the view SCN_STYLENEEDED with the position `end`, even for an empty range.
 pub const SCI_COLOURISE: u32 = 4003;
 
 // Notes.

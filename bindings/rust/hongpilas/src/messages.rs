@@ -307,7 +307,8 @@ impl View<'_> {
         self.ask(sys::SCI_GETINDICATORCURRENT, 0, 0)
     }
 
-    /// Returns the value that this view fills in. Message: `SCI_GETINDICATORVALUE`.
+    /// Returns the value that this view's `indicator_fill_range` writes. Message:
+    /// `SCI_GETINDICATORVALUE`.
     pub fn get_indicator_value(&self) -> Result<i64, Refusal> {
         self.ask(sys::SCI_GETINDICATORVALUE, 0, 0)
     }
@@ -869,8 +870,8 @@ impl ViewMut<'_> {
         self.as_done(sys::SCI_SETINDICATORCURRENT, number, 0, &[])
     }
 
-    /// Sets the value that this view fills in; 0 stands for 1. Refused with
-    /// [`Refusal::BadArgument`] unless `value` is 0 to 2^31-1. Message:
+    /// Sets the value that this view's `indicator_fill_range` writes; 0 counts as 1. Refused
+    /// with [`Refusal::BadArgument`] unless `value` is 0 to 2^31-1. Message:
     /// `SCI_SETINDICATORVALUE`.
     pub fn set_indicator_value(&mut self, value: i64) -> Result<(), Refusal> {
         self.as_done(sys::SCI_SETINDICATORVALUE, value, 0, &[])
@@ -950,10 +951,10 @@ impl ViewMut<'_> {
         self.as_done(sys::SCI_STOPRECORD, 0, 0, &[])
     }
 
-    /// Asks for styles up to `end`: moves end styled back to `start` if it is greater, and
-    /// sends the view SCN_STYLENEEDED with the position `end`, even for an empty range. Refused
-    /// with [`Refusal::BadArgument`] unless `start` and `end` are a range of the text; an `end`
-    /// of -1 is its end. Message: `SCI_COLOURISE`.
+    /// Asks for styles up to `end`: if end styled is after `start`, moves it back to `start`;
+    /// then sends the view SCN_STYLENEEDED with the position `end`, even for an empty range.
+    /// Refused with [`Refusal::BadArgument`] unless `start` and `end` are a range of the text;
+    /// an `end` of -1 is its end. Message: `SCI_COLOURISE`.
     pub fn colourise(&mut self, start: i64, end: i64) -> Result<(), Refusal> {
         self.as_done(sys::SCI_COLOURISE, start, end, &[])
     }
