@@ -12,8 +12,8 @@
  *
  * Two forms. hongpilas_send, for example, tests its pointers and lengths, and then makes
  * the proved call, hongpilas_send_unchecked, which tests none of them. Use the plain
- * names. The tests are written in C (c/checked.c), and are tested, not proved.
- * The unchecked forms, at the end of this header, are a little faster.
+ * names. These argument checks are C code (c/checked.c): tested, not proved. The unchecked
+ * forms, at the end of this header, are a little faster.
  *
  * Threads. Calls on one session must not overlap: use a lock, or pass the session through a
  * channel. A background thread works on a copy (`hongpilas_copy_range`). Different sessions
@@ -79,7 +79,8 @@ extern "C" {
 /* The version of this interface: the major number times 1000, plus the minor one. An
  * addition raises the minor number; a removal or a change of meaning raises the major one.
  * hongpilas_version returns that of the library that is linked. A program works with it if
- * the major numbers are equal: hongpilas_version() / 1000 == HONGPILAS_VERSION / 1000. */
+ * the major numbers are equal (hongpilas_version() / 1000 == HONGPILAS_VERSION / 1000),
+ * except that hongpilas_new_with_limits refuses a limits struct larger than the library's. */
 #define HONGPILAS_VERSION 2000
 uint32_t hongpilas_version(void);
 
@@ -140,8 +141,9 @@ typedef struct hongpilas_limits {
  *     it may be; if a text or a buffer is null and its length is not 0; and if its length
  *     is above 2^63 - 1.
  *
- * A text or a buffer of length 0 may be null. A start, a count, an index and an id are not
- * lengths of memory: the call says what it does with each. */
+ * A text or a buffer of length 0 may be null. Starts, indexes, ids, and the count of
+ * hongpilas_lend_range are not tested here: each call says what it does with them. The count
+ * of hongpilas_copy_range is its buffer's length. */
 
 /* Opens a session without documents and views, with the greatest limits or with lower ones,
  * and sets *session to it. `size` is sizeof(hongpilas_limits): later versions of that struct
@@ -230,8 +232,8 @@ HONGPILAS_MUST_USE hongpilas_answer hongpilas_copy_note_text(const hongpilas_ses
 /* Lends the `count` bytes of the view's document from `start` on, without a copy: sets
  * *bytes to the first. They are valid until the next call on the session, queries and
  * another lend included. Only hongpilas_value, _text, _copy_text, _note_count, _note and
- * _copy_note_text leave them valid. The second form copies as many bytes as the buffer has.
- * Neither changes the session or the last reply, and neither allocates.
+ * _copy_note_text leave them valid. hongpilas_copy_range copies exactly `count` bytes into
+ * `into`, or is refused. Neither changes the session or the last reply, and neither allocates.
  * Refused: NO_SUCH_VIEW; BAD_ARGUMENT if the range ends past the end of the text. */
 HONGPILAS_MUST_USE hongpilas_answer hongpilas_lend_range(hongpilas_session *session, uint32_t view, size_t start, size_t count, const uint8_t **bytes);
 HONGPILAS_MUST_USE hongpilas_answer hongpilas_copy_range(hongpilas_session *session, uint32_t view, size_t start, void *into, size_t count);

@@ -29,8 +29,9 @@
  * component as a text or a buffer: copy a notification's text first. While a call runs, no thread modifies the text that
  * is passed to it, or touches the buffer that it fills. Two duties are added, for notify functions:
  *  - make calls from inside one on the stack on which it runs, and not on that of another coroutine;
- *  - if you longjmp out of one that ran on a coroutine's stack, do not free that stack until a message that is no query was
- *    sent from outside, or the component was freed. The stack of a thread that ended need not be kept. */
+ *  - if you longjmp out of one that ran on a coroutine's stack, keep that stack until a message that delivers (see
+ *    hongpilas_set_notify) was sent from outside all notify functions, or the component was freed: until then the component
+ *    may read there. It never reads another thread's stack, so a thread may end. */
 #ifndef HONGPILAS_SCINTILLA_H
 #define HONGPILAS_SCINTILLA_H
 
@@ -150,7 +151,7 @@ void hongpilas_scintilla_close(sptr_t view);
  *    pointer to the buffer is null, only the length is returned, without the NULs. A Sci_TextRange is refused if its
  *    pointer is null, or if it does not lie in the text;
  *  - a document is the number that GETDOCPOINTER and CREATEDOCUMENT return, and 0 is a new one;
- *  - what Scintilla has as an int is truncated to one, and a byte that is returned is a char;
+ *  - what Scintilla has as an int is truncated to one; GETCHARAT and GETSTYLEAT return a char, negative from 0x80 on;
  *  - SETTEXT and SETREADONLY return 1, as in Scintilla, where docs/MESSAGES.md has 0.
  *
  * Beside the messages of the profile a view has three more: SCI_GETSTATUS and SCI_SETSTATUS, below, and
@@ -180,14 +181,13 @@ const char *hongpilas_refusal(sptr_t view);
  *  - It is performed at once, and its notifications join the end of the queue: they are delivered after the function has
  *    returned. If a message is recorded there, lParam of SCN_MACRORECORD is a copy of its text, which a NUL closes.
  *  - A message that edits the text is refused as "edit inside a notify function", with SC_STATUS_FAILURE.
- *  - A message that is no query is refused as "out of memory", with SC_STATUS_BADALLOC, if there is no memory to save the
- *    pending notifications while it runs. Nothing is lost: they are delivered.
+ *  - A message that is no query replaces the last reply, so pending notifications are copied first. If memory is short for
+ *    that, the message is refused as "out of memory", with SC_STATUS_BADALLOC; the pending ones are still delivered.
  *
  * A notify function may be left by a C++ exception or by longjmp. Its message has been done, and the notification counts as
- * delivered. The rest of the queue stays until the next message from outside that is no query, to any view of the
- * component: it is delivered when that message is done or refused. That message too is refused as "out of memory" if there
- * is no memory to save the pending notifications while it runs. SCI_SETSTATUS, and a message that does nothing for its null
- * text, deliver nothing.
+ * delivered. The other notifications stay in the queue. The next message from outside that is no query, to any view of the
+ * component, delivers them, even if it is refused; it is refused as "out of memory" if they cannot be copied first. But
+ * SCI_SETSTATUS, and a message that does nothing for its null text, deliver nothing.
  * An exception passes through the interface if that was built with -fexceptions, as `make` builds it. To detect a longjmp out
  * of a notify function, the interface unwinds the stack, which needs the tables of compilers (-funwind-tables). If frames of a
  * later call lack them, such as those of a JIT compiler, it may wrongly take that call as one from inside the notify function. */

@@ -1,7 +1,7 @@
 #!/usr/bin/env python3
 """Writes each example of examples/ as a theorem of the crate ed_model: its script, read and run by the definitions, prints its output.
 
-Run it anywhere in the repository after an example was added or changed; the gate proves what it writes, which is laid out as `rt fmt` leaves
+Run it anywhere in the repository after an example was added or changed; CI proves what it writes, which is laid out as `rt fmt` leaves
 it. With --check it writes nothing, and ends with status 1 where a file of the crate is not what it would write: so no script or output is
 changed without its theorem.
 """

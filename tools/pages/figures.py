@@ -28,8 +28,8 @@ SIZES = ("1 MiB", "16 MiB")
 CITED_SIZE = "16 MiB"
 CITED = {
     "typing a byte": "typing, a line end each 40",
-    "undoing a typed byte": "undo of typing, a byte",
-    "inserting at a random place": "8 bytes in at random",
+    "undoing that": "undo of typing, a byte",
+    "inserting at random": "8 bytes in at random",
     "loading it": "INSERTTEXT of all",
     "reading a byte": "GETCHARAT",
     "searching it forwards": "SEARCHINTARGET, all of it",
@@ -134,7 +134,7 @@ def of_tutorial():
     rows = [[name, *(readable(found[work].get(size, found[work][SIZES[0]])[0]) for size in SIZES)] for name, work in named.items()]
     sums = [sum(count * found[work][size][0] for count, work in ASKED_BY_ROW.values()) * WINDOW / 1000 for size in SIZES]
     window = " and ".join(f"{it:.0f} µs in {size}" for it, size in zip(sums, SIZES))
-    return table(["What is asked", *SIZES], rows) + f"\nSo the queries for a window of {WINDOW} rows take {window}, without the fold levels, which were not measured.\n"
+    return table(["What is asked", *SIZES], rows) + f"\nSo the queries for a window of {WINDOW} rows take {window}, without fold levels and styles (SCI_GETSTYLEDTEXT), which were not measured.\n"
 
 
 def on_memory():
@@ -143,10 +143,9 @@ def on_memory():
     if not loaded or not worked_on:
         sys.exit(f"{FIGURES}: no sentence on a loaded text, or no row of 64 MiB, under *Memory*")
     commit = re.search(r"By `out/load` \(`TESTING.md`\), at commit (\w+):", page)[1]
-    since = "; since then, clearing the undo history frees its memory" if "In these runs a forgotten history kept its memory" in page else ""
-    return (f"**Memory.** While loading {loaded['size']}, the heap held {loaded['times']} times the size of text and line index. After minutes "
-            f"of random edits, a text of 64 MiB held {float(worked_on['held']):.0f} MiB, {float(worked_on['alive']):.0f} MiB of it in use "
-            f"({commit}{since}).")
+    return (f"**Memory.** While loading {loaded['size']}, the heap held {loaded['times']} times text and line index. After minutes of "
+            f"random edits in 64 MiB of text, it held {float(worked_on['held']):.0f} MiB, {float(worked_on['alive']):.0f} MiB of them in use "
+            f"({commit}). The rest is mostly spare capacity, which a document keeps.")
 
 
 def of_readme():

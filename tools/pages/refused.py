@@ -43,7 +43,7 @@ def wrong_bodies():
 
 
 def bodies():
-    """Each wrong body, by crate and name: where it stands, what it does, and whether the gate tries it."""
+    """Each wrong body, by crate and name: where it stands, what it does, and whether CI tries it."""
     module, found = wrong_bodies(), {}
     for crate in sorted(module.libraries()):
         source = module.Source(crate)
