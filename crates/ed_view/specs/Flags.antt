@@ -28,8 +28,12 @@ abbrev pub AreFewLines : Bool → ℕ → Type 0
 AreFewLines large lines = (lines < 2 ^ 64) × (large ≡ false → lines < 2 ^ 32)
 
 -- the capacity with numbers of 32 bits, and that with numbers of 64
-abbrev pub by_width : Bool → (used other : FoldCapacity) → FoldCapacity × FoldCapacity
+abbrev pub FoldCapacities : Type 0
+FoldCapacities = FoldCapacity × FoldCapacity
+
+-- these, by the width that is in use
+abbrev pub by_width : Bool → (used other : FoldCapacity) → FoldCapacities
 by_width large used other = if large then (other, used) else (used, other)
 
-abbrev pub capacities_of : KeptFlags → FoldCapacity × FoldCapacity
+abbrev pub capacities_of : KeptFlags → FoldCapacities
 capacities_of kept = by_width kept.large kept.capacity kept.other_capacity

@@ -5,7 +5,7 @@ use Rattle.ed_model.specs.Changes.{changed_view}
 use Rattle.ed_model.specs.Session.{Document, View, lines_in, is_large, new_view}
 use Rattle.selection.specs.declared.selections.Selection.{Selection}
 use Rattle.contraction.specs.ViewLines.{FoldCapacity}
-use Rattle.ed_view.specs.Flags.{AreFewLines, by_width}
+use Rattle.ed_view.specs.Flags.{FoldCapacities, AreFewLines, by_width}
 use Rattle.ed_view.specs.declared.view.Target.{Target}
 
 -- the view; its capacity for hidden and contracted lines; and that with numbers of the width that it doesn't use
@@ -15,7 +15,7 @@ pub record KeptView : Type 0 where
   pub other_capacity : FoldCapacity
 
 -- its capacity with numbers of 32 bits, and that with numbers of 64
-abbrev pub capacities : KeptView → FoldCapacity × FoldCapacity
+abbrev pub capacities : KeptView → FoldCapacities
 capacities kept = by_width kept.view.large kept.capacity kept.other_capacity
 
 -- it could count one line more
