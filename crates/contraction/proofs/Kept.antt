@@ -1,10 +1,9 @@
 -- The flags that two sets of lines stand for.
-use Rattle.contraction.proofs.Names.{◌≡◌, ℕ, ◌+◌, ◌-◌, ◌*◌, ◌<◌, ◌≤◌, max, Bool, true, false, not, cond, eqb, List, [], ◌∷◌, length, get_or, set, take, map, replicate, filter, count_by, refl, sym, ap, ◌∙◌, ◌⊎◌, inl, inr, arith, range_with_len, slice_get, unwrap_or, Result, Ok, Err, OnOk, cases_lt, cases_eq, eq-eqb, ne_eqb, false≢true, list_all_at, list_all-from_AllPass, sum_by-cons, get_or_default, ext_get_or, length-replicate, get_or-replicate, length-set, get_or-set_same, get_or-set_other, length-range_with_len, length-map-range_with_len, get_or-map-range_with_len, fill_by_all, take-map-range_with_len, Flags, fresh_flags, flags_at, is_visible, is_expanded, with_visible, with_expanded, filter_range_agree, Partitions, ArePartitions, IsLastAtMost, holds, lines_outside, ViewLines, view_lines, flags_kept, room_in_all, contracted_lines}
+use Rattle.contraction.proofs.Names.{◌≡◌, ℕ, ◌+◌, ◌-◌, ◌*◌, ◌<◌, ◌≤◌, max, Bool, true, false, not, cond, eqb, List, [], ◌∷◌, length, get_or, set, take, map, replicate, filter, count_by, refl, sym, ap, ◌∙◌, ◌⊎◌, inl, inr, arith, range_with_len, slice_get, unwrap_or, Result, Ok, Err, OnOk, cases_lt, cases_eq, eq-eqb, ne_eqb, false≢true, list_all_at, list_all-from_AllPass, sum_by-cons, get_or_default, ext_get_or, length-replicate, get_or-replicate, length-set, get_or-set_same, get_or-set_other, length-range_with_len, length-map-range_with_len, get_or-map-range_with_len, fill_by_all, take-map-range_with_len, Flags, fresh_flags, flags_at, is_visible, is_expanded, with_visible, with_expanded, filter_range_agree, Partitions, ArePartitions, IsLastAtMost, holds, lines_outside, ViewLines, view_lines, flags_kept, set_capacity, contracted_lines}
 use Rattle.std.proofs.lemmas.List.Filters.{length-filter_both}
 use Rattle.contraction.proofs.LineSets.{same_tests, index_of, rising_to, there}
 use Rattle.contraction.proofs.Outside.{outside_before, last_of_all}
 use Rattle.ed_model.specs.DisplayLines.{display_line, line_shown, all_visible}
-use Rattle.split_vector.specs.Split.{most_room}
 
 pub length-kept : (h c : List ℕ) (n : ℕ) → length (flags_kept h c n) ≡ n
 length-kept h c n = length-map-range_with_len (λ line. record { visible = not (holds h line); expanded = not (holds c line) }) 0 n
@@ -104,26 +103,14 @@ fresh_kept h c n m p q r =
     fresh_at : (k : ℕ) → flags_of (0 ∷ []) (0 ∷ []) k ≡ fresh_flags
     fresh_at k = let none : holds (0 ∷ []) k ≡ false = none_in (0 ∷ []) k refl refl in rw none refl
 
--- room was made
+-- the value if the flags are these, and both sets have the capacity that they had
+pub with_flags : (h h' c c' : Partitions) (v : ViewLines) (flags : List Flags) → view_lines h c ≡ v → flags_kept h'.starts c'.starts h'.length ≡ flags
+    → set_capacity h' ≡ set_capacity h → set_capacity c' ≡ set_capacity c → view_lines h' c' ≡ record v { flags = flags }
+with_flags h h' c c' v flags e same hidden contracted =
+    rw (same, hidden, contracted) (ap (λ (w : ViewLines). record w { flags = flags }) e)
 
-pub contracted_reserved : {T E : Type 0} (r : Result T E) (h c c' : Partitions) (v : ViewLines) (n : ℕ) → view_lines h c ≡ v
-    → OnOk r ((n ≤ c'.room) × (c' ≡ record c { room = c'.room }))
-    → OnOk r ((n ≤ c'.room) × (view_lines h c' ≡ record v { room = record v.room { contracted = c'.room } }))
-contracted_reserved (Err x) h c c' v n e ok = tt
-contracted_reserved (Ok x) h c c' v n e ok =
-    (ok.0, ap (λ w. view_lines h w) ok.1 ∙ ap (λ (w : ViewLines). record w { room = record w.room { contracted = c'.room } }) e)
-
-pub hidden_reserved : {T E : Type 0} (r : Result T E) (h h' c : Partitions) (v : ViewLines) (n m : ℕ) → view_lines h c ≡ v → 0 < length h.starts → n ≡ m - (length h.starts - 1)
-    → OnOk r ((n ≤ h'.room) × (h' ≡ record h { room = h'.room }))
-    → OnOk r ((m ≤ room_in_all h') × (view_lines h' c ≡ record v { room = record v.room { hidden = room_in_all h' } }))
-hidden_reserved (Err x) h h' c v n m e some q ok = tt
-hidden_reserved (Ok x) h h' c v n m e some q ok =
-    let size : length h'.starts ≡ length h.starts = ap (λ w. length w.starts) ok.1 in
-    let room : room_in_all (record h { room = h'.room }) ≡ room_in_all h' = ap (λ k. k + h'.room - 1) (sym size) in (
-      omega (arith, ok.0),
-      ap (λ w. view_lines w c) ok.1 ∙ ap (λ (w : ViewLines). record w { room = record w.room { hidden = room_in_all (record h { room = h'.room }) } }) e
-          ∙ ap (λ k. record v { room = record v.room { hidden = k } }) room,
-    )
+pub with_its_flags : (v w : ViewLines) (flags : List Flags) → w.flags ≡ flags → w.capacity ≡ v.capacity → w ≡ record v { flags = flags }
+with_its_flags v w flags same capacity = rw (← same, ← capacity) refl
 
 -- lines shown and hidden, expanded and contracted
 
@@ -170,8 +157,7 @@ with_expanded_kept h c c' n line on l same =
         kept_at h c' n k m ∙ rw q refl ∙ sym (kept_at h c n k m)
         ∙ sym (get_or-set_other (flags_kept h c n) line k (record (flags_at (flags_kept h c n) line) { expanded = on }) fresh_flags ne)
 
--- the room is not more than promised
-
+-- each contracted line has a start, and there is one more
 pub contracted_count : (h c : Partitions) (v : ViewLines) → view_lines h c ≡ v → c.length ≡ h.length → ArePartitions c.starts c.length → contracted_lines v.flags + 1 ≡ length c.starts
 contracted_count h c v e size sound =
     let test : ℕ → Bool = λ k. not (not (holds c.starts k)) in
@@ -182,19 +168,3 @@ contracted_count h c v e size sound =
     rw (← size) (outside_before c.starts c.length sound c.length (length c.starts - 1) (last_of_all c.starts c.length sound)) in
     let same = ap (λ w. contracted_lines w.flags) e in
     omega (arith, sound.some)
-
-pub contracted_bound : {T E : Type 0} (r : Result T E) (h c : Partitions) (v : ViewLines) (room count : ℕ) → view_lines h c ≡ v → c.length ≡ h.length → ArePartitions c.starts c.length
-    → OnOk r (room ≤ most_room (length c.starts) c.room count) → OnOk r (room ≤ most_room (contracted_lines v.flags + 1) v.room.contracted count)
-contracted_bound (Err x) h c v room count e size sound most = tt
-contracted_bound (Ok x) h c v room count e size sound most =
-    let own : c.room ≡ v.room.contracted = ap (λ w. w.room.contracted) e in
-    rw (contracted_count h c v e size sound, ← own) most
-
-pub hidden_bound : {T E : Type 0} (r : Result T E) (h h' c : Partitions) (v : ViewLines) (n m : ℕ) → view_lines h c ≡ v → 0 < length h.starts → n ≡ m - (length h.starts - 1)
-    → OnOk r ((n ≤ h'.room) × (h' ≡ record h { room = h'.room })) → OnOk r (h'.room ≤ most_room (length h.starts) h.room n)
-    → OnOk r (room_in_all h' ≤ max m (2 * v.room.hidden + 1))
-hidden_bound (Err x) h h' c v n m e some q ok most = tt
-hidden_bound (Ok x) h h' c v n m e some q ok most =
-    let size : length h'.starts ≡ length h.starts = ap (λ w. length w.starts) ok.1 in
-    let own : room_in_all h ≡ v.room.hidden = ap (λ w. w.room.hidden) e in
-    omega (arith, most)

@@ -5,7 +5,6 @@ pub mod Changed
 pub mod Expanding
 pub mod FoldLines
 pub mod Headings
-pub mod InAll
 pub mod Kept
 pub mod Least
 pub mod LineSets

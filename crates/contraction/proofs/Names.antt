@@ -18,5 +18,5 @@ pub use Rattle.line_index.specs.declared.edit.LineEdit.TheVariants.{Come, Join, 
 pub use Rattle.partitioning.specs.Partitions.{Partitions, ArePartitions, IsLastAtMost, raised_behind, lowered_behind}
 pub use Rattle.contraction.specs.Folding.{is_closed, closed_at, behind_closed}
 pub use Rattle.contraction.specs.Headings.{heads, last_heading, HeadFrom}
-pub use Rattle.contraction.specs.LineSets.{holds, holds_with_fresh, holds_without, holds_outside, lines_outside, starts_at}
-pub use Rattle.contraction.specs.ViewLines.{ViewLines, view_lines, flags_kept, contracted_lines, contracted_in_all, room_in_all}
+pub use Rattle.contraction.specs.LineSets.{holds, holds_with_fresh, holds_without, holds_outside, lines_outside, starts_at, set_capacity}
+pub use Rattle.contraction.specs.ViewLines.{ViewLines, view_lines, flags_kept, contracted_lines}

@@ -3,4 +3,3 @@ pub mod Headings
 pub mod Levels
 pub mod LineSets
 pub mod ViewLines
-pub mod proved

@@ -1,7 +1,8 @@
 -- A set of lines, as the starts of partitions: 0, and then one more than each line of the set, in rising order.
-use Rattle.std.specs.Prelude.{ℕ, ◌+◌, ◌-◌, ◌==◌, ◌||◌, not, nat_lt, if◌then◌else◌, Bool, false, List, [], ◌∷◌, filter}
+use Rattle.std.specs.Prelude.{ℕ, ◌+◌, ◌-◌, ◌==◌, ◌||◌, not, nat_lt, if◌then◌else◌, Bool, false, List, [], ◌∷◌, length, filter}
 use Rattle.std.specs.List.{range_with_len}
 use Rattle.ed_model.specs.Folding.{is_between}
+use Rattle.partitioning.specs.Partitions.{Partitions}
 
 -- whether one of the starts is at the place
 abbrev pub starts_at : List ℕ → ℕ → Bool
@@ -11,6 +12,10 @@ starts_at (s ∷ ss) place = s == place || starts_at ss place
 -- whether the line is in the set
 abbrev pub holds : List ℕ → ℕ → Bool
 holds starts line = starts_at starts (line + 1)
+
+-- how many lines in all may be in the set without an allocation: each has a start, and there is one more
+abbrev pub set_capacity : Partitions → ℕ
+set_capacity set = length set.starts + set.room - 1
 
 -- whether the line is in the set after `count` lines outside it were inserted before `line`
 abbrev pub holds_with_fresh : List ℕ → ℕ → ℕ → ℕ → Bool

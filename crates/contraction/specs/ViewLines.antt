@@ -1,35 +1,33 @@
 -- What a contract sees of a `Contraction`.
-use Rattle.std.specs.Prelude.{◌≡◌, ℕ, ◌+◌, ◌-◌, not, List, length, map, count_by}
+use Rattle.std.specs.Prelude.{◌≡◌, ◌≤◌, ℕ, ◌+◌, not, List, length, map, count_by}
 use Rattle.std.specs.List.{range_with_len}
 use Rattle.ed_model.specs.Rows.{Flags}
-use Rattle.split_vector.specs.Split.{most_room}
 use Rattle.partitioning.specs.Partitions.{Partitions}
-use Rattle.contraction.specs.LineSets.{holds}
+use Rattle.contraction.specs.LineSets.{holds, set_capacity}
 
--- how many lines in all may be hidden, and how many more may be contracted, without an allocation
-pub record FoldRoom : Type 0 where
+-- how many lines in all may be hidden, and how many in all may be contracted, without an allocation
+pub record FoldCapacity : Type 0 where
   pub hidden : ℕ
   pub contracted : ℕ
 
--- the flags of each line, and the room
+-- the flags of each line, and the capacity
 pub record ViewLines : Type 0 where
   pub flags : List Flags
-  pub room : FoldRoom
+  pub capacity : FoldCapacity
+
+abbrev pub fold_capacity : (hidden contracted : ℕ) → FoldCapacity
+fold_capacity hidden contracted = record { hidden = hidden; contracted = contracted }
 
 -- the flags of so many lines, by the set of hidden lines and that of contracted ones
 abbrev pub flags_kept : List ℕ → List ℕ → ℕ → List Flags
 flags_kept hidden contracted lines =
     map (λ line. record { visible = not (holds hidden line); expanded = not (holds contracted line) }) (range_with_len 0 lines)
 
--- each line of the set has a start, and there is one more
-abbrev pub room_in_all : Partitions → ℕ
-room_in_all set = length set.starts + set.room - 1
-
 abbrev pub view_lines : Partitions → Partitions → ViewLines
 view_lines hidden contracted =
     record {
       flags = flags_kept hidden.starts contracted.starts hidden.length;
-      room = record { hidden = room_in_all hidden; contracted = contracted.room };
+      capacity = fold_capacity (set_capacity hidden) (set_capacity contracted);
     }
 
 -- both sets have the same number of lines
@@ -40,10 +38,10 @@ pub record AreViewLines (hidden contracted : Partitions) : Type 0 where
 abbrev pub contracted_lines : List Flags → ℕ
 contracted_lines flags = count_by (λ (f : Flags). not f.expanded) flags
 
--- how many lines in all may be contracted without an allocation: those that are, and more
-abbrev pub contracted_in_all : ViewLines → ℕ
-contracted_in_all view = contracted_lines view.flags + view.room.contracted
+-- all lines may be hidden
+abbrev pub HasRoomToHide : List Flags → FoldCapacity → Type 0
+HasRoomToHide flags capacity = length flags ≤ capacity.hidden
 
--- how many more lines may at most be contracted without an allocation, after room for `count` more was requested
-abbrev pub most_contracted_room : ViewLines → ℕ → ℕ
-most_contracted_room view count = most_room (contracted_lines view.flags + 1) view.room.contracted count
+-- so many more lines may be contracted
+abbrev pub HasRoomToContract : ℕ → List Flags → FoldCapacity → Type 0
+HasRoomToContract count flags capacity = contracted_lines flags + count ≤ capacity.contracted

@@ -3,7 +3,6 @@
 ghost use Rattle.std.specs.Prelude.{◌≡◌, ◌+◌, ◌≤◌, ◌<◌, [], ◌∷◌, length};
 ghost use Rattle.ed_model.specs.Rows.{flags_together, fresh_flags};
 ghost use Rattle.line_index.specs.Edits.{with_fresh, with_joined, after_edit, after_edits, lines_after_edit, FitsLines, FitLines, fresh_by, fresh_lines};
-ghost use Rattle.contraction.specs.ViewLines.{contracted_in_all};
 
 use crate::contraction::Contraction;
 use crate::line_set::{put_lines_in, set_is_sound, take_lines_out};
@@ -15,12 +14,8 @@ impl<P: Place> Contraction<P> {
     fn put_in(&mut self, line: usize, count: usize)
         requires line { line ≤ length self.old.flags }
         requires fits { length self.old.flags + count ≤ P.GREATEST }
-        ensures flags { self.new.flags ≡ with_fresh flags_together line count self.old.flags }
-        ensures hidden { self.new.room.hidden ≡ self.old.room.hidden }
-        ensures contracted { self.old.room.contracted ≤ self.new.room.contracted }
-        ensures in_all { contracted_in_all self.new ≡ contracted_in_all self.old }
+        ensures { self.new ≡ record self.old { flags = with_fresh flags_together line count self.old.flags } }
     {
-        set_is_sound(&self.contracted);
         put_lines_in(&mut self.hidden, line, count);
         put_lines_in(&mut self.contracted, line, count);
     }
@@ -28,10 +23,7 @@ impl<P: Place> Contraction<P> {
     // Joins the lines behind a line to it. It keeps its flags.
     fn join(&mut self, line: usize, count: usize)
         requires { line + count < length self.old.flags }
-        ensures flags { self.new.flags ≡ with_joined flags_together line count self.old.flags }
-        ensures hidden { self.new.room.hidden ≡ self.old.room.hidden }
-        ensures contracted { self.old.room.contracted ≤ self.new.room.contracted }
-        ensures in_all { contracted_in_all self.new ≡ contracted_in_all self.old }
+        ensures { self.new ≡ record self.old { flags = with_joined flags_together line count self.old.flags } }
     {
         set_is_sound(&self.contracted);
         take_lines_out(&mut self.hidden, line + 1, count);
@@ -41,10 +33,7 @@ impl<P: Place> Contraction<P> {
     // Removes all lines, and inserts one fresh line.
     fn restart(&mut self)
         requires { 1 ≤ P.GREATEST }
-        ensures flags { self.new.flags ≡ fresh_flags ∷ [] }
-        ensures hidden { self.new.room.hidden ≡ self.old.room.hidden }
-        ensures contracted { self.old.room.contracted ≤ self.new.room.contracted }
-        ensures in_all { contracted_in_all self.new ≡ contracted_in_all self.old }
+        ensures { self.new ≡ record self.old { flags = fresh_flags ∷ [] } }
     {
         let lines = self.contracted.length();
         take_lines_out(&mut self.hidden, 0, lines);
@@ -57,10 +46,7 @@ impl<P: Place> Contraction<P> {
     fn carry_edit(&mut self, edit: LineEdit)
         requires fit { FitsLines (length self.old.flags) edit }
         requires fits { length self.old.flags + fresh_by edit ≤ P.GREATEST }
-        ensures flags { self.new.flags ≡ after_edit flags_together self.old.flags edit }
-        ensures hidden { self.new.room.hidden ≡ self.old.room.hidden }
-        ensures contracted { self.old.room.contracted ≤ self.new.room.contracted }
-        ensures in_all { contracted_in_all self.new ≡ contracted_in_all self.old }
+        ensures { self.new ≡ record self.old { flags = after_edit flags_together self.old.flags edit } }
     {
         match edit {
             LineEdit::Come { line, count } => self.put_in(line, count),
@@ -75,10 +61,7 @@ impl<P: Place> Contraction<P> {
     pub fn carry(&mut self, edits: &[LineEdit])
         requires fit { FitLines (length self.old.flags) edits.now }
         requires fits { length self.old.flags + fresh_lines edits.now ≤ P.GREATEST }
-        ensures flags { self.new.flags ≡ after_edits flags_together edits.now self.old.flags }
-        ensures hidden { self.new.room.hidden ≡ self.old.room.hidden }
-        ensures contracted { self.old.room.contracted ≤ self.new.room.contracted }
-        ensures in_all { contracted_in_all self.new ≡ contracted_in_all self.old }
+        ensures { self.new ≡ record self.old { flags = after_edits flags_together edits.now self.old.flags } }
     {
         for edit in edits {
             self.carry_edit(*edit);

@@ -1,8 +1,8 @@
 //! The changes of flags: lines are shown and hidden, expanded and contracted.
 
-ghost use Rattle.std.specs.Prelude.{◌≡◌, ◌+◌, ◌≤◌, ◌<◌, if◌then◌else◌, false, length};
+ghost use Rattle.std.specs.Prelude.{◌≡◌, ◌≤◌, ◌<◌, false, length};
 ghost use Rattle.ed_model.specs.Folding.{lines_shown, lines_hidden, with_expanded};
-ghost use Rattle.contraction.specs.ViewLines.{contracted_in_all};
+ghost use Rattle.contraction.specs.ViewLines.{HasRoomToContract, HasRoomToHide};
 
 use crate::contraction::Contraction;
 use crate::line_set::{insert, insert_range, remove_range, set_is_sound};
@@ -12,9 +12,8 @@ impl<P: Place> Contraction<P> {
     /// Shows the lines from `first` up to `past` (`SCI_SHOWLINES`). Needs no room.
     pub fn show(&mut self, first: usize, past: usize)
         requires { past ≤ length self.old.flags }
-        ensures flags { self.new.flags ≡ lines_shown first past self.old.flags }
+        ensures flags { self.new ≡ record self.old { flags = lines_shown first past self.old.flags } }
         ensures lines { length self.new.flags ≡ length self.old.flags }
-        ensures room { self.new.room ≡ self.old.room }
     {
         remove_range(&mut self.hidden, first, past);
     }
@@ -23,12 +22,10 @@ impl<P: Place> Contraction<P> {
     /// to be hidden.
     pub fn hide(&mut self, first: usize, past: usize)
         requires within { past ≤ length self.old.flags }
-        requires room { length self.old.flags ≤ self.old.room.hidden }
-        ensures flags { self.new.flags ≡ lines_hidden first past self.old.flags }
+        requires room { HasRoomToHide self.old.flags self.old.capacity }
+        ensures flags { self.new ≡ record self.old { flags = lines_hidden first past self.old.flags } }
         ensures lines { length self.new.flags ≡ length self.old.flags }
-        ensures room { self.new.room ≡ self.old.room }
     {
-        set_is_sound(&self.hidden);
         insert_range(&mut self.hidden, first.max(1), past);
     }
 
@@ -36,12 +33,9 @@ impl<P: Place> Contraction<P> {
     /// for one more contracted line.
     pub fn set_expanded(&mut self, line: usize, on: bool)
         requires line { line < length self.old.flags }
-        requires room { on ≡ false → 0 < self.old.room.contracted }
-        ensures flags { self.new.flags ≡ with_expanded line on self.old.flags }
+        requires room { on ≡ false → HasRoomToContract 1 self.old.flags self.old.capacity }
+        ensures flags { self.new ≡ record self.old { flags = with_expanded line on self.old.flags } }
         ensures lines { length self.new.flags ≡ length self.old.flags }
-        ensures hidden { self.new.room.hidden ≡ self.old.room.hidden }
-        ensures contracted { self.old.room.contracted ≤ self.new.room.contracted + (if on then 0 else 1) }
-        ensures in_all { contracted_in_all self.new ≡ contracted_in_all self.old }
     {
         set_is_sound(&self.contracted);
         if on {

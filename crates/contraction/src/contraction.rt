@@ -1,12 +1,12 @@
-//! `Contraction`: how it is made and read, and its room.
+//! `Contraction`: how it is made and read, and its capacity.
 
-ghost use Rattle.std.specs.Prelude.{◌≡◌, ◌+◌, ◌-◌, ◌*◌, ◌≤◌, ◌<◌, ℕ, true, false, [], ◌∷◌, length, max, replicate, IfOk, OnOk, OnErr, IsOk};
+ghost use Rattle.std.specs.Prelude.{◌≡◌, ◌+◌, ◌*◌, ◌^◌, ◌≤◌, ◌<◌, ℕ, true, false, [], ◌∷◌, length, max, replicate, IfOk, OnOk, OnErr, IsOk};
 ghost use Rattle.ed_model.specs.Rows.{fresh_flags};
 ghost use Rattle.ed_model.specs.Folding.{is_visible, is_expanded};
 ghost use Rattle.ed_model.specs.DisplayLines.{display_line, line_shown, all_visible};
-ghost use Rattle.contraction.specs.ViewLines.{most_contracted_room};
+ghost use Rattle.contraction.specs.ViewLines.{contracted_lines, fold_capacity};
 
-use crate::line_set::{contains, lines_before, next_inside, nth_line_outside, set_is_sound};
+use crate::line_set::{contains, lines_before, next_inside, nth_line_outside, reserve, set_is_sound};
 use partitioning::{Partitioning, Place};
 use std::alloc::{AllocError, Global};
 use std::marker::Model;
@@ -49,7 +49,7 @@ impl<P: Place> Contraction<P> {
     pub fn new(alloc: Global, lines: usize) -> Result<Self, AllocError>
         requires { lines ≤ P.GREATEST }
         ensures flags { IfOk result (λ c. c.flags ≡ replicate lines fresh_flags) }
-        ensures room { IfOk result (λ c. c.room ≡ record { hidden = 0; contracted = 0 }) }
+        ensures capacity { IfOk result (λ c. c.capacity ≡ fold_capacity 0 0) }
     {
         let hidden = no_lines(alloc, lines)?;
         let contracted = no_lines(alloc, lines)?;
@@ -62,6 +62,15 @@ impl<P: Place> Contraction<P> {
         ensures within { length self.now.flags ≤ P.GREATEST }
     {
         self.hidden.length()
+    }
+
+    /// Returns how many lines are contracted, in constant time.
+    pub fn contracted_count(&self) -> usize
+        ensures count { result ≡ contracted_lines self.now.flags }
+        ensures within { contracted_lines self.now.flags < 2 ^ 63 }
+    {
+        set_is_sound(&self.contracted);
+        self.contracted.count() - 1
     }
 
     /// Returns whether the line is visible (`SCI_GETLINEVISIBLE`).
@@ -115,35 +124,35 @@ impl<P: Place> Contraction<P> {
         nth_line_outside(&self.hidden, display)
     }
 
-    /// Makes room for `lines` hidden lines in all.
+    /// Makes room for `lines` hidden lines in all. Allocates nothing if they fit.
     ///
     /// # Errors
     ///
     /// `AllocError` if the allocation fails. Nothing has changed then.
     pub fn reserve_hidden(&mut self, lines: usize) -> Result<(), AllocError>
-        ensures ok { OnOk result ((lines ≤ self.new.room.hidden) × (self.new ≡ record self.old { room = record self.old.room { hidden = self.new.room.hidden } })) }
-        ensures room_is_there { lines ≤ self.old.room.hidden → IsOk result × (self.new ≡ self.old) }
-        ensures room_stays { self.old.room.hidden ≤ self.new.room.hidden }
-        ensures at_most { OnOk result (self.new.room.hidden ≤ max lines (2 * self.old.room.hidden + 1)) }
+        ensures rest { self.new ≡ record self.old { capacity = record self.old.capacity { hidden = self.new.capacity.hidden } } }
+        ensures ok { OnOk result (lines ≤ self.new.capacity.hidden) }
+        ensures room_is_there { lines ≤ self.old.capacity.hidden → IsOk result × (self.new ≡ self.old) }
+        ensures capacity { self.old.capacity.hidden ≤ self.new.capacity.hidden }
+        ensures at_most { self.new.capacity.hidden ≤ max lines (2 * self.old.capacity.hidden + 1) }
         ensures err { OnErr result (self.new ≡ self.old) }
     {
-        let hidden = self.hidden.count() - 1;
-        self.hidden.reserve(lines.saturating_sub(hidden))
+        reserve(&mut self.hidden, lines)
     }
 
-    /// Makes room for `count` more contracted lines.
+    /// Makes room for `lines` contracted lines in all. Allocates nothing if they fit.
     ///
     /// # Errors
     ///
     /// `AllocError` if the allocation fails. Nothing has changed then.
-    pub fn reserve_contracted(&mut self, count: usize) -> Result<(), AllocError>
-        ensures ok { OnOk result ((count ≤ self.new.room.contracted) × (self.new ≡ record self.old { room = record self.old.room { contracted = self.new.room.contracted } })) }
-        ensures room_is_there { count ≤ self.old.room.contracted → IsOk result × (self.new ≡ self.old) }
-        ensures room_stays { self.old.room.contracted ≤ self.new.room.contracted }
-        ensures at_most { OnOk result (self.new.room.contracted ≤ most_contracted_room self.old count) }
+    pub fn reserve_contracted(&mut self, lines: usize) -> Result<(), AllocError>
+        ensures rest { self.new ≡ record self.old { capacity = record self.old.capacity { contracted = self.new.capacity.contracted } } }
+        ensures ok { OnOk result (lines ≤ self.new.capacity.contracted) }
+        ensures room_is_there { lines ≤ self.old.capacity.contracted → IsOk result × (self.new ≡ self.old) }
+        ensures capacity { self.old.capacity.contracted ≤ self.new.capacity.contracted }
+        ensures at_most { self.new.capacity.contracted ≤ max lines (2 * self.old.capacity.contracted + 1) }
         ensures err { OnErr result (self.new ≡ self.old) }
     {
-        set_is_sound(&self.contracted);
-        self.contracted.reserve(count)
+        reserve(&mut self.contracted, lines)
     }
 }

@@ -3,7 +3,7 @@
 ghost use Rattle.std.specs.Prelude.{◌≡◌, ◌+◌, ◌≤◌, ◌<◌, length};
 ghost use Rattle.ed_model.specs.Folding.{contracted as contracted_at, expanded as expanded_at, header_opened, revealed};
 ghost use Rattle.contraction.specs.Folding.{is_closed as is_closed_at, closed_at, behind_closed, parents_opened};
-ghost use Rattle.contraction.specs.ViewLines.{contracted_in_all};
+ghost use Rattle.contraction.specs.ViewLines.{HasRoomToContract, HasRoomToHide};
 
 use crate::contraction::Contraction;
 use crate::folds::{fold_parent, is_header, last_child};
@@ -16,12 +16,9 @@ impl<P: Place> Contraction<P> {
     pub fn contract(&mut self, levels: &Levels, header: usize)
         requires lines { length levels.now ≡ length self.old.flags }
         requires header { header < length self.old.flags }
-        requires room { (length self.old.flags ≤ self.old.room.hidden) × (0 < self.old.room.contracted) }
-        ensures flags { self.new.flags ≡ contracted_at levels.now header self.old.flags }
+        requires room { HasRoomToHide self.old.flags self.old.capacity × HasRoomToContract 1 self.old.flags self.old.capacity }
+        ensures flags { self.new ≡ record self.old { flags = contracted_at levels.now header self.old.flags } }
         ensures lines { length self.new.flags ≡ length self.old.flags }
-        ensures hidden { self.new.room.hidden ≡ self.old.room.hidden }
-        ensures contracted { self.old.room.contracted ≤ self.new.room.contracted + 1 }
-        ensures in_all { contracted_in_all self.new ≡ contracted_in_all self.old }
     {
         levels.lines_fit();
         self.set_expanded(header, false);
@@ -43,11 +40,10 @@ impl<P: Place> Contraction<P> {
     fn close(&mut self, levels: &Levels, line: usize) -> usize
         requires lines { length levels.now ≡ length self.old.flags }
         requires line { line < length self.old.flags }
-        requires room { length self.old.flags ≤ self.old.room.hidden }
-        ensures flags { self.new.flags ≡ closed_at levels.now line self.old.flags }
+        requires room { HasRoomToHide self.old.flags self.old.capacity }
+        ensures flags { self.new ≡ record self.old { flags = closed_at levels.now line self.old.flags } }
         ensures next { result ≡ behind_closed levels.now line self.old.flags }
         ensures within { result ≤ length self.new.flags }
-        ensures room { self.new.room ≡ self.old.room }
     {
         levels.lines_fit();
         if !self.is_closed(levels, line) {
@@ -63,12 +59,9 @@ impl<P: Place> Contraction<P> {
     pub fn expand(&mut self, levels: &Levels, header: usize)
         requires lines { length levels.now ≡ length self.old.flags }
         requires header { header < length self.old.flags }
-        requires room { length self.old.flags ≤ self.old.room.hidden }
-        ensures flags { self.new.flags ≡ expanded_at levels.now header self.old.flags }
+        requires room { HasRoomToHide self.old.flags self.old.capacity }
+        ensures flags { self.new ≡ record self.old { flags = expanded_at levels.now header self.old.flags } }
         ensures lines { length self.new.flags ≡ length self.old.flags }
-        ensures hidden { self.new.room.hidden ≡ self.old.room.hidden }
-        ensures contracted { self.old.room.contracted ≤ self.new.room.contracted }
-        ensures in_all { contracted_in_all self.new ≡ contracted_in_all self.old }
     {
         levels.lines_fit();
         self.set_expanded(header, true);
@@ -86,12 +79,9 @@ impl<P: Place> Contraction<P> {
     fn open(&mut self, levels: &Levels, header: usize)
         requires lines { length levels.now ≡ length self.old.flags }
         requires header { header < length self.old.flags }
-        requires room { length self.old.flags ≤ self.old.room.hidden }
-        ensures flags { self.new.flags ≡ header_opened levels.now self.old.flags header }
+        requires room { HasRoomToHide self.old.flags self.old.capacity }
+        ensures flags { self.new ≡ record self.old { flags = header_opened levels.now self.old.flags header } }
         ensures lines { length self.new.flags ≡ length self.old.flags }
-        ensures hidden { self.new.room.hidden ≡ self.old.room.hidden }
-        ensures contracted { self.old.room.contracted ≤ self.new.room.contracted }
-        ensures in_all { contracted_in_all self.new ≡ contracted_in_all self.old }
     {
         levels.lines_fit();
         let expanded = self.expanded(header);
@@ -106,12 +96,9 @@ impl<P: Place> Contraction<P> {
     fn open_parents(&mut self, levels: &Levels, line: usize)
         requires lines { length levels.now ≡ length self.old.flags }
         requires line { line < length self.old.flags }
-        requires room { length self.old.flags ≤ self.old.room.hidden }
-        ensures flags { self.new.flags ≡ parents_opened levels.now line self.old.flags }
+        requires room { HasRoomToHide self.old.flags self.old.capacity }
+        ensures flags { self.new ≡ record self.old { flags = parents_opened levels.now line self.old.flags } }
         ensures lines { length self.new.flags ≡ length self.old.flags }
-        ensures hidden { self.new.room.hidden ≡ self.old.room.hidden }
-        ensures contracted { self.old.room.contracted ≤ self.new.room.contracted }
-        ensures in_all { contracted_in_all self.new ≡ contracted_in_all self.old }
     {
         let mut inner = line;
         'parents: while let Some(parent) = fold_parent(levels, inner) {
@@ -125,12 +112,9 @@ impl<P: Place> Contraction<P> {
     pub fn ensure(&mut self, levels: &Levels, line: usize)
         requires lines { length levels.now ≡ length self.old.flags }
         requires line { line < length self.old.flags }
-        requires room { length self.old.flags ≤ self.old.room.hidden }
-        ensures flags { self.new.flags ≡ revealed levels.now line self.old.flags }
+        requires room { HasRoomToHide self.old.flags self.old.capacity }
+        ensures flags { self.new ≡ record self.old { flags = revealed levels.now line self.old.flags } }
         ensures lines { length self.new.flags ≡ length self.old.flags }
-        ensures hidden { self.new.room.hidden ≡ self.old.room.hidden }
-        ensures contracted { self.old.room.contracted ≤ self.new.room.contracted }
-        ensures in_all { contracted_in_all self.new ≡ contracted_in_all self.old }
     {
         levels.lines_fit();
         if self.visible(line) {

@@ -1,11 +1,12 @@
 //! A set of lines, as the starts of partitions: 0, and then one more than each line of the set, in rising order.
 
-ghost use Rattle.std.specs.Prelude.{ℕ, ◌≡◌, ◌+◌, ◌-◌, ◌^◌, ◌≤◌, ◌<◌, ◌==◌, ◌||◌, true, false, length, slice_index, slice_get, unwrap_or};
+ghost use Rattle.std.specs.Prelude.{ℕ, ◌≡◌, ◌+◌, ◌-◌, ◌*◌, ◌^◌, ◌≤◌, ◌<◌, ◌==◌, ◌||◌, true, false, length, max, slice_index, slice_get, unwrap_or, IsOk, OnErr, OnOk};
 ghost use Rattle.ed_model.specs.Folding.{is_between};
-ghost use Rattle.contraction.specs.LineSets.{holds, holds_with_fresh, holds_without, holds_outside, lines_outside};
+ghost use Rattle.contraction.specs.LineSets.{holds, holds_with_fresh, holds_without, holds_outside, lines_outside, set_capacity};
 ghost use Rattle.partitioning.specs.Partitions.{ArePartitions, IsLastAtMost};
 
 use partitioning::{Partitioning, Place, Probes};
+use std::alloc::AllocError;
 
 /// Returns how many lines of the set lie before `line`: the index of the last start at that number or before it.
 pub(crate) fn lines_before<P: Place>(starts: &Partitioning<P>, line: usize) -> usize
@@ -57,14 +58,26 @@ pub(crate) fn next_inside<P: Place>(starts: &Partitioning<P>, line: usize) -> us
     starts.start_of(next) - 1
 }
 
+/// Makes room for `lines` lines of the set in all.
+pub(crate) fn reserve<P: Place>(starts: &mut Partitioning<P>, lines: usize) -> Result<(), AllocError>
+    ensures rest { starts.new ≡ record starts.old { room = starts.new.room } }
+    ensures ok { OnOk result (lines ≤ set_capacity starts.new) }
+    ensures room_is_there { lines ≤ set_capacity starts.old → IsOk result × (starts.new ≡ starts.old) }
+    ensures capacity { set_capacity starts.old ≤ set_capacity starts.new }
+    ensures at_most { set_capacity starts.new ≤ max lines (2 * set_capacity starts.old + 1) }
+    ensures err { OnErr result (starts.new ≡ starts.old) }
+{
+    let inside = starts.count() - 1;
+    starts.reserve(lines.saturating_sub(inside))
+}
+
 /// Adds the line to the set. There must be room for it, unless it is there already.
 pub(crate) fn insert<P: Place>(starts: &mut Partitioning<P>, line: usize)
     requires line { line < starts.old.length }
     requires room { holds starts.old.starts line ≡ false → 0 < starts.old.room }
     ensures lines { (k : ℕ) → holds starts.new.starts k ≡ (k == line || holds starts.old.starts k) }
     ensures length { starts.new.length ≡ starts.old.length }
-    ensures room { length starts.new.starts + starts.new.room ≡ length starts.old.starts + starts.old.room }
-    ensures few { starts.old.room ≤ starts.new.room + 1 }
+    ensures capacity { set_capacity starts.new ≡ set_capacity starts.old }
     ensures sound { ArePartitions starts.new.starts starts.new.length }
 {
     set_is_sound(starts);
@@ -78,10 +91,10 @@ pub(crate) fn insert<P: Place>(starts: &mut Partitioning<P>, line: usize)
 /// Adds the lines from `first` up to `past` to the set. There must be room for all lines.
 pub(crate) fn insert_range<P: Place>(starts: &mut Partitioning<P>, first: usize, past: usize)
     requires range { past ≤ starts.old.length }
-    requires room { starts.old.length < length starts.old.starts + starts.old.room }
+    requires room { starts.old.length ≤ set_capacity starts.old }
     ensures lines { (k : ℕ) → holds starts.new.starts k ≡ (is_between first past k || holds starts.old.starts k) }
     ensures length { starts.new.length ≡ starts.old.length }
-    ensures room { length starts.new.starts + starts.new.room ≡ length starts.old.starts + starts.old.room }
+    ensures capacity { set_capacity starts.new ≡ set_capacity starts.old }
 {
     set_is_sound(starts);
     for line in first..past {
@@ -94,9 +107,7 @@ pub(crate) fn remove_range<P: Place>(starts: &mut Partitioning<P>, first: usize,
     requires range { past ≤ starts.old.length }
     ensures lines { (k : ℕ) → holds starts.new.starts k ≡ holds_outside starts.old.starts first past k }
     ensures length { starts.new.length ≡ starts.old.length }
-    ensures room { length starts.new.starts + starts.new.room ≡ length starts.old.starts + starts.old.room }
-    ensures more { starts.old.room ≤ starts.new.room }
-    ensures sound { ArePartitions starts.new.starts starts.new.length }
+    ensures capacity { set_capacity starts.new ≡ set_capacity starts.old }
 {
     set_is_sound(starts);
     if past <= first {
@@ -115,9 +126,7 @@ pub(crate) fn put_lines_in<P: Place>(starts: &mut Partitioning<P>, line: usize, 
     requires fits { starts.old.length + count ≤ P.GREATEST }
     ensures lines { (k : ℕ) → holds starts.new.starts k ≡ holds_with_fresh starts.old.starts line count k }
     ensures length { starts.new.length ≡ starts.old.length + count }
-    ensures room { length starts.new.starts + starts.new.room ≡ length starts.old.starts + starts.old.room }
-    ensures more { starts.old.room ≤ starts.new.room }
-    ensures sound { ArePartitions starts.new.starts starts.new.length }
+    ensures capacity { set_capacity starts.new ≡ set_capacity starts.old }
 {
     let index = lines_before(starts, line);
     starts.insert_text(index, count);
@@ -128,9 +137,7 @@ pub(crate) fn take_lines_out<P: Place>(starts: &mut Partitioning<P>, line: usize
     requires { line + count ≤ starts.old.length }
     ensures lines { (k : ℕ) → holds starts.new.starts k ≡ holds_without starts.old.starts line count k }
     ensures length { starts.new.length + count ≡ starts.old.length }
-    ensures room { length starts.new.starts + starts.new.room ≡ length starts.old.starts + starts.old.room }
-    ensures more { starts.old.room ≤ starts.new.room }
-    ensures sound { ArePartitions starts.new.starts starts.new.length }
+    ensures capacity { set_capacity starts.new ≡ set_capacity starts.old }
 {
     set_is_sound(starts);
     remove_range(starts, line, line + count);

@@ -82,5 +82,5 @@ is_changed text what sender old new views notes notes' h w made told = record {
   ids = refl;
   next = refl;
   view_capacity = refl;
-  fold_rooms = refl;
+  fold_capacities = refl;
 }

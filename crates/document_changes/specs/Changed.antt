@@ -14,7 +14,7 @@ use Rattle.id_table.specs.Entries.{Entries, id_of}
 use Rattle.notify.specs.Gathered.{Gathered}
 use Rattle.ed_view.specs.Kept.{KeptView}
 use Rattle.scene.specs.Telling.{with_notes}
-use Rattle.scene.specs.Scenes.{views_of, watchers, fold_room_in_all, IsWatched}
+use Rattle.scene.specs.Scenes.{views_of, watchers, KeepFoldCapacities, IsWatched}
 
 -- each indicator has a value for each byte of the text
 abbrev pub IndicatorsCoverText : Document → Type 0
@@ -55,7 +55,7 @@ pub record IsChanged (text : List ℕ) (what : DocumentChange) (sender : ℕ) (o
   pub ids : map id_of views'.entries ≡ map id_of views.entries
   pub next : views'.next ≡ views.next
   pub view_capacity : views'.capacity ≡ views.capacity
-  pub fold_rooms : map fold_room_in_all views'.entries ≡ map fold_room_in_all views.entries
+  pub fold_capacities : KeepFoldCapacities views views'
 
 -- The message with this text, from the view `sender`, made the change in the document, the views and the notes.
 abbrev pub Changes : List ℕ → DocumentChange → ℕ → Kept → Kept → Entries KeptView → Entries KeptView → Gathered → Gathered → Type 0

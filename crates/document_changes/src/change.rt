@@ -4,7 +4,7 @@ ghost use Rattle.std.specs.Prelude.{◌≡◌, ◌≤◌, map, length};
 ghost use Rattle.ed_model.specs.Changes.{changed_document};
 ghost use Rattle.id_table.specs.Entries.{id_of};
 ghost use Rattle.notify.specs.Gathered.{CanPut};
-ghost use Rattle.scene.specs.Scenes.{fold_room_in_all, IsWatched};
+ghost use Rattle.scene.specs.Scenes.{IsWatched, KeepFoldCapacities};
 ghost use Rattle.document_changes.specs.Changed.{Changes, FlagsFollow, NotesAreAppended};
 ghost use Rattle.document_changes.specs.Fit.{IsFitChange, bytes_read};
 ghost use Rattle.document_changes.specs.Needs.{IsReady, change_note_need};
@@ -113,7 +113,7 @@ pub fn change_document(
     ensures ids { map id_of views.new.entries ≡ map id_of views.old.entries }
     ensures next { views.new.next ≡ views.old.next }
     ensures view_capacity { views.new.capacity ≡ views.old.capacity }
-    ensures fold_rooms { map fold_room_in_all views.new.entries ≡ map fold_room_in_all views.old.entries }
+    ensures fold_capacities { KeepFoldCapacities views.old views.new }
     ensures room_left { LeavesRoom change document.old document.new }
 {
     perform(

@@ -6,9 +6,8 @@ use Rattle.ed_model.specs.Rows.{Flags}
 use Rattle.ed_model.specs.Folding.{is_visible}
 use Rattle.ed_model.specs.Requests.{Request, line_total}
 use Rattle.ed_model.specs.PlansFit.{IsFitViewChange}
-use Rattle.contraction.specs.ViewLines.{FoldRoom}
+use Rattle.contraction.specs.ViewLines.{FoldCapacity, contracted_lines}
 use Rattle.ed_view.specs.declared.folding.FoldNeed.{FoldNeed}
-use Rattle.ed_view.specs.Kept.{KeptView}
 
 -- whether it shows and hides no lines, and so requires nothing
 abbrev pub is_setting : ViewChange → Bool
@@ -32,28 +31,25 @@ IsWithin lines (Expand line) = line < lines
 IsWithin lines (EnsureVisible line) = line < lines
 IsWithin lines other = Unit {0}
 
--- how many lines in all may have to be hidden, and how many more contracted, if lines have these flags: expanding hides
+-- how many lines in all may have to be hidden, and how many in all contracted, if lines have these flags: expanding hides
 -- the children of contracted headers again, and a line that is visible stays as it is
 abbrev pub fold_need : List Flags → ViewChange → FoldNeed
 fold_need flags (HideLines first past) = record { hidden = length flags; contracted = 0 }
-fold_need flags (SetExpanded line on) = record { hidden = 0; contracted = if on then 0 else 1 }
-fold_need flags (Contract line) = record { hidden = length flags; contracted = 1 }
+fold_need flags (SetExpanded line on) = record { hidden = 0; contracted = if on then 0 else contracted_lines flags + 1 }
+fold_need flags (Contract line) = record { hidden = length flags; contracted = contracted_lines flags + 1 }
 fold_need flags (Expand line) = record { hidden = length flags; contracted = 0 }
 fold_need flags (EnsureVisible line) = record { hidden = if is_visible flags line then 0 else length flags; contracted = 0 }
 fold_need flags other = record { hidden = 0; contracted = 0 }
 
-abbrev pub HasFoldRoom : FoldRoom → FoldNeed → Type 0
-HasFoldRoom room need = (need.hidden ≤ room.hidden) × (need.contracted ≤ room.contracted)
+-- the capacity is at least what is needed
+abbrev pub HasFoldRoom : FoldCapacity → FoldNeed → Type 0
+HasFoldRoom capacity need = (need.hidden ≤ capacity.hidden) × (need.contracted ≤ capacity.contracted)
 
--- the room that is left after a change with this need
-abbrev pub LeavesFoldRoom : FoldRoom → FoldRoom → FoldNeed → Type 0
-LeavesFoldRoom old new need = (new.hidden ≡ old.hidden) × (old.contracted ≤ new.contracted + need.contracted)
+-- no capacity is given back
+abbrev pub KeepsCapacity : FoldCapacity → FoldCapacity → Type 0
+KeepsCapacity old new = (old.hidden ≤ new.hidden) × (old.contracted ≤ new.contracted)
 
--- the room that is left after this change of a view
-abbrev pub LeavesRoomAfter : ViewChange → KeptView → KeptView → Type 0
-LeavesRoomAfter change old new = LeavesFoldRoom old.room new.room (fold_need old.view.flags change)
-
--- room that is enough stays as it is
+-- capacity that is enough stays as it is
 abbrev pub StaysIfEnough : (need old new : ℕ) → Type 0
 StaysIfEnough need old new = need ≤ old → new ≡ old
 

@@ -2,3 +2,4 @@ pub mod Flags
 pub mod Kept
 pub mod Folding
 pub mod Moving
+pub mod proved

@@ -1,9 +1,8 @@
 //! The settings of a view, and the changes that messages plan for it.
 
 ghost use Rattle.std.specs.Prelude.{◌≡◌, true, ℕ, List, length};
-ghost use Rattle.ed_model.specs.Changes.{changed_view};
-ghost use Rattle.ed_view.specs.Kept.{contracted_in_all, fold_rooms, with_change, with_selection, with_target};
-ghost use Rattle.ed_view.specs.Folding.{is_setting, IsWithin, fold_need, HasFoldRoom, LeavesRoomAfter};
+ghost use Rattle.ed_view.specs.Kept.{with_change, with_selection, with_target};
+ghost use Rattle.ed_view.specs.Folding.{is_setting, IsWithin, fold_need, HasFoldRoom};
 
 use crate::view::{Target, View};
 use contraction::Levels;
@@ -88,8 +87,7 @@ impl View {
     /// Performs a planned change of a setting: it shows and hides no lines.
     pub fn set(&mut self, change: ViewChange)
         requires setting { is_setting change ≡ true }
-        ensures set { (levels : List ℕ) → self.new ≡ with_change levels change self.old }
-        ensures rooms { fold_rooms self.new ≡ fold_rooms self.old }
+        ensures { (levels : List ℕ) → self.new ≡ with_change levels change self.old }
     {
         match change {
             ViewChange::Select { anchor, caret } => self.select(Selection { anchor, caret }),
@@ -108,12 +106,8 @@ impl View {
     pub fn change(&mut self, levels: &Levels, change: ViewChange)
         requires levels { length levels.now ≡ length self.old.view.flags }
         requires within { IsWithin (length self.old.view.flags) change }
-        requires room { HasFoldRoom self.old.room (fold_need self.old.view.flags change) }
-        ensures view { self.new.view ≡ changed_view levels.now change self.old.view }
-        ensures spare { self.new.spare ≡ self.old.spare }
-        ensures rooms { fold_rooms self.new ≡ fold_rooms self.old }
-        ensures room_left { LeavesRoomAfter change self.old self.new }
-        ensures in_all { contracted_in_all self.new ≡ contracted_in_all self.old }
+        requires room { HasFoldRoom self.old.capacity (fold_need self.old.view.flags change) }
+        ensures { self.new ≡ with_change levels.now change self.old }
     {
         if is_setting(change) {
             return self.set(change);

@@ -3,21 +3,21 @@
 ghost use Rattle.std.specs.Prelude.{◌≡◌, ◌<◌, ◌≤◌, ◌+◌, ◌*◌, max, length, IsOk, OnOk};
 ghost use Rattle.ed_model.specs.declared.plan.ViewChange.TheVariants as change_to;
 ghost use Rattle.ed_model.specs.Folding.{is_visible, lines_shown, lines_hidden, with_expanded};
-ghost use Rattle.ed_model.specs.Changes.{changed_view};
-ghost use Rattle.ed_view.specs.Kept.{contracted_in_all, most_contracted_room};
-ghost use Rattle.ed_view.specs.Folding.{fold_need as need_of, HasFoldRoom, LeavesRoomAfter, StaysIfEnough};
+ghost use Rattle.contraction.specs.ViewLines.{HasRoomToHide};
+ghost use Rattle.ed_view.specs.Kept.{with_change};
+ghost use Rattle.ed_view.specs.Folding.{fold_need as need_of, HasFoldRoom, KeepsCapacity, StaysIfEnough};
 
 use crate::view::View;
 use contraction::Levels;
 use ed_model::ViewChange;
 use std::alloc::AllocError;
 
-/// The room that a change of a view needs.
+/// The capacity that a change of a view needs.
 #[derive(Clone, Copy, Debug, PartialEq, Eq)]
 pub struct FoldNeed {
     /// How many lines in all may be hidden.
     pub hidden: usize,
-    /// How many more lines may be contracted.
+    /// How many lines in all may be contracted.
     pub contracted: usize,
 }
 
@@ -29,7 +29,7 @@ impl View {
         line >= self.lines.count() || self.lines.visible(line)
     }
 
-    /// Returns the room that the change needs. To make a line visible that already is needs none.
+    /// Returns the capacity that the change needs. To make a line visible that already is needs none.
     pub fn fold_need(&self, change: ViewChange) -> FoldNeed
         ensures { result ≡ need_of self.now.view.flags change }
     {
@@ -37,11 +37,15 @@ impl View {
         match change {
             ViewChange::SetExpanded { on, .. } => FoldNeed {
                 hidden: 0,
-                contracted: if on { 0 } else { 1 },
+                contracted: if on {
+                    0
+                } else {
+                    self.lines.contracted_count() + 1
+                },
             },
             ViewChange::Contract { .. } => FoldNeed {
                 hidden: lines,
-                contracted: 1,
+                contracted: self.lines.contracted_count() + 1,
             },
             ViewChange::HideLines { .. } | ViewChange::Expand { .. } => FoldNeed {
                 hidden: lines,
@@ -58,21 +62,20 @@ impl View {
         }
     }
 
-    /// Makes room for lines to be hidden and contracted.
+    /// Makes room for lines to be hidden and contracted. Allocates nothing for those that fit.
     ///
     /// # Errors
     ///
-    /// `AllocError` if an allocation fails. The view is then unchanged, and has at least as much room as before.
+    /// `AllocError` if an allocation fails. The view is then unchanged, and its capacity is at least what it was.
     pub fn reserve_folding(&mut self, need: FoldNeed) -> Result<(), AllocError>
-        ensures same { self.new.view ≡ self.old.view }
-        ensures spare { self.new.spare ≡ self.old.spare }
-        ensures ok { OnOk result (HasFoldRoom self.new.room need) }
-        ensures room_is_there { HasFoldRoom self.old.room need → IsOk result × (self.new ≡ self.old) }
-        ensures room_stays { (self.old.room.hidden ≤ self.new.room.hidden) × (self.old.room.contracted ≤ self.new.room.contracted) }
-        ensures hidden_is_there { StaysIfEnough need.hidden self.old.room.hidden self.new.room.hidden }
-        ensures contracted_is_there { StaysIfEnough need.contracted self.old.room.contracted self.new.room.contracted }
-        ensures at_most_hidden { self.new.room.hidden ≤ max need.hidden (2 * self.old.room.hidden + 1) }
-        ensures at_most_contracted { self.new.room.contracted ≤ most_contracted_room self.old need.contracted }
+        ensures rest { self.new ≡ record self.old { capacity = self.new.capacity } }
+        ensures ok { OnOk result (HasFoldRoom self.new.capacity need) }
+        ensures room_is_there { HasFoldRoom self.old.capacity need → IsOk result × (self.new ≡ self.old) }
+        ensures capacity { KeepsCapacity self.old.capacity self.new.capacity }
+        ensures hidden_is_there { StaysIfEnough need.hidden self.old.capacity.hidden self.new.capacity.hidden }
+        ensures contracted_is_there { StaysIfEnough need.contracted self.old.capacity.contracted self.new.capacity.contracted }
+        ensures at_most_hidden { self.new.capacity.hidden ≤ max need.hidden (2 * self.old.capacity.hidden + 1) }
+        ensures at_most_contracted { self.new.capacity.contracted ≤ max need.contracted (2 * self.old.capacity.contracted + 1) }
     {
         let Ok(()) = self.lines.reserve_hidden(need.hidden) else {
             return Err(AllocError);
@@ -86,9 +89,7 @@ impl View {
     /// Shows the lines from `first` up to `past`, counted from 0 (`SCI_SHOWLINES`). Needs no room.
     pub(crate) fn show(&mut self, first: usize, past: usize)
         requires within { past ≤ length self.old.view.flags }
-        ensures view { self.new.view ≡ record self.old.view { flags = lines_shown first past self.old.view.flags } }
-        ensures room { self.new.room ≡ self.old.room }
-        ensures spare { self.new.spare ≡ self.old.spare }
+        ensures { self.new ≡ record self.old { view = record self.old.view { flags = lines_shown first past self.old.view.flags } } }
     {
         self.lines.show(first, past);
     }
@@ -97,10 +98,8 @@ impl View {
     /// to be hidden.
     pub(crate) fn hide(&mut self, first: usize, past: usize)
         requires within { past ≤ length self.old.view.flags }
-        requires room { length self.old.view.flags ≤ self.old.room.hidden }
-        ensures view { self.new.view ≡ record self.old.view { flags = lines_hidden first past self.old.view.flags } }
-        ensures room { self.new.room ≡ self.old.room }
-        ensures spare { self.new.spare ≡ self.old.spare }
+        requires room { HasRoomToHide self.old.view.flags self.old.capacity }
+        ensures { self.new ≡ record self.old { view = record self.old.view { flags = lines_hidden first past self.old.view.flags } } }
     {
         self.lines.hide(first, past);
     }
@@ -109,11 +108,8 @@ impl View {
     /// for one more contracted line.
     pub(crate) fn set_expanded(&mut self, line: usize, on: bool)
         requires within { line < length self.old.view.flags }
-        requires room { HasFoldRoom self.old.room (need_of self.old.view.flags (change_to.SetExpanded line on)) }
-        ensures view { self.new.view ≡ record self.old.view { flags = with_expanded line on self.old.view.flags } }
-        ensures spare { self.new.spare ≡ self.old.spare }
-        ensures room_left { LeavesRoomAfter (change_to.SetExpanded line on) self.old self.new }
-        ensures in_all { contracted_in_all self.new ≡ contracted_in_all self.old }
+        requires room { HasFoldRoom self.old.capacity (need_of self.old.view.flags (change_to.SetExpanded line on)) }
+        ensures { self.new ≡ record self.old { view = record self.old.view { flags = with_expanded line on self.old.view.flags } } }
     {
         self.lines.set_expanded(line, on);
     }
@@ -123,11 +119,8 @@ impl View {
     pub(crate) fn contract(&mut self, levels: &Levels, header: usize)
         requires levels { length levels.now ≡ length self.old.view.flags }
         requires within { header < length self.old.view.flags }
-        requires room { HasFoldRoom self.old.room (need_of self.old.view.flags (change_to.Contract header)) }
-        ensures view { self.new.view ≡ changed_view levels.now (change_to.Contract header) self.old.view }
-        ensures spare { self.new.spare ≡ self.old.spare }
-        ensures room_left { LeavesRoomAfter (change_to.Contract header) self.old self.new }
-        ensures in_all { contracted_in_all self.new ≡ contracted_in_all self.old }
+        requires room { HasFoldRoom self.old.capacity (need_of self.old.view.flags (change_to.Contract header)) }
+        ensures { self.new ≡ with_change levels.now (change_to.Contract header) self.old }
     {
         self.lines.contract(levels, header);
     }
@@ -137,11 +130,8 @@ impl View {
     pub(crate) fn expand(&mut self, levels: &Levels, header: usize)
         requires levels { length levels.now ≡ length self.old.view.flags }
         requires within { header < length self.old.view.flags }
-        requires room { length self.old.view.flags ≤ self.old.room.hidden }
-        ensures view { self.new.view ≡ changed_view levels.now (change_to.Expand header) self.old.view }
-        ensures spare { self.new.spare ≡ self.old.spare }
-        ensures room_left { LeavesRoomAfter (change_to.Expand header) self.old self.new }
-        ensures in_all { contracted_in_all self.new ≡ contracted_in_all self.old }
+        requires room { HasRoomToHide self.old.view.flags self.old.capacity }
+        ensures { self.new ≡ with_change levels.now (change_to.Expand header) self.old }
     {
         self.lines.expand(levels, header);
     }
@@ -151,11 +141,8 @@ impl View {
     pub(crate) fn ensure_visible(&mut self, levels: &Levels, line: usize)
         requires levels { length levels.now ≡ length self.old.view.flags }
         requires within { line < length self.old.view.flags }
-        requires room { HasFoldRoom self.old.room (need_of self.old.view.flags (change_to.EnsureVisible line)) }
-        ensures view { self.new.view ≡ changed_view levels.now (change_to.EnsureVisible line) self.old.view }
-        ensures spare { self.new.spare ≡ self.old.spare }
-        ensures room_left { LeavesRoomAfter (change_to.EnsureVisible line) self.old self.new }
-        ensures in_all { contracted_in_all self.new ≡ contracted_in_all self.old }
+        requires room { HasFoldRoom self.old.capacity (need_of self.old.view.flags (change_to.EnsureVisible line)) }
+        ensures { self.new ≡ with_change levels.now (change_to.EnsureVisible line) self.old }
     {
         if self.shows(line) {
             return;

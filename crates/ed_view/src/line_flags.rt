@@ -1,12 +1,13 @@
 //! The flags of a view's lines, in the width of its document.
 
-ghost use Rattle.std.specs.Prelude.{◌≡◌, ◌<◌, ◌≤◌, ◌+◌, ◌*◌, if◌then◌else◌, false, length, max, replicate, IfOk, OnErr, OnOk, IsOk};
+ghost use Rattle.std.specs.Prelude.{◌≡◌, ◌<◌, ◌≤◌, ◌+◌, ◌*◌, ◌^◌, false, length, max, replicate, IfOk, OnErr, OnOk, IsOk};
 ghost use Rattle.ed_model.specs.DisplayLines.{all_visible, display_line, line_shown};
 ghost use Rattle.ed_model.specs.Folding.{is_expanded, is_visible, lines_hidden, lines_shown, with_expanded};
 ghost use Rattle.ed_model.specs.Folding.{contracted as contracted_at, expanded as expanded_at, revealed};
 ghost use Rattle.ed_model.specs.Rows.{flags_together, fresh_flags};
 ghost use Rattle.line_index.specs.Edits.{after_edits, FitLines, fresh_lines};
-ghost use Rattle.ed_view.specs.Flags.{contracted_in_all, most_contracted_room, rooms_in_all, with_contracted_room, with_hidden_room, AreFewLines};
+ghost use Rattle.contraction.specs.ViewLines.{contracted_lines, fold_capacity, HasRoomToContract, HasRoomToHide};
+ghost use Rattle.ed_view.specs.Flags.{capacities_of, AreFewLines};
 
 use contraction::{Contraction, Levels};
 use line_index::LineEdit;
@@ -45,7 +46,7 @@ impl LineFlags {
         requires { AreFewLines is_large lines }
         ensures flags { IfOk result (λ l. l.flags ≡ replicate lines fresh_flags) }
         ensures large { IfOk result (λ l. l.large ≡ is_large) }
-        ensures room { IfOk result (λ l. (l.room ≡ record { hidden = 0; contracted = 0 }) × (l.spare ≡ l.room)) }
+        ensures capacity { IfOk result (λ l. (l.capacity ≡ fold_capacity 0 0) × (l.other_capacity ≡ fold_capacity 0 0)) }
     {
         let small = Contraction::new(alloc, if is_large { 1 } else { lines })?;
         let large = Contraction::new(alloc, if is_large { lines } else { 1 })?;
@@ -65,6 +66,18 @@ impl LineFlags {
             self.large.count()
         } else {
             self.small.count()
+        }
+    }
+
+    /// Returns how many lines are contracted, in constant time.
+    pub(crate) fn contracted_count(&self) -> usize
+        ensures count { result ≡ contracted_lines self.now.flags }
+        ensures within { contracted_lines self.now.flags < 2 ^ 63 }
+    {
+        if self.is_large {
+            self.large.contracted_count()
+        } else {
+            self.small.contracted_count()
         }
     }
 
@@ -127,17 +140,17 @@ impl LineFlags {
         }
     }
 
-    /// Makes room for `lines` hidden lines in all.
+    /// Makes room for `lines` hidden lines in all. Allocates nothing if they fit.
     ///
     /// # Errors
     ///
     /// `AllocError` if the allocation fails. Nothing has changed then.
     pub(crate) fn reserve_hidden(&mut self, lines: usize) -> Result<(), AllocError>
-        ensures ok { OnOk result (lines ≤ self.new.room.hidden) }
-        ensures same { self.new ≡ with_hidden_room self.new.room.hidden self.old }
-        ensures room_is_there { lines ≤ self.old.room.hidden → IsOk result × (self.new ≡ self.old) }
-        ensures room_stays { self.old.room.hidden ≤ self.new.room.hidden }
-        ensures at_most { OnOk result (self.new.room.hidden ≤ max lines (2 * self.old.room.hidden + 1)) }
+        ensures rest { self.new ≡ record self.old { capacity = record self.old.capacity { hidden = self.new.capacity.hidden } } }
+        ensures ok { OnOk result (lines ≤ self.new.capacity.hidden) }
+        ensures room_is_there { lines ≤ self.old.capacity.hidden → IsOk result × (self.new ≡ self.old) }
+        ensures capacity { self.old.capacity.hidden ≤ self.new.capacity.hidden }
+        ensures at_most { self.new.capacity.hidden ≤ max lines (2 * self.old.capacity.hidden + 1) }
         ensures err { OnErr result (self.new ≡ self.old) }
     {
         if self.is_large {
@@ -147,23 +160,23 @@ impl LineFlags {
         }
     }
 
-    /// Makes room for `count` more contracted lines.
+    /// Makes room for `lines` contracted lines in all. Allocates nothing if they fit.
     ///
     /// # Errors
     ///
     /// `AllocError` if the allocation fails. Nothing has changed then.
-    pub(crate) fn reserve_contracted(&mut self, count: usize) -> Result<(), AllocError>
-        ensures ok { OnOk result (count ≤ self.new.room.contracted) }
-        ensures same { self.new ≡ with_contracted_room self.new.room.contracted self.old }
-        ensures room_is_there { count ≤ self.old.room.contracted → IsOk result × (self.new ≡ self.old) }
-        ensures room_stays { self.old.room.contracted ≤ self.new.room.contracted }
-        ensures at_most { OnOk result (self.new.room.contracted ≤ most_contracted_room self.old count) }
+    pub(crate) fn reserve_contracted(&mut self, lines: usize) -> Result<(), AllocError>
+        ensures rest { self.new ≡ record self.old { capacity = record self.old.capacity { contracted = self.new.capacity.contracted } } }
+        ensures ok { OnOk result (lines ≤ self.new.capacity.contracted) }
+        ensures room_is_there { lines ≤ self.old.capacity.contracted → IsOk result × (self.new ≡ self.old) }
+        ensures capacity { self.old.capacity.contracted ≤ self.new.capacity.contracted }
+        ensures at_most { self.new.capacity.contracted ≤ max lines (2 * self.old.capacity.contracted + 1) }
         ensures err { OnErr result (self.new ≡ self.old) }
     {
         if self.is_large {
-            self.large.reserve_contracted(count)
+            self.large.reserve_contracted(lines)
         } else {
-            self.small.reserve_contracted(count)
+            self.small.reserve_contracted(lines)
         }
     }
 
@@ -183,7 +196,7 @@ impl LineFlags {
     /// to be hidden.
     pub(crate) fn hide(&mut self, first: usize, past: usize)
         requires within { past ≤ length self.old.flags }
-        requires room { length self.old.flags ≤ self.old.room.hidden }
+        requires room { HasRoomToHide self.old.flags self.old.capacity }
         ensures { self.new ≡ record self.old { flags = lines_hidden first past self.old.flags } }
     {
         if self.is_large {
@@ -197,12 +210,8 @@ impl LineFlags {
     /// for one more contracted line.
     pub(crate) fn set_expanded(&mut self, line: usize, on: bool)
         requires line { line < length self.old.flags }
-        requires room { on ≡ false → 0 < self.old.room.contracted }
-        ensures flags { self.new.flags ≡ with_expanded line on self.old.flags }
-        ensures hidden { self.new.room.hidden ≡ self.old.room.hidden }
-        ensures contracted { self.old.room.contracted ≤ self.new.room.contracted + (if on then 0 else 1) }
-        ensures in_all { contracted_in_all self.new ≡ contracted_in_all self.old }
-        ensures others { (self.new.large ≡ self.old.large) × (self.new.spare ≡ self.old.spare) }
+        requires room { on ≡ false → HasRoomToContract 1 self.old.flags self.old.capacity }
+        ensures { self.new ≡ record self.old { flags = with_expanded line on self.old.flags } }
     {
         if self.is_large {
             self.large.set_expanded(line, on)
@@ -216,12 +225,8 @@ impl LineFlags {
     pub(crate) fn contract(&mut self, levels: &Levels, header: usize)
         requires lines { length levels.now ≡ length self.old.flags }
         requires header { header < length self.old.flags }
-        requires room { (length self.old.flags ≤ self.old.room.hidden) × (0 < self.old.room.contracted) }
-        ensures flags { self.new.flags ≡ contracted_at levels.now header self.old.flags }
-        ensures hidden { self.new.room.hidden ≡ self.old.room.hidden }
-        ensures contracted { self.old.room.contracted ≤ self.new.room.contracted + 1 }
-        ensures in_all { contracted_in_all self.new ≡ contracted_in_all self.old }
-        ensures others { (self.new.large ≡ self.old.large) × (self.new.spare ≡ self.old.spare) }
+        requires room { HasRoomToHide self.old.flags self.old.capacity × HasRoomToContract 1 self.old.flags self.old.capacity }
+        ensures { self.new ≡ record self.old { flags = contracted_at levels.now header self.old.flags } }
     {
         if self.is_large {
             self.large.contract(levels, header)
@@ -235,12 +240,8 @@ impl LineFlags {
     pub(crate) fn expand(&mut self, levels: &Levels, header: usize)
         requires lines { length levels.now ≡ length self.old.flags }
         requires header { header < length self.old.flags }
-        requires room { length self.old.flags ≤ self.old.room.hidden }
-        ensures flags { self.new.flags ≡ expanded_at levels.now header self.old.flags }
-        ensures hidden { self.new.room.hidden ≡ self.old.room.hidden }
-        ensures contracted { self.old.room.contracted ≤ self.new.room.contracted }
-        ensures in_all { contracted_in_all self.new ≡ contracted_in_all self.old }
-        ensures others { (self.new.large ≡ self.old.large) × (self.new.spare ≡ self.old.spare) }
+        requires room { HasRoomToHide self.old.flags self.old.capacity }
+        ensures { self.new ≡ record self.old { flags = expanded_at levels.now header self.old.flags } }
     {
         if self.is_large {
             self.large.expand(levels, header)
@@ -254,12 +255,8 @@ impl LineFlags {
     pub(crate) fn ensure(&mut self, levels: &Levels, line: usize)
         requires lines { length levels.now ≡ length self.old.flags }
         requires line { line < length self.old.flags }
-        requires room { length self.old.flags ≤ self.old.room.hidden }
-        ensures flags { self.new.flags ≡ revealed levels.now line self.old.flags }
-        ensures hidden { self.new.room.hidden ≡ self.old.room.hidden }
-        ensures contracted { self.old.room.contracted ≤ self.new.room.contracted }
-        ensures in_all { contracted_in_all self.new ≡ contracted_in_all self.old }
-        ensures others { (self.new.large ≡ self.old.large) × (self.new.spare ≡ self.old.spare) }
+        requires room { HasRoomToHide self.old.flags self.old.capacity }
+        ensures { self.new ≡ record self.old { flags = revealed levels.now line self.old.flags } }
     {
         if self.is_large {
             self.large.ensure(levels, line)
@@ -272,11 +269,7 @@ impl LineFlags {
     pub(crate) fn carry(&mut self, edits: &[LineEdit])
         requires fit { FitLines (length self.old.flags) edits.now }
         requires few { AreFewLines self.old.large (length self.old.flags + fresh_lines edits.now) }
-        ensures flags { self.new.flags ≡ after_edits flags_together edits.now self.old.flags }
-        ensures hidden { self.new.room.hidden ≡ self.old.room.hidden }
-        ensures contracted { self.old.room.contracted ≤ self.new.room.contracted }
-        ensures in_all { contracted_in_all self.new ≡ contracted_in_all self.old }
-        ensures others { (self.new.large ≡ self.old.large) × (self.new.spare ≡ self.old.spare) }
+        ensures { self.new ≡ record self.old { flags = after_edits flags_together edits.now self.old.flags } }
     {
         if self.is_large {
             self.large.carry(edits)
@@ -293,7 +286,7 @@ impl LineFlags {
         requires few { AreFewLines self.old.large (length self.old.flags + 1) }
         ensures flags { self.new.flags ≡ replicate lines fresh_flags }
         ensures large { self.new.large ≡ is_large }
-        ensures rooms { rooms_in_all self.new ≡ rooms_in_all self.old }
+        ensures capacities { capacities_of self.new ≡ capacities_of self.old }
     {
         self.carry(&[LineEdit::Restart]);
         // Each of the two has one line now.

@@ -4,7 +4,7 @@ ghost use Rattle.std.specs.Prelude.{◌≡◌, ◌<◌, ◌≤◌, ◌+◌, ◌^
 ghost use Rattle.line_index.specs.Edits.{FitLines, fresh_lines};
 ghost use Rattle.selection.specs.Positions.{count_of};
 ghost use Rattle.ed_view.specs.Flags.{AreFewLines};
-ghost use Rattle.ed_view.specs.Kept.{contracted_in_all, fold_rooms, HasFewLines};
+ghost use Rattle.ed_view.specs.Kept.{capacities, HasFewLines};
 ghost use Rattle.ed_view.specs.Moving.{IsAttached, view_moved, with_edited_lines};
 
 use crate::view::{Target, View};
@@ -17,12 +17,7 @@ impl View {
     pub(crate) fn carry_lines(&mut self, edits: &[LineEdit])
         requires lines { FitLines (length self.old.view.flags) edits.now }
         requires few { AreFewLines self.old.view.large (length self.old.view.flags + fresh_lines edits.now) }
-        ensures view { self.new.view ≡ with_edited_lines edits.now self.old.view }
-        ensures hidden { self.new.room.hidden ≡ self.old.room.hidden }
-        ensures contracted { self.old.room.contracted ≤ self.new.room.contracted }
-        ensures in_all { contracted_in_all self.new ≡ contracted_in_all self.old }
-        ensures spare { self.new.spare ≡ self.old.spare }
-        ensures rooms { fold_rooms self.new ≡ fold_rooms self.old }
+        ensures { self.new ≡ record self.old { view = with_edited_lines edits.now self.old.view } }
     {
         self.lines.carry(edits);
     }
@@ -36,12 +31,7 @@ impl View {
         requires target_end { self.old.view.target_end + count_of movement < 2 ^ 64 }
         requires lines { FitLines (length self.old.view.flags) edits.now }
         requires few { AreFewLines self.old.view.large (length self.old.view.flags + fresh_lines edits.now) }
-        ensures view { self.new.view ≡ view_moved movement edits.now self.old.view }
-        ensures hidden { self.new.room.hidden ≡ self.old.room.hidden }
-        ensures contracted { self.old.room.contracted ≤ self.new.room.contracted }
-        ensures in_all { contracted_in_all self.new ≡ contracted_in_all self.old }
-        ensures spare { self.new.spare ≡ self.old.spare }
-        ensures rooms { fold_rooms self.new ≡ fold_rooms self.old }
+        ensures { self.new ≡ record self.old { view = view_moved movement edits.now self.old.view } }
     {
         self.selection.moved(movement);
         self.target = Target {
@@ -61,7 +51,7 @@ impl View {
         ensures view { IsAttached document lines is_large self.old.view self.new.view }
         ensures lines { length self.new.view.flags ≡ lines }
         ensures width { self.new.view.large ≡ is_large }
-        ensures rooms { fold_rooms self.new ≡ fold_rooms self.old }
+        ensures capacities { capacities self.new ≡ capacities self.old }
     {
         self.document = document;
         self.selection = Selection::at(0);

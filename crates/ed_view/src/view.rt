@@ -1,6 +1,7 @@
 //! `View`: how it is made and read.
 
 ghost use Rattle.std.specs.Prelude.{◌≡◌, ◌<◌, length, IfOk};
+ghost use Rattle.contraction.specs.ViewLines.{fold_capacity};
 ghost use Rattle.ed_view.specs.Flags.{AreFewLines};
 ghost use Rattle.ed_view.specs.Kept.{IsNewView};
 
@@ -57,8 +58,8 @@ impl Model for View {
         large = v.lines.large;
         flags = v.lines.flags;
       };
-      room = v.lines.room;
-      spare = v.lines.spare;
+      capacity = v.lines.capacity;
+      other_capacity = v.lines.other_capacity;
     } };
 }
 
@@ -80,7 +81,7 @@ impl View {
         requires few { AreFewLines is_large lines }
         ensures view { IfOk result (λ v. IsNewView id document lines is_large v.view) }
         ensures lines { IfOk result (λ v. (length v.view.flags ≡ lines) × (v.view.large ≡ is_large)) }
-        ensures room { IfOk result (λ v. (v.room ≡ record { hidden = 0; contracted = 0 }) × (v.spare ≡ v.room)) }
+        ensures capacity { IfOk result (λ v. (v.capacity ≡ fold_capacity 0 0) × (v.other_capacity ≡ fold_capacity 0 0)) }
     {
         let lines = LineFlags::new(alloc, lines, is_large)?;
         Ok(View {
@@ -173,8 +174,8 @@ impl View {
     pub fn lines(&self) -> &LineFlags
         ensures flags { result.now.flags ≡ self.now.view.flags }
         ensures large { result.now.large ≡ self.now.view.large }
-        ensures room { result.now.room ≡ self.now.room }
-        ensures spare { result.now.spare ≡ self.now.spare }
+        ensures capacity { result.now.capacity ≡ self.now.capacity }
+        ensures other_capacity { result.now.other_capacity ≡ self.now.other_capacity }
     {
         &self.lines
     }

@@ -23,7 +23,7 @@ unrecorded_plan s document view m kind r what found planned own unheard fit = re
 
 -- Changes of a view.
 
-pub no_fold_room : (what : ViewChange) (v : KeptView) → takes_fold_room what ≡ false → HasFoldRoom v.room (fold_need v.view.flags what)
+pub no_fold_room : (what : ViewChange) (v : KeptView) → takes_fold_room what ≡ false → HasFoldRoom v.capacity (fold_need v.view.flags what)
 no_fold_room (change.HideLines first past) v h = absurd (cc)
 no_fold_room (change.SetExpanded line false) v h = absurd (cc)
 no_fold_room (change.Contract line) v h = absurd (cc)
@@ -32,11 +32,11 @@ no_fold_room (change.EnsureVisible line) v h = absurd (cc)
 no_fold_room _ v h = (omega arith, omega arith)
 
 -- the room to fold is there where none is needed
-has_fold_room : (v : KeptView) (what : ViewChange) → needs_no_fold_room v.view.flags what ≡ true → HasFoldRoom v.room (fold_need v.view.flags what)
+has_fold_room : (v : KeptView) (what : ViewChange) → needs_no_fold_room v.view.flags what ≡ true → HasFoldRoom v.capacity (fold_need v.view.flags what)
 has_fold_room v (change.EnsureVisible line) h = rw h (omega arith, omega arith)
 has_fold_room v other h = no_fold_room other v (not-true (takes_fold_room other) h)
 
-of_any : (o : Option KeptView) (what : ViewChange) → IsSome o → takes_fold_room what ≡ false → IsSomeAnd o (λ v. HasFoldRoom v.room (fold_need v.view.flags what))
+of_any : (o : Option KeptView) (what : ViewChange) → IsSome o → takes_fold_room what ≡ false → IsSomeAnd o (λ v. HasFoldRoom v.capacity (fold_need v.view.flags what))
 of_any None what e h = absurd (cc)
 of_any (Some v) what e h = no_fold_room what v h
 
@@ -59,7 +59,7 @@ module _ (s : SessionState) (kept : IsKept s) (document view : ℕ) (what : View
   -- a message that needs no memory: the room is there
   pub view_free : (P : Type 0) → (HasFoldRoomAt s.views.entries view what → P) → (value : ℤ) (bytes : List ℕ) → IfFree (session_in s) document view bytes (plan.ChangeView what value) P
   view_free P h value bytes = λ m is_recorded t text_is free.
-      h (for_view kept (asked_by t) (λ v. HasFoldRoom v.room (fold_need v.view.flags what))
+      h (for_view kept (asked_by t) (λ v. HasFoldRoom v.capacity (fold_need v.view.flags what))
       (λ v is. has_fold_room v what (subst (λ (x : View). needs_no_fold_room x.flags what ≡ true) (sym is) (free_plan t free).0)))
 
 module _ (s : SessionState) (kept : IsKept s) (document view : ℕ) where

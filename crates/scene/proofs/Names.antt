@@ -34,7 +34,7 @@ pub use Rattle.ed_types.specs.Heard.{with_text}
 pub use Rattle.ed_types.specs.Notices.{Notice}
 pub use Rattle.ed_types.specs.declared.reply.Note.{Note}
 pub use Rattle.ed_view.specs.Flags.{AreFewLines}
-pub use Rattle.ed_view.specs.Kept.{KeptView, fold_rooms, view_in}
+pub use Rattle.ed_view.specs.Kept.{KeptView, capacities, view_in}
 pub use Rattle.ed_view.specs.Moving.{view_moved, step_edits, MovesAreThoseOfSteps, StepsFitViews}
 pub use Rattle.id_table.specs.Entries.{Entry, Entries, entry, id_of, value_at, value_of, with_value_at}
 pub use Rattle.line_ends.specs.Conversion.{completed, IsNextMissing, IsNextUnwanted, missing_in, unwanted_in}
@@ -49,7 +49,7 @@ pub use Rattle.scene.specs.Conversion.{both_rooms, capped_room, deletions_of, ro
 pub use Rattle.scene.specs.Following.{with_followed, followed_at, CanFollow, CanFollowInTurn}
 pub use Rattle.scene.specs.Hearing.{hearers, before_kind, after_kind, audience_of, with_note_text, masks_from, masks_of, step_kinds, user_bits, bytes_shared, belongs, left_note, made_kinds}
 pub use Rattle.scene.specs.Needs.{note_room, leaving_count, notes_of_step, bytes_of_step, notes_of_steps, bytes_of_steps, user_kinds, notes_needed, bytes_needed, notes_for, held_behind, held_after, held_after_edit, CanHoldSteps, CanHoldEdit, NeedsAreEnough}
-pub use Rattle.scene.specs.Scenes.{views_of, fold_room_in_all, AreNamed, scene_in, watchers, IsWatched, StandsIfOn}
+pub use Rattle.scene.specs.Scenes.{views_of, capacities_at, AreNamed, KeepFoldCapacities, scene_in, watchers, IsWatched, StandsIfOn}
 pub use Rattle.scene.specs.StepNotes.{IsSmallStep, CanTellMade, place_in, count_in, text_before}
 pub use Rattle.scene.specs.Telling.{with_notes, CanHold}
 pub use Rattle.scene.specs.Turns.{ChangeFits, several_bits, CanPerform, IsPerformed, bits_behind, CanTellAfter, IsToldBefore, turn_of}

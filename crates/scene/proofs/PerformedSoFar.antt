@@ -1,5 +1,5 @@
 -- The changes of undo or redo that were performed, and those that are still to be performed.
-use Rattle.scene.proofs.Names.{◌≡◌, ℕ, ◌+◌, ◌-◌, ◌<◌, ◌≤◌, Bool, true, false, List, [], ◌∷◌, map, length, drop, get_or, refl, ap, sym, ◌∙◌, subst, arith, inl, inr, ◌==◌, ◌&&◌, ◌||◌, bit_and, not, nat_lt, slice_get, Some, length-drop, and_parts, eq-eqb, ne_eqb, eqb-true, or_cases, slice_get-get_or, bit_if, multi_step, told, blank, save_point_reached, save_point_left, CellsFollowBytes, Change, TextStep, ContainerStep, Document, View, text_of, watching, AreStepsOf, text_steps, Scene, is_last, change_performed, changes_performed, save_point_change, Entries, id_of, Gathered, NoteCapacity, CanPut, is_full, KeptView, Direction, DocumentRoom, Kept, ChangeRoom, HasTextRoom, TakesRoom, IsAtMost, no_room, with_freed, marker_room_in_all, changes_of, room_of_change, save_point_told, scene_in, watchers, fold_room_in_all, IsWatched, hearers, masks_of, bits_of, every_kind, notes_of_changes, notes_of_change, bytes_of_changes, free_behind, freed_by, fill_behind, fill_behind_all, SpareLeft, room_of_changes, rooms_beside, save_point_notes, several_bits, CanPerform, IsPerformed}
+use Rattle.scene.proofs.Names.{◌≡◌, ℕ, ◌+◌, ◌-◌, ◌<◌, ◌≤◌, Bool, true, false, List, [], ◌∷◌, map, length, drop, get_or, refl, ap, sym, ◌∙◌, subst, arith, inl, inr, ◌==◌, ◌&&◌, ◌||◌, bit_and, not, nat_lt, slice_get, Some, length-drop, and_parts, eq-eqb, ne_eqb, eqb-true, or_cases, slice_get-get_or, bit_if, multi_step, told, blank, save_point_reached, save_point_left, CellsFollowBytes, Change, TextStep, ContainerStep, Document, View, text_of, watching, AreStepsOf, text_steps, Scene, is_last, change_performed, changes_performed, save_point_change, Entries, id_of, Gathered, NoteCapacity, CanPut, is_full, KeptView, Direction, DocumentRoom, Kept, ChangeRoom, HasTextRoom, TakesRoom, IsAtMost, no_room, with_freed, marker_room_in_all, changes_of, room_of_change, save_point_told, scene_in, watchers, KeepFoldCapacities, IsWatched, hearers, masks_of, bits_of, every_kind, notes_of_changes, notes_of_change, bytes_of_changes, free_behind, freed_by, fill_behind, fill_behind_all, SpareLeft, room_of_changes, rooms_beside, save_point_notes, several_bits, CanPerform, IsPerformed}
 use Rattle.scene.specs.declared.performing.Turn.{Turn}
 use Rattle.scene.specs.Undoing.{freed_by_all}
 use Rattle.scene.specs.Performed.{CanPerformAll, AreAllPerformed}
@@ -54,7 +54,7 @@ pub record IsPerformedSoFar (direction : Direction) (rest : List Change) (change
   pub none_made : IsAtMost (with_freed (freed_by_all rest) now.room) (with_freed (freed_by_all (changes_of direction old.document.history)) old.room) no_room
   pub spare : SpareLeft (changes_of direction old.document.history) rest old.spare now.spare
   pub markers_in_all : marker_room_in_all now ≡ marker_room_in_all old
-  pub fold_rooms : map fold_room_in_all views'.entries ≡ map fold_room_in_all views.entries
+  pub fold_capacities : KeepFoldCapacities views views'
 
 pub performed_none : (direction : Direction) (old : Kept) (views : Entries KeptView) (gathered : Gathered) → CanPerformAll direction old views gathered
     → IsPerformedSoFar direction (changes_of direction old.document.history) false old views gathered old views gathered
@@ -76,7 +76,7 @@ performed_none direction old views gathered can = record {
   none_made = made_none (with_freed (freed_by_all (changes_of direction old.document.history)) old.room);
   spare = refl;
   markers_in_all = refl;
-  fold_rooms = refl;
+  fold_capacities = refl;
 }
 
 -- if it is known that no view hears any change, the changes need no notes
@@ -215,7 +215,7 @@ module _ (turn : Turn) (c : Change) (rest after : List Change) (changed : Bool) 
               (subst (λ cs. IsAtMost (with_freed (freed_by_all cs) now.room) (with_freed (freed_by_all all) old.room) no_room) e so.none_made) p.none_made;
           spare = spare_next all after c old.spare now.spare new.spare (subst (λ cs. SpareLeft all cs old.spare now.spare) e so.spare) p.spare;
           markers_in_all = p.markers_in_all ∙ so.markers_in_all;
-          fold_rooms = p.fold_rooms ∙ so.fold_rooms;
+          fold_capacities = p.fold_capacities ∙ so.fold_capacities;
         }
 
 pub performed_all : (direction : Direction) (rest : List Change) (changed : Bool) (old now : Kept) (views views' : Entries KeptView) (gathered gathered' : Gathered)
@@ -242,7 +242,7 @@ performed_all direction rest changed old now views views' gathered gathered' so 
           (subst (λ cs. IsAtMost (with_freed (freed_by_all cs) now.room) (with_freed (freed_by_all all) old.room) no_room) e so.none_made);
       spare = subst (λ cs. SpareLeft all cs old.spare now.spare) e so.spare;
       markers_in_all = so.markers_in_all;
-      fold_rooms = so.fold_rooms;
+      fold_capacities = so.fold_capacities;
     }
 
 -- The history after the changes, and the save point.

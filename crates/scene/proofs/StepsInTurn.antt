@@ -1,5 +1,5 @@
 -- Steps in turn, from the room that was reserved for all of them.
-use Rattle.scene.proofs.Names.{zero, suc, ◌≡◌, ℕ, ◌+◌, ◌<◌, ◌≤◌, Bool, true, false, List, [], ◌∷◌, ◌++◌, length, map, take, drop, refl, ap, sym, ◌∙◌, subst, arith, slice_range, None, length-take, length-drop, LineEnd, Step, Insert, Delete, edited, after_steps, conversion_steps, unwanted_from, TextStep, Document, text_of, Scene, step_made, steps_made, bytes_of_edited_cells, length_of_range, length_text, DocumentRoom, Kept, ChangeRoom, HasRoom, TakesRoom, no_room, AddsNoRoomBut, marker_room_in_all, bytes_out, need_of, Entries, KeptView, Gathered, IsNextMissing, IsNextUnwanted, completed, missing_in, unwanted_in, scene_in, fold_room_in_all, IsWatched, held_behind, next_held, appended_collects, deletion_needs, next_room, AreLeft, RoomsStay, both_rooms, changes_for, freed_by_all, deletions_of, room_of_step, room_of_steps, rooms_added}
+use Rattle.scene.proofs.Names.{zero, suc, ◌≡◌, ℕ, ◌+◌, ◌<◌, ◌≤◌, Bool, true, false, List, [], ◌∷◌, ◌++◌, length, map, take, drop, refl, ap, sym, ◌∙◌, subst, arith, slice_range, None, length-take, length-drop, LineEnd, Step, Insert, Delete, edited, after_steps, conversion_steps, unwanted_from, TextStep, Document, text_of, Scene, step_made, steps_made, bytes_of_edited_cells, length_of_range, length_text, DocumentRoom, Kept, ChangeRoom, HasRoom, TakesRoom, no_room, AddsNoRoomBut, marker_room_in_all, bytes_out, need_of, Entries, KeptView, Gathered, IsNextMissing, IsNextUnwanted, completed, missing_in, unwanted_in, scene_in, KeepFoldCapacities, IsWatched, held_behind, next_held, appended_collects, deletion_needs, next_room, AreLeft, RoomsStay, both_rooms, changes_for, freed_by_all, deletions_of, room_of_step, room_of_steps, rooms_added}
 use Rattle.std.proofs.lemmas.List.{length-append}
 use Rattle.document.specs.declared.text_step.TextStep.TheVariants as lent
 use Rattle.scene.proofs.PerformedSoFar.{made_next, spare_next}
@@ -17,7 +17,7 @@ pub record StepLeaves (s : Step) (k k' : Kept) (v v' : Entries KeptView) : Type 
   pub none_made : AddsNoRoomBut (bytes_out s) k k'
   pub spare : k'.spare ≡ record k.spare { markers = k'.spare.markers; fill = None }
   pub markers_in_all : marker_room_in_all k' ≡ marker_room_in_all k
-  pub fold_rooms : map fold_room_in_all v'.entries ≡ map fold_room_in_all v.entries
+  pub fold_capacities : KeepFoldCapacities v v'
   pub view_capacity : v'.capacity ≡ v.capacity
 
 -- room left before the first step, after one more of them, after some and then the rest, and after all
@@ -59,7 +59,7 @@ rooms_next s rest steps k0 k k' v0 v v' n0 n n' so p types takes same = record {
   none_made = made_next (TextStep s) (changes_for rest) (freed_by_all (changes_for steps)) k0.room k.room k'.room so.none_made p.none_made;
   spare = spare_next (changes_for steps) (changes_for rest) (TextStep s) k0.spare k.spare k'.spare so.spare p.spare;
   markers_in_all = p.markers_in_all ∙ so.markers_in_all;
-  fold_rooms = p.fold_rooms ∙ so.fold_rooms;
+  fold_capacities = p.fold_capacities ∙ so.fold_capacities;
   view_capacity = p.view_capacity ∙ so.view_capacity;
   capacity = same ∙ so.capacity;
 }
@@ -77,7 +77,7 @@ rooms_both rest steps k0 k k' v0 v v' n0 n n' so then =
       none_made = record { text = omega arith; lines = omega arith; insertions = omega arith; steps = omega arith; bytes = omega arith };
       spare = then.spare ∙ ap (λ (s : ChangeRoom). record s { markers = k'.spare.markers }) so.spare;
       markers_in_all = then.markers_in_all ∙ so.markers_in_all;
-      fold_rooms = then.fold_rooms ∙ so.fold_rooms;
+      fold_capacities = then.fold_capacities ∙ so.fold_capacities;
       view_capacity = then.view_capacity ∙ so.view_capacity;
       capacity = then.capacity ∙ so.capacity;
     }

@@ -16,7 +16,7 @@ use Rattle.document.specs.declared.room.DocumentRoom.{DocumentRoom}
 use Rattle.document.specs.declared.text_step.TextStep.{TextStep as Lent}
 use Rattle.document.specs.Kept.{Kept, document_room, no_room, with_freed, HasRoom, IsAtMost, TakesRoom, marker_room_in_all}
 use Rattle.scene.specs.declared.need.NoteRoom.{NoteRoom}
-use Rattle.scene.specs.Scenes.{scene_in, kept_scene, watchers, fold_room_in_all, IsWatched}
+use Rattle.scene.specs.Scenes.{scene_in, kept_scene, watchers, KeepFoldCapacities, IsWatched}
 use Rattle.scene.specs.Needs.{CanHoldSteps, CanHoldEdit, notes_for, bytes_needed, notes_for_step, bytes_for_step, notes_of_steps, bytes_of_steps}
 pub use Rattle.scene.specs.Undoing.{freed_by_all, fill_behind_all, SpareLeft, both_rooms, free_behind, capped, capped_room, capped_notes}
 
@@ -64,7 +64,7 @@ pub record RoomsStay (rest steps : List Step) (before after : Kept) (views views
   pub none_made : IsAtMost (with_freed (freed_by_all (changes_for rest)) after.room) (with_freed (freed_by_all (changes_for steps)) before.room) no_room
   pub spare : SpareLeft (changes_for steps) (changes_for rest) before.spare after.spare
   pub markers_in_all : marker_room_in_all after ≡ marker_room_in_all before
-  pub fold_rooms : map fold_room_in_all views'.entries ≡ map fold_room_in_all views.entries
+  pub fold_capacities : KeepFoldCapacities views views'
   pub view_capacity : views'.capacity ≡ views.capacity
   pub capacity : notes'.capacity ≡ notes.capacity
 

@@ -11,7 +11,7 @@ use Rattle.ed_view.specs.Kept.{KeptView}
 use Rattle.document.specs.declared.undoing.Direction.{Direction}
 use Rattle.document.specs.Kept.{Kept, HasTextRoom, TakesRoom, AddsNoRoomBut, marker_room_in_all}
 use Rattle.document.specs.Undoing.{changes_of, history_behind, save_point_told}
-use Rattle.scene.specs.Scenes.{scene_in, kept_scene, watchers, fold_room_in_all, IsWatched}
+use Rattle.scene.specs.Scenes.{scene_in, kept_scene, watchers, KeepFoldCapacities, IsWatched}
 use Rattle.scene.specs.Telling.{with_notes}
 use Rattle.scene.specs.Undoing.{bits_of, freed_by_all, fill_behind_all, bytes_of_changes, notes_of_history, room_of_changes, save_point_notes}
 
@@ -41,7 +41,7 @@ pub record AreAllPerformed (direction : Direction) (k : Kept) (views : Entries K
   pub none_made : AddsNoRoomBut (freed_by_all (changes_of direction k.document.history)) k k'
   pub spare : k'.spare ≡ record k.spare { markers = k'.spare.markers; fill = fill_behind_all k.spare.fill (changes_of direction k.document.history) }
   pub markers_in_all : marker_room_in_all k' ≡ marker_room_in_all k
-  pub fold_rooms : map fold_room_in_all views'.entries ≡ map fold_room_in_all views.entries
+  pub fold_capacities : KeepFoldCapacities views views'
 
 -- the changes are steps of the text that fit one after another
 abbrev pub HistoryFits : Direction → Kept → Type 0

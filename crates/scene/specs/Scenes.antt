@@ -1,12 +1,13 @@
 -- A scene as it is stored: a document, the views of the session by their ids, and the notes.
-use Rattle.std.specs.Prelude.{◌≡◌, ℕ, List, map}
+use Rattle.std.specs.Prelude.{◌≡◌, List, map}
 use Rattle.std.specs.List.{AllByRecursion}
 use Rattle.ed_types.specs.Notices.{Notice}
 use Rattle.ed_model.specs.Session.{Document, View, watching}
 use Rattle.ed_model.specs.Performing.{Scene}
 use Rattle.ed_model.specs.SoundLaws.{Rise, StandsOn, ListsItsViews}
 use Rattle.id_table.specs.Entries.{Entry, Entries, id_of}
-use Rattle.ed_view.specs.Kept.{KeptView, fold_rooms}
+use Rattle.ed_view.specs.Flags.{FoldCapacities}
+use Rattle.ed_view.specs.Kept.{KeptView, capacities}
 use Rattle.notify.specs.Gathered.{Gathered}
 use Rattle.document.specs.Kept.{Kept}
 
@@ -28,13 +29,13 @@ kept_scene k views gathered = scene_in k.document views.entries gathered.notes
 abbrev pub watchers : Document → Entries KeptView → List View
 watchers d table = watching (views_of table.entries) d
 
--- how many hidden lines the view has room for, and how many contracted ones in all, in both widths
-abbrev pub fold_room_in_all : Entry KeptView → (ℕ × ℕ) × (ℕ × ℕ)
-fold_room_in_all e = fold_rooms e.value
+-- the capacities of the view for hidden and contracted lines, with numbers of either width
+abbrev pub capacities_at : Entry KeptView → FoldCapacities
+capacities_at e = capacities e.value
 
--- each view keeps its room for hidden lines and, in all, for contracted lines
-abbrev pub KeepFoldRooms : Entries KeptView → Entries KeptView → Type 0
-KeepFoldRooms old new = map fold_room_in_all new.entries ≡ map fold_room_in_all old.entries
+-- each view keeps its capacity for hidden and contracted lines
+abbrev pub KeepFoldCapacities : Entries KeptView → Entries KeptView → Type 0
+KeepFoldCapacities old new = map capacities_at new.entries ≡ map capacities_at old.entries
 
 -- the ids of the views rise, and are below the next one
 abbrev pub IdsRise : Entries KeptView → Type 0

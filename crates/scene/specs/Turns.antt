@@ -17,7 +17,7 @@ use Rattle.document.specs.Kept.{Kept, HasTextRoom, TakesRoom, AddsNoRoomBut, mar
 use Rattle.document.specs.TextSteps.{step_in, IsStepOn}
 use Rattle.document.specs.Undoing.{changes_of, outline_of, room_of_change}
 use Rattle.scene.specs.declared.performing.Turn.{Turn}
-use Rattle.scene.specs.Scenes.{scene_in, watchers, fold_room_in_all, IsWatched}
+use Rattle.scene.specs.Scenes.{scene_in, watchers, KeepFoldCapacities, IsWatched}
 use Rattle.scene.specs.Undoing.{bits_of, freed_by, fill_behind, container_kinds, performed_kinds, notes_of_change, bytes_of_change}
 use Rattle.scene.specs.Hearing.{hearers}
 use Rattle.scene.specs.Telling.{with_notes}
@@ -85,7 +85,7 @@ pub record IsPerformed (turn : Turn) (lines_changed changed : Bool) (k : Kept) (
   pub none_made : AddsNoRoomBut (freed_by change) k k'
   pub spare : k'.spare ≡ record k.spare { markers = k'.spare.markers; fill = fill_behind k.spare.fill change }
   pub markers_in_all : marker_room_in_all k' ≡ marker_room_in_all k
-  pub fold_rooms : map fold_room_in_all views'.entries ≡ map fold_room_in_all views.entries
+  pub fold_capacities : KeepFoldCapacities views views'
 
 -- the views that hear the step are notified before it is made, and its bytes are shared if any view hears it, which `hears` says
 pub record IsToldBefore (who : ℕ) (views : List View) (hears : Bool) (old new : Gathered) (step : Step) : Type 0 where

@@ -5,7 +5,7 @@ ghost use Rattle.ed_model.specs.Session.{text_of};
 ghost use Rattle.document.specs.Kept.{AddsNoRoomBut, TakesRoom, marker_room_in_all};
 ghost use Rattle.document.specs.TextSteps.{IsStepOn, need_on};
 ghost use Rattle.line_ends.specs.Conversion.{completed};
-ghost use Rattle.scene.specs.Scenes.{AreNamed, IsWatched, KeepFoldRooms};
+ghost use Rattle.scene.specs.Scenes.{AreNamed, IsWatched, KeepFoldCapacities};
 ghost use Rattle.scene.specs.RoomLeft.{KeepsSpare};
 ghost use Rattle.scene.specs.Needs.{leaving_notes};
 ghost use Rattle.scene.specs.Conversion.{CanMakeEdit, CanMakeSteps, capped_room, room_of_many, ConversionIsMade, DeletionsAreLeft, DeletionsAreMade, DeletionsKeepRooms, IsConverted, IsFirstMissing, IsFirstUnwanted, NoneMissing, NoneUnwanted, conversion_fill, conversion_freed, conversion_of, conversion_room, deletions_in, has_steps, insertions_in, notes_for_all, notes_for_conversion, notes_for_many, room_for_all, room_for_conversion, unwanted_steps};
@@ -102,7 +102,7 @@ fn make_all(document: &mut Document, views: &mut IdTable<View>, notes: &mut Note
     ensures none_made { AddsNoRoomBut (conversion_freed to document.old) document.old document.new }
     ensures spare { KeepsSpare (conversion_fill to document.old) document.old document.new }
     ensures markers_in_all { marker_room_in_all document.new ≡ marker_room_in_all document.old }
-    ensures fold_rooms { KeepFoldRooms views.old views.new }
+    ensures fold_capacities { KeepFoldCapacities views.old views.new }
     ensures view_capacity { views.new.capacity ≡ views.old.capacity }
     ensures capacity { notes.new.capacity ≡ notes.old.capacity }
 {
@@ -151,7 +151,7 @@ pub fn convert(
     ensures none_made { AddsNoRoomBut (conversion_freed to document.old) document.old document.new }
     ensures spare { KeepsSpare (conversion_fill to document.old) document.old document.new }
     ensures markers_in_all { marker_room_in_all document.new ≡ marker_room_in_all document.old }
-    ensures fold_rooms { KeepFoldRooms views.old views.new }
+    ensures fold_capacities { KeepFoldCapacities views.old views.new }
     ensures view_capacity { views.new.capacity ≡ views.old.capacity }
     ensures capacity { notes.new.capacity ≡ notes.old.capacity }
 {

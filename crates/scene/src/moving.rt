@@ -3,7 +3,7 @@
 ghost use Rattle.std.specs.Prelude.{◌≡◌, map};
 ghost use Rattle.id_table.specs.Entries.{id_of};
 ghost use Rattle.line_index.specs.StepEdits.{SmallLines, edits_of};
-ghost use Rattle.scene.specs.Scenes.{AreNamed, IdsRise, KeepFoldRooms, views_in};
+ghost use Rattle.scene.specs.Scenes.{AreNamed, IdsRise, KeepFoldCapacities, views_in};
 ghost use Rattle.scene.specs.Following.{followed_at, CanFollowInTurn};
 
 use ed_view::View;
@@ -20,7 +20,7 @@ pub(crate) fn follow(ids: &[u32], views: &mut IdTable<View>, movement: Movement,
     ensures next { views.new.next ≡ views.old.next }
     ensures view_capacity { views.new.capacity ≡ views.old.capacity }
     ensures ids { map id_of views.new.entries ≡ map id_of views.old.entries }
-    ensures fold_rooms { IdsRise views.old → KeepFoldRooms views.old views.new }
+    ensures fold_capacities { IdsRise views.old → KeepFoldCapacities views.old views.new }
 {
     for id in ids {
         if let Some(view) = views.get_mut(*id) {
@@ -41,7 +41,7 @@ fn follow_edits(ids: &[u32], views: &mut IdTable<View>, movement: Movement, chan
     ensures next { views.new.next ≡ views.old.next }
     ensures view_capacity { views.new.capacity ≡ views.old.capacity }
     ensures ids { map id_of views.new.entries ≡ map id_of views.old.entries }
-    ensures fold_rooms { IdsRise views.old → KeepFoldRooms views.old views.new }
+    ensures fold_capacities { IdsRise views.old → KeepFoldCapacities views.old views.new }
 {
     let edits = change.edits();
     follow(ids, views, movement, edits.as_slice());
@@ -64,7 +64,7 @@ pub(crate) fn follow_change(
     ensures next { views.new.next ≡ views.old.next }
     ensures view_capacity { views.new.capacity ≡ views.old.capacity }
     ensures ids { map id_of views.new.entries ≡ map id_of views.old.entries }
-    ensures fold_rooms { IdsRise views.old → KeepFoldRooms views.old views.new }
+    ensures fold_capacities { IdsRise views.old → KeepFoldCapacities views.old views.new }
 {
     if change.is_quiet() {
         follow(ids, views, movement, &[]);

@@ -2,7 +2,7 @@
 
 ghost use Rattle.std.specs.Prelude.{◌≡◌, map};
 ghost use Rattle.id_table.specs.Entries.{id_of};
-ghost use Rattle.scene.specs.Scenes.{IsWatched, KeepFoldRooms, views_in};
+ghost use Rattle.scene.specs.Scenes.{IsWatched, KeepFoldCapacities, views_in};
 ghost use Rattle.scene.specs.Regrouping.{IsWatchedWith, regrouped_views, regrouping_edits};
 
 use crate::laws::document_is_small;
@@ -27,7 +27,7 @@ pub fn regroup(
     ensures views { views_in views.new ≡ regrouped_views types document.now (views_in views.old) }
     ensures watched { IsWatchedWith types document.now views.new }
     ensures ids { map id_of views.new.entries ≡ map id_of views.old.entries }
-    ensures fold_rooms { KeepFoldRooms views.old views.new }
+    ensures fold_capacities { KeepFoldCapacities views.old views.new }
     ensures next { views.new.next ≡ views.old.next }
     ensures view_capacity { views.new.capacity ≡ views.old.capacity }
 {

@@ -8,7 +8,7 @@ ghost use Rattle.id_table.specs.Entries.{id_of};
 ghost use Rattle.notify.specs.Gathered.{CanPut, CanShare, is_full};
 ghost use Rattle.document.specs.Kept.{HasRoom, HasTextRoom, TakesRoom, text_part, AddsNoRoomBut, marker_room_in_all};
 ghost use Rattle.document.specs.TextSteps.{bytes_out, IsStepOn, need_on, step_on, FreesDeletedBytes};
-ghost use Rattle.scene.specs.Scenes.{watchers, AreNamed, IsWatched, KeepFoldRooms};
+ghost use Rattle.scene.specs.Scenes.{watchers, AreNamed, IsWatched, KeepFoldCapacities};
 ghost use Rattle.scene.specs.Hearing.{left_note, user_bits as bits_of_user};
 ghost use Rattle.scene.specs.RoomLeft.{KeepsSpare};
 ghost use Rattle.scene.specs.Telling.{CanHold, with_notes};
@@ -155,7 +155,7 @@ pub(crate) fn step_heard(
     ensures capacity { notes.new.capacity ≡ notes.old.capacity }
     ensures held { notes.new.held ≡ notes.old.held + heard_bytes bits step.entry document.old views.old }
     ensures ids { map id_of views.new.entries ≡ map id_of views.old.entries }
-    ensures fold_rooms { KeepFoldRooms views.old views.new }
+    ensures fold_capacities { KeepFoldCapacities views.old views.new }
     ensures next { views.new.next ≡ views.old.next }
     ensures view_capacity { views.new.capacity ≡ views.old.capacity }
 {
@@ -222,7 +222,7 @@ pub fn make_step(
     ensures capacity { notes.new.capacity ≡ notes.old.capacity }
     ensures held { notes.new.held ≡ notes.old.held + made_bytes later step.entry document.old views.old }
     ensures ids { map id_of views.new.entries ≡ map id_of views.old.entries }
-    ensures fold_rooms { KeepFoldRooms views.old views.new }
+    ensures fold_capacities { KeepFoldCapacities views.old views.new }
     ensures next { views.new.next ≡ views.old.next }
     ensures view_capacity { views.new.capacity ≡ views.old.capacity }
 {

@@ -6,7 +6,7 @@ ghost use Rattle.id_table.specs.Entries.{id_of};
 ghost use Rattle.notify.specs.Gathered.{CanPut, CanShare, is_full};
 ghost use Rattle.document.specs.Kept.{HasTextRoom, TakesRoom, AddsNoRoomBut, marker_room_in_all};
 ghost use Rattle.document.specs.Undoing.{changes_of, outline_of, save_point_told};
-ghost use Rattle.scene.specs.Scenes.{watchers, AreNamed, IsWatched, KeepFoldRooms};
+ghost use Rattle.scene.specs.Scenes.{watchers, AreNamed, IsWatched, KeepFoldCapacities};
 ghost use Rattle.scene.specs.Hearing.{masks_of};
 ghost use Rattle.scene.specs.RoomLeft.{KeepsSpare};
 ghost use Rattle.scene.specs.Undoing.{free_behind, save_point_notes, capped_room, place_by, IsNoteNeed, history_bytes, history_caret, history_fill, history_freed, history_note_need, history_notes, history_room, none_hears, save_point_count};
@@ -165,7 +165,7 @@ pub fn perform_history(
     ensures ids { map id_of views.new.entries ≡ map id_of views.old.entries }
     ensures next { views.new.next ≡ views.old.next }
     ensures view_capacity { views.new.capacity ≡ views.old.capacity }
-    ensures fold_rooms { KeepFoldRooms views.old views.new }
+    ensures fold_capacities { KeepFoldCapacities views.old views.new }
 {
     let was_there = document.history().is_at_save_point();
     let caret = perform_changes(document, views, notes, direction);

@@ -60,7 +60,7 @@ can_change law s document view change kept can room k at levels lines =
     let flags : length v.view.flags ≡ lines_in r.document = ap (λ (x : View). length x.flags) there.is ∙ stand.lines in
     let same : k.document ≡ r.document = same_document s document view r kept can.asked k at in
     let within : IsWithin (length v.view.flags) change = subst (λ n. IsWithin n change) (sym flags) (law r change can.fit) in
-    let has : HasFoldRoom v.room (fold_need v.view.flags change) = subst (λ o. IsSomeAnd o (λ w. HasFoldRoom w.room (fold_need w.view.flags change))) there.there room in
+    let has : HasFoldRoom v.capacity (fold_need v.view.flags change) = subst (λ o. IsSomeAnd o (λ w. HasFoldRoom w.capacity (fold_need w.view.flags change))) there.there room in
     subst (λ o. IsSomeAnd o (CanChange levels change)) (sym there.there) (lines ∙ ap lines_in same ∙ sym flags, within, has)
 
 -- the session with these views is the model's session after the change of the request's view

@@ -18,7 +18,8 @@ pub use Rattle.ed_model.specs.declared.plan.ViewChange.{ViewChange}
 pub use Rattle.ed_model.specs.proved.Changes.{changed_view_id}
 pub use Rattle.ed_model.specs.proved.Finding.{found_once, rise_added}
 pub use Rattle.ed_view.specs.Folding.{fold_need, FitChangesAreWithin, IsWithin, HasFoldRoom}
-pub use Rattle.ed_view.specs.Kept.{KeptView, view_in, HasFewLines, fold_rooms}
+pub use Rattle.ed_view.specs.Kept.{KeptView, view_in, HasFewLines, capacities}
+pub use Rattle.ed_view.specs.proved.Capacities.{changed_capacities}
 pub use Rattle.id_table.specs.Entries.{Entries, value_at, Entry, id_of, value_of, with_value_at, without_id, entry}
 pub use Rattle.message_requests.specs.Requested.{session_in, documents_in}
 pub use Rattle.message_requests.specs.declared.state.SessionState.{SessionState}

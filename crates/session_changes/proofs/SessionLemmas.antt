@@ -34,20 +34,20 @@ places_most entries id old new at most =
     (for_some _ _ old at (for_some _ _ new (value_replaced entries id old new at) most), λ other differs. other_replaced entries id other new differs)
 
 pub fold_room_is_there : (entries : List (Entry KeptView)) (view : ℕ) (old : KeptView) (change : ViewChange) (need : FoldNeed) → value_at entries view ≡ Some old → need ≡ fold_need old.view.flags change
-    → HasFoldRoomAt entries view change → HasFoldRoom old.room need
+    → HasFoldRoomAt entries view change → HasFoldRoom old.capacity need
 fold_room_is_there entries view old change need at is has =
-    subst (λ n. HasFoldRoom old.room n) (sym is) (there_of_some (λ (v : KeptView). HasFoldRoom v.room (fold_need v.view.flags change)) (value_at entries view) old at has)
+    subst (λ n. HasFoldRoom old.capacity n) (sym is) (there_of_some (λ (v : KeptView). HasFoldRoom v.capacity (fold_need v.view.flags change)) (value_at entries view) old at has)
 
 pub fold_room_there : (entries : List (Entry KeptView)) (view : ℕ) (old new : KeptView) (change : ViewChange) (need : FoldNeed) → value_at entries view ≡ Some old → new.view ≡ old.view
-    → need ≡ fold_need old.view.flags change → HasFoldRoom new.room need → HasFoldRoomAt (with_value_at view new entries) view change
+    → need ≡ fold_need old.view.flags change → HasFoldRoom new.capacity need → HasFoldRoomAt (with_value_at view new entries) view change
 fold_room_there entries view old new change need at same is room =
-    for_replaced (λ w. HasFoldRoom w.room (fold_need w.view.flags change)) entries view old new at
-    (subst (λ (v : View). HasFoldRoom new.room (fold_need v.flags change)) (sym same) (subst (λ n. HasFoldRoom new.room n) is room))
+    for_replaced (λ w. HasFoldRoom w.capacity (fold_need w.view.flags change)) entries view old new at
+    (subst (λ (v : View). HasFoldRoom new.capacity (fold_need v.flags change)) (sym same) (subst (λ n. HasFoldRoom new.capacity n) is room))
 
 pub fold_room_most : (entries : List (Entry KeptView)) (view : ℕ) (old new : KeptView) (change : ViewChange) (need : FoldNeed) → value_at entries view ≡ Some old → need ≡ fold_need old.view.flags change
-    → IsFoldRoomAtMost old new.room need → IsRoomAtMostAt entries (with_value_at view new entries) view change
+    → IsFoldRoomAtMost old.capacity new.capacity need → IsRoomAtMostAt entries (with_value_at view new entries) view change
 fold_room_most entries view old new change need at is most =
-    for_some _ _ old at (for_some _ _ new (value_replaced entries view old new at) (subst (λ n. IsFoldRoomAtMost old new.room n) is most))
+    for_some _ _ old at (for_some _ _ new (value_replaced entries view old new at) (subst (λ n. IsFoldRoomAtMost old.capacity new.capacity n) is most))
 
 -- The clipboard.
 

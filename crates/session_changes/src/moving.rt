@@ -1,10 +1,10 @@
 //! A view is moved from its document to another (SETDOCPOINTER).
 
-ghost use Rattle.std.specs.Prelude.{◌≡◌, ◌≢◌, ◌<◌, ◌^◌, map, length, IsSomeAnd};
+ghost use Rattle.std.specs.Prelude.{◌≡◌, ◌≢◌, ◌<◌, ◌^◌, length, IsSomeAnd};
 ghost use Rattle.ed_model.specs.Session.{attached_to};
 ghost use Rattle.ed_view.specs.Kept.{HasFewLines};
 ghost use Rattle.id_table.specs.Entries.{value_at};
-ghost use Rattle.scene.specs.Scenes.{fold_room_in_all, AreNamed};
+ghost use Rattle.scene.specs.Scenes.{AreNamed, KeepFoldCapacities};
 ghost use Rattle.message_requests.specs.Requested.{documents_in};
 ghost use Rattle.session_changes.specs.Kept.{DocumentsAreNamed, ViewsRise};
 ghost use Rattle.session_changes.specs.Folding.{ViewIsChanged};
@@ -84,7 +84,7 @@ fn stand_on(views: &mut IdTable<View>, view: u32, document: &Document)
     ensures views { ViewIsChanged view (attached_to document.now.document) views.old views.new }
     ensures named { AreNamed views.new.entries }
     ensures next { views.new.next ≡ views.old.next }
-    ensures fold_rooms { map fold_room_in_all views.new.entries ≡ map fold_room_in_all views.old.entries }
+    ensures fold_capacities { KeepFoldCapacities views.old views.new }
     ensures view_capacity { views.new.capacity ≡ views.old.capacity }
 {
     let Some(view) = views.get_mut(view) else {
@@ -108,7 +108,7 @@ pub(crate) fn attach(state: &mut SessionState, from: u32, view: u32, to: u32)
     ensures limits { state.new.limits ≡ state.old.limits }
     ensures named_documents { DocumentsAreNamed state.new.documents.entries }
     ensures named_views { AreNamed state.new.views.entries }
-    ensures fold_rooms { map fold_room_in_all state.new.views.entries ≡ map fold_room_in_all state.old.views.entries }
+    ensures fold_capacities { KeepFoldCapacities state.old.views state.new.views }
     ensures view_capacity { state.new.views.capacity ≡ state.old.views.capacity }
 {
     let SessionState {

@@ -3,7 +3,7 @@
 ghost use Rattle.std.specs.Prelude.{◌≡◌, ◌+◌, ◌<◌, ◌^◌, [], map, vec_capacity, IsSomeAnd};
 ghost use Rattle.ed_model.specs.Changes.{held_more};
 ghost use Rattle.id_table.specs.Entries.{value_at};
-ghost use Rattle.scene.specs.Scenes.{fold_room_in_all, AreNamed};
+ghost use Rattle.scene.specs.Scenes.{AreNamed, KeepFoldCapacities};
 ghost use Rattle.message_requests.specs.Requested.{session_in, documents_in};
 ghost use Rattle.session_changes.specs.Kept.{IsKept, DocumentsAreNamed};
 ghost use Rattle.session_changes.specs.Asked.{CanChangeSession, CanChangeDocuments, ChangesSession, ChangesDocuments};
@@ -60,7 +60,7 @@ fn change_clipboard(
     ensures limits { state.new.limits ≡ state.old.limits }
     ensures documents { DocumentsAreNamed state.new.documents.entries }
     ensures views { AreNamed state.new.views.entries }
-    ensures fold_rooms { map fold_room_in_all state.new.views.entries ≡ map fold_room_in_all state.old.views.entries }
+    ensures fold_capacities { KeepFoldCapacities state.old.views state.new.views }
     ensures view_capacity { state.new.views.capacity ≡ state.old.views.capacity }
 {
     copy(&state.documents, document, text, change, &mut bytes);
@@ -105,7 +105,7 @@ fn change_references(state: &mut SessionState, document: u32, view: u32, change:
     ensures limits { state.new.limits ≡ state.old.limits }
     ensures documents { DocumentsAreNamed state.new.documents.entries }
     ensures views { AreNamed state.new.views.entries }
-    ensures fold_rooms { map fold_room_in_all state.new.views.entries ≡ map fold_room_in_all state.old.views.entries }
+    ensures fold_capacities { KeepFoldCapacities state.old.views state.new.views }
     ensures view_capacity { state.new.views.capacity ≡ state.old.views.capacity }
 {
     match change {
@@ -132,7 +132,7 @@ fn add_document(
     ensures limits { state.new.limits ≡ state.old.limits }
     ensures documents { DocumentsAreNamed state.new.documents.entries }
     ensures views { AreNamed state.new.views.entries }
-    ensures fold_rooms { map fold_room_in_all state.new.views.entries ≡ map fold_room_in_all state.old.views.entries }
+    ensures fold_capacities { KeepFoldCapacities state.old.views state.new.views }
     ensures view_capacity { state.new.views.capacity ≡ state.old.views.capacity }
 {
     let id = state.documents.insert_reserved(Box::into_inner(new));
@@ -159,7 +159,7 @@ pub fn change_session(
     ensures limits { state.new.limits ≡ state.old.limits }
     ensures documents { DocumentsAreNamed state.new.documents.entries }
     ensures views { AreNamed state.new.views.entries }
-    ensures fold_rooms { map fold_room_in_all state.new.views.entries ≡ map fold_room_in_all state.old.views.entries }
+    ensures fold_capacities { KeepFoldCapacities state.old.views state.new.views }
     ensures view_capacity { state.new.views.capacity ≡ state.old.views.capacity }
 {
     match ready {

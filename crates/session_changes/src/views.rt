@@ -1,10 +1,10 @@
 //! Changes of a view: its settings, its selection, and which lines it shows.
 
-ghost use Rattle.std.specs.Prelude.{◌≡◌, ℕ, List, true, false, map, length, IsOk, OnOk, IsSome, IsSomeAnd};
+ghost use Rattle.std.specs.Prelude.{◌≡◌, ℕ, List, true, false, length, IsOk, OnOk, IsSome, IsSomeAnd};
 ghost use Rattle.ed_model.specs.Session.{lines_in};
 ghost use Rattle.ed_model.specs.Changes.{changed_view};
 ghost use Rattle.id_table.specs.Entries.{value_at};
-ghost use Rattle.scene.specs.Scenes.{views_of, fold_room_in_all, AreNamed};
+ghost use Rattle.scene.specs.Scenes.{views_of, AreNamed, KeepFoldCapacities};
 ghost use Rattle.message_requests.specs.Requested.{session_in};
 ghost use Rattle.session_changes.specs.Kept.{IsKept, OthersStay, ViewsRise};
 ghost use Rattle.ed_view.specs.Folding.{is_setting};
@@ -89,7 +89,7 @@ fn change_in(views: &mut IdTable<View>, view: u32, levels: &Levels, change: View
     ensures views { ViewIsChanged view (changed_view levels.now change) views.old views.new }
     ensures named { AreNamed views.new.entries }
     ensures next { views.new.next ≡ views.old.next }
-    ensures fold_rooms { map fold_room_in_all views.new.entries ≡ map fold_room_in_all views.old.entries }
+    ensures fold_capacities { KeepFoldCapacities views.old views.new }
     ensures view_capacity { views.new.capacity ≡ views.old.capacity }
 {
     let Some(view) = views.get_mut(view) else {
@@ -108,7 +108,7 @@ fn set_in(views: &mut IdTable<View>, view: u32, change: ViewChange)
     ensures views { (levels : List ℕ) → ViewIsChanged view (changed_view levels change) views.old views.new }
     ensures named { AreNamed views.new.entries }
     ensures next { views.new.next ≡ views.old.next }
-    ensures fold_rooms { map fold_room_in_all views.new.entries ≡ map fold_room_in_all views.old.entries }
+    ensures fold_capacities { KeepFoldCapacities views.old views.new }
     ensures view_capacity { views.new.capacity ≡ views.old.capacity }
 {
     let Some(view) = views.get_mut(view) else {
@@ -128,7 +128,7 @@ fn change_by_levels(state: &mut SessionState, document: u32, view: u32, change: 
     ensures limits { state.new.limits ≡ state.old.limits }
     ensures documents { state.new.documents ≡ state.old.documents }
     ensures views { AreNamed state.new.views.entries }
-    ensures fold_rooms { map fold_room_in_all state.new.views.entries ≡ map fold_room_in_all state.old.views.entries }
+    ensures fold_capacities { KeepFoldCapacities state.old.views state.new.views }
     ensures view_capacity { state.new.views.capacity ≡ state.old.views.capacity }
     ensures clipboard { state.new.clipboard ≡ state.old.clipboard }
 {
@@ -156,7 +156,7 @@ pub fn change_view(state: &mut SessionState, document: u32, view: u32, change: V
     ensures limits { state.new.limits ≡ state.old.limits }
     ensures documents { state.new.documents ≡ state.old.documents }
     ensures views { AreNamed state.new.views.entries }
-    ensures fold_rooms { map fold_room_in_all state.new.views.entries ≡ map fold_room_in_all state.old.views.entries }
+    ensures fold_capacities { KeepFoldCapacities state.old.views state.new.views }
     ensures view_capacity { state.new.views.capacity ≡ state.old.views.capacity }
     ensures clipboard { state.new.clipboard ≡ state.old.clipboard }
 {

@@ -8,7 +8,7 @@ insert-requires-clause-room g c = λ out.
     let inv = c.loop-line.invariant in
     omega (
       arith,
-      inv.room,
+      inv.capacity,
       inv.whole,
       c.requires.room,
       c.requires.range,
@@ -20,7 +20,7 @@ loop-line-init g c =
     record {
       lines = λ k. sym (between_none c.args.first c.args.first k (holds c.args.starts.now.starts k) (le_refl c.args.first));
       whole = refl;
-      room = refl;
+      capacity = refl;
       empty = λ _. refl;
       sound = c.set_is_sound.ensures.rise;
     }

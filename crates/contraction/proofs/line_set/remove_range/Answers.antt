@@ -18,8 +18,7 @@ loop-index-preserved g c =
           c.remove.ensures.starts ∙ ap (λ l. remove l (n + 1)) inv.starts
           ∙ removed_next s (n + 1) (i + 1) (omega arith) high;
       whole = c.remove.ensures.length ∙ inv.whole;
-      room = omega (arith, c.remove.ensures.room, inv.room, ap length c.remove.ensures.starts);
-      more = omega (arith, c.remove.ensures.room, inv.more);
+      capacity = omega (arith, c.remove.ensures.room, inv.capacity, ap length c.remove.ensures.starts);
       sound = c.remove.ensures.sound;
     }
 

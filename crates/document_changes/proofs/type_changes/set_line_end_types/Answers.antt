@@ -15,5 +15,5 @@ returns-clause-changed c = λ text sender notes.
       ids = c.regroup.ensures.ids;
       next = c.regroup.ensures.next;
       view_capacity = c.regroup.ensures.view_capacity;
-      fold_rooms = c.regroup.ensures.fold_rooms;
+      fold_capacities = c.regroup.ensures.fold_capacities;
     }

@@ -35,13 +35,13 @@ returns-clause-markers_in_all c =
     let all = rooms_of_all a.to a.document.now put.new.document took.new.document a.views.now put.new.views took.new.views a.notes.now put.new.notes took.new.notes put.ensures.left.rooms put.ensures.text took.ensures.rooms in
     all.markers_in_all
 
-pub returns-clause-fold_rooms : goal.returns-clause-fold_rooms
-returns-clause-fold_rooms c =
+pub returns-clause-fold_capacities : goal.returns-clause-fold_capacities
+returns-clause-fold_capacities c =
     let a = c.args in
     let put = c.put_missing-later in
     let took = c.take_unwanted in
     let all = rooms_of_all a.to a.document.now put.new.document took.new.document a.views.now put.new.views took.new.views a.notes.now put.new.notes took.new.notes put.ensures.left.rooms put.ensures.text took.ensures.rooms in
-    all.fold_rooms
+    all.fold_capacities
 
 pub returns-clause-view_capacity : goal.returns-clause-view_capacity
 returns-clause-view_capacity c =

@@ -27,4 +27,4 @@ taking-preserved c =
     let e = c.make_step.ensures in
     take_made a.to p.place c.in-Some.found p.later a.later a.document.now p.document n.document
     a.views.now p.views n.views a.notes.now p.notes n.notes p.invariant c.in-Some.ensures e.scene e.watched e.room_left e.capacity e.held
-    (record { text_freed = e.text_freed; none_made = e.none_made; spare = e.spare; markers_in_all = e.markers_in_all; fold_rooms = e.fold_rooms; view_capacity = e.view_capacity }) e.next
+    (record { text_freed = e.text_freed; none_made = e.none_made; spare = e.spare; markers_in_all = e.markers_in_all; fold_capacities = e.fold_capacities; view_capacity = e.view_capacity }) e.next

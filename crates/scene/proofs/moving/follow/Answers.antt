@@ -19,7 +19,7 @@ loop-id-preserved c =
     elim c.match-get_mut.branch [
       | in-Some w ↦
           follow_one _ _ _ _ _ (get_or c.args.ids.now c.loop-id.id-index 0) w.in-Some.view.now w.moved.new.self _ _ _ c.loop-id.invariant
-          (drop_next c.args.ids.now c.loop-id.id-index c.loop-id-test.true) (sym c.get_mut.ensures.value ∙ ap option_copied_mut w.in-Some.is) w.moved.ensures.view w.moved.ensures.rooms w.views-is
+          (drop_next c.args.ids.now c.loop-id.id-index c.loop-id-test.true) (sym c.get_mut.ensures.value ∙ ap option_copied_mut w.in-Some.is) w.moved.ensures w.views-is
       | in_default w ↦
           follow_missing _ _ _ _ _ (get_or c.args.ids.now c.loop-id.id-index 0) _ _ _ c.loop-id.invariant
           (drop_next c.args.ids.now c.loop-id.id-index c.loop-id-test.true) (sym c.get_mut.ensures.value ∙ ap option_copied_mut w.in_default.is) w.views-is
@@ -34,5 +34,5 @@ returns c =
       next = so.next;
       view_capacity = so.view_capacity;
       ids = so.same;
-      fold_rooms = so.fold_rooms;
+      fold_capacities = so.fold_capacities;
     }

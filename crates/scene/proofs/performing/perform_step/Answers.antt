@@ -117,5 +117,5 @@ returns c =
       none_made = c.make_change-change.ensures.none_made s can.at;
       spare = c.make_change-change.ensures.spare;
       markers_in_all = c.make_change-change.ensures.markers_in_all;
-      fold_rooms = c.follow_change.ensures.fold_rooms (subst (Rise 0 c.args.views.now.next) (sym (named_ids c.args.views.now.entries can.watched.named)) can.watched.rise);
+      fold_capacities = c.follow_change.ensures.fold_capacities (subst (Rise 0 c.args.views.now.next) (sym (named_ids c.args.views.now.entries can.watched.named)) can.watched.rise);
     })

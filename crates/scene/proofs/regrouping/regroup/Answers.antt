@@ -24,7 +24,7 @@ returns-clause-watched c = λ rows.
     let views = rw (c.views.ensures, c.requires.edits) at c.follow.ensures.views ∙ regrouped_views d c.args.types c.args.views.now c.requires.watched c.rows_that_meet.ensures.flags laws.flags in
     regrouped_watched d c.args.types rows c.args.views.now c.follow.new.views c.rows_that_meet.ensures.flags laws.flags c.rows_match_lines.ensures.flags_regrouped c.requires.watched views c.follow.ensures.named c.follow.ensures.next
 
-pub returns-clause-fold_rooms : goal.returns-clause-fold_rooms
-returns-clause-fold_rooms c =
+pub returns-clause-fold_capacities : goal.returns-clause-fold_capacities
+returns-clause-fold_capacities c =
     let w = c.requires.watched in
-    c.follow.ensures.fold_rooms (subst (Rise 0 c.args.views.now.next) (sym (named_ids c.args.views.now.entries w.named)) w.rise)
+    c.follow.ensures.fold_capacities (subst (Rise 0 c.args.views.now.next) (sym (named_ids c.args.views.now.entries w.named)) w.rise)

@@ -114,7 +114,7 @@ returns-clause-capacity c = ap (λ g. g.capacity) c.tell_made.ensures.rest ∙ c
 pub returns-clause-held : goal.returns-clause-held
 returns-clause-held c = ap (λ g. g.held) c.tell_made.ensures.rest ∙ c.tell_before-hears.ensures.held
 
-pub returns-clause-fold_rooms : goal.returns-clause-fold_rooms
-returns-clause-fold_rooms c =
+pub returns-clause-fold_capacities : goal.returns-clause-fold_capacities
+returns-clause-fold_capacities c =
     let w = c.requires.watched in
-    c.follow_change.ensures.fold_rooms (subst (Rise 0 c.args.views.now.next) (sym (named_ids c.args.views.now.entries w.named)) w.rise)
+    c.follow_change.ensures.fold_capacities (subst (Rise 0 c.args.views.now.next) (sym (named_ids c.args.views.now.entries w.named)) w.rise)

@@ -44,6 +44,6 @@ returns-in_default c =
       limits = refl;
       documents = all_named s c.args.document c.args.view can.request c.requires.kept can.asked put.new.self c.into_inner.result put.ensures.entries put.ensures.next (ap (λ (d : Document). d.id) held.0);
       views = c.requires.kept.views;
-      fold_rooms = refl;
+      fold_capacities = refl;
       view_capacity = refl;
     }

@@ -1,4 +1,4 @@
-use Rattle.contraction.proofs.Names.{◌≡◌, ◌+◌, ◌∷◌, List, get_or, drop, sym, ap, ◌∙◌, arith, drop_more, Flags, flags_together, LineEdit, Come, after_edits}
+use Rattle.contraction.proofs.Names.{◌≡◌, ◌+◌, ◌∷◌, List, get_or, drop, sym, ap, ◌∙◌, arith, drop_more, Flags, flags_together, LineEdit, Come, after_edits, ViewLines}
 use Rattle.contraction.proofs.Carried.{MayFollow, one_more}
 use Rattle.contraction.proofs.contraction.Contraction.carry.Goals as goal
 
@@ -12,10 +12,8 @@ loop-edit-preserved g c =
     let may : MayFollow g.P.Place.GREATEST c.loop-edit.self.flags (edit ∷ drop (i + 1) edits) = rw next at inv.left in
     record {
       done =
-          ap (λ (fs : List Flags). after_edits flags_together (drop (i + 1) edits) fs) c.carry_edit.ensures.flags
+          ap (λ (v : ViewLines). after_edits flags_together (drop (i + 1) edits) v.flags) c.carry_edit.ensures
           ∙ ap (λ (es : List LineEdit). after_edits flags_together es c.loop-edit.self.flags) (sym next) ∙ inv.done;
-      left = rw c.carry_edit.ensures.flags (one_more g.P.Place.GREATEST c.loop-edit.self.flags edit (drop (i + 1) edits) may);
-      hidden = c.carry_edit.ensures.hidden ∙ inv.hidden;
-      contracted = omega (arith, c.carry_edit.ensures.contracted, inv.contracted);
-      in_all = c.carry_edit.ensures.in_all ∙ inv.in_all;
+      left = rw c.carry_edit.ensures (one_more g.P.Place.GREATEST c.loop-edit.self.flags edit (drop (i + 1) edits) may);
+      capacity = ap (λ (v : ViewLines). v.capacity) c.carry_edit.ensures ∙ inv.capacity;
     }

@@ -1,4 +1,4 @@
-use Rattle.contraction.proofs.Names.{◌≡◌, ◌+◌, ◌-◌, ◌<◌, ◌≤◌, length, contracted_in_all}
+use Rattle.contraction.proofs.Names.{◌≡◌, ◌+◌, ◌-◌, ◌<◌, ◌≤◌, length}
 use Rattle.contraction.proofs.Expanding.{Passed}
 use Rattle.contraction.proofs.contraction.Contraction.expand.Given as goal
 
@@ -8,9 +8,7 @@ invariant-children g l =
       flags : Passed l.levels l.fn.self.flags l.header l.line l.self.flags;
       behind : l.header < l.line;
       lines : length l.self.flags ≡ length l.fn.self.flags;
-      hidden : l.self.room.hidden ≡ l.fn.self.room.hidden;
-      contracted : l.fn.self.room.contracted ≤ l.self.room.contracted;
-      in_all : contracted_in_all l.self ≡ contracted_in_all l.fn.self;
+      capacity : l.self.capacity ≡ l.fn.self.capacity;
     }
 
 abbrev pub decreases-children : goal.decreases-children

@@ -1,7 +1,6 @@
 use Rattle.std.proofs.Common.{◌+◌, ◌<◌, arith}
-use Rattle.contraction.proofs.Kept.{lines_of}
+use Rattle.contraction.proofs.Kept.{lines_of, with_flags}
 use Rattle.contraction.proofs.Carried.{joined_after}
-use Rattle.contraction.proofs.InAll.{total_kept}
 use Rattle.contraction.proofs.contraction.Contraction.join.Goals as goal
 
 pub overflow_add-line : goal.overflow_add-line
@@ -16,13 +15,10 @@ overflow_add-line-2 g c = omega (arith, c.requires, c.set_is_sound.ensures.fit, 
 pub take_lines_out-requires-2 : goal.take_lines_out-requires-2
 take_lines_out-requires-2 g c = omega (arith, c.requires, c.self.invariant.lines, lines_of c.self.inside.hidden c.self.inside.contracted c.args.self.now c.self.view_is)
 
-pub returns-clause-flags : goal.returns-clause-flags
-returns-clause-flags g c =
+pub returns : goal.returns
+returns g c =
     let inside : c.args.line + c.args.count < c.self.inside.hidden.length = omega (arith, c.requires, lines_of c.self.inside.hidden c.self.inside.contracted c.args.self.now c.self.view_is) in
-    joined_after c.self.inside.hidden c.take_lines_out.new.starts c.self.inside.contracted c.take_lines_out-2.new.starts c.args.self.now c.args.line c.args.count
-    c.self.view_is inside c.take_lines_out.ensures.length c.take_lines_out.ensures.lines c.take_lines_out-2.ensures.lines
-
-pub returns-clause-in_all : goal.returns-clause-in_all
-returns-clause-in_all g c =
-    total_kept c.self.inside.hidden c.take_lines_out.new.starts c.self.inside.contracted c.take_lines_out-2.new.starts c.args.self.now c.self.view_is c.self.invariant.lines
-    c.set_is_sound.ensures.rise (omega (arith, c.take_lines_out.ensures.length, c.take_lines_out-2.ensures.length, c.self.invariant.lines)) c.take_lines_out-2.ensures.sound c.take_lines_out-2.ensures.room
+    with_flags c.self.inside.hidden c.take_lines_out.new.starts c.self.inside.contracted c.take_lines_out-2.new.starts c.args.self.now _ c.self.view_is
+    (joined_after c.self.inside.hidden c.take_lines_out.new.starts c.self.inside.contracted c.take_lines_out-2.new.starts c.args.self.now c.args.line c.args.count
+    c.self.view_is inside c.take_lines_out.ensures.length c.take_lines_out.ensures.lines c.take_lines_out-2.ensures.lines)
+    c.take_lines_out.ensures.capacity c.take_lines_out-2.ensures.capacity

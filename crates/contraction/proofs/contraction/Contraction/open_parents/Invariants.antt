@@ -1,4 +1,4 @@
-use Rattle.contraction.proofs.Names.{◌≡◌, ◌≤◌, length, contracted_in_all}
+use Rattle.contraction.proofs.Names.{◌≡◌, ◌≤◌, length}
 use Rattle.contraction.proofs.AnyOrder.{opened_up}
 use Rattle.contraction.proofs.contraction.Contraction.open_parents.Given as goal
 
@@ -9,9 +9,7 @@ invariant-parents g l =
       flags : opened_up l.levels l.inner l.self.flags ≡ opened_up l.levels l.line l.initial.self.flags;
       within : l.inner ≤ l.line;
       lines : length l.self.flags ≡ length l.initial.self.flags;
-      hidden : l.self.room.hidden ≡ l.initial.self.room.hidden;
-      contracted : l.initial.self.room.contracted ≤ l.self.room.contracted;
-      in_all : contracted_in_all l.self ≡ contracted_in_all l.initial.self;
+      capacity : l.self.capacity ≡ l.initial.self.capacity;
     }
 
 abbrev pub decreases-parents : goal.decreases-parents

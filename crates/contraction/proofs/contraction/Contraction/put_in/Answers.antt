@@ -1,7 +1,6 @@
 use Rattle.std.proofs.Common.{◌≤◌, arith}
-use Rattle.contraction.proofs.Kept.{lines_of}
+use Rattle.contraction.proofs.Kept.{lines_of, with_flags}
 use Rattle.contraction.proofs.Carried.{came_after}
-use Rattle.contraction.proofs.InAll.{total_kept}
 use Rattle.contraction.proofs.contraction.Contraction.put_in.Goals as goal
 
 pub put_lines_in-requires-clause-line : goal.put_lines_in-requires-clause-line
@@ -16,13 +15,10 @@ put_lines_in-requires-2-clause-line g c = omega (arith, c.requires.line, c.self.
 pub put_lines_in-requires-2-clause-fits : goal.put_lines_in-requires-2-clause-fits
 put_lines_in-requires-2-clause-fits g c = omega (arith, c.requires.fits, c.self.invariant.lines, lines_of c.self.inside.hidden c.self.inside.contracted c.args.self.now c.self.view_is)
 
-pub returns-clause-flags : goal.returns-clause-flags
-returns-clause-flags g c =
+pub returns : goal.returns
+returns g c =
     let inside : c.args.line ≤ c.self.inside.hidden.length = omega (arith, c.requires.line, lines_of c.self.inside.hidden c.self.inside.contracted c.args.self.now c.self.view_is) in
-    came_after c.self.inside.hidden c.put_lines_in.new.starts c.self.inside.contracted c.put_lines_in-2.new.starts c.args.self.now c.args.line c.args.count
-    c.self.view_is inside c.put_lines_in.ensures.length c.put_lines_in.ensures.lines c.put_lines_in-2.ensures.lines
-
-pub returns-clause-in_all : goal.returns-clause-in_all
-returns-clause-in_all g c =
-    total_kept c.self.inside.hidden c.put_lines_in.new.starts c.self.inside.contracted c.put_lines_in-2.new.starts c.args.self.now c.self.view_is c.self.invariant.lines
-    c.set_is_sound.ensures.rise (omega (arith, c.put_lines_in.ensures.length, c.put_lines_in-2.ensures.length, c.self.invariant.lines)) c.put_lines_in-2.ensures.sound c.put_lines_in-2.ensures.room
+    with_flags c.self.inside.hidden c.put_lines_in.new.starts c.self.inside.contracted c.put_lines_in-2.new.starts c.args.self.now _ c.self.view_is
+    (came_after c.self.inside.hidden c.put_lines_in.new.starts c.self.inside.contracted c.put_lines_in-2.new.starts c.args.self.now c.args.line c.args.count
+    c.self.view_is inside c.put_lines_in.ensures.length c.put_lines_in.ensures.lines c.put_lines_in-2.ensures.lines)
+    c.put_lines_in.ensures.capacity c.put_lines_in-2.ensures.capacity

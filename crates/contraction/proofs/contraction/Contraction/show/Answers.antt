@@ -1,5 +1,5 @@
-use Rattle.std.proofs.Common.{sym, ◌∙◌, arith}
-use Rattle.contraction.proofs.Kept.{lines_of, length-kept}
+use Rattle.std.proofs.Common.{refl, sym, ◌∙◌, arith}
+use Rattle.contraction.proofs.Kept.{lines_of, length-kept, with_flags}
 use Rattle.contraction.proofs.Changed.{shown_after}
 use Rattle.contraction.proofs.contraction.Contraction.show.Goals as goal
 
@@ -11,8 +11,10 @@ remove_range-requires g c =
 
 pub returns-clause-flags : goal.returns-clause-flags
 returns-clause-flags g c =
-    shown_after c.self.inside.hidden c.remove_range.new.starts c.self.inside.contracted c.args.self.now c.args.first c.args.past c.self.view_is
-    c.remove_range.ensures.length c.remove_range.ensures.lines
+    with_flags c.self.inside.hidden c.remove_range.new.starts c.self.inside.contracted c.self.inside.contracted c.args.self.now _ c.self.view_is
+    (shown_after c.self.inside.hidden c.remove_range.new.starts c.self.inside.contracted c.args.self.now c.args.first c.args.past c.self.view_is
+    c.remove_range.ensures.length c.remove_range.ensures.lines)
+    c.remove_range.ensures.capacity refl
 
 pub returns-clause-lines : goal.returns-clause-lines
 returns-clause-lines g c =
