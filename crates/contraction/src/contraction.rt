@@ -6,7 +6,9 @@ ghost use Rattle.ed_model.specs.Folding.{is_visible, is_expanded};
 ghost use Rattle.ed_model.specs.DisplayLines.{display_line, line_shown, all_visible};
 ghost use Rattle.contraction.specs.ViewLines.{contracted_lines, fold_capacity};
 
-use crate::line_set::{contains, lines_before, next_inside, nth_line_outside, reserve, set_is_sound};
+use crate::line_set::{
+    contains, lines_before, next_inside, nth_line_outside, reserve, set_is_sound,
+};
 use partitioning::{Partitioning, Place};
 use std::alloc::{AllocError, Global};
 use std::marker::Model;

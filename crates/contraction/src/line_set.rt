@@ -59,7 +59,10 @@ pub(crate) fn next_inside<P: Place>(starts: &Partitioning<P>, line: usize) -> us
 }
 
 /// Makes room for `lines` lines of the set in all.
-pub(crate) fn reserve<P: Place>(starts: &mut Partitioning<P>, lines: usize) -> Result<(), AllocError>
+pub(crate) fn reserve<P: Place>(
+    starts: &mut Partitioning<P>,
+    lines: usize,
+) -> Result<(), AllocError>
     ensures rest { starts.new ≡ record starts.old { room = starts.new.room } }
     ensures ok { OnOk result (lines ≤ set_capacity starts.new) }
     ensures room_is_there { lines ≤ set_capacity starts.old → IsOk result × (starts.new ≡ starts.old) }
