@@ -143,7 +143,7 @@ typedef struct hongpilas_limits {
  *
  * A text or a buffer of length 0 may be null. Starts, indexes, ids, and the count of
  * hongpilas_lend_range are not tested here: each call says what it does with them. The count
- * of hongpilas_copy_range is its buffer's length. */
+ * of hongpilas_copy_range is tested, as the length of its buffer. */
 
 /* Opens a session without documents and views, with the greatest limits or with lower ones,
  * and sets *session to it. `size` is sizeof(hongpilas_limits): later versions of that struct
@@ -167,8 +167,8 @@ HONGPILAS_MUST_USE hongpilas_answer hongpilas_close_view(hongpilas_session *sess
 
 /* Sends a message to a view. docs/MESSAGES.md says what w, l and the text mean, what the
  * message does, and when it is refused. If it names w `length`, pass in w how many bytes of
- * the text the message takes: APPENDTEXT with w 0 appends nothing. The text is read in
- * place, and not stored. Sets *value to the value of the reply; `value` may be null. The
+ * the text the message takes: APPENDTEXT with w 0 appends nothing. The text is read
+ * during the call only: no pointer to it is kept. Sets *value to the value of the reply; `value` may be null. The
  * reply, with its text and its notifications, replaces the last one. */
 HONGPILAS_MUST_USE hongpilas_answer hongpilas_send(hongpilas_session *session, uint32_t view, uint32_t number, int64_t w, int64_t l, const void *text,
                                                    size_t length, int64_t *value);
@@ -243,8 +243,8 @@ HONGPILAS_MUST_USE hongpilas_answer hongpilas_copy_range(hongpilas_session *sess
  * above, no pointer may be null, even if its length is 0, and no length may be above
  * 2^63 - 1. Calls below that do not return hongpilas_answer cannot be refused, and return
  * their result directly. hongpilas_note_unchecked returns whether there is such a
- * notification, and sets only the members of version 2.0. A notification that does not exist
- * has an empty text. */
+ * notification, and sets only the members of version 2.0; the text of one that does not
+ * exist is empty. */
 HONGPILAS_MUST_USE hongpilas_answer hongpilas_new_view_unchecked(hongpilas_session *session, uint32_t *view);
 HONGPILAS_MUST_USE hongpilas_answer hongpilas_close_view_unchecked(hongpilas_session *session, uint32_t view);
 HONGPILAS_MUST_USE hongpilas_answer hongpilas_send_unchecked(hongpilas_session *session, uint32_t view, uint32_t number, int64_t w, int64_t l,

@@ -4,7 +4,7 @@
  *
  *  1. Notifications come when their message is done, and not in the middle of it. Inside a notify function every message is
  *     performed, except those that edit the text (marked E in docs/MESSAGES.md): they are refused, and the view's status
- *     becomes SC_STATUS_FAILURE, as Scintilla refuses to change the text inside SCN_MODIFIED. Look at SCI_GETSTATUS.
+ *     becomes SC_STATUS_FAILURE. (Scintilla, too, refuses to change the text inside SCN_MODIFIED.) Look at SCI_GETSTATUS.
  *  2. A message that takes several steps, such as SCI_UNDO of a group, is done as a whole before its notifications come:
  *     their positions are those of the text just after each step. Apply them in order to a copy (hongpilas.h says more).
  *
@@ -28,10 +28,10 @@
  * that was freed, and a view that was closed or whose component was freed, is used by no call. Never pass memory of the
  * component as a text or a buffer: copy a notification's text first. While a call runs, no thread modifies the text that
  * is passed to it, or touches the buffer that it fills. Two duties are added, for notify functions:
- *  - make calls from inside one on the stack on which it runs, and not on that of another coroutine;
- *  - if you longjmp out of one that ran on a coroutine's stack, keep that stack until a message that delivers (see
- *    hongpilas_set_notify) was sent from outside all notify functions, or the component was freed: until then the component
- *    may read there. It never reads another thread's stack, so a thread may end. */
+ *  - a call made while a notify function runs is made on that function's own stack, not on that of another coroutine;
+ *  - if you longjmp out of a notify function that ran on a coroutine's stack, the component may read that stack later. Free
+ *    the stack only after the component was freed, or after a message was sent, outside all notify functions, that delivers
+ *    notifications (see hongpilas_set_notify). The component never reads the stack of another thread, so a thread may end. */
 #ifndef HONGPILAS_SCINTILLA_H
 #define HONGPILAS_SCINTILLA_H
 
@@ -95,13 +95,13 @@ struct SCNotification {
   Sci_Position position; /* SCN_MODIFIED, SCN_STYLENEEDED */
   int ch;
   int modifiers;
-  int modificationType; /* SCN_MODIFIED, as all fields below but those of SCN_MACRORECORD */
+  int modificationType; /* SCN_MODIFIED; so are all fields below that are used, except the three of SCN_MACRORECORD */
   const char *text;     /* `length` bytes, without a closing NUL */
   Sci_Position length;  /* in bytes */
   Sci_Position linesAdded;
   int message; /* SCN_MACRORECORD, as the two fields below */
   uptr_t wParam;
-  sptr_t lParam; /* as in the recorded call: a text belongs to its caller */
+  sptr_t lParam; /* as in the recorded call: if it points to a text, that memory is the sender's */
   Sci_Position line;
   int foldLevelNow;
   int foldLevelPrev;
@@ -146,10 +146,10 @@ void hongpilas_scintilla_close(sptr_t view);
  *    0 and leave the status, as in Scintilla. To APPENDTEXT, COPYTEXT, REPLACETARGET and SEARCHINTARGET it is an empty
  *    text if w is 0, and refused otherwise;
  *  - a text that the message returns is written to the caller's buffer, and closed as in Scintilla: by GETTEXT and
- *    GETCURLINE at most w bytes and a NUL, so the buffer has w + 1, by GETSELTEXT and GETTEXTRANGE all bytes and a NUL,
- *    by GETLINE and GETTARGETTEXT all bytes and no NUL, by GETSTYLEDTEXT all bytes with their styles and two NULs. If the
- *    pointer to the buffer is null, only the length is returned, without the NULs. A Sci_TextRange is refused if its
- *    pointer is null, or if it does not lie in the text;
+ *    GETCURLINE at most w bytes and a NUL (so the buffer has w + 1); by GETSELTEXT and GETTEXTRANGE all bytes and a NUL;
+ *    by GETLINE and GETTARGETTEXT all bytes and no NUL; by GETSTYLEDTEXT all bytes with their styles and two NULs. If the
+ *    pointer to the buffer is null, only the length is returned, without the NULs. A message is refused if its pointer to
+ *    a Sci_TextRange (not lpstrText) is null, or if that range does not lie in the text;
  *  - a document is the number that GETDOCPOINTER and CREATEDOCUMENT return, and 0 is a new one;
  *  - what Scintilla has as an int is truncated to one; GETCHARAT and GETSTYLEAT return a char, negative from 0x80 on;
  *  - SETTEXT and SETREADONLY return 1, as in Scintilla, where docs/MESSAGES.md has 0.
@@ -185,9 +185,9 @@ const char *hongpilas_refusal(sptr_t view);
  *    that, the message is refused as "out of memory", with SC_STATUS_BADALLOC; the pending ones are still delivered.
  *
  * A notify function may be left by a C++ exception or by longjmp. Its message has been done, and the notification counts as
- * delivered. The other notifications stay in the queue. The next message from outside that is no query, to any view of the
- * component, delivers them, even if it is refused; it is refused as "out of memory" if they cannot be copied first. But
- * SCI_SETSTATUS, and a message that does nothing for its null text, deliver nothing.
+ * delivered. The other notifications stay in the queue. The next message that is no query, sent from outside all notify
+ * functions to any view of the component, delivers them, whether it is done or refused. (It is refused as "out of memory" if
+ * memory to copy them first is short.) But SCI_SETSTATUS, and a message that does nothing for its null text, deliver nothing.
  * An exception passes through the interface if that was built with -fexceptions, as `make` builds it. To detect a longjmp out
  * of a notify function, the interface unwinds the stack, which needs the tables of compilers (-funwind-tables). If frames of a
  * later call lack them, such as those of a JIT compiler, it may wrongly take that call as one from inside the notify function. */

@@ -143,7 +143,7 @@ def on_memory():
     if not loaded or not worked_on:
         sys.exit(f"{FIGURES}: no sentence on a loaded text, or no row of 64 MiB, under *Memory*")
     commit = re.search(r"By `out/load` \(`TESTING.md`\), at commit (\w+):", page)[1]
-    return (f"**Memory.** While loading {loaded['size']}, the heap held {loaded['times']} times text and line index. After minutes of "
+    return (f"**Memory.** While loading {loaded['size']}, the heap held {loaded['times']} times the text with its line index. After minutes of "
             f"random edits in 64 MiB of text, it held {float(worked_on['held']):.0f} MiB, {float(worked_on['alive']):.0f} MiB of them in use "
             f"({commit}). The rest is mostly spare capacity, which a document keeps.")
 

@@ -16,8 +16,7 @@ SEES, PROVED, TESTED, TRUSTED, USES = "What a contract sees", "What is proved", 
 SHAPES = ([SEES, PROVED, TESTED, USES], [SEES, PROVED, TESTED, TRUSTED, USES])
 HEAD = """# What is proved, crate by crate
 
-The exact statements are in the README of each crate. [`PROMISES.md`](PROMISES.md) has the short form, [`ARCHITECTURE.md`](ARCHITECTURE.md) the layers. From the
-lowest layer up:
+[`PROMISES.md`](PROMISES.md) has the short form; the exact statements are in these pages, from the lowest layer up:
 """
 
 
