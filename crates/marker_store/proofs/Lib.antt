@@ -8,4 +8,5 @@ pub mod Walks
 pub mod Changes
 pub mod Joins
 pub mod Finds
+pub mod Blocks
 pub mod Stores

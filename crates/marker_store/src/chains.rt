@@ -7,6 +7,7 @@ ghost use Rattle.marker_store.specs.Chains.{chained, held, link_at, relinked, Is
 
 use crate::links::Link;
 use crate::markers::Marker;
+use crate::zeros::{first_set, last_set};
 use split_vector::SplitVector;
 use std::alloc::{AllocError, Allocator, Global};
 use std::marker::Model;
@@ -49,20 +50,6 @@ fn relink<A: Allocator>(links: &mut SplitVector<Link, A>, at: u32, next: u32) ->
     let link = links.get(index);
     links.set(index, Link::new(link.marker(), next));
     link.next()
-}
-
-// Returns the index of the first number from `from` on that is not 0, or how many numbers there are.
-fn first_set(numbers: &[u32], from: usize) -> usize
-    requires { from ≤ length numbers.now }
-    ensures within { (from ≤ result) × (result ≤ length numbers.now) }
-    ensures zero { (k : ℕ) → from ≤ k → k < result → slice_index_or numbers.now k 0 ≡ 0 }
-{
-    for index in from..numbers.len() {
-        if numbers[index] != 0 {
-            return index;
-        }
-    }
-    numbers.len()
 }
 
 impl<A: Allocator + Copy> Chains<A> {
@@ -190,8 +177,7 @@ impl<A: Allocator> Chains<A> {
         self.heads.get(line) == 0
     }
 
-    /// Returns the first line from `from` on that has a marker, or how many lines there are. It reads a slice of numbers:
-    /// most lines have no marker.
+    /// Returns the first line from `from` on that has a marker, or how many lines there are.
     pub(crate) fn next_marked(&self, from: usize) -> usize
         requires { from ≤ length self.now.rows }
         ensures within { (from ≤ result) × (result ≤ length self.now.rows) }
@@ -205,6 +191,22 @@ impl<A: Allocator> Chains<A> {
             }
         }
         left.len() + first_set(right, from.saturating_sub(left.len()))
+    }
+
+    /// Returns the line behind the last line before `end` that has a marker, or 0 if there is none.
+    pub(crate) fn previous_marked(&self, end: usize) -> usize
+        requires { end ≤ length self.now.rows }
+        ensures within { result ≤ end }
+        ensures bare { (k : ℕ) → result ≤ k → k < end → slice_index_or self.now.rows k [] ≡ [] }
+    {
+        let (left, right) = self.heads.halves();
+        if end > left.len() {
+            let behind = last_set(right, end - left.len());
+            if behind > 0 {
+                return left.len() + behind;
+            }
+        }
+        last_set(left, end.min(left.len()))
     }
 
     /// Lays the last marker of the line aside.

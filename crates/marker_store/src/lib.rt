@@ -14,11 +14,11 @@
 //! another, which writes one link.
 //!
 //! What a call costs: a marker is added in a few writes. To delete one, or to read a mask, passes the markers of its line.
-//! A search for a line passes a number for each line. To insert or join lines also moves the numbers between their place
-//! and that of the last such edit.
+//! A search for a line reads a number for each line that it passes, and lines without markers in blocks. To insert or join
+//! lines also moves the numbers between their place and that of the last such edit.
 //!
 //! `links` has one link, `chains` the chains and what moves one link, `rows` the changes of a line, `searches` the searches
-//! for one, and `store` also covers lines before the first marker.
+//! for one, `zeros` those of a slice of numbers, and `store` also covers lines before the first marker.
 #![tactic(auto)]
 
 mod chains;
@@ -28,6 +28,7 @@ mod markers;
 mod rows;
 mod searches;
 mod store;
+mod zeros;
 
 #[doc(hidden)]
 pub use chains::Chains;

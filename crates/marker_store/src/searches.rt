@@ -43,13 +43,13 @@ impl<A: Allocator> Chains<A> {
     pub(crate) fn previous(&self, from: usize, mask: u32) -> Option<usize>
         ensures { result ≡ last_up_to (is_met mask self.now.rows) self.now.rows from }
     {
-        let lines = self.lines();
-        let mut line = if from < lines { from + 1 } else { lines };
-        'passing: while line > 0 {
-            line -= 1;
+        let mut end = self.previous_marked(self.lines().min(from.saturating_add(1)));
+        'passing: while end > 0 {
+            let line = end - 1;
             if self.mask(line) & mask != 0 {
                 return Some(line);
             }
+            end = self.previous_marked(line);
         }
         None
     }
