@@ -1,5 +1,5 @@
 -- The flags that two sets of lines stand for.
-use Rattle.contraction.proofs.Names.{◌≡◌, ℕ, ◌+◌, ◌-◌, ◌*◌, ◌<◌, ◌≤◌, max, Bool, true, false, not, cond, eqb, List, [], ◌∷◌, length, get_or, set, take, map, replicate, filter, count_by, refl, sym, ap, ◌∙◌, ◌⊎◌, inl, inr, arith, range_with_len, slice_get, unwrap_or, Result, Ok, Err, OnOk, cases_lt, cases_eq, eq-eqb, ne_eqb, false≢true, list_all_at, list_all-from_AllPass, sum_by-cons, get_or_default, ext_get_or, length-replicate, get_or-replicate, length-set, get_or-set_same, get_or-set_other, length-range_with_len, length-map-range_with_len, get_or-map-range_with_len, fill_by_all, take-map-range_with_len, Flags, fresh_flags, flags_at, is_visible, is_expanded, with_visible, with_expanded, filter_range_agree, Partitions, ArePartitions, IsLastAtMost, holds, lines_outside, ViewLines, view_lines, flags_kept, set_capacity, contracted_lines}
+use Rattle.contraction.proofs.Names.{◌≡◌, ℕ, ◌+◌, ◌-◌, ◌<◌, ◌≤◌, Bool, true, false, not, cond, eqb, List, [], ◌∷◌, length, get_or, set, take, map, replicate, filter, count_by, refl, sym, ap, ◌∙◌, ◌⊎◌, inl, inr, arith, range_with_len, slice_get, unwrap_or, cases_lt, cases_eq, eq-eqb, ne_eqb, false≢true, list_all_at, list_all-from_AllPass, sum_by-cons, get_or_default, ext_get_or, length-replicate, get_or-replicate, length-set, get_or-set_same, get_or-set_other, length-range_with_len, length-map-range_with_len, get_or-map-range_with_len, fill_by_all, take-map-range_with_len, Flags, fresh_flags, flags_at, is_visible, is_expanded, with_visible, with_expanded, filter_range_agree, Partitions, ArePartitions, IsLastAtMost, holds, lines_outside, ViewLines, view_lines, flags_kept, set_capacity, contracted_lines}
 use Rattle.std.proofs.lemmas.List.Filters.{length-filter_both}
 use Rattle.contraction.proofs.LineSets.{same_tests, index_of, rising_to, there}
 use Rattle.contraction.proofs.Outside.{outside_before, last_of_all}

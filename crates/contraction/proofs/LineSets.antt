@@ -1,5 +1,5 @@
 -- A set of lines, as starts: what it holds, when a start is added or removed and when some move.
-use Rattle.contraction.proofs.Names.{◌≡◌, ℕ, zero, suc, ◌+◌, ◌-◌, ◌<◌, ◌≤◌, Bool, true, false, ◌&&◌, ◌||◌, ltb, leb, eqb, List, [], ◌∷◌, ◌++◌, length, get_or, take, drop, map, insert, refl, sym, ap, ◌∙◌, inl, inr, arith, add-zero, le_refl, and-false, cases_lt, cases_eq, false≢true, or_cases, or_left, or_right, and_parts, and_from, eqb-true, eq-eqb, ne_eqb, leb-true, le-leb, lt-leb, ltb-true, lt-ltb, le-ltb, get_or-take, get_or-drop, length-take, length-drop, take-append-drop, ArePartitions, IsLastAtMost, raised_behind, lowered_behind, is_between, starts_at, holds_with_fresh, holds_without, holds_outside}
+use Rattle.contraction.proofs.Names.{◌≡◌, ℕ, zero, suc, ◌+◌, ◌-◌, ◌<◌, ◌≤◌, Bool, true, false, ◌&&◌, ◌||◌, ltb, leb, eqb, List, [], ◌∷◌, ◌++◌, length, get_or, take, drop, map, insert, refl, sym, ap, ◌∙◌, inl, inr, arith, add-zero, le_refl, and-false, cases_lt, cases_eq, false≢true, or_cases, or_left, or_right, and_parts, and_from, eqb-true, eq-eqb, ne_eqb, leb-true, le-leb, lt-leb, ltb-true, lt-ltb, le-ltb, min, get_or-take, get_or-drop, length-take, length-drop, take-append-drop, ArePartitions, IsLastAtMost, raised_behind, lowered_behind, is_between, starts_at, holds_with_fresh, holds_without, holds_outside}
 use Rattle.std.specs.List.Sorted.{IsStrictlyIncreasing}
 use Rattle.std.proofs.lemmas.Bool.Decides.{nat_tests}
 
@@ -60,6 +60,28 @@ found_at s end y i r sound last e =
       | inl h ↦ absurd (omega (arith, last.last k.0 h k.1, k.2))
       | inr h ↦ eq-eqb r y (omega (arith, e, last.at_most, k.2, rising_to s sound.rising k.0 i h last.within))
     ])
+
+-- a start at the place or before it is the last such if the next one lies behind the place
+pub next_behind : (s : List ℕ) (end a i : ℕ) → ArePartitions s end → i + 1 < length s → get_or s i 0 ≤ a → a < get_or s (i + 1) 0 → IsLastAtMost s a i
+next_behind s end a i sound h low high = record {
+  within = omega arith;
+  at_most = low;
+  last = λ k b c. omega (arith, rising_to s sound.rising (i + 1) k (omega arith) c);
+}
+
+-- the next start is the last such if it lies there too, and the place before the second behind it, or before the last
+pub next_of_two : (s : List ℕ) (end a i b : ℕ) → ArePartitions s end → i + 1 < length s → b ≡ min (i + 2) (length s - 1) → a < get_or s b 0 → get_or s (i + 1) 0 ≤ a → IsLastAtMost s a (i + 1)
+next_of_two s end a i b sound h e high low =
+    elim (cases_lt (i + 2) (length s)) [
+      | inl inside ↦
+          let e' : b ≡ i + 1 + 1 = omega arith in
+          let high' : a < get_or s (i + 1 + 1) 0 = rw e' at high in
+          next_behind s end a (i + 1) sound (omega arith) low high'
+      | inr none ↦
+          let e' : b ≡ i + 1 = omega arith in
+          let high' : a < get_or s (i + 1) 0 = rw e' at high in
+          absurd (omega arith)
+    ]
 
 -- in parts of the list
 
@@ -162,6 +184,12 @@ inserted_line s n line k =
 
 pub not_there : (s : List ℕ) (end y i r : ℕ) → ArePartitions s end → IsLastAtMost s y i → r ≡ get_or s i 0 → (r ≡ y → ⊥) → starts_at s y ≡ false
 not_there s end y i r sound last e ne = sym (found_at s end y i r sound last e) ∙ ne_eqb r y ne
+
+-- the first start is that of no line
+pub none_at_first : (s : List ℕ) (end line i : ℕ) → ArePartitions s end → IsLastAtMost s (line + 1) i → i ≤ 0 → starts_at s (line + 1) ≡ false
+none_at_first s end line i sound last first =
+    let z : i ≡ 0 = omega arith in
+    not_there s end (line + 1) i (get_or s i 0) sound last refl (λ e. let f : get_or s 0 0 ≡ line + 1 = rw z at e in omega (arith, sound.first))
 
 module _ (s : List ℕ) (end line i : ℕ) (sound : ArePartitions s end) (last : IsLastAtMost s line i) where
   cut : IsCut s (i + 1) line

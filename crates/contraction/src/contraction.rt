@@ -7,10 +7,11 @@ ghost use Rattle.ed_model.specs.DisplayLines.{display_line, line_shown, all_visi
 ghost use Rattle.contraction.specs.ViewLines.{contracted_lines, fold_capacity};
 
 use crate::line_set::{
-    contains, lines_before, next_inside, nth_line_outside, reserve, set_is_sound,
+    contains, lines_before_likely, next_inside, nth_line_outside, reserve, set_is_sound,
 };
 use partitioning::{Partitioning, Place};
 use std::alloc::{AllocError, Global};
+use std::cell::Cell;
 use std::marker::Model;
 
 /// The flags of the lines of a view: which are visible, and which are expanded. Lines are counted from 0.
@@ -20,6 +21,9 @@ use std::marker::Model;
 pub struct Contraction<P: Place> {
     pub(crate) hidden: Partitioning<P>,
     pub(crate) contracted: Partitioning<P>,
+    // Where the last look-ups in the two sets ended. Lines are mostly asked for in order.
+    hidden_at: Cell<usize>,
+    contracted_at: Cell<usize>,
 }
 
 impl<P: Place> Model for Contraction<P> {
@@ -55,7 +59,12 @@ impl<P: Place> Contraction<P> {
     {
         let hidden = no_lines(alloc, lines)?;
         let contracted = no_lines(alloc, lines)?;
-        Ok(Contraction { hidden, contracted })
+        Ok(Contraction {
+            hidden,
+            contracted,
+            hidden_at: Cell::new(0),
+            contracted_at: Cell::new(0),
+        })
     }
 
     /// Returns the number of lines.
@@ -76,19 +85,21 @@ impl<P: Place> Contraction<P> {
     }
 
     /// Returns whether the line is visible (`SCI_GETLINEVISIBLE`).
+    #[inline]
     pub fn visible(&self, line: usize) -> bool
         requires { line < length self.now.flags }
         ensures { result ≡ is_visible self.now.flags line }
     {
-        !contains(&self.hidden, line)
+        !contains(&self.hidden, line, &self.hidden_at)
     }
 
     /// Returns whether the line is expanded (`SCI_GETFOLDEXPANDED`).
+    #[inline]
     pub fn expanded(&self, line: usize) -> bool
         requires { line < length self.now.flags }
         ensures { result ≡ is_expanded self.now.flags line }
     {
-        !contains(&self.contracted, line)
+        !contains(&self.contracted, line, &self.contracted_at)
     }
 
     // Returns the first contracted line from `line` on, or the number of lines if there is none.
@@ -110,16 +121,18 @@ impl<P: Place> Contraction<P> {
 
     /// Returns the display line of a line, counted from 0 (`SCI_VISIBLEFROMDOCLINE`). A hidden line has that of the
     /// visible line before it.
+    #[inline]
     pub fn display_of(&self, line: usize) -> usize
         requires { line < length self.now.flags }
         ensures { result ≡ display_line self.now.flags line }
     {
         set_is_sound(&self.hidden);
-        let hidden = lines_before(&self.hidden, line + 1);
+        let hidden = lines_before_likely(&self.hidden, line + 1, &self.hidden_at);
         (line + 1 - hidden).saturating_sub(1)
     }
 
     /// Returns the line at a display line, or the number of lines past the last one (`SCI_DOCLINEFROMVISIBLE`).
+    #[inline]
     pub fn doc_of(&self, display: usize) -> usize
         ensures { result ≡ line_shown self.now.flags display }
     {

@@ -7,7 +7,7 @@
 //!
 //! The hidden lines and the contracted ones are two sets, each stored as rising numbers that move with the text. So a
 //! view with all lines visible and expanded stores nothing but its number of lines, inserted lines need no allocation,
-//! and a look-up is a binary search.
+//! and a look-up is a binary search. Before it searches, it tries the place where the last look-up ended.
 #![tactic(auto)]
 
 mod carry;

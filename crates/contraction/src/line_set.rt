@@ -7,6 +7,7 @@ ghost use Rattle.partitioning.specs.Partitions.{ArePartitions, IsLastAtMost};
 
 use partitioning::{Partitioning, Place, Probes};
 use std::alloc::AllocError;
+use std::cell::Cell;
 
 /// Returns how many lines of the set lie before `line`: the index of the last start at that number or before it.
 pub(crate) fn lines_before<P: Place>(starts: &Partitioning<P>, line: usize) -> usize
@@ -23,6 +24,47 @@ pub(crate) fn lines_before<P: Place>(starts: &Partitioning<P>, line: usize) -> u
     starts.partition_of(line, &mut probes)
 }
 
+// Like `lines_before`, and tries the index `likely` and the next one first, so that lines in order need no search. One
+// test decides whether it is one of the two: where lines come in no order, the processor would mispredict more. Out of
+// line, since there are usually no lines in the set.
+#[inline(never)]
+fn lines_before_from<P: Place>(starts: &Partitioning<P>, line: usize, likely: usize) -> usize
+    ensures { IsLastAtMost starts.now.starts line result }
+{
+    let last = starts.count() - 1;
+    if likely < last {
+        let next = likely + 1;
+        let behind = (likely + 2).min(last);
+        let from = starts.start_of(likely);
+        let to = starts.start_of(behind);
+        if from <= line && line < to {
+            if starts.start_of(next) <= line {
+                return next;
+            }
+            return likely;
+        }
+    }
+    lines_before(starts, line)
+}
+
+/// Like `lines_before`. `likely` keeps the index that the last such call returned, and may be any number.
+#[inline(always)]
+pub(crate) fn lines_before_likely<P: Place>(
+    starts: &Partitioning<P>,
+    line: usize,
+    likely: &Cell<usize>,
+) -> usize
+    ensures last { IsLastAtMost starts.now.starts line result }
+    ensures sound { ArePartitions starts.now.starts starts.now.length }
+{
+    if starts.count() == 1 {
+        return 0;
+    }
+    let index = lines_before_from(starts, line, likely.get());
+    likely.set(index);
+    index
+}
+
 /// A law: the starts of a set rise from 0, and the number of lines is a `usize`. Its body asks for that number, which
 /// tells both.
 #[inline(always)]
@@ -33,14 +75,19 @@ pub(crate) fn set_is_sound<P: Place>(starts: &Partitioning<P>)
     let _ = starts.length();
 }
 
-/// Returns whether the line is in the set.
-pub(crate) fn contains<P: Place>(starts: &Partitioning<P>, line: usize) -> bool
+/// Returns whether the line is in the set. The first start is that of no line. `likely` is as in `lines_before_likely`.
+#[inline(always)]
+pub(crate) fn contains<P: Place>(
+    starts: &Partitioning<P>,
+    line: usize,
+    likely: &Cell<usize>,
+) -> bool
     requires { line < starts.now.length }
     ensures { result ≡ holds starts.now.starts line }
 {
     set_is_sound(starts);
-    let index = lines_before(starts, line + 1);
-    starts.start_of(index) == line + 1
+    let index = lines_before_likely(starts, line + 1, likely);
+    index > 0 && starts.start_of(index) == line + 1
 }
 
 /// Returns the first line of the set from `line` on, or the number of lines if there is none.
@@ -169,11 +216,24 @@ fn starts_before_nth<P: Place>(starts: &Partitioning<P>, n: usize) -> usize
     low
 }
 
-/// Returns the line outside the set with `n` such lines before it, or the number of lines if there is none.
-pub(crate) fn nth_line_outside<P: Place>(starts: &Partitioning<P>, n: usize) -> usize
+// Returns the line outside the set with `n` such lines before it, or the number of lines if there is none. Out of line,
+// since there are usually no lines in the set.
+#[inline(never)]
+fn searched_outside<P: Place>(starts: &Partitioning<P>, n: usize) -> usize
     ensures { result ≡ unwrap_or (slice_get (lines_outside starts.now.starts starts.now.length) n) starts.now.length }
 {
     let lines = starts.length();
     let inside = starts_before_nth(starts, n);
     n.saturating_add(inside).min(lines)
+}
+
+/// Returns the line outside the set with `n` such lines before it, or the number of lines if there is none.
+#[inline(always)]
+pub(crate) fn nth_line_outside<P: Place>(starts: &Partitioning<P>, n: usize) -> usize
+    ensures { result ≡ unwrap_or (slice_get (lines_outside starts.now.starts starts.now.length) n) starts.now.length }
+{
+    if starts.count() == 1 {
+        return n.min(starts.length());
+    }
+    searched_outside(starts, n)
 }

@@ -82,6 +82,7 @@ impl LineFlags {
     }
 
     /// Returns whether the line is visible (`SCI_GETLINEVISIBLE`).
+    #[inline]
     pub fn visible(&self, line: usize) -> bool
         requires { line < length self.now.flags }
         ensures { result ≡ is_visible self.now.flags line }
@@ -94,6 +95,7 @@ impl LineFlags {
     }
 
     /// Returns whether the line is expanded (`SCI_GETFOLDEXPANDED`).
+    #[inline]
     pub fn expanded(&self, line: usize) -> bool
         requires { line < length self.now.flags }
         ensures { result ≡ is_expanded self.now.flags line }
@@ -118,6 +120,7 @@ impl LineFlags {
 
     /// Returns the display line of a line, counted from 0 (`SCI_VISIBLEFROMDOCLINE`). A hidden line has that of the
     /// visible line before it.
+    #[inline]
     pub fn display_of(&self, line: usize) -> usize
         requires { line < length self.now.flags }
         ensures { result ≡ display_line self.now.flags line }
@@ -130,6 +133,7 @@ impl LineFlags {
     }
 
     /// Returns the line at a display line, or the number of lines past the last one (`SCI_DOCLINEFROMVISIBLE`).
+    #[inline]
     pub fn doc_of(&self, display: usize) -> usize
         ensures { result ≡ line_shown self.now.flags display }
     {

@@ -1,4 +1,4 @@
-use Rattle.contraction.proofs.Names.{◌≡◌, ◌+◌, ◌++◌, ◌≤◌, length, take, drop, ArePartitions, set_capacity}
+use Rattle.contraction.proofs.Names.{◌≡◌, ◌+◌, ◌++◌, take, drop, ArePartitions, set_capacity}
 use Rattle.contraction.proofs.line_set.remove_range.Given as goal
 
 abbrev pub invariant-loop-index : goal.invariant-loop-index

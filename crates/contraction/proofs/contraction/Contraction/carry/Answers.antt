@@ -1,4 +1,4 @@
-use Rattle.contraction.proofs.Names.{◌≡◌, ◌+◌, ◌∷◌, List, get_or, drop, sym, ap, ◌∙◌, arith, drop_more, Flags, flags_together, LineEdit, Come, after_edits, ViewLines}
+use Rattle.contraction.proofs.Names.{◌≡◌, ◌+◌, ◌∷◌, List, get_or, drop, sym, ap, ◌∙◌, arith, drop_more, flags_together, LineEdit, Come, after_edits, ViewLines}
 use Rattle.contraction.proofs.Carried.{MayFollow, one_more}
 use Rattle.contraction.proofs.contraction.Contraction.carry.Goals as goal
 

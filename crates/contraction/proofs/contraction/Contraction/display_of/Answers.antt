@@ -12,14 +12,14 @@ overflow_add-line-2 g c =
 
 pub overflow_sub-line : goal.overflow_sub-line
 overflow_sub-line g c =
-    let i = c.lines_before-hidden in
+    let i = c.lines_before_likely-hidden in
     let inside : c.args.line < c.self.inside.hidden.length =
     omega (arith, c.requires, lines_of c.self.inside.hidden c.self.inside.contracted c.args.self.now c.self.view_is) in
     omega (arith, (display_in c.self.inside.hidden c.self.inside.contracted c.args.self.now c.args.line i.result c.self.view_is i.ensures.sound i.ensures.last inside).0)
 
 pub returns : goal.returns
 returns g c =
-    let i = c.lines_before-hidden in
+    let i = c.lines_before_likely-hidden in
     let inside : c.args.line < c.self.inside.hidden.length =
     omega (arith, c.requires, lines_of c.self.inside.hidden c.self.inside.contracted c.args.self.now c.self.view_is) in
     omega (arith, (display_in c.self.inside.hidden c.self.inside.contracted c.args.self.now c.args.line i.result c.self.view_is i.ensures.sound i.ensures.last inside).1, c.saturating_sub.ensures)

@@ -1,4 +1,4 @@
-use Rattle.contraction.proofs.Names.{◌≡◌, ◌+◌, ◌-◌, ◌<◌, ◌≤◌, length}
+use Rattle.contraction.proofs.Names.{◌≡◌, ◌+◌, ◌-◌, ◌<◌, length}
 use Rattle.contraction.proofs.Expanding.{Passed}
 use Rattle.contraction.proofs.contraction.Contraction.expand.Given as goal
 
