@@ -121,8 +121,8 @@ bound() {
         # 200,000 runs in room for 262,144: a start of 4 bytes, or of 8, and a value of 4, and the old block of the last that grew
         indicators_of_small_places) echo $((262144 * (4 + 4) + 131072 * 4 + 40000)) ;;
         indicators_of_large_places) echo $((262144 * (8 + 4) + 131072 * 4 + 40000)) ;;
-        # room for 100,006 runs of one indicator, a start and a value of 4 bytes each
-        insertions_about_an_indicator) echo $((100006 * (4 + 4) + 40000)) ;;
+        # room for 100,003 runs of one indicator, a start and a value of 4 bytes each
+        insertions_about_an_indicator) echo $((100003 * (4 + 4) + 40000)) ;;
         # room for 131,072 commands of 56 bytes, 100,000 texts of 24 and the listing
         a_long_script_is_listed_and_read) echo $((7340032 + 2400000 + 3200006 + 40000)) ;;
         # a text of 700,000 bytes that grew by doubling

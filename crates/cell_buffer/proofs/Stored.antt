@@ -23,10 +23,13 @@ stored_further bs ss k n e =
     ∙ ap (paired bs) (append-nil (ss ++ replicate n 0))
     ∙ zeros_stored bs ss n
 
-pub stored_length : (ss : List ℕ) (k n : ℕ) → k ≡ length ss → length (inserted ss k (replicate n 0)) ≡ length ss + n
+pub stored_length : (ss : List ℕ) (k n : ℕ) → k ≤ length ss → length (inserted ss k (replicate n 0)) ≡ length ss + n
 stored_length ss k n e = simp (length-append, length-take, length-drop, length-replicate) (omega arith)
 
 -- Insertions.
+
+pub inserted_length : (bs new : List ℕ) (p : ℕ) → p ≤ length bs → length (inserted bs p new) ≡ length bs + length new
+inserted_length bs new p l = simp (length-append, length-take, length-drop) (omega arith)
 
 pub inserted_cells_length : (bs ss new : List ℕ) (p : ℕ) → p ≤ length bs →
     length (edited_cells (Insert p new) (paired bs ss)) ≡ length (paired bs ss) + length new

@@ -1,72 +1,54 @@
 -- What a contract sees of `Cells`.
-use Rattle.std.specs.Prelude.{◌≡◌, ◌≤◌, ◌<◌, ℕ, ◌+◌, ◌-◌, ◌⊎◌, ◌==◌, if◌then◌else◌, min, max, nat_lt, nat_le, Bool, true, false, List, [], ◌∷◌, ◌++◌, length, take, drop, slice_index, slice_range, Option, Some, None}
+use Rattle.std.specs.Prelude.{◌≡◌, ◌≤◌, ◌<◌, ℕ, ◌+◌, ◌-◌, ◌*◌, ◌⊎◌, ◌==◌, if◌then◌else◌, min, max, nat_lt, nat_le, Bool, true, false, List, [], ◌∷◌, ◌++◌, length, take, drop, slice_index, slice_range, Option, Some, None}
 use Rattle.ed_model.specs.Text.{Cell, bytes_of, plain_cell}
 use Rattle.ed_model.specs.Changes.{restyled}
-use Rattle.split_vector.specs.Split.{Split, gap_after, gap_closed, most_room, moved_after, moved_closed}
+use Rattle.split_vector.specs.Split.{Split, gap_after, gap_closed, moved_after, moved_closed}
 
--- The cells; whether memory is kept for a style of each (otherwise all are 0); for how many cells, from the first on,
--- the styles are stored (those behind are 0); and how many more cells are promised to fit in. Then, for the gap buffer
--- of the bytes and for that of the styles: the spare capacity, how many items lie before the gap, and how many were
--- moved or written so far.
+-- The cells; whether styles are kept (otherwise all are 0); for how many cells, from the first on, the styles are stored
+-- (those behind are 0); and how many bytes, and how many styles, fit in all without an allocation. Then, for the gap buffer
+-- of the bytes and for that of the styles: how many items lie before the gap, and how many were moved or written so far.
 pub record Buffer : Type 0 where
   pub cells : List Cell
   pub keeps_styles : Bool
   pub styled : ℕ
-  pub room : ℕ
-  pub spare : ℕ × ℕ
+  pub capacity : ℕ × ℕ
   pub gaps : ℕ × ℕ
   pub moved : ℕ × ℕ
 
--- no cells, no styles and no room
+-- no cells and no styles, and no memory for any
 abbrev pub no_cells : Buffer
-no_cells = record { cells = []; keeps_styles = false; styled = 0; room = 0; spare = (0, 0); gaps = (0, 0); moved = (0, 0) }
+no_cells = record { cells = []; keeps_styles = false; styled = 0; capacity = (0, 0); gaps = (0, 0); moved = (0, 0) }
 
--- for how many styles of n bytes memory is kept
-abbrev pub stored : Bool → ℕ → ℕ
-stored true n = n
-stored false n = 0
+-- how many styles n bytes have: one each if styles are kept, and otherwise none
+abbrev pub styles_for : Bool → ℕ → ℕ
+styles_for true n = n
+styles_for false n = 0
 
--- for how many styles of `count` bytes the cells keep memory
-abbrev pub styles_of_bytes : Buffer → ℕ → ℕ
-styles_of_bytes b count = stored b.keeps_styles count
+-- `count` more bytes fit, and their styles if styles are kept
+abbrev pub HasRoom : ℕ → Buffer → Type 0
+HasRoom count b = (length b.cells + count ≤ b.capacity.0) × (styles_for b.keeps_styles (length b.cells + count) ≤ b.capacity.1)
 
--- there is memory for `count` more bytes, and for their styles if styles are kept
-abbrev pub HasMemory : ℕ → Buffer → Type 0
-HasMemory count b = (count ≤ b.spare.0) × (styles_of_bytes b count ≤ b.spare.1)
+-- whatever there was room for still fits
+abbrev pub KeepsRoom : Buffer → Buffer → Type 0
+KeepsRoom old new = (count : ℕ) → HasRoom count old → HasRoom count new
 
--- the statement holds if there is that memory
-abbrev pub IfMemory : ℕ → Buffer → Type 0 → Type 0
-IfMemory count b P = count ≤ b.spare.0 → styles_of_bytes b count ≤ b.spare.1 → P
+-- no more fits than with the other capacity, neither bytes nor styles
+abbrev pub IsWithin : ℕ × ℕ → ℕ × ℕ → Type 0
+IsWithin less more = (less.0 ≤ more.0) × (less.1 ≤ more.1)
 
--- for how many more styles there is memory at most after room for `count` more bytes was requested
-abbrev pub most_style_spare : Buffer → ℕ → ℕ
-most_style_spare b count = most_room (styles_of_bytes b (length b.cells)) b.spare.1 (styles_of_bytes b count)
+-- the most that fits into a block once memory for `wanted` items was requested: as much as before if they fit, and
+-- otherwise `wanted`, or twice as much as before
+abbrev pub most_held : (held wanted : ℕ) → ℕ
+most_held held wanted = if nat_le wanted held then held else max wanted (2 * held)
 
--- there is room for `count` more bytes, or the old room if that is more, and nothing else changes
-abbrev pub GainsRoom : ℕ → Buffer → Buffer → Type 0
-GainsRoom count old new = new ≡ record old { room = max old.room count }
+-- the most that fits once room for `count` more bytes was requested
+abbrev pub most_capacity : ℕ → Buffer → ℕ × ℕ
+most_capacity count b =
+    (most_held b.capacity.0 (length b.cells + count), most_held b.capacity.1 (styles_for b.keeps_styles (length b.cells + count)))
 
--- the same, but the memory may change as well
-abbrev pub GainsRoomAndMemory : ℕ → Buffer → Buffer → Type 0
-GainsRoomAndMemory count old new = new ≡ record old { room = max old.room count; spare = new.spare }
-
--- memory is kept for styles, and nothing else changes
+-- styles are kept, and nothing else changes but how many of them fit
 abbrev pub GainsStyles : Buffer → Buffer → Type 0
-GainsStyles old new = new ≡ record old { keeps_styles = true; spare = (old.spare.0, new.spare.1) }
-
--- once styles are kept, there is memory for the styles of the cells and of the room at most, or for twice as many as
--- there was memory for before
-abbrev pub StyleBlockFits : Buffer → Buffer → Type 0
-StyleBlockFits old new = length old.cells + new.spare.1 ≤ most_room 0 old.spare.1 (length old.cells + old.room)
-
--- `count` bytes, and their styles if styles are kept, take spare capacity
-abbrev pub TakesSpare : ℕ → Buffer → Buffer → Type 0
-TakesSpare count old new =
-    (new.spare.0 + count ≡ old.spare.0) × (new.spare.1 + styles_of_bytes old count ≡ old.spare.1)
-
--- the spare capacity once `count` cells were deleted
-abbrev pub spare_after_deletion : Buffer → ℕ → ℕ × ℕ
-spare_after_deletion b count = (b.spare.0 + count, b.spare.1 + styles_of_bytes b count)
+GainsStyles old new = new ≡ record old { keeps_styles = true; capacity = (old.capacity.0, new.capacity.1) }
 
 -- the `count` bytes from the start on
 abbrev pub bytes_in : Buffer → (start count : ℕ) → List ℕ

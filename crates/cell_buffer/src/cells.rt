@@ -1,12 +1,11 @@
 //! `Cells` and its calls. A contract sees its `cells`, whether it keeps styles (`keeps_styles`), for how many cells the
-//! styles are stored (`styled`), its `room`, and the `spare`, `gaps` and `moved` of both gap buffers.
+//! styles are stored (`styled`), and the `capacity`, `gaps` and `moved` of both gap buffers.
 
-ghost use Rattle.std.specs.Prelude.{◌≡◌, ◌<◌, ◌≤◌, ◌+◌, ◌-◌, ◌^◌, true, false, ◌++◌, [], ◌∷◌, length, take, drop, replicate, min, max, slice_get, slice_range, vec_len, vec_capacity, IfOk, OnOk, OnErr, IsOk};
+ghost use Rattle.std.specs.Prelude.{◌≡◌, ◌<◌, ◌≤◌, ◌+◌, ◌^◌, true, false, ◌++◌, [], ◌∷◌, length, take, drop, replicate, slice_get, slice_range, vec_capacity, IfOk, OnOk, OnErr, IsOk};
 ghost use Rattle.ed_model.specs.Text.{bytes_of, styles_of, plain_cells};
 ghost use Rattle.ed_model.specs.Steps.{Insert, edited_cells};
 ghost use Rattle.ed_model.specs.Indicators.{changed_range};
-ghost use Rattle.split_vector.specs.Split.{most_room};
-ghost use Rattle.cell_buffer.specs.Buffer.{bytes_in, gap_after_storing, gaps_after_deletion, gaps_after_insertion, most_style_spare, moved_after_deletion, moved_after_insertion, moved_after_storing, no_cells, spare_after_deletion, styles_in, styles_of_bytes, styles_out, CostsBoth, CostsInsertion, GainsRoom, GainsRoomAndMemory, GainsStyles, HasMemory, IfMemory, SetsStyles, StoresStyles, StyleBlockFits, TakesSpare};
+ghost use Rattle.cell_buffer.specs.Buffer.{bytes_in, gap_after_storing, gaps_after_deletion, gaps_after_insertion, most_capacity, most_held, moved_after_deletion, moved_after_insertion, moved_after_storing, no_cells, styles_in, styles_out, CostsBoth, CostsInsertion, GainsStyles, HasRoom, IsWithin, KeepsRoom, SetsStyles, StoresStyles};
 ghost use Rattle.cell_buffer.specs.Growing.{HasCapacity, HasRoomFor};
 
 use crate::growth::{grow_blocks, size_is_small};
@@ -33,13 +32,12 @@ pub struct Cells {
     keeps_styles: bool,
     // A growth by a 64th is paid for once more than this many units of bytes have been moved or written.
     paid_from: u32,
-    // How many more cells were reserved. Both blocks may hold more.
-    room: usize,
 }
 
 impl Model for Cells {
-    ghost use Rattle.std.specs.Prelude.{◌≡◌, ◌≤◌, ◌+◌, ◌-◌, false, length};
-    ghost use Rattle.cell_buffer.specs.Buffer.{Buffer, paired, stored};
+    ghost use Rattle.std.specs.Prelude.{◌≡◌, ◌≤◌, false, length};
+    ghost use Rattle.split_vector.specs.Split.{block_size};
+    ghost use Rattle.cell_buffer.specs.Buffer.{Buffer, paired, styles_for};
 
     ghost Value = { Buffer };
 
@@ -47,8 +45,7 @@ impl Model for Cells {
       cells = paired c.bytes.items c.styles.items;
       keeps_styles = c.keeps_styles;
       styled = length c.styles.items;
-      room = c.room;
-      spare = (c.bytes.spare, length c.styles.items + c.styles.spare - stored c.keeps_styles (length c.bytes.items));
+      capacity = (block_size c.bytes, block_size c.styles);
       gaps = (c.bytes.gap, c.styles.gap);
       moved = (c.bytes.moved, c.styles.moved);
     } };
@@ -56,8 +53,7 @@ impl Model for Cells {
     ghost invariant = { λ c. record {
       style_count : length c.styles.items ≤ length c.bytes.items;
       no_styles : c.keeps_styles ≡ false → length c.styles.items ≡ 0;
-      byte_room : c.room ≤ c.bytes.spare;
-      style_room : stored c.keeps_styles (length c.bytes.items + c.room) ≤ length c.styles.items + c.styles.spare;
+      styles_fit : styles_for c.keeps_styles (length c.bytes.items) ≤ block_size c.styles;
     } };
 }
 
@@ -65,7 +61,7 @@ impl Cells {
     ghost use Rattle.std.specs.Borrow.{sem};
     ghost use Rattle.cell_buffer.specs.Lends.{lent_and_back};
 
-    /// Returns an empty text without styles and without room. Allocates nothing.
+    /// Returns an empty text without styles. Allocates nothing.
     pub fn new(alloc: Global) -> Self
         ensures { result ≡ no_cells }
     {
@@ -74,7 +70,6 @@ impl Cells {
             styles: SplitVector::new(alloc),
             keeps_styles: false,
             paid_from: 0,
-            room: 0,
         }
     }
 
@@ -82,20 +77,10 @@ impl Cells {
     #[tactic(auto, using(crate::proofs::Pairs::pairs_length))]
     pub fn len(&self) -> usize
         ensures len { result ≡ length self.now.cells }
-        ensures within { length self.now.cells + self.now.room < 2 ^ 63 }
+        ensures fit { HasRoom 0 self.now }
+        ensures within { self.now.capacity.0 < 2 ^ 63 }
     {
         self.bytes.len()
-    }
-
-    /// Returns how many more bytes are promised to fit in without an allocation.
-    #[tactic(auto, using(crate::proofs::Pairs::pairs_length))]
-    pub fn room(&self) -> usize
-        ensures room { result ≡ self.now.room }
-        ensures within { length self.now.cells + self.now.room < 2 ^ 63 }
-    {
-        let room = self.room;
-        size_is_small(&self.bytes);
-        room
     }
 
     /// Returns whether there is memory for styles. Otherwise all styles are 0.
@@ -141,35 +126,30 @@ impl Cells {
     ///
     /// # Errors
     ///
-    /// `AllocError` if an allocation fails. Then nothing has changed except `spare`.
+    /// `AllocError` if an allocation fails. The capacity may have grown then; nothing else has changed.
     #[tactic(auto, using(crate::proofs::Pairs::pairs_length))]
     #[inline(always)]
     pub fn reserve(&mut self, count: usize) -> Result<(), AllocError>
-        ensures ok { OnOk result (GainsRoomAndMemory count self.old self.new) }
-        ensures room_is_there { count ≤ self.old.room → IsOk result × (self.new ≡ self.old) }
-        ensures memory_is_there { IfMemory count self.old (IsOk result × GainsRoom count self.old self.new) }
-        ensures bytes_stay { count ≤ self.old.spare.0 → self.new.spare.0 ≡ self.old.spare.0 }
-        ensures styles_stay { styles_of_bytes self.old count ≤ self.old.spare.1 → self.new.spare.1 ≡ self.old.spare.1 }
-        ensures at_most { self.new.spare.0 ≤ most_room (length self.old.cells) self.old.spare.0 count }
-        ensures styles_at_most { self.new.spare.1 ≤ most_style_spare self.old count }
-        ensures err { OnErr result (self.new ≡ record self.old { spare = self.new.spare }) }
-        ensures within { length self.new.cells + self.new.room < 2 ^ 63 }
+        ensures rest { self.new ≡ record self.old { capacity = self.new.capacity } }
+        ensures ok { OnOk result (HasRoom count self.new) }
+        ensures room_is_there { HasRoom count self.old → IsOk result × (self.new ≡ self.old) }
+        ensures capacity { IsWithin self.old.capacity self.new.capacity }
+        ensures at_most { IsWithin self.new.capacity (most_capacity count self.old) }
+        ensures within { self.new.capacity.0 < 2 ^ 63 }
     {
         if self.fits(count) {
-            self.room = self.room.max(count);
             return Ok(());
         }
         self.grow(count)
     }
 
-    // Returns whether there is memory for `count` more bytes, and for their styles if styles are kept.
+    // Returns whether `count` more bytes fit, and their styles if styles are kept.
     #[inline(always)]
     #[tactic(auto, using(crate::proofs::Pairs::pairs_length))]
     fn fits(&self, count: usize) -> bool
-        ensures yes { result ≡ true → HasMemory count self.now }
-        ensures there { IfMemory count self.now (result ≡ true) }
-        ensures no { result ≡ false → self.now.room < count }
-        ensures within { length self.now.cells + self.now.spare.0 < 2 ^ 63 }
+        ensures yes { result ≡ true → HasRoom count self.now }
+        ensures there { HasRoom count self.now → result ≡ true }
+        ensures within { self.now.capacity.0 < 2 ^ 63 }
     {
         if self.bytes.spare() < count {
             return false;
@@ -186,30 +166,23 @@ impl Cells {
     #[inline(never)]
     #[tactic(auto, using(crate::proofs::Pairs::pairs_length))]
     fn grow(&mut self, count: usize) -> Result<(), AllocError>
-        requires { self.old.room < count }
-        ensures ok { OnOk result (GainsRoomAndMemory count self.old self.new) }
-        ensures bytes_stay { count ≤ self.old.spare.0 → self.new.spare.0 ≡ self.old.spare.0 }
-        ensures styles_stay { styles_of_bytes self.old count ≤ self.old.spare.1 → self.new.spare.1 ≡ self.old.spare.1 }
-        ensures at_most { self.new.spare.0 ≤ most_room (length self.old.cells) self.old.spare.0 count }
-        ensures styles_at_most { self.new.spare.1 ≤ most_style_spare self.old count }
-        ensures err { OnErr result (self.new ≡ record self.old { spare = self.new.spare }) }
-        ensures within { length self.new.cells + self.new.room < 2 ^ 63 }
+        ensures rest { self.new ≡ record self.old { capacity = self.new.capacity } }
+        ensures ok { OnOk result (HasRoom count self.new) }
+        ensures capacity { IsWithin self.old.capacity self.new.capacity }
+        ensures at_most { IsWithin self.new.capacity (most_capacity count self.old) }
+        ensures within { self.new.capacity.0 < 2 ^ 63 }
     {
-        let grown = grow_blocks(
+        grow_blocks(
             &mut self.bytes,
             &mut self.styles,
             self.keeps_styles,
             &mut self.paid_from,
             count,
-        );
-        let Ok(()) = grown else {
-            return Err(AllocError);
-        };
-        self.room = count;
-        Ok(())
+        )
     }
 
-    /// Allocates memory for styles, and keeps styles from now on, if it does not yet. All styles are 0 so far.
+    /// Keeps styles from now on. If none were kept so far, allocates memory for a style of each byte that fits, so that
+    /// whatever there was room for still fits. All styles are 0 then.
     ///
     /// # Errors
     ///
@@ -218,16 +191,16 @@ impl Cells {
     pub fn keep_styles(&mut self) -> Result<(), AllocError>
         ensures ok { OnOk result (GainsStyles self.old self.new) }
         ensures plain { self.old.keeps_styles ≡ false → self.new.cells ≡ plain_cells (bytes_of self.new.cells) }
-        ensures at_most { self.old.keeps_styles ≡ false → OnOk result (StyleBlockFits self.old self.new) }
+        ensures room { OnOk result (KeepsRoom self.old self.new) }
+        ensures at_most { self.new.capacity.1 ≤ most_held self.old.capacity.1 self.old.capacity.0 }
         ensures kept { self.old.keeps_styles ≡ true → IsOk result × (self.new ≡ self.old) }
         ensures err { OnErr result (self.new ≡ self.old) }
     {
         if self.keeps_styles {
             return Ok(());
         }
-        let len = self.bytes.len();
-        size_is_small(&self.bytes);
-        let Ok(()) = self.styles.reserve(len + self.room) else {
+        let fit = self.bytes.len() + self.bytes.spare();
+        let Ok(()) = self.styles.reserve(fit) else {
             return Err(AllocError);
         };
         self.keeps_styles = true;
@@ -235,14 +208,13 @@ impl Cells {
     }
 
     /// Inserts `bytes` at `place`, with style 0. There must be room for them.
-    #[tactic(auto, using(crate::proofs::Pairs::pairs_length, crate::proofs::Pairs::inserted_among, crate::proofs::Pairs::inserted_behind, crate::proofs::Stored::inserted_cells_length, crate::proofs::Costs::insertion_costs))]
+    #[tactic(auto, using(crate::proofs::Pairs::pairs_length, crate::proofs::Pairs::inserted_among, crate::proofs::Pairs::inserted_behind, crate::proofs::Stored::inserted_length, crate::proofs::Stored::stored_length, crate::proofs::Stored::inserted_cells_length, crate::proofs::Costs::insertion_costs))]
     pub fn insert_reserved(&mut self, place: usize, bytes: &[u8])
-        requires { (place ≤ length self.old.cells) × (length bytes.now ≤ self.old.room) }
+        requires { (place ≤ length self.old.cells) × HasRoom (length bytes.now) self.old }
         ensures cells { self.new.cells ≡ edited_cells (Insert place bytes.now) self.old.cells }
         ensures len { length self.new.cells ≡ length self.old.cells + length bytes.now }
         ensures keeps { self.new.keeps_styles ≡ self.old.keeps_styles }
-        ensures room { self.new.room + length bytes.now ≡ self.old.room }
-        ensures spare { TakesSpare (length bytes.now) self.old self.new }
+        ensures capacity { self.new.capacity ≡ self.old.capacity }
         ensures styled { self.new.styled ≡ self.old.styled + styles_in self.old place (length bytes.now) }
         ensures gaps { self.new.gaps ≡ gaps_after_insertion self.old place (length bytes.now) }
         ensures moved { self.new.moved ≡ moved_after_insertion self.old place (length bytes.now) }
@@ -252,7 +224,6 @@ impl Cells {
         if place < self.styles.len() {
             self.styles.insert_fill_reserved(place, bytes.len(), 0);
         }
-        self.room -= bytes.len();
     }
 
     /// Deletes `count` cells from `place` on. They become spare capacity.
@@ -262,8 +233,7 @@ impl Cells {
         ensures cells { self.new.cells ≡ take place self.old.cells ++ drop (place + count) self.old.cells }
         ensures len { length self.new.cells + count ≡ length self.old.cells }
         ensures keeps { self.new.keeps_styles ≡ self.old.keeps_styles }
-        ensures room { self.new.room ≡ self.old.room + count }
-        ensures spare { self.new.spare ≡ spare_after_deletion self.old count }
+        ensures capacity { self.new.capacity ≡ self.old.capacity }
         ensures styled { self.new.styled + styles_out self.old place count ≡ self.old.styled }
         ensures gaps { self.new.gaps ≡ gaps_after_deletion self.old place count }
         ensures moved { self.new.moved ≡ moved_after_deletion self.old place count }
@@ -275,7 +245,6 @@ impl Cells {
         if place < styled {
             self.styles.delete(place, count.min(styled - place));
         }
-        self.room += count;
     }
 
     // Stores the styles of the cells before `end`, and of some behind it, unless they are stored already. The

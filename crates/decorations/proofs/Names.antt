@@ -11,7 +11,7 @@ pub use Rattle.ed_model.specs.Steps.{Insert, Delete}
 pub use Rattle.ed_model.specs.TextPlans.{at_place}
 pub use Rattle.ed_model.specs.proved.Indicators.{nothing_changed, length_filled}
 pub use Rattle.ed_model.specs.proved.Rising.{range-append, filter_range_none}
-pub use Rattle.run_styles.specs.Runs.{IsChangedRange, Runs, Spare, spare, IsSpareFor, IsSameMemory, run_count, IsRunStart, IsRunEnd, inserted, deleted}
-pub use Rattle.decorations.specs.Decorated.{IsClear, values_of, mask_of, Decorated, decorated, Held, spare_of, AreRunsFor, AreEnough, IsEnough, IsEnoughFor, HasRunsOf, HaveRunsOf, WereFilledFrom, run_about}
+pub use Rattle.run_styles.specs.Runs.{IsChangedRange, Runs, RunCapacity, run_capacity, Fit, HasRoom, IsCapacityFor, KeepsCapacity, run_count, IsRunStart, IsRunEnd, inserted, deleted}
+pub use Rattle.decorations.specs.Decorated.{IsClear, IsUsed, values_of, mask_of, Decorated, decorated, DecorationCapacity, no_runs, capacity_at, runs_of, HasRoomForRuns, HasRoomForInsertions, HasRoomForFill, IsCapacityForRuns, IsCapacityForFill, HasRunsFrom, KeepsRuns, WereFilledFrom, run_about}
 unfoldable pub use Rattle.decorations.specs.Decorated.{indicators}
-pub use Rattle.decorations.specs.Slots.{slot_at, shown, all_shown, AreKept, IsKept, AreSpare, HasSpare, CanFill, AreSlots, for_fill, InBoth, InEach, HaveRoomOf, TookIn, GaveAway, WasFilled, slot_spare, source_spare, held_by, CanTakeIn}
+pub use Rattle.decorations.specs.Slots.{slot_at, shown, all_shown, AreKept, IsKept, AreSpare, CanFill, AreSlots, EachSlot, InBoth, InEach, HaveGrown, TookIn, GaveAway, WasFilled, slot_capacity, source_capacity, capacity_by, CanTakeIn}

@@ -1,12 +1,12 @@
 -- Reads of one indicator.
-use Rattle.decorations.proofs.Names.{◌≡◌, ℕ, ◌<◌, ◌≤◌, List, length, replicate, Option, unwrap_or, sym, ap, ◌∙◌, pos, slice_get_past, unwrap_or-slice_get, at_place, Runs, decorated, Decorated, Held, values_of, slot_at, shown, all_shown}
+use Rattle.decorations.proofs.Names.{◌≡◌, ℕ, ◌<◌, ◌≤◌, List, length, replicate, Option, unwrap_or, sym, ap, ◌∙◌, pos, slice_get_past, unwrap_or-slice_get, at_place, Runs, decorated, Decorated, DecorationCapacity, values_of, slot_at, shown, all_shown}
 use Rattle.decorations.proofs.Numbered.{numbered_at}
 use Rattle.decorations.proofs.Values.{zeros_at}
 
 -- the values of an indicator
-pub values_are : {memory : Held} (d : Decorated) (size room : ℕ) (ready : Option ℕ) (slots : List (Option (Runs ℕ))) (k : ℕ) (slot : Option (Runs ℕ)) → k < 32 → decorated size (all_shown size slots) room ready memory ≡ d → slot ≡ slot_at slots k →
+pub values_are : {capacity : DecorationCapacity} (d : Decorated) (size : ℕ) (slots : List (Option (Runs ℕ))) (k : ℕ) (slot : Option (Runs ℕ)) → k < 32 → decorated size (all_shown size slots) capacity ≡ d → slot ≡ slot_at slots k →
     values_of d.values k ≡ shown size slot
-values_are d size room ready slots k slot h e f =
+values_are d size slots k slot h e f =
     ap (λ v. values_of v.values k) (sym e) ∙ numbered_at (λ j. shown size (slot_at slots j)) k _ h ∙ ap (shown size) (sym f)
 
 -- 0 past the end, and if the indicator has no runs

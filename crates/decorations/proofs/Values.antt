@@ -1,5 +1,5 @@
 -- The effect of a step on the values of one indicator, whether it has runs or is 0 everywhere.
-use Rattle.decorations.proofs.Names.{◌≡◌, ℕ, ◌+◌, ◌-◌, ◌≤◌, ◌==◌, nat_eq, ◌||◌, Bool, true, false, if◌then◌else◌, List, ◌++◌, length, take, drop, replicate, get_or, Option, Some, None, is_some, IfSome, IfNone, MatchOption, true≢false, refl, sym, ap, ◌∙◌, subst, arith, inl, inr, take-append-drop, append_assoc, cond_both, cases_lt, length-append, length-take, length-drop, length-replicate, take-replicate, drop-replicate, replicate-append-replicate, get_or-replicate, get_or_past, get_or_append_left, get_or-append-add, ext_get_or, All-append, All-replicate, inserted_value, indicator_after, filled, Insert, Delete, Runs, inserted, deleted, IsClear, shown, AreKept, IsKept, HasSpare, TookIn, InBoth, GaveAway}
+use Rattle.decorations.proofs.Names.{◌≡◌, ℕ, ◌+◌, ◌-◌, ◌≤◌, ◌==◌, nat_eq, ◌||◌, Bool, true, false, if◌then◌else◌, List, ◌++◌, length, take, drop, replicate, get_or, Option, Some, None, is_some, IfSome, true≢false, refl, sym, ap, ◌∙◌, subst, arith, inl, inr, take-append-drop, append_assoc, cond_both, cases_lt, length-append, length-take, length-drop, length-replicate, take-replicate, drop-replicate, replicate-append-replicate, get_or-replicate, get_or_past, get_or_append_left, get_or-append-add, ext_get_or, All-append, All-replicate, inserted_value, indicator_after, filled, Insert, Delete, Runs, inserted, deleted, IsClear, shown, AreKept, IsKept, TookIn, InBoth, GaveAway}
 use Rattle.std.specs.Bool.{IsTrue}
 use Rattle.run_styles.specs.Runs.{filled as runs_filled, inserted_value as runs_value}
 
@@ -48,11 +48,10 @@ inserted_clear values place count v clear =
 inserted_length : (values : List ℕ) (place count v : ℕ) → place ≤ length values → length (inserted values place count v) ≡ length values + count
 inserted_length values place count v h = simp (length-append, length-take, length-drop, length-replicate) (omega arith)
 
-pub took_kept : (size room place count : ℕ) (old new : Runs ℕ) → place ≤ size → AreKept size (room + 1) old → TookIn place count old new → AreKept (size + count) room new
-took_kept size room place count old new h kept took = record {
+pub took_kept : (size place count : ℕ) (old new : Runs ℕ) → place ≤ size → AreKept size old → TookIn place count old new → AreKept (size + count) new
+took_kept size place count old new h kept took = record {
   sized = ap length took.values ∙ inserted_length old.values place count _ (omega (arith, kept.sized)) ∙ ap (λ n. n + count) kept.sized;
   default = took.default ∙ kept.default;
-  has_room = omega (arith, kept.has_room, took.room);
   used = λ clear. kept.used (inserted_clear old.values place count _ (let Q : List ℕ → Type 0 = IsClear in subst Q took.values clear));
 }
 
@@ -65,47 +64,40 @@ inserted_same : (values : List ℕ) (p : ℕ) → runs_value nat_eq 0 values p �
 inserted_same values p =
     ap (λ (t : Bool). if t then 0 else get_or values (p - 1) 0) (sym (or_joined (p == 0) (p == length values) (get_or values p 0 == 0)))
 
-pub took_shown : (size room place count : ℕ) (bytes : List ℕ) (old new : Option (Runs ℕ)) → place ≤ size → length bytes ≡ count → IsKept size room old → InBoth (TookIn place count) old new →
+pub took_shown : (size place count : ℕ) (bytes : List ℕ) (old new : Option (Runs ℕ)) → place ≤ size → length bytes ≡ count → IsKept size old → InBoth (TookIn place count) old new →
     shown (size + count) new ≡ indicator_after (Insert place bytes) (shown size old)
-took_shown size room place count bytes None new h e kept took = rw (took, ← e) (sym (zeros_inserted size place bytes h))
-took_shown size room place count bytes (Some old) None h e kept took = absurd took
-took_shown size room place count bytes (Some old) (Some new) h e kept took =
+took_shown size place count bytes None new h e kept took = rw (took, ← e) (sym (zeros_inserted size place bytes h))
+took_shown size place count bytes (Some old) None h e kept took = absurd took
+took_shown size place count bytes (Some old) (Some new) h e kept took =
     rw (took.values, kept.default, inserted_same old.values place, ← e) (sym (append_assoc (take place old.values) (replicate (length bytes) (inserted_value old.values place)) (drop place old.values)))
 
 -- A deletion.
 
-pub gave_shown : (size room place count : ℕ) (bytes : List ℕ) (old new : Option (Runs ℕ)) → place + count ≤ size → length bytes ≡ count → IsKept size room old → GaveAway place count old new →
+pub gave_shown : (size place count : ℕ) (bytes : List ℕ) (old new : Option (Runs ℕ)) → place + count ≤ size → length bytes ≡ count → IsKept size old → GaveAway place count old new →
     shown (size - count) new ≡ indicator_after (Delete place bytes) (shown size old)
-gave_shown size room place count bytes None new h e kept gave = rw (gave, ← e) (sym (zeros_deleted size place bytes (omega arith)))
-gave_shown size room place count bytes (Some old) None h e kept gave =
+gave_shown size place count bytes None new h e kept gave = rw (gave, ← e) (sym (zeros_deleted size place bytes (omega arith)))
+gave_shown size place count bytes (Some old) None h e kept gave =
     let long : length (deleted old.values place count) ≡ size - count = simp (length-append, length-take, length-drop) (omega (arith, kept.sized)) in
     rw e (sym (clear_zeros (deleted old.values place count) gave ∙ ap (λ n. replicate n 0) long))
-gave_shown size room place count bytes (Some old) (Some new) h e kept gave = rw (gave.values, ← e)
+gave_shown size place count bytes (Some old) (Some new) h e kept gave = rw (gave.values, ← e)
 
 -- A slot.
 
-pub shown_length : (size room : ℕ) (slot : Option (Runs ℕ)) → IsKept size room slot → length (shown size slot) ≡ size
-shown_length size room None kept = length-replicate {A = ℕ} size 0
-shown_length size room (Some runs) kept = kept.sized
+pub shown_length : (size : ℕ) (slot : Option (Runs ℕ)) → IsKept size slot → length (shown size slot) ≡ size
+shown_length size None kept = length-replicate {A = ℕ} size 0
+shown_length size (Some runs) kept = kept.sized
 
 -- so the indicator is used exactly if it has runs
-pub tells_used : (size room : ℕ) (slot : Option (Runs ℕ)) (values : List ℕ) (b : Bool) → IsKept size room slot → b ≡ is_some slot → values ≡ shown size slot → (IsTrue b → IsClear values → ⊥) × ((IsClear values → ⊥) → IsTrue b)
-tells_used size room None values b kept e f =
+pub tells_used : (size : ℕ) (slot : Option (Runs ℕ)) (values : List ℕ) (b : Bool) → IsKept size slot → b ≡ is_some slot → values ≡ shown size slot → (IsTrue b → IsClear values → ⊥) × ((IsClear values → ⊥) → IsTrue b)
+tells_used size None values b kept e f =
     let Q : List ℕ → Type 0 = IsClear in (λ yes clear. true≢false (sym yes ∙ e), λ unclear. absurd (unclear (subst Q (sym f) (zeros_clear size))))
-tells_used size room (Some runs) values b kept e f = let Q : List ℕ → Type 0 = IsClear in (λ yes clear. kept.used (subst Q f clear), λ unclear. e)
+tells_used size (Some runs) values b kept e f = let Q : List ℕ → Type 0 = IsClear in (λ yes clear. kept.used (subst Q f clear), λ unclear. e)
 
 -- A fill.
 
 pub filled_same : (values : List ℕ) (start count value : ℕ) → runs_filled values start count value ≡ filled start count value values
 filled_same values start count value = sym (append_assoc (take start values) (replicate count value) (drop (start + count) values))
 
-pub room_for_fill : (size : ℕ) (slot spare : Option (Runs ℕ)) → IfSome slot (AreKept size 2) → IfNone slot (HasSpare 3 spare) → MatchOption slot (HasSpare (0 + 3) spare) (λ (runs : Runs ℕ). 0 + 2 ≤ runs.room)
-room_for_fill size None spare kept has = has
-room_for_fill size (Some runs) spare kept has = kept.has_room
-
-pub shown_full : (size : ℕ) (slot : Option (Runs ℕ)) → IfSome slot (AreKept size 2) → length (shown size slot) ≡ size
-shown_full size slot kept = shown_length size 2 slot kept
-
-pub default_of : (size : ℕ) (slot : Option (Runs ℕ)) → IfSome slot (AreKept size 2) → IfSome slot (λ (runs : Runs ℕ). runs.default ≡ 0)
+pub default_of : (size : ℕ) (slot : Option (Runs ℕ)) → IsKept size slot → IfSome slot (λ (runs : Runs ℕ). runs.default ≡ 0)
 default_of size None kept = tt
 default_of size (Some runs) kept = kept.default

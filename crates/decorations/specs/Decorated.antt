@@ -1,33 +1,32 @@
 -- What a contract sees of `Decorations`.
-use Rattle.std.specs.Prelude.{ℕ, ◌≡◌, ◌≢◌, ◌+◌, ◌*◌, ◌<◌, ◌≤◌, ◌^◌, ◌==◌, max, nat_eq, not, List, [], length, map, filter, replicate, sum, pos, slice_index_or, slice_set, All, Option, Some, None}
+use Rattle.std.specs.Prelude.{ℕ, ◌≡◌, ◌≢◌, ◌+◌, ◌*◌, ◌<◌, ◌≤◌, ◌^◌, ◌==◌, max, nat_eq, not, List, [], map, filter, replicate, sum, pos, slice_index_or, slice_set, All, Option}
 use Rattle.std.specs.List.{range_with_len}
 use Rattle.ed_model.specs.Indicators.{filled, changed_range}
 use Rattle.ed_model.specs.TextPlans.{at_place}
 use Rattle.ed_model.specs.StylePlans.{run_start, run_past}
-use Rattle.run_styles.specs.Runs.{Spare, spare, IsSpareFor, IsSameMemory, run_count}
+use Rattle.run_styles.specs.Runs.{RunCapacity, run_capacity, Fit, IsCapacityFor, KeepsCapacity, run_count}
 
--- The memory: for how many more runs of each indicator, 0 if it has no runs, and for how many of the next one that gets
--- runs; how many indicators have a slot, and how many may have one without an allocation.
-pub record Held : Type 0 where
-  pub runs : List Spare
-  pub unused : Spare
+-- What fits in without an allocation: how many runs of each indicator, none if it has no runs; how many in the spare
+-- runs, which the next indicator gets that is filled for the first time; and how many indicators have a slot.
+pub record DecorationCapacity : Type 0 where
+  pub runs : List RunCapacity
+  pub spare : RunCapacity
   pub slots : ℕ
-  pub capacity : ℕ
 
-abbrev pub nothing_held : Held
-nothing_held = record { runs = replicate 32 (spare 0 0); unused = spare 0 0; slots = 0; capacity = 0 }
+abbrev pub no_runs : RunCapacity
+no_runs = run_capacity 0 0
 
--- The length of the text, and for each of the 32 indicators its value at each place; for how many insertions there is
--- room, and for a fill of which indicator; and the memory.
+abbrev pub no_capacity : DecorationCapacity
+no_capacity = record { runs = replicate 32 no_runs; spare = no_runs; slots = 0 }
+
+-- the length of the text, for each of the 32 indicators its value at each place, and what fits in
 pub record Decorated : Type 0 where
   pub length : ℕ
   pub values : List (List ℕ)
-  pub room : ℕ
-  pub ready : Option ℕ
-  pub held : Held
+  pub capacity : DecorationCapacity
 
-abbrev pub decorated : ℕ → List (List ℕ) → ℕ → Option ℕ → Held → Decorated
-decorated size values room ready held = record { length = size; values = values; room = room; ready = ready; held = held }
+abbrev pub decorated : ℕ → List (List ℕ) → DecorationCapacity → Decorated
+decorated size values capacity = record { length = size; values = values; capacity = capacity }
 
 -- the numbers of the indicators
 unfoldable pub indicators : List ℕ
@@ -37,27 +36,9 @@ indicators = range_with_len 0 32
 abbrev pub values_of : List (List ℕ) → ℕ → List ℕ
 values_of values indicator = slice_index_or values indicator []
 
--- for how many more runs of an indicator there is memory
-abbrev pub spare_of : Held → ℕ → Spare
-spare_of held indicator = slice_index_or held.runs indicator (spare 0 0)
-
--- For each indicator there is memory for no more runs than the `count` more that were requested, or than in blocks of
--- twice the size, and for no more than before if it sufficed.
-pub record AreRunsFor (count : ℕ) (values : List (List ℕ)) (old new : Held) : Type 0 where
-  pub each : (k : ℕ) → k < 32 → IsSpareFor (run_count nat_eq (values_of values k)) count (spare_of old k) (spare_of new k)
-  pub unused : IsSpareFor 1 count old.unused new.unused
-
--- At most `count` indicators have a slot, or as many as before if these are more. At most that many, or twice as many
--- as had one, may have one without an allocation, and no more than before if that sufficed.
-pub record AreSlotsFor (count : ℕ) (old new : Held) : Type 0 where
-  pub slots : new.slots ≤ max old.slots count
-  pub capacity : new.capacity ≤ max old.capacity (max count (2 * old.slots))
-  pub there : count ≤ old.capacity → new.capacity ≡ old.capacity
-
--- both have the same number of slots
-pub record HaveSlotsOf (old new : Held) : Type 0 where
-  pub slots : new.slots ≡ old.slots
-  pub capacity : new.capacity ≡ old.capacity
+-- how many runs of an indicator fit in
+abbrev pub capacity_at : DecorationCapacity → ℕ → RunCapacity
+capacity_at capacity indicator = slice_index_or capacity.runs indicator no_runs
 
 -- 0 everywhere
 abbrev pub IsClear : List ℕ → Type 0
@@ -67,50 +48,50 @@ IsClear values = All (λ v. v ≡ 0) values
 abbrev pub IsUsed : Decorated → ℕ → Type 0
 IsUsed d indicator = IsClear (values_of d.values indicator) → ⊥
 
--- there is memory for so many more runs
-pub record IsEnough (count : ℕ) (memory : Spare) : Type 0 where
-  pub starts : count ≤ memory.starts
-  pub values : count ≤ memory.values
+-- how many runs of equal values an indicator has
+abbrev pub runs_of : Decorated → ℕ → ℕ
+runs_of d indicator = run_count nat_eq (values_of d.values indicator)
 
--- the same for each indicator that is not 0 everywhere, and for the next one that gets runs
-pub record AreEnough (count : ℕ) (values : List (List ℕ)) (held : Held) : Type 0 where
-  pub each : (k : ℕ) → k < 32 → (IsClear (values_of values k) → ⊥) → IsEnough count (spare_of held k)
-  pub unused : IsEnough count held.unused
+-- so many more runs of each indicator fit in that is not 0 everywhere
+abbrev pub HasRoomForRuns : ℕ → Decorated → Type 0
+HasRoomForRuns count d = (k : ℕ) → k < 32 → IsUsed d k → Fit (runs_of d k + count) (capacity_at d.capacity k)
 
--- the same for one indicator, or, if it is 0 everywhere, for the next one that gets runs
-pub record IsEnoughFor (count indicator : ℕ) (values : List (List ℕ)) (held : Held) : Type 0 where
-  pub used : (IsClear (values_of values indicator) → ⊥) → IsEnough count (spare_of held indicator)
-  pub clear : IsClear (values_of values indicator) → IsEnough count held.unused
+-- There is room for what so many insertions and a fill can bring: a run for each insertion, and two for the fill.
+abbrev pub HasRoomForInsertions : ℕ → Decorated → Type 0
+HasRoomForInsertions insertions d = HasRoomForRuns (insertions + 2) d
 
--- the statement holds if there is memory for so many insertions and a fill
-abbrev pub IfMemory : ℕ → Decorated → Type 0 → Type 0
-IfMemory insertions d P = insertions + 3 < 2 ^ 64 → AreEnough (insertions + 3) d.values d.held → P
+-- There is room for a fill of the indicator: for two more runs. If it is 0 everywhere, there is room for its slot, and
+-- the spare runs have room for three: the filled places, and those before and behind them.
+pub record HasRoomForFill (indicator : ℕ) (d : Decorated) : Type 0 where
+  pub used : IsUsed d indicator → Fit (runs_of d indicator + 2) (capacity_at d.capacity indicator)
+  pub clear : IsClear (values_of d.values indicator) → (indicator < d.capacity.slots) × Fit 3 d.capacity.spare
 
--- the statement holds if there is memory for the indicator's slot, and for the insertions and a fill in its runs
-abbrev pub IfMemoryFor : ℕ → Decorated → Type 0 → Type 0
-IfMemoryFor indicator d P =
-    d.room + 3 < 2 ^ 64 → indicator < d.held.capacity → IsEnoughFor (d.room + 3) indicator d.values d.held → P
+-- The capacity for the runs of each indicator has grown for `count` more at most, and no other has.
+pub record IsCapacityForRuns (count : ℕ) (old : Decorated) (new : DecorationCapacity) : Type 0 where
+  pub runs : (k : ℕ) → k < 32 → IsCapacityFor (runs_of old k + count) (capacity_at old.capacity k) (capacity_at new k)
+  pub kept : (k : ℕ) → k < 32 → KeepsCapacity (capacity_at old.capacity k) (capacity_at new k)
+  pub spare : new.spare ≡ old.capacity.spare
+  pub slots : new.slots ≡ old.capacity.slots
 
--- there is room for so many insertions, or the old room if that is more, and nothing else changes
-abbrev pub GainsRoom : ℕ → Decorated → Decorated → Type 0
-GainsRoom insertions old new = new ≡ record old { room = max old.room insertions }
+-- The capacity has grown for a fill of one indicator at most: for its runs if it has any, else for the spare ones, and
+-- for its slot.
+pub record IsCapacityForFill (indicator : ℕ) (old : Decorated) (new : DecorationCapacity) : Type 0 where
+  pub others : (k : ℕ) → k < 32 → k ≢ indicator → capacity_at new k ≡ capacity_at old.capacity k
+  pub runs : IsCapacityFor (runs_of old indicator + 2) (capacity_at old.capacity indicator) (capacity_at new indicator)
+  pub kept : KeepsCapacity (capacity_at old.capacity indicator) (capacity_at new indicator)
+  pub spare : IsCapacityFor 3 old.capacity.spare new.spare
+  pub spare_kept : KeepsCapacity old.capacity.spare new.spare
+  pub spare_stays : IsUsed old indicator → new.spare ≡ old.capacity.spare
+  pub slots : new.slots ≤ max (indicator + 1) (2 * old.capacity.slots)
+  pub slots_kept : old.capacity.slots ≤ new.slots
+  pub slots_there : indicator < old.capacity.slots → new.slots ≡ old.capacity.slots
 
--- the same, but the memory may change as well
-abbrev pub GainsRoomAndMemory : ℕ → Decorated → Decorated → Type 0
-GainsRoomAndMemory insertions old new = new ≡ record old { room = max old.room insertions; held = new.held }
-
--- there is room for a fill of the indicator, which has a slot, and nothing else changes
-abbrev pub GainsFill : ℕ → Decorated → Decorated → Type 0
-GainsFill indicator old new =
-    new ≡ record old { ready = Some indicator; held = record old.held { slots = max old.held.slots (indicator + 1) } }
-
--- the indicator has the value at `count` places from the start on, and the room for a fill is used
+-- the indicator has the value at `count` places from the start on
 abbrev pub IsFilled : (indicator start count value : ℕ) → Decorated → Decorated → Type 0
 IsFilled indicator start count value old new =
     new ≡ record old {
       values = slice_set old.values indicator (filled start count value (values_of old.values indicator));
-      ready = None;
-      held = new.held;
+      capacity = new.capacity;
     }
 
 -- the smallest range that holds all places that this fill changes
@@ -118,25 +99,23 @@ abbrev pub filled_range : Decorated → (indicator start count value : ℕ) → 
 filled_range d indicator start count value =
     changed_range (values_of d.values indicator) (filled start count value (values_of d.values indicator))
 
--- how many runs of equal values an indicator has
-abbrev pub runs_of : Decorated → ℕ → ℕ
-runs_of d indicator = run_count nat_eq (values_of d.values indicator)
+-- The capacity of the indicator's runs is this one, or the indicator is 0 everywhere now and has none.
+pub record HasRunsFrom (was : RunCapacity) (indicator : ℕ) (new : Decorated) : Type 0 where
+  pub used : IsUsed new indicator → capacity_at new.capacity indicator ≡ was
+  pub clear : IsClear (values_of new.values indicator) → capacity_at new.capacity indicator ≡ no_runs
 
--- The memory of an indicator's runs has not changed, or the indicator is 0 everywhere now and has none.
-pub record HasRunsOf (indicator : ℕ) (was : Spare) (old new : Decorated) : Type 0 where
-  pub used : (IsClear (values_of new.values indicator) → ⊥) → IsSameMemory (runs_of old indicator) was (runs_of new indicator) (spare_of new.held indicator)
-  pub clear : IsClear (values_of new.values indicator) → spare_of new.held indicator ≡ spare 0 0
+-- The capacity is the same, but for the runs of indicators that are 0 everywhere now.
+pub record KeepsRuns (old new : Decorated) : Type 0 where
+  pub runs : (k : ℕ) → k < 32 → HasRunsFrom (capacity_at old.capacity k) k new
+  pub spare : new.capacity.spare ≡ old.capacity.spare
+  pub slots : new.capacity.slots ≡ old.capacity.slots
 
--- no runs of any indicator allocated memory
-pub record HaveRunsOf (old new : Decorated) : Type 0 where
-  pub each : (k : ℕ) → k < 32 → HasRunsOf k (spare_of old.held k) old new
-  pub unused : new.held.unused ≡ old.held.unused
-
--- One indicator was filled, and no runs allocated memory: if it was 0 everywhere, it has the spare runs now.
+-- One indicator was filled, and nothing was allocated: if it was 0 everywhere, it has the spare runs now.
 pub record WereFilledFrom (indicator : ℕ) (old new : Decorated) : Type 0 where
-  pub others : (k : ℕ) → k < 32 → k ≢ indicator → spare_of new.held k ≡ spare_of old.held k
-  pub again : (IsClear (values_of old.values indicator) → ⊥) → HasRunsOf indicator (spare_of old.held indicator) old new × (new.held.unused ≡ old.held.unused)
-  pub first : IsClear (values_of old.values indicator) → HasRunsOf indicator old.held.unused old new × (new.held.unused ≡ spare 0 0)
+  pub others : (k : ℕ) → k < 32 → k ≢ indicator → capacity_at new.capacity k ≡ capacity_at old.capacity k
+  pub again : IsUsed old indicator → HasRunsFrom (capacity_at old.capacity indicator) indicator new × (new.capacity.spare ≡ old.capacity.spare)
+  pub first : IsClear (values_of old.values indicator) → HasRunsFrom old.capacity.spare indicator new × (new.capacity.spare ≡ no_runs)
+  pub slots : new.capacity.slots ≡ old.capacity.slots
 
 -- the longest range of equal values that holds the place, as its first place and the place behind it
 abbrev pub run_about : List ℕ → ℕ → ℕ × ℕ

@@ -1,13 +1,14 @@
 //! `Decorations` and its calls.
 ghost use Rattle.ed_model.specs.Steps.{Delete, Insert};
 ghost use Rattle.ed_model.specs.Indicators.{indicators_after};
-ghost use Rattle.std.specs.Prelude.{List, ◌≡◌, ◌≤◌, ◌<◌, ◌+◌, ◌≢◌, ◌↔◌, ℕ, [], length, replicate, pos, Option, Some, None, IsTrue, OnOk, OnErr, IsOk};
+ghost use Rattle.std.specs.Prelude.{List, ◌≡◌, ◌≤◌, ◌<◌, ◌+◌, ◌↔◌, ℕ, [], length, replicate, pos, Option, IsTrue, OnOk, IsOk};
 ghost use Rattle.std.specs.List.{AllByRecursion};
 ghost use Rattle.ed_model.specs.TextPlans.{at_place};
-ghost use Rattle.decorations.specs.Decorated.{decorated, filled_range, mask_of, nothing_held, run_about, spare_of, values_of, AreRunsFor, AreSlotsFor, GainsFill, GainsRoom, GainsRoomAndMemory, HaveRunsOf, HaveSlotsOf, IfMemory, IfMemoryFor, IsFilled, IsUsed, WereFilledFrom};
+ghost use Rattle.decorations.specs.Decorated.{decorated, filled_range, mask_of, no_capacity, run_about, values_of, HasRoomForFill, HasRoomForInsertions, IsCapacityForFill, IsCapacityForRuns, IsFilled, IsUsed, KeepsRuns, WereFilledFrom};
 
 use crate::slots::{
-    Slot, delete_from_all, fill_slot, insert_into_all, reserve_all, reserve_one, runs_in,
+    Slot, add_slots, delete_from_all, fill_slot, insert_into_all, reserve_one, reserve_runs,
+    runs_in,
 };
 use partitioning::Place;
 use std::alloc::{AllocError, Global};
@@ -26,36 +27,30 @@ pub struct Decorations<P: Place> {
     // Runs without a place, for an indicator that is filled for the first time.
     spare: Slot<P>,
     size: usize,
-    // For how many insertions each slot has room.
-    room: usize,
-    // The indicator that has room for a fill as well.
-    ready: Option<usize>,
     alloc: Global,
 }
 
 impl<P: Place> Model for Decorations<P> {
     ghost use Rattle.decorations.specs.Decorated.{Decorated, decorated};
-    ghost use Rattle.decorations.specs.Slots.{all_shown, held_by, AreSlots};
+    ghost use Rattle.decorations.specs.Slots.{all_shown, capacity_by, AreSlots};
     ghost use Rattle.std.specs.Prelude.{vec_capacity};
 
     ghost Value = { Decorated };
 
-    ghost view = { λ d. decorated d.size (all_shown d.size d.slots.items) d.room d.ready (held_by d.slots.items (vec_capacity d.slots) d.spare) };
+    ghost view = { λ d. decorated d.size (all_shown d.size d.slots.items) (capacity_by d.slots.items (vec_capacity d.slots) d.spare) };
 
-    ghost invariant = { λ d. AreSlots P.GREATEST d.size d.room d.ready d.slots.items d.spare };
+    ghost invariant = { λ d. AreSlots P.GREATEST d.size d.slots.items d.spare };
 }
 
 impl<P: Place> Decorations<P> {
     /// Returns the values of an empty text. Allocates nothing.
     pub fn new(alloc: Global) -> Self
-        ensures { result ≡ decorated 0 (replicate 32 []) 0 None nothing_held }
+        ensures { result ≡ decorated 0 (replicate 32 []) no_capacity }
     {
         Decorations {
             slots: Vec::new(alloc),
             spare: None,
             size: 0,
-            room: 0,
-            ready: None,
             alloc,
         }
     }
@@ -116,89 +111,50 @@ impl<P: Place> Decorations<P> {
         mask
     }
 
-    /// Makes room for `insertions` insertions. If no indicator was ever filled, or if there is memory for that many
-    /// insertions and a fill, nothing is allocated, and it cannot fail.
+    /// Makes room for `insertions` insertions, and for a fill besides, of each indicator that is not 0 everywhere. If
+    /// the room is there, nothing is allocated, and it cannot fail.
     ///
     /// # Errors
     ///
-    /// `AllocError` if an allocation fails. Nothing has changed then, except that there may be memory for more runs.
+    /// `AllocError` if an allocation fails. Nothing has changed then, except that more runs may fit in.
     #[inline(always)]
     pub fn reserve(&mut self, insertions: usize) -> Result<(), AllocError>
-        ensures ok { OnOk result (GainsRoomAndMemory insertions self.old self.new) }
-        ensures room_is_there { insertions ≤ self.old.room → IsOk result × (self.new ≡ self.old) }
-        ensures runs_at_most { AreRunsFor (insertions + 3) self.old.values self.old.held self.new.held }
-        ensures slots { HaveSlotsOf self.old.held self.new.held }
-        ensures none { self.old.held.slots ≡ 0 → IsOk result × GainsRoom insertions self.old self.new }
-        ensures memory_is_there { IfMemory insertions self.old (IsOk result × GainsRoom insertions self.old self.new) }
-        ensures err { OnErr result (self.new ≡ record self.old { held = self.new.held }) }
+        ensures ok { OnOk result (HasRoomForInsertions insertions self.new) }
+        ensures room_is_there { HasRoomForInsertions insertions self.old → IsOk result × (self.new ≡ self.old) }
+        ensures rest { self.new ≡ record self.old { capacity = self.new.capacity } }
+        ensures at_most { IsCapacityForRuns (insertions + 2) self.old self.new.capacity }
     {
-        if insertions <= self.room {
-            return Ok(());
-        }
         if self.slots.len() == 0 {
-            self.room = insertions; // there are no runs that would need any
             return Ok(());
         }
         self.make_room(insertions)
     }
 
-    // The slow path of `reserve`: there is room for fewer insertions.
+    // The slow path of `reserve`: there are slots.
     #[inline(never)]
     fn make_room(&mut self, insertions: usize) -> Result<(), AllocError>
-        requires { self.old.room < insertions }
-        ensures ok { OnOk result (GainsRoomAndMemory insertions self.old self.new) }
-        ensures runs_at_most { AreRunsFor (insertions + 3) self.old.values self.old.held self.new.held }
-        ensures slots { HaveSlotsOf self.old.held self.new.held }
-        ensures memory_is_there { IfMemory insertions self.old (IsOk result × GainsRoom insertions self.old self.new) }
-        ensures err { OnErr result (self.new ≡ record self.old { held = self.new.held }) }
+        ensures ok { OnOk result (HasRoomForInsertions insertions self.new) }
+        ensures room_is_there { HasRoomForInsertions insertions self.old → IsOk result × (self.new ≡ self.old) }
+        ensures rest { self.new ≡ record self.old { capacity = self.new.capacity } }
+        ensures at_most { IsCapacityForRuns (insertions + 2) self.old self.new.capacity }
     {
-        // As much as a fill needs besides, should one be reserved.
-        let Some(runs) = insertions.checked_add(3) else {
-            return Err(AllocError);
-        };
-        let Ok(()) = reserve_all(&mut self.slots, &mut self.spare, runs) else {
-            return Err(AllocError);
-        };
-        self.room = insertions;
+        reserve_runs(&mut self.slots, insertions)?;
         Ok(())
     }
 
-    /// Makes room for one fill of an indicator, which replaces the one that was reserved before. The room lasts up to
-    /// the next fill, insertion or deletion. If there is memory for the indicator's slot and its runs, nothing is
-    /// allocated, and it cannot fail. If the indicator has runs, the memory for the next indicator without runs stays
-    /// as it is.
+    /// Makes room for one fill of an indicator. If the room is there, nothing is allocated, and it cannot fail.
     ///
     /// # Errors
     ///
-    /// `AllocError` if an allocation fails. Nothing has changed then, except that there may be memory for more slots
-    /// and runs.
+    /// `AllocError` if an allocation fails. Nothing has changed then, except that more slots and runs may fit in.
     pub fn reserve_fill(&mut self, indicator: usize) -> Result<(), AllocError>
         requires { indicator < 32 }
-        ensures ok { OnOk result (self.new ≡ record self.old { ready = Some indicator; held = self.new.held }) }
-        ensures room_is_there { self.old.ready ≡ Some indicator → IsOk result × (self.new ≡ self.old) }
-        ensures runs_at_most { AreRunsFor (self.old.room + 3) self.old.values self.old.held self.new.held }
-        ensures others { (k : ℕ) → k < 32 → k ≢ indicator → spare_of self.new.held k ≡ spare_of self.old.held k }
-        ensures slots_at_most { AreSlotsFor (indicator + 1) self.old.held self.new.held }
-        ensures unused { IsUsed self.old indicator → self.new.held.unused ≡ self.old.held.unused }
-        ensures memory_is_there { IfMemoryFor indicator self.old (IsOk result × GainsFill indicator self.old self.new) }
-        ensures err { OnErr result (self.new ≡ record self.old { held = self.new.held }) }
+        ensures ok { OnOk result (HasRoomForFill indicator self.new) }
+        ensures room_is_there { HasRoomForFill indicator self.old → IsOk result × (self.new ≡ self.old) }
+        ensures rest { self.new ≡ record self.old { capacity = self.new.capacity } }
+        ensures at_most { IsCapacityForFill indicator self.old self.new.capacity }
     {
-        if self.ready == Some(indicator) {
-            return Ok(());
-        }
-        let Some(runs) = self.room.checked_add(3) else {
-            return Err(AllocError);
-        };
-        let Ok(()) = reserve_one(
-            &mut self.slots,
-            &mut self.spare,
-            indicator,
-            self.alloc,
-            runs,
-        ) else {
-            return Err(AllocError);
-        };
-        self.ready = Some(indicator);
+        reserve_one(&mut self.slots, &mut self.spare, indicator, self.alloc)?;
         Ok(())
     }
 
@@ -214,52 +170,43 @@ impl<P: Place> Decorations<P> {
     ) -> Option<(usize, usize)>
         requires indicator { indicator < 32 }
         requires within { start + count ≤ self.old.length }
-        requires room { self.old.ready ≡ Some indicator }
+        requires room { HasRoomForFill indicator self.old }
         ensures values { IsFilled indicator start count value self.old self.new }
-        ensures slots { HaveSlotsOf self.old.held self.new.held }
-        ensures runs { WereFilledFrom indicator self.old self.new }
+        ensures capacity { WereFilledFrom indicator self.old self.new }
         ensures changed { result ≡ filled_range self.old indicator start count value }
     {
+        add_slots(&mut self.slots, indicator + 1);
         let slot = &mut self.slots[indicator];
-        let changed = fill_slot(slot, &mut self.spare, self.size, start, count, value);
-        self.ready = None;
-        changed
+        fill_slot(slot, &mut self.spare, self.size, start, count, value)
     }
 
     /// Inserts `count` bytes before a place. Each indicator is 0 there at both ends of the text and where it is 0 at
-    /// the place, and otherwise has its value before the place. Uses the room of one insertion and that of a fill, and
-    /// allocates nothing.
+    /// the place, and otherwise has its value before the place. There must be room for one insertion. Allocates nothing.
     #[inline]
     pub fn insert(&mut self, place: usize, count: usize)
         requires within { place ≤ self.old.length }
         requires fits { self.old.length + count ≤ P.GREATEST }
-        requires room { 0 < self.old.room }
+        requires room { HasRoomForInsertions 1 self.old }
         ensures length { self.new.length ≡ self.old.length + count }
         ensures values { (bytes : List ℕ) → length bytes ≡ count → self.new.values ≡ indicators_after (Insert place bytes) self.old.values }
-        ensures room { self.new.room + 1 ≡ self.old.room }
-        ensures ready { self.new.ready ≡ None }
-        ensures slots { HaveSlotsOf self.old.held self.new.held }
-        ensures runs { HaveRunsOf self.old self.new }
+        ensures room { (n : ℕ) → HasRoomForInsertions (n + 1) self.old → HasRoomForInsertions n self.new }
+        ensures capacity { self.new.capacity ≡ self.old.capacity }
+        ensures runs { KeepsRuns self.old self.new }
     {
         insert_into_all(&mut self.slots, place, count);
         self.size += count;
-        self.room -= 1;
-        self.ready = None;
     }
 
-    /// Deletes `count` bytes from a place on. Uses no room except that of a fill, and allocates nothing.
+    /// Deletes `count` bytes from a place on. Allocates nothing.
     #[inline]
     pub fn delete(&mut self, place: usize, count: usize)
         requires { place + count ≤ self.old.length }
         ensures length { self.new.length + count ≡ self.old.length }
         ensures values { (bytes : List ℕ) → length bytes ≡ count → self.new.values ≡ indicators_after (Delete place bytes) self.old.values }
-        ensures room { self.new.room ≡ self.old.room }
-        ensures ready { self.new.ready ≡ None }
-        ensures slots { HaveSlotsOf self.old.held self.new.held }
-        ensures runs { HaveRunsOf self.old self.new }
+        ensures room { (n : ℕ) → HasRoomForInsertions n self.old → HasRoomForInsertions n self.new }
+        ensures capacity { KeepsRuns self.old self.new }
     {
         delete_from_all(&mut self.slots, place, count);
         self.size -= count;
-        self.ready = None;
     }
 }

@@ -1,10 +1,10 @@
 //! The effect of a step on the runs of all indicators in use. A slot without runs stands for an indicator that is 0
 //! everywhere.
-ghost use Rattle.std.specs.Prelude.{◌≡◌, ◌≤◌, ◌<◌, ◌+◌, ◌≢◌, ◌*◌, ℕ, length, max, Some, None, IfSome, IfNone, MatchOption, OnOk, IsOk, vec_len, vec_capacity};
+ghost use Rattle.std.specs.Prelude.{◌≡◌, ◌≤◌, ◌<◌, ◌+◌, ◌≢◌, ◌*◌, ℕ, length, max, nat_eq, Some, None, IfSome, MatchOption, OnOk, IsOk, vec_len, vec_capacity};
 ghost use Rattle.ed_model.specs.Indicators.{filled, changed_range};
 ghost use Rattle.std.specs.Option.{is_some, option_copied};
-ghost use Rattle.run_styles.specs.Runs.{IsSpareFor};
-ghost use Rattle.decorations.specs.Slots.{slot_at, slot_spare, shown, AreKept, AreSpare, CanTakeIn, EachSlot, GaveAway, GrowForSlots, HasFillRoom, HasMemory, HasMemoryFor, HasRoom, HasRoomFor, HasSpare, HaveRoomOf, InBoth, InEach, TookIn, TookMemory, WasFilled};
+ghost use Rattle.run_styles.specs.Runs.{HasRoom, IsCapacityFor, KeepsCapacity};
+ghost use Rattle.decorations.specs.Slots.{slot_at, slot_capacity, source_capacity, shown, AreKept, AreSpare, CanFill, CanTakeIn, EachSlot, GaveAway, HaveGrown, InBoth, InEach, TookIn, WasFilled};
 
 use partitioning::Place;
 use run_styles::RunStyles;
@@ -24,67 +24,67 @@ pub(crate) fn runs_in<P: Place>(
     slots.get(indicator)?.as_ref()
 }
 
-/// Adds empty slots up to `count`, if there are fewer.
-fn reserve_slots<P: Place>(slots: &mut Vec<Slot<P>>, count: usize) -> Result<(), AllocError>
+/// Adds empty slots up to `count`, if there are fewer. They fit in.
+pub(crate) fn add_slots<P: Place>(slots: &mut Vec<Slot<P>>, count: usize)
+    requires { length slots.old.items < count → count ≤ vec_capacity slots.old }
     ensures same { (k : ℕ) → slot_at slots.new.items k ≡ slot_at slots.old.items k }
-    ensures more { length slots.old.items ≤ length slots.new.items }
-    ensures ok { OnOk result (count ≤ length slots.new.items) }
+    ensures there { count ≤ length slots.new.items }
     ensures few { (most : ℕ) → length slots.old.items ≤ most → count ≤ most → length slots.new.items ≤ most }
-    ensures capacity { vec_capacity slots.new ≤ max (vec_capacity slots.old) (max count (2 * length slots.old.items)) }
-    ensures capacity_stays { count ≤ vec_capacity slots.old → vec_capacity slots.new ≡ vec_capacity slots.old }
-    ensures memory_is_there { count ≤ vec_capacity slots.old → IsOk result }
+    ensures capacity { vec_capacity slots.new ≡ vec_capacity slots.old }
 {
-    vec_room::reserve(slots, count.saturating_sub(slots.len()))?;
     while slots.len() < count {
         slots.push_reserved(None);
     }
-    Ok(())
 }
 
-/// Makes room for `room` more runs in a slot, if it has runs.
-fn reserve_in<P: Place>(slot: &mut Slot<P>, room: usize) -> Result<(), AllocError>
-    ensures same { InBoth (HaveRoomOf room) slot.old slot.new }
-    ensures ok { OnOk result (IfSome slot.new (HasRoom room)) }
-    ensures memory_is_there { IfSome slot.old (HasMemory room) → IsOk result }
+/// Makes room for what `insertions` insertions and a fill bring in a slot, if it has runs.
+fn reserve_in<P: Place>(slot: &mut Slot<P>, insertions: usize) -> Result<(), AllocError>
+    ensures same { InBoth (HaveGrown (insertions + 2)) slot.old slot.new }
+    ensures ok { OnOk result (IfSome slot.new (HasRoom nat_eq (insertions + 2))) }
+    ensures room_is_there { IfSome slot.old (HasRoom nat_eq (insertions + 2)) → IsOk result }
 {
-    if let Some(runs) = slot {
-        return runs.reserve(room);
-    }
-    Ok(())
+    let Some(runs) = slot else {
+        return Ok(());
+    };
+    // Brings the bound on a capacity: so many runs never fit in.
+    runs.fits_in();
+    let Some(count) = insertions.checked_add(2) else {
+        return Err(AllocError);
+    };
+    runs.reserve(count)
 }
 
-/// Makes room for `room` more runs in each slot that has runs.
-fn reserve_runs<P: Place>(slots: &mut Vec<Slot<P>>, room: usize) -> Result<(), AllocError>
-    ensures same { InEach (InBoth (HaveRoomOf room)) slots.old.items slots.new.items }
+/// Makes room for what `insertions` insertions and a fill bring in each slot that has runs.
+pub(crate) fn reserve_runs<P: Place>(
+    slots: &mut Vec<Slot<P>>,
+    insertions: usize,
+) -> Result<(), AllocError>
+    ensures same { InEach (InBoth (HaveGrown (insertions + 2))) slots.old.items slots.new.items }
     ensures length { length slots.new.items ≡ length slots.old.items }
     ensures capacity { vec_capacity slots.new ≡ vec_capacity slots.old }
-    ensures ok { OnOk result (EachSlot (HasRoom room) slots.new) }
-    ensures memory_is_there { EachSlot (HasMemory room) slots.old → IsOk result }
+    ensures ok { OnOk result (EachSlot (HasRoom nat_eq (insertions + 2)) slots.new) }
+    ensures room_is_there { EachSlot (HasRoom nat_eq (insertions + 2)) slots.old → IsOk result }
 {
     for slot in slots.iter_mut() {
-        reserve_in(slot, room)?;
+        reserve_in(slot, insertions)?;
     }
     Ok(())
 }
 
-/// Makes room for `room` more runs in the spare runs, which it creates if there are none.
-fn reserve_spare<P: Place>(
-    spare: &mut Slot<P>,
-    alloc: Global,
-    room: usize,
-) -> Result<(), AllocError>
-    requires { IfSome spare.old (AreSpare 0) }
-    ensures ok { OnOk result (HasSpare room spare.new) }
-    ensures unused { IfSome spare.new (AreSpare 0) }
-    ensures stays { (less : ℕ) → HasSpare less spare.old → HasSpare less spare.new }
-    ensures spare_at_most { IsSpareFor 1 room (slot_spare spare.old) (slot_spare spare.new) }
-    ensures memory_is_there { MatchOption spare.old ⊥ (HasMemory room) → IsOk result }
+/// Makes room for two more runs in the spare runs, which it creates if there are none.
+fn reserve_spare<P: Place>(spare: &mut Slot<P>, alloc: Global) -> Result<(), AllocError>
+    requires { IfSome spare.old AreSpare }
+    ensures ok { OnOk result (MatchOption spare.new ⊥ (HasRoom nat_eq 2)) }
+    ensures unused { IfSome spare.new AreSpare }
+    ensures at_most { IsCapacityFor 3 (slot_capacity spare.old) (slot_capacity spare.new) }
+    ensures kept { KeepsCapacity (slot_capacity spare.old) (slot_capacity spare.new) }
+    ensures room_is_there { MatchOption spare.old ⊥ (HasRoom nat_eq 2) → IsOk result }
 {
     if let Some(runs) = spare {
-        return runs.reserve(room);
+        return runs.reserve(2);
     }
     let mut runs = RunStyles::new(alloc, 0)?;
-    runs.reserve(room)?;
+    runs.reserve(2)?;
     *spare = Some(runs);
     Ok(())
 }
@@ -165,38 +165,38 @@ fn delete_from_each<P: Place>(slots: &mut Vec<Slot<P>>, place: usize, count: usi
     }
 }
 
-/// Makes room for `room` more runs in a slot, or in the spare runs if it has none.
+/// Makes room for a fill in a slot, or in the spare runs if it has none.
 fn reserve_slot<P: Place>(
     slot: &mut Slot<P>,
     spare: &mut Slot<P>,
     alloc: Global,
-    room: usize,
 ) -> Result<(), AllocError>
-    requires { IfSome spare.old (AreSpare 0) }
-    ensures same { InBoth (HaveRoomOf room) slot.old slot.new }
-    ensures ok { OnOk result (HasRoomFor room slot.new spare.new) }
-    ensures unused { IfSome spare.new (AreSpare 0) }
-    ensures stays { (less : ℕ) → HasSpare less spare.old → HasSpare less spare.new }
-    ensures spare_at_most { IsSpareFor 1 room (slot_spare spare.old) (slot_spare spare.new) }
+    requires { IfSome spare.old AreSpare }
+    ensures same { InBoth (HaveGrown 2) slot.old slot.new }
+    ensures ok { OnOk result (CanFill slot.new spare.new) }
+    ensures unused { IfSome spare.new AreSpare }
+    ensures spare_at_most { IsCapacityFor 3 (slot_capacity spare.old) (slot_capacity spare.new) }
+    ensures spare_kept { KeepsCapacity (slot_capacity spare.old) (slot_capacity spare.new) }
     ensures spare_stays { IfSome slot.old (λ _. spare.new ≡ spare.old) }
-    ensures memory_is_there { HasMemoryFor room slot.old spare.old → IsOk result }
+    ensures room_is_there { CanFill slot.old spare.old → IsOk result }
 {
     if let Some(runs) = slot {
-        return runs.reserve(room);
+        return runs.reserve(2);
     }
-    reserve_spare(spare, alloc, room)
+    reserve_spare(spare, alloc)
 }
 
 /// Takes the runs out of a slot. If it has none, takes the spare ones, and makes them `size` places of value 0.
 fn taken<P: Place>(slot: &mut Slot<P>, spare: &mut Slot<P>, size: usize) -> RunStyles<P, u32>
     requires fits { size ≤ P.GREATEST }
-    requires spare { IfNone slot.old (HasSpare 3 spare.old) }
+    requires unused { IfSome spare.old AreSpare }
+    requires room { CanFill slot.old spare.old }
     ensures values { result.values ≡ shown size slot.old }
     ensures default { IfSome slot.old (λ runs. runs.default ≡ 0) → result.default ≡ 0 }
-    ensures room { (room : ℕ) → HasFillRoom room slot.old spare.old → room + 2 ≤ result.room }
+    ensures room { HasRoom nat_eq 2 result }
+    ensures capacity { result.capacity ≡ source_capacity slot.old spare.old }
     ensures slot { slot.new ≡ None }
     ensures spare { MatchOption slot.old (spare.new ≡ None) (λ _. spare.new ≡ spare.old) }
-    ensures memory { TookMemory size slot.old spare.old result }
 {
     if let Some(runs) = slot.take() {
         return runs;
@@ -208,54 +208,33 @@ fn taken<P: Place>(slot: &mut Slot<P>, spare: &mut Slot<P>, size: usize) -> RunS
     runs
 }
 
-/// Makes room for `room` more runs in each slot that has runs, and in the spare runs, if there are any.
-pub(crate) fn reserve_all<P: Place>(
-    slots: &mut Vec<Slot<P>>,
-    spare: &mut Slot<P>,
-    room: usize,
-) -> Result<(), AllocError>
-    requires { IfSome spare.old (AreSpare 0) }
-    ensures same { InEach (InBoth (HaveRoomOf room)) slots.old.items slots.new.items }
-    ensures length { length slots.new.items ≡ length slots.old.items }
-    ensures capacity { vec_capacity slots.new ≡ vec_capacity slots.old }
-    ensures ok { OnOk result (EachSlot (HasRoom room) slots.new × IfSome spare.new (AreSpare room)) }
-    ensures unused { IfSome spare.new (AreSpare 0) }
-    ensures stays { (less : ℕ) → HasSpare less spare.old → HasSpare less spare.new }
-    ensures spare_at_most { IsSpareFor 1 room (slot_spare spare.old) (slot_spare spare.new) }
-    ensures memory_is_there { EachSlot (HasMemory room) slots.old → IfSome spare.old (HasMemory room) → IsOk result }
-{
-    reserve_runs(slots, room)?;
-    if let Some(runs) = spare {
-        return runs.reserve(room);
-    }
-    Ok(())
-}
-
-/// Makes room for `room` more runs of one indicator, with a slot for it.
+/// Makes room for a fill of one indicator, and for its slot.
 pub(crate) fn reserve_one<P: Place>(
     slots: &mut Vec<Slot<P>>,
     spare: &mut Slot<P>,
     indicator: usize,
     alloc: Global,
-    room: usize,
 ) -> Result<(), AllocError>
     requires indicator { indicator < 32 }
-    requires few { length slots.old.items ≤ 32 }
-    requires unused { IfSome spare.old (AreSpare 0) }
-    ensures same { InEach (InBoth (HaveRoomOf room)) slots.old.items slots.new.items }
-    ensures length { (length slots.old.items ≤ length slots.new.items) × (length slots.new.items ≤ 32) }
-    ensures slots { GrowForSlots (indicator + 1) slots.old slots.new }
+    requires unused { IfSome spare.old AreSpare }
+    ensures same { InEach (InBoth (HaveGrown 2)) slots.old.items slots.new.items }
+    ensures length { length slots.new.items ≡ length slots.old.items }
     ensures others { (k : ℕ) → k ≢ indicator → slot_at slots.new.items k ≡ slot_at slots.old.items k }
-    ensures ok { OnOk result ((indicator < length slots.new.items) × HasRoomFor room (slot_at slots.new.items indicator) spare.new) }
-    ensures unused { IfSome spare.new (AreSpare 0) }
-    ensures stays { (less : ℕ) → HasSpare less spare.old → HasSpare less spare.new }
-    ensures spare_at_most { IsSpareFor 1 room (slot_spare spare.old) (slot_spare spare.new) }
+    ensures ok { OnOk result ((indicator < vec_capacity slots.new) × CanFill (slot_at slots.new.items indicator) spare.new) }
+    ensures unused { IfSome spare.new AreSpare }
+    ensures spare_at_most { IsCapacityFor 3 (slot_capacity spare.old) (slot_capacity spare.new) }
+    ensures spare_kept { KeepsCapacity (slot_capacity spare.old) (slot_capacity spare.new) }
     ensures spare_stays { IfSome (slot_at slots.old.items indicator) (λ _. spare.new ≡ spare.old) }
-    ensures capacity_stays { indicator + 1 ≤ vec_capacity slots.old → vec_capacity slots.new ≡ vec_capacity slots.old }
-    ensures memory_is_there { indicator + 1 ≤ vec_capacity slots.old → HasMemoryFor room (slot_at slots.old.items indicator) spare.old → IsOk result }
+    ensures capacity { vec_capacity slots.new ≤ max (indicator + 1) (2 * vec_capacity slots.old) }
+    ensures capacity_kept { vec_capacity slots.old ≤ vec_capacity slots.new }
+    ensures capacity_stays { (length slots.old.items ≤ indicator → indicator < vec_capacity slots.old) → vec_capacity slots.new ≡ vec_capacity slots.old }
+    ensures room_is_there { (length slots.old.items ≤ indicator → indicator < vec_capacity slots.old) → CanFill (slot_at slots.old.items indicator) spare.old → IsOk result }
 {
-    reserve_slots(slots, indicator + 1)?;
-    reserve_slot(&mut slots[indicator], spare, alloc, room)
+    vec_room::reserve(slots, (indicator + 1).saturating_sub(slots.len()))?;
+    if indicator < slots.len() {
+        return reserve_slot(&mut slots[indicator], spare, alloc);
+    }
+    reserve_spare(spare, alloc)
 }
 
 /// Sets `count` places of an indicator to a value, in its runs, or in the spare ones if it has none. Drops its runs if
@@ -270,14 +249,14 @@ pub(crate) fn fill_slot<P: Place>(
 ) -> Option<(usize, usize)>
     requires fits { size ≤ P.GREATEST }
     requires within { start + count ≤ size }
-    requires kept { IfSome slot.old (AreKept size 2) }
-    requires spare { IfNone slot.old (HasSpare 3 spare.old) }
+    requires kept { IfSome slot.old (AreKept size) }
+    requires unused { IfSome spare.old AreSpare }
+    requires room { CanFill slot.old spare.old }
     ensures filled { WasFilled (filled start count value (shown size slot.old)) slot.new }
-    ensures room { (room : ℕ) → HasFillRoom room slot.old spare.old → IfSome slot.new (HasRoom room) }
     ensures changed { result ≡ changed_range (shown size slot.old) (filled start count value (shown size slot.old)) }
-    ensures unused { IfSome spare.old (AreSpare 0) → IfSome spare.new (AreSpare 0) }
+    ensures unused { IfSome spare.new AreSpare }
     ensures spare { MatchOption slot.old (spare.new ≡ None) (λ _. spare.new ≡ spare.old) }
-    ensures memory { IfSome slot.new (TookMemory size slot.old spare.old) }
+    ensures capacity { IfSome slot.new (λ runs. runs.capacity ≡ source_capacity slot.old spare.old) }
 {
     let mut runs = taken(slot, spare, size);
     let changed = runs.fill(start, count, value);

@@ -2,7 +2,8 @@
 pub mod Names
 pub mod LineSteps
 pub mod PieceLemmas
-pub mod CarrySteps
+pub mod TextRoom
+pub mod Growth
 pub mod SteppedParts
 pub mod LentSteps
 pub mod StyledCells
@@ -10,4 +11,3 @@ pub mod MarkerLines
 pub mod TypeSettings
 pub mod MarkerNumbers
 pub mod Masks
-pub mod KeptMemory

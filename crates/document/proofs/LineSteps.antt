@@ -1,5 +1,5 @@
 -- The index of a document's lines, before a step and after it: the facts that it requires of a step, and the room.
-use Rattle.document.proofs.Names.{◌≡◌, ℕ, ◌+◌, ◌≤◌, List, ◌++◌, length, take, drop, slice_range, refl, ap, sym, ◌∙◌, arith, length-map, map-append, take-map, drop-map, LineEndTypes, Cell, bytes_of, line_starts, line_count, end_of_line, end_of, put_in, Step, Insert, Delete, place_of, edited, edited_cells, end_in_range, bytes_of_edited_cells, length_of_range, Index, IsIndexOf, IsInsertion, IsDeletion, bytes_near, lines_for_insertion, lines_for_deletion, InsertionAddsFewLines, DeletionAddsFewLines, change_about, change_of, HasLinesOf}
+use Rattle.document.proofs.Names.{◌≡◌, ℕ, ◌+◌, ◌≤◌, List, ◌++◌, length, take, drop, slice_range, refl, ap, sym, ◌∙◌, arith, length-append, length-map, length-take, length-drop, map-append, take-map, drop-map, LineEndTypes, Buffer, Cell, bytes_of, line_starts, line_count, end_of_line, end_of, put_in, Step, Insert, Delete, place_of, edited, edited_cells, end_in_range, bytes_of_edited_cells, length_of_range, Index, IsIndexOf, IsInsertion, IsDeletion, FollowsInsertion, FollowsDeletion, bytes_near, lines_for_insertion, lines_for_deletion, InsertionAddsFewLines, DeletionAddsFewLines, change_about, change_of, LinesOf, line_capacity, HasLinesOf, CanPut, InsertionFits, WereEdited, deletion_of}
 use Rattle.ed_model.specs.proved.Lists.{length_slice}
 
 -- The end of a line lies in the text.
@@ -32,7 +32,7 @@ told_of_insertion types cells new lines place bytes near text has within is read
 }
 
 -- the index afterwards
-pub lines_of_inserted : (types : LineEndTypes) (cells new : List Cell) (old lines : Index) (place : ℕ) (bytes : List ℕ) → HasLinesOf types cells old → new ≡ edited_cells (Insert place bytes) cells → lines.types ≡ old.types → IsIndexOf (edited (Insert place bytes) (bytes_of cells)) lines → HasLinesOf types new lines
+lines_of_inserted : (types : LineEndTypes) (cells new : List Cell) (old lines : Index) (place : ℕ) (bytes : List ℕ) → HasLinesOf types cells old → new ≡ edited_cells (Insert place bytes) cells → lines.types ≡ old.types → IsIndexOf (edited (Insert place bytes) (bytes_of cells)) lines → HasLinesOf types new lines
 lines_of_inserted types cells new old lines place bytes has is same index =
     let text : edited (Insert place bytes) (bytes_of cells) ≡ bytes_of new = sym (bytes_of_edited_cells (Insert place bytes) cells) ∙ sym (ap bytes_of is) in
     record { types_are = same ∙ has.types_are; index = rw text at index }
@@ -63,12 +63,18 @@ told_of_deletion types cells new lines place count near text few has within room
 }
 
 -- the index afterwards
-pub lines_of_deleted : (types : LineEndTypes) (cells new : List Cell) (old lines : Index) (place count : ℕ) → HasLinesOf types cells old → new ≡ take place cells ++ drop (place + count) cells → lines.types ≡ old.types → IsIndexOf (take place (bytes_of cells) ++ drop (place + count) (bytes_of cells)) lines → HasLinesOf types new lines
+lines_of_deleted : (types : LineEndTypes) (cells new : List Cell) (old lines : Index) (place count : ℕ) → HasLinesOf types cells old → new ≡ take place cells ++ drop (place + count) cells → lines.types ≡ old.types → IsIndexOf (take place (bytes_of cells) ++ drop (place + count) (bytes_of cells)) lines → HasLinesOf types new lines
 lines_of_deleted types cells new old lines place count has is same index =
     let text : take place (bytes_of cells) ++ drop (place + count) (bytes_of cells) ≡ bytes_of new = bytes_deleted cells new place count (bytes_of new) is refl in
     record { types_are = same ∙ has.types_are; index = rw text at index }
 
 -- How many lines and bytes there are.
+
+pub length_inserted : (place : ℕ) (bytes : List ℕ) (cells : List Cell) → place ≤ length cells → length (edited_cells (Insert place bytes) cells) ≡ length cells + length bytes
+length_inserted place bytes cells within = simp (length-append, length-take, length-drop, length-map) (omega arith)
+
+pub length_deleted : (place : ℕ) (bytes : List ℕ) (cells : List Cell) → place + length bytes ≤ length cells → length (edited_cells (Delete place bytes) cells) + length bytes ≡ length cells
+length_deleted place bytes cells within = simp (length-append, length-take, length-drop) (omega arith)
 
 pub lines_of_index : (types : LineEndTypes) (text : List ℕ) (i : Index) → IsIndexOf text i → i.types ≡ types → length i.starts ≡ line_count types text
 lines_of_index types text i is same = ap length is.starts ∙ ap (λ t. line_count t text) same
@@ -111,9 +117,45 @@ insertion_fits types cells lines place bytes few has p room =
     )
 
 -- cells from which a range was deleted are those after the deletion of its bytes
-pub deleted_cells : (cells new : List Cell) (place count : ℕ) → place + count ≤ length cells →
+deleted_cells : (cells new : List Cell) (place count : ℕ) → place + count ≤ length cells →
     new ≡ take place cells ++ drop (place + count) cells → new ≡ edited_cells (Delete place (slice_range (bytes_of cells) place (place + count))) cells
 deleted_cells cells new place count inside e =
     let as_long : length (bytes_of cells) ≡ length cells = length-map cells (λ (c : Cell). c.byte) in
     let within : place + count ≤ length (bytes_of cells) = omega (arith, as_long) in
     e ∙ ap (λ n. take place cells ++ drop (place + n) cells) (sym (length_slice (bytes_of cells) place count within))
+
+-- The cells and the line starts after a step.
+
+pub edited_by_insertion :
+    (place : ℕ) (bytes near text : List ℕ) (cells new : Buffer) (lines new_lines : LinesOf) → CanPut place bytes cells lines → InsertionFits place bytes cells.cells lines.index
+    → new.cells ≡ edited_cells (Insert place bytes) cells.cells → new.keeps_styles ≡ cells.keeps_styles → new.capacity ≡ cells.capacity → text ≡ bytes_of new.cells → near ≡ bytes_near place (length bytes) text
+    → new_lines.index.types ≡ lines.index.types → FollowsInsertion place (length bytes) near lines.index new_lines.index → new_lines.is_large ≡ lines.is_large
+    → line_capacity new_lines.index ≡ line_capacity lines.index → WereEdited (Insert place bytes) cells new lines new_lines
+edited_by_insertion place bytes near text cells new lines new_lines can fits is styles capacity read reads types follows width starts =
+    let has : HasLinesOf lines.index.types cells.cells lines.index = record { types_are = refl; index = can.indexed } in
+    let told = told_of_insertion lines.index.types cells.cells new.cells lines.index place bytes near text has can.within is read reads fits in
+    record {
+      cells = is;
+      keeps_styles = styles;
+      capacity = capacity;
+      lines = lines_of_inserted lines.index.types cells.cells new.cells lines.index new_lines.index place bytes has is types (follows (bytes_of cells.cells) bytes told);
+      width = width;
+      starts = starts;
+    }
+
+pub edited_by_deletion :
+    (place count : ℕ) (near text : List ℕ) (cells new : Buffer) (lines new_lines : LinesOf) → DeletionAddsFewLines → place + count ≤ length cells.cells → IsIndexOf (bytes_of cells.cells) lines.index
+    → lines_for_deletion ≤ lines.index.room → new.cells ≡ take place cells.cells ++ drop (place + count) cells.cells → new.keeps_styles ≡ cells.keeps_styles → new.capacity ≡ cells.capacity
+    → text ≡ bytes_of new.cells → near ≡ bytes_near place 0 text → new_lines.index.types ≡ lines.index.types → FollowsDeletion place count near lines.index new_lines.index
+    → new_lines.is_large ≡ lines.is_large → line_capacity new_lines.index ≡ line_capacity lines.index → WereEdited (deletion_of place count (bytes_of cells.cells)) cells new lines new_lines
+edited_by_deletion place count near text cells new lines new_lines few within indexed room is styles capacity read reads types follows width starts =
+    let has : HasLinesOf lines.index.types cells.cells lines.index = record { types_are = refl; index = indexed } in
+    let told = told_of_deletion lines.index.types cells.cells new.cells lines.index place count near text few has within room is read reads in
+    record {
+      cells = deleted_cells cells.cells new.cells place count within is;
+      keeps_styles = styles;
+      capacity = capacity;
+      lines = lines_of_deleted lines.index.types cells.cells new.cells lines.index new_lines.index place count has is types (follows (bytes_of cells.cells) told);
+      width = width;
+      starts = starts;
+    }

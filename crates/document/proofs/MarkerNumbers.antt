@@ -1,5 +1,6 @@
 -- The numbers of a mask, one after the other, and markers with them.
-use Rattle.document.proofs.Names.{◌≡◌, ◌≢◌, ◌≤◌, ◌<◌, ℕ, zero, suc, ◌+◌, ◌-◌, ◌/◌, ◌%◌, ◌^◌, cond, List, [], ◌∷◌, ◌++◌, length, filter, refl, ap, ◌∙◌, arith, append_assoc, range_with_len, slice_set, eq-eqb, ne_eqb, set-get_or, get_or-set_same, append-nil, has_bit, numbers_in, Marker, Row, fresh_row, with_markers, new_markers, with_new_markers, KeptRows, RowRoom, kept_rows, row_at, numbers_of, with_more_markers, ChangeRoom, document_in, spare_in}
+use Rattle.document.proofs.Names.{◌≡◌, ◌≢◌, ◌≤◌, ◌<◌, ℕ, zero, suc, ◌+◌, ◌-◌, ◌/◌, ◌%◌, ◌^◌, cond, List, [], ◌∷◌, ◌++◌, length, filter, refl, ap, ◌∙◌, arith, append_assoc, range_with_len, slice_set, eq-eqb, ne_eqb, set-get_or, get_or-set_same, append-nil, has_bit, numbers_in, Marker, Row, fresh_row, with_markers, new_markers, with_new_markers, KeptRows, row_at, numbers_of, with_more_markers, after_change, document_in, kept_in}
+use Rattle.ed_model.specs.declared.plan.DocumentChange.TheVariants.{AddMarkers}
 use Rattle.document.specs.declared.kept.Document.TheInside.{Inside}
 
 -- those from a number on
@@ -49,39 +50,26 @@ one_more line number numbers k within =
     let more : Row = record row { markers = row.markers ++ marker ∷ [] } in
     let rows : List Row = slice_set k.rows line more in
     let others : List Marker = new_markers (k.next_handle + 1) numbers in
-    let room : RowRoom = k.room in
     let there : row_at rows line ≡ more = get_or-set_same k.rows line more fresh_row within in
     let rows_are : with_markers line ((row_at rows line).markers ++ others) rows ≡ with_markers line (row.markers ++ marker ∷ others) k.rows =
     ap (λ (r : Row). slice_set rows line (record r { markers = r.markers ++ others })) there ∙ set_twice k.rows line more (record row { markers = (row.markers ++ marker ∷ []) ++ others })
     ∙ ap (λ (ms : List Marker). slice_set k.rows line (record row { markers = ms })) (append_assoc row.markers (marker ∷ []) others) in
     let handle : (k.next_handle + 1) + length numbers ≡ k.next_handle + suc (length numbers) = omega arith in
-    let markers : (room.markers - 1) - length numbers ≡ room.markers - suc (length numbers) = omega arith in
-    ap (λ (rs : List Row). kept_rows rs ((k.next_handle + 1) + length numbers) (record room { markers = (room.markers - 1) - length numbers }) k.blocks) rows_are
-    ∙ ap (λ n. kept_rows (with_markers line (row.markers ++ marker ∷ others) k.rows) n (record room { markers = (room.markers - 1) - length numbers }) k.blocks) handle
-    ∙ ap (λ n. kept_rows (with_markers line (row.markers ++ marker ∷ others) k.rows) (k.next_handle + suc (length numbers)) (record room { markers = n }) k.blocks) markers
+    ap (λ (rs : List Row). record k { rows = rs; next_handle = (k.next_handle + 1) + length numbers }) rows_are
+    ∙ ap (λ n. record k { rows = with_markers line (row.markers ++ marker ∷ others) k.rows; next_handle = n }) handle
 
 -- none
 pub none_more : (line : ℕ) (k : KeptRows) → with_more_markers line [] k ≡ k
 none_more line k =
     let row : Row = row_at k.rows line in
-    let room : RowRoom = k.room in
     let rows_are : with_markers line (row.markers ++ []) k.rows ≡ k.rows =
     ap (λ (ms : List Marker). slice_set k.rows line (record row { markers = ms })) (append-nil row.markers) ∙ set-get_or k.rows line fresh_row in
     let handle : k.next_handle + 0 ≡ k.next_handle = omega arith in
-    let markers : room.markers - 0 ≡ room.markers = omega arith in
-    ap (λ (rs : List Row). kept_rows rs (k.next_handle + 0) (record room { markers = room.markers - 0 }) k.blocks) rows_are
-    ∙ ap (λ n. kept_rows k.rows n (record room { markers = room.markers - 0 }) k.blocks) handle
-    ∙ ap (λ n. kept_rows k.rows k.next_handle (record room { markers = n }) k.blocks) markers
+    ap (λ (rs : List Row). record k { rows = rs; next_handle = k.next_handle + 0 }) rows_are
+    ∙ ap (λ n. record k { next_handle = n }) handle
 
--- the document with them, and its room
-
-pub document_with_markers : (d : Inside) (line mask : ℕ) (rows : KeptRows) → rows ≡ with_more_markers line (numbers_of mask) d.rows → document_in (record d { rows = rows }) ≡ with_new_markers line (numbers_in mask) (document_in d)
+-- the document with them
+pub document_with_markers : (d : Inside) (line mask : ℕ) (rows : KeptRows) → rows ≡ with_more_markers line (numbers_of mask) d.rows → kept_in (record d { rows = rows }) ≡ after_change [] (AddMarkers line mask) (kept_in d)
 document_with_markers d line mask rows is =
-    ap (λ (new : KeptRows). document_in (record d { rows = new })) is ∙ ap (λ ns. with_new_markers line ns (document_in d)) (numbers_are mask)
-
-abbrev pub less_room : ChangeRoom → ℕ → ChangeRoom
-less_room room count = record room { markers = room.markers - count }
-
-pub spare_with_markers : (d : Inside) (line mask : ℕ) (rows : KeptRows) → rows ≡ with_more_markers line (numbers_of mask) d.rows → spare_in (record d { rows = rows }) ≡ less_room (spare_in d) (length (numbers_in mask))
-spare_with_markers d line mask rows is =
-    ap (λ (new : KeptRows). spare_in (record d { rows = new })) is ∙ ap (λ ns. less_room (spare_in d) (length ns)) (numbers_are mask)
+    ap (λ (new : KeptRows). kept_in (record d { rows = new })) is
+    ∙ ap (λ (ns : List ℕ). record (kept_in d) { document = with_new_markers line ns (document_in d) }) (numbers_are mask)

@@ -1,8 +1,13 @@
 -- The effect of a step on the parts of a document.
-use Rattle.document.proofs.Names.{◌≡◌, ◌≤◌, ◌<◌, ◌+◌, ◌^◌, ℕ, Bool, true, false, List, length, refl, sym, ap, ◌∙◌, arith, length-map, Cell, bytes_of, line_count, Step, edited, edited_cells, end_of, bytes_of_edited_cells, length_of_bytes, lines_for_step, change_of, KeptRows, bound_of, LinesOf, IndicatorsOf, ArePartsOf, HasLinesOf, IsChange, AreCarried}
+use Rattle.document.proofs.Names.{◌≡◌, ◌≤◌, ◌<◌, ◌+◌, ◌^◌, ℕ, Bool, true, false, length, refl, sym, ap, ◌∙◌, arith, length-map, bytes_of, line_count, Step, edited, end_of, bytes_of_edited_cells, length_of_bytes, lines_for_step, change_of, meets, bound_of, kept_in, AreParts, IsChange, AreCarried, AreStepped, AreTogether, TextParts, WereEdited, text_parts_in}
 use Rattle.ed_model.specs.Indicators.{indicator_after, indicators_after}
 use Rattle.line_index.specs.declared.change.LineChange.{LineChange}
+use Rattle.line_rows.specs.Kept.{HasRoomForLines}
+use Rattle.document.specs.declared.kept.Document.TheInside.{Inside}
+use Rattle.document.specs.Memory.{KeepsMemory}
+use Rattle.document.specs.TextSteps.{LeavesTextRoom, need_then}
 use Rattle.document.proofs.LineSteps.{lines_of_index}
+use Rattle.document.proofs.TextRoom.{document_takes, parts_take}
 
 -- a text that fits places of 32 bits has fewer lines than these can count
 pub narrow_lines : (is_large : Bool) (n lines : ℕ) → n < bound_of is_large → lines ≤ n + 1 → is_large ≡ false → lines < 2 ^ 32
@@ -15,36 +20,51 @@ small_bound false = omega arith
 
 -- the facts that the rows require
 pub told_rows :
-    (step : Step) (cells : List Cell) (room options : ℕ) (lines : LinesOf) (rows : KeptRows) (indicators : IndicatorsOf) (change : LineChange) → ArePartsOf cells room options lines rows indicators
-    → change ≡ change_of lines.index.types step (bytes_of cells) → end_of step ≤ length cells → lines_for_step lines.index.types step ≤ rows.room.lines
-    → length cells + lines_for_step lines.index.types step < 2 ^ 62 → IsChange rows change lines.index.types step (bytes_of cells)
-told_rows step cells room options lines rows indicators change parts is within has few = record {
+    (step : Step) (options : ℕ) (p : TextParts) (change : LineChange) → AreTogether options p → change ≡ change_of p.lines.index.types step (bytes_of p.cells.cells)
+    → end_of step ≤ length p.cells.cells → HasRoomForLines (lines_for_step p.lines.index.types step) p.rows
+    → length p.cells.cells + lines_for_step p.lines.index.types step < 2 ^ 62 → IsChange p.rows change p.lines.index.types step (bytes_of p.cells.cells)
+told_rows step options p change parts is within has few = record {
   is = is;
-  within = omega (arith, within, length_of_bytes cells);
-  row_count = parts.row_count ∙ lines_of_index lines.index.types (bytes_of cells) lines.index parts.indexed refl;
+  within = omega (arith, within, length_of_bytes p.cells.cells);
+  row_count = parts.row_count ∙ lines_of_index p.lines.index.types (bytes_of p.cells.cells) p.lines.index parts.indexed refl;
   has_room = has;
-  few = omega (arith, few, length_of_bytes cells);
+  few = omega (arith, few, length_of_bytes p.cells.cells);
 }
 
 -- the parts after it
 pub parts_after :
-    (step : Step) (cells new_cells : List Cell) (room new_room options : ℕ) (lines new_lines : LinesOf) (rows new_rows : KeptRows) (indicators new_indicators : IndicatorsOf)
-    → ArePartsOf cells room options lines rows indicators → new_cells ≡ edited_cells step cells → HasLinesOf lines.index.types new_cells new_lines.index → new_lines.is_large ≡ lines.is_large
-    → new_lines.index.room + length new_lines.index.starts ≡ lines.index.room + length lines.index.starts → AreCarried rows new_rows lines.index.types step (bytes_of cells)
-    → new_indicators.decorated.length ≡ length new_cells → new_indicators.decorated.values ≡ indicators_after step indicators.decorated.values
-    → new_indicators.is_large ≡ indicators.is_large → length new_cells + new_room ≡ length cells + room
-    → ArePartsOf new_cells new_room options new_lines new_rows new_indicators
-parts_after step cells new_cells room new_room options lines new_lines rows new_rows indicators new_indicators parts is has width sum carried marked values indicator_width as_long =
-    let text : bytes_of new_cells ≡ edited step (bytes_of cells) = ap bytes_of is ∙ bytes_of_edited_cells step cells in
-    let starts = lines_of_index lines.index.types (bytes_of new_cells) new_lines.index has.index has.types_are in
-    let count : length new_rows.rows ≡ length new_lines.index.starts = carried.row_count ∙ ap (line_count lines.index.types) (sym text) ∙ sym starts in
+    (step : Step) (options : ℕ) (old new : TextParts) → AreTogether options old → WereEdited step old.cells new.cells old.lines new.lines
+    → AreCarried old.rows new.rows old.lines.index.types step (bytes_of old.cells.cells) → new.indicators.decorated.length ≡ length new.cells.cells
+    → new.indicators.decorated.values ≡ indicators_after step old.indicators.decorated.values → new.indicators.is_large ≡ old.indicators.is_large
+    → length new.cells.cells < bound_of (meets options 0x100) → AreTogether options new
+parts_after step options old new parts put carried marked values indicator_width fits =
+    let types = old.lines.index.types in
+    let text : bytes_of new.cells.cells ≡ edited step (bytes_of old.cells.cells) = ap bytes_of put.cells ∙ bytes_of_edited_cells step old.cells.cells in
+    let starts = lines_of_index types (bytes_of new.cells.cells) new.lines.index put.lines.index put.lines.types_are in
     record {
-      indexed = has.index;
-      row_count = count;
-      row_room = omega (arith, count, sum, carried.room_for_lines, parts.row_count, parts.row_room);
+      indexed = put.lines.index;
+      row_count = carried.row_count ∙ ap (line_count types) (sym text) ∙ sym starts;
       indicator_count = marked;
-      all_indicators = ap length values ∙ length-map indicators.decorated.values (indicator_after step) ∙ parts.all_indicators;
-      line_width = width ∙ parts.line_width;
+      all_indicators = ap length values ∙ length-map old.indicators.decorated.values (indicator_after step) ∙ parts.all_indicators;
+      line_width = put.width ∙ parts.line_width;
       indicator_width = indicator_width ∙ parts.indicator_width;
-      fits = omega (arith, as_long, parts.fits);
+      fits = fits;
     }
+
+-- The document after it, up to whatever place it is styled now.
+module _ (step : Step) (d : Inside) (styled : ℕ) (new : TextParts) (parts : AreParts d) (made : AreStepped step (text_parts_in d) new) where
+  abbrev after : Inside
+  after = record d { cells = new.cells; lines = new.lines; rows = new.rows; indicators = new.indicators; end_styled = styled }
+
+  pub text_room_left : LeavesTextRoom step (kept_in d) (kept_in after)
+  text_room_left = λ rest room. document_takes rest after (made.together d.options parts) (made.room rest (parts_take (need_then d.lines.index.types step rest) d parts room))
+
+  pub memory_kept : KeepsMemory (kept_in d) (kept_in after)
+  memory_kept = record {
+    others = rw (made.text.capacity, made.text.starts, made.rows.capacity) refl;
+    runs = record {
+      runs = λ k below. let has = made.runs.runs k below in record { used = has.used; clear = has.clear };
+      spare = made.runs.spare;
+      slots = made.runs.slots;
+    };
+  }

@@ -1,6 +1,7 @@
 -- Changes of a document that are no steps of its text: their needs, and their results.
-use Rattle.std.specs.Prelude.{◌≡◌, ◌≤◌, ℕ, ◌+◌, ◌-◌, ◌++◌, ◌==◌, if◌then◌else◌, not, max, Bool, true, false, List, [], ◌∷◌, length, Option, Some, None}
+use Rattle.std.specs.Prelude.{◌≡◌, ◌≤◌, ℕ, ℤ, ◌+◌, ◌++◌, ◌==◌, if◌then◌else◌, not, max, Bool, true, false, List, [], ◌∷◌, length, Option, Some, None}
 use Rattle.ed_model.specs.declared.plan.DocumentChange.{DocumentChange}
+use Rattle.ed_model.specs.declared.plan.DocumentChange.TheVariants.{SetLevel, SetState}
 use Rattle.ed_model.specs.declared.plan.LineEndTypes.{LineEndTypes}
 use Rattle.ed_model.specs.History.{History, emptied, collecting_set}
 use Rattle.ed_model.specs.Indicators.{changed_range}
@@ -13,69 +14,45 @@ use Rattle.decorations.specs.Decorated.{values_of}
 use Rattle.line_index.specs.declared.edit.LineEdit.{LineEdit}
 use Rattle.line_index.specs.Edits.{fresh_lines}
 use Rattle.line_index.specs.Settings.{edits_of_setting}
-use Rattle.line_rows.specs.Kept.{KeptRows, kept_rows, row_at}
-use Rattle.document.specs.declared.room.DocumentRoom.{DocumentRoom}
-use Rattle.document.specs.Kept.{Kept, ChangeRoom, document_room, text_part}
+use Rattle.line_rows.specs.Kept.{KeptRows, row_at}
+use Rattle.undo_history.specs.Kept.{history_capacity}
+use Rattle.document.specs.declared.need.DocumentNeed.{DocumentNeed}
+use Rattle.document.specs.Kept.{Kept, document_need}
 
 -- the document with this history
 abbrev pub with_history : History → Kept → Kept
 with_history history k = record k { document = record k.document { history = history } }
 
--- the document once its history is forgotten: the history holds no memory, and so there is no room for a step of it
+-- the document after the change, which reads this text of the message
+abbrev pub after_change : List ℕ → DocumentChange → Kept → Kept
+after_change text what k = record k { document = changed_document text what k.document }
+
+-- the document once its history is forgotten, or once the collection of steps is turned off: the history holds no memory
+
+abbrev pub without_history_memory : Kept → Kept
+without_history_memory k = record k { capacity = record k.capacity { history = history_capacity 0 0 } }
+
 abbrev pub with_forgotten_history : Kept → Kept
-with_forgotten_history k = record k {
-  document = record k.document { history = emptied k.document.history };
-  room = text_part k.room;
-  memory = record k.memory { history = (0, 0) };
-}
+with_forgotten_history k = with_history (emptied k.document.history) (without_history_memory k)
 
--- the room that stays once the collection of steps is turned on or off: if it is off, there is none for the history
-abbrev pub collecting_room : Bool → DocumentRoom → DocumentRoom
-collecting_room on room = record room { steps = if on then room.steps else 0; bytes = if on then room.bytes else 0 }
-
--- the document once the collection of steps is turned on or off: if it is off, the history holds no memory
 abbrev pub with_collecting : Bool → Kept → Kept
-with_collecting on k = record k {
-  document = record k.document { history = collecting_set on k.document.history };
-  room = collecting_room on k.room;
-  memory = record k.memory { history = if on then k.memory.history else (0, 0) };
-}
+with_collecting on k = with_history (collecting_set on k.document.history) (if on then k else without_history_memory k)
 
 -- the document with so many references that callers hold
 abbrev pub with_held_by_callers : ℕ → Kept → Kept
 with_held_by_callers count k = record k { document = record k.document { held_by_callers = count } }
 
 -- the document with the view attached behind the others
-abbrev pub with_attached_view : ℕ → Document → Document
-with_attached_view view d = record d { views = d.views ++ view ∷ [] }
+abbrev pub with_attached_view : ℕ → Kept → Kept
+with_attached_view view k = record k { document = record k.document { views = k.document.views ++ view ∷ [] } }
 
--- the document after the change, which reads this text of the message; its room stays
-abbrev pub after_change : List ℕ → DocumentChange → Kept → Kept
-after_change text what k = record k { document = changed_document text what k.document }
+-- The level of a line is set, or its state: those of the lines up to it are stored then.
 
--- the change was made in the document, which reads no text of the message for it
-abbrev pub DocumentIsChanged : DocumentChange → Kept → Kept → Type 0
-DocumentIsChanged what old new = new.document ≡ changed_document [] what old.document
+abbrev pub with_level : ℕ → ℕ → Kept → Kept
+with_level line level k = record (after_change [] (SetLevel line level) k) { stored = record k.stored { levels = max k.stored.levels (line + 1) } }
 
--- the document with room for at least `count` markers
-abbrev pub with_marker_room : ℕ → Kept → Kept
-with_marker_room count k = record k { spare = record k.spare { markers = max k.spare.markers count } }
-
--- the document with room for the levels of at least the first `count` lines
-abbrev pub with_level_room : ℕ → Kept → Kept
-with_level_room count k = record k { spare = record k.spare { levels = max k.spare.levels count } }
-
--- the document with room for the states of at least the first `count` lines
-abbrev pub with_state_room : ℕ → Kept → Kept
-with_state_room count k = record k { spare = record k.spare { states = max k.spare.states count } }
-
--- the document with room for one fill of the indicator
-abbrev pub with_fill_room : ℕ → Kept → Kept
-with_fill_room indicator k = record k { spare = record k.spare { fill = Some indicator } }
-
--- the room after `count` markers have used theirs
-abbrev pub less_marker_room : ℕ → ChangeRoom → ChangeRoom
-less_marker_room count room = record room { markers = room.markers - count }
+abbrev pub with_state : ℕ → ℤ → Kept → Kept
+with_state line state k = record (after_change [] (SetState line state) k) { stored = record k.stored { states = max k.stored.states (line + 1) } }
 
 -- the smallest range with all bytes whose styles changed
 abbrev pub changed_styles : Kept → Kept → Option (ℕ × ℕ)
@@ -104,19 +81,19 @@ line_it_left handle old new = if marker_count old == marker_count new then None 
 
 -- cells can be styled: their styles are stored, or the document keeps none
 abbrev pub CanStyle : Kept → Type 0
-CanStyle k = keeps_no_styles k.document ≡ false → k.spare.styles ≡ true
+CanStyle k = keeps_no_styles k.document ≡ false → k.stored.styles ≡ true
 
 -- what a container's step needs, which has no bytes
-abbrev pub container_need : DocumentRoom
-container_need = document_room 0 0 0 1 0
+abbrev pub container_need : DocumentNeed
+container_need = document_need 0 0 0 1 0
 
 -- the numbers of a mask, as one name that is not computed
 unfoldable pub numbers_of : ℕ → List ℕ
 numbers_of mask = numbers_in mask
 
--- rows with markers of these numbers behind those of the line, for which room was used
+-- rows with markers of these numbers behind those of the line
 abbrev pub with_more_markers : ℕ → List ℕ → KeptRows → KeptRows
-with_more_markers line numbers rows =
-    let room = rows.room in
-    kept_rows (with_markers line ((row_at rows.rows line).markers ++ new_markers rows.next_handle numbers) rows.rows) (rows.next_handle + length numbers)
-    (record room { markers = room.markers - length numbers }) rows.blocks
+with_more_markers line numbers rows = record rows {
+  rows = with_markers line ((row_at rows.rows line).markers ++ new_markers rows.next_handle numbers) rows.rows;
+  next_handle = rows.next_handle + length numbers;
+}

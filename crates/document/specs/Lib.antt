@@ -7,3 +7,4 @@ pub mod Parts
 pub mod Lends
 pub mod Undoing
 pub mod Changes
+pub mod proved

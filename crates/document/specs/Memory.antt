@@ -1,62 +1,64 @@
--- The memory for line starts, for indicators and for the history: which calls allocate it, and how much.
-use Rattle.std.specs.Prelude.{◌≡◌, ◌≢◌, ℕ, ◌+◌, ◌*◌, ◌<◌, ◌≤◌, max, length}
+-- The memory of a document: how much a call may allocate, and which calls allocate none.
+use Rattle.std.specs.Prelude.{◌≡◌, ℕ, ◌+◌, ◌≤◌, length}
 use Rattle.ed_model.specs.Session.{lines_in}
-use Rattle.decorations.specs.Decorated.{Decorated, decorated, nothing_held, spare_of, AreRunsFor, AreSlotsFor, HaveRunsOf, HaveSlotsOf, WereFilledFrom}
-use Rattle.document.specs.declared.room.DocumentRoom.{DocumentRoom}
-use Rattle.document.specs.Kept.{Kept, DocumentMemory, HasHistoryRoom}
+use Rattle.cell_buffer.specs.Buffer.{IsWithin, most_held, styles_for}
+use Rattle.decorations.specs.Decorated.{IsCapacityForRuns, KeepsRuns, WereFilledFrom}
+use Rattle.line_rows.specs.Kept.{RowCapacity, IsAtMost, most_for_lines}
+use Rattle.undo_history.specs.Kept as history
+use Rattle.document.specs.declared.need.DocumentNeed.{DocumentNeed}
+use Rattle.document.specs.Kept.{Kept, decorated_in, history_in, rows_in}
 
--- that of a new document, which has the start of its one line
-abbrev pub memory_of_one_line : DocumentMemory
-memory_of_one_line = record { starts = 1; indicators = nothing_held; history = (0, 0) }
+-- The capacity for lines grows for `count` more at most: if these fit in, it stays, and otherwise it becomes what they need, or twice as
+-- much as before. Nothing is given back.
+pub record GrowsForLines (count : ℕ) (old new : Kept) : Type 0 where
+  pub starts : new.capacity.starts ≤ most_held old.capacity.starts (lines_in old.document + count)
+  pub starts_kept : old.capacity.starts ≤ new.capacity.starts
+  pub rows : IsAtMost new.capacity.rows (most_for_lines count (rows_in old))
+  pub rows_kept : IsAtMost old.capacity.rows new.capacity.rows
 
--- what the indicators' own contracts see of those of the document
-abbrev pub decorated_in : Kept → Decorated
-decorated_in k = decorated (length k.document.cells) k.document.indicators k.room.insertions k.spare.fill k.memory.indicators
+-- the length of the text with `count` more bytes
+abbrev pub length_with : ℕ → Kept → ℕ
+length_with count k = length k.document.cells + count
 
--- The memory for line starts stays if `count` more fit in. Otherwise there is at most enough for these, or twice as much as before.
-pub record AreStartsFor (count : ℕ) (old new : Kept) : Type 0 where
-  pub stays : old.memory.starts ≤ new.memory.starts
-  pub there : lines_in old.document + count ≤ old.memory.starts → new.memory.starts ≡ old.memory.starts
-  pub at_most : new.memory.starts ≤ max (lines_in old.document + count) (2 * old.memory.starts)
+-- the same of each capacity, for a need
+pub record GrowsFor (need : DocumentNeed) (old new : Kept) : Type 0 where
+  pub bytes : new.capacity.cells.0 ≤ most_held old.capacity.cells.0 (length_with need.text old)
+  pub styles : new.capacity.cells.1 ≤ most_held old.capacity.cells.1 (styles_for old.stored.styles (length_with need.text old))
+  pub cells_kept : IsWithin old.capacity.cells new.capacity.cells
+  pub lines : GrowsForLines need.lines old new
+  pub runs : IsCapacityForRuns (need.insertions + 2) (decorated_in old) new.capacity.indicators
+  pub history_kept : history.KeepsCapacity old.capacity.history new.capacity.history
+  pub history : history.CapacityAtMost need.steps need.bytes (history_in old) (history_in new)
+  pub views : new.capacity.views ≡ old.capacity.views
 
--- The memory of the indicators is at most that for so many more insertions and a fill, as their own contracts bound it.
-pub record AreIndicatorsFor (insertions : ℕ) (old new : Kept) : Type 0 where
-  pub runs : AreRunsFor (insertions + 3) old.document.indicators old.memory.indicators new.memory.indicators
-  pub slots : HaveSlotsOf old.memory.indicators new.memory.indicators
+-- nothing but the capacity for lines may be another
+abbrev pub ChangesLineCapacity : Kept → Kept → Type 0
+ChangesLineCapacity old new = new ≡ record old { capacity = record old.capacity { starts = new.capacity.starts; rows = new.capacity.rows } }
 
--- The memory of the indicators is at most that for a fill of this one, behind the insertions for which there is room. The runs of the
--- others have what they had.
-pub record IsMemoryForFill (indicator : ℕ) (old new : Kept) : Type 0 where
-  pub runs : AreRunsFor (old.room.insertions + 3) old.document.indicators old.memory.indicators new.memory.indicators
-  pub others : (k : ℕ) → k < 32 → k ≢ indicator → spare_of new.memory.indicators k ≡ spare_of old.memory.indicators k
-  pub slots : AreSlotsFor (indicator + 1) old.memory.indicators new.memory.indicators
+-- nothing but the capacity for what belongs to lines may be another, which grows to this at most
+abbrev pub ChangesRowCapacity : Kept → Kept → Type 0
+ChangesRowCapacity old new = new ≡ record old { capacity = record old.capacity { rows = new.capacity.rows } }
 
--- The memory of the history stays if there is room for what it needs. Otherwise a block holds at most twice as much as before, or as much
--- more as it needs.
-pub record IsHistoryFor (need : DocumentRoom) (old new : Kept) : Type 0 where
-  pub stays : HasHistoryRoom old need → new.memory.history ≡ old.memory.history
-  pub steps : new.memory.history.0 ≤ max (2 * old.memory.history.0) (old.memory.history.0 + need.steps)
-  pub bytes : new.memory.history.1 ≤ max (2 * old.memory.history.1) (old.memory.history.1 + need.bytes)
+abbrev pub RowsGrowTo : RowCapacity → Kept → Kept → Type 0
+RowsGrowTo most old new = IsAtMost old.capacity.rows new.capacity.rows × IsAtMost new.capacity.rows most
 
--- only the memory of the history may be another
-abbrev pub KeepsTextMemory : Kept → Kept → Type 0
-KeepsTextMemory old new = new.memory ≡ record old.memory { history = new.memory.history }
+-- only whether styles are stored, and for how many there is memory, may be another
+abbrev pub KeepsAllButStyles : Kept → Kept → Type 0
+KeepsAllButStyles old new = new ≡ record old {
+  stored = record old.stored { styles = new.stored.styles };
+  capacity = record old.capacity { cells = (old.capacity.cells.0, new.capacity.cells.1) };
+}
 
--- besides, only the memory of the indicators may be another
-abbrev pub with_indicators_of : Kept → Kept → Kept
-with_indicators_of new k = record k { memory = record k.memory { indicators = new.memory.indicators } }
+-- only the capacity for indicators may be another: runs are dropped where an indicator becomes 0 everywhere
+abbrev pub KeepsCapacity : Kept → Kept → Type 0
+KeepsCapacity old new = new.capacity ≡ record old.capacity { indicators = new.capacity.indicators }
 
--- No memory was allocated: as many line starts and steps fit in as before, in all, and the runs of the indicators have the memory that they
--- had.
+-- No memory was allocated.
 pub record KeepsMemory (old new : Kept) : Type 0 where
-  pub starts : new.memory.starts ≡ old.memory.starts
-  pub history : new.memory.history ≡ old.memory.history
-  pub runs : HaveRunsOf (decorated_in old) (decorated_in new)
-  pub slots : HaveSlotsOf old.memory.indicators new.memory.indicators
+  pub others : KeepsCapacity old new
+  pub runs : KeepsRuns (decorated_in old) (decorated_in new)
 
 -- the same if one indicator was filled
 pub record KeepsMemoryFilling (indicator : ℕ) (old new : Kept) : Type 0 where
-  pub starts : new.memory.starts ≡ old.memory.starts
-  pub history : new.memory.history ≡ old.memory.history
+  pub others : KeepsCapacity old new
   pub runs : WereFilledFrom indicator (decorated_in old) (decorated_in new)
-  pub slots : HaveSlotsOf old.memory.indicators new.memory.indicators

@@ -1,20 +1,20 @@
 -- The changes that undo and redo perform, and what each of them needs.
-use Rattle.std.specs.Prelude.{◌≡◌, ◌≤◌, ℕ, ◌+◌, if◌then◌else◌, not, Bool, List, [], length, slice_get, Option, Some, None, IsSomeAnd}
+use Rattle.std.specs.Prelude.{◌≡◌, ℕ, if◌then◌else◌, not, Bool, List, [], length, slice_get, Option, Some, None, IsSomeAnd}
 use Rattle.ed_model.specs.declared.plan.LineEndTypes.{LineEndTypes}
 use Rattle.ed_model.specs.Steps as model
 use Rattle.ed_model.specs.History.{History, Change, TextStep, ContainerStep, at_save_point, undo_changes, redo_changes, undone, redone}
 use Rattle.ed_model.specs.InverseLaws.{Fits}
 use Rattle.ed_model.specs.Performing.{document_after}
 use Rattle.ed_model.specs.Session.{text_of}
-use Rattle.document.specs.declared.room.DocumentRoom.{DocumentRoom}
+use Rattle.document.specs.declared.need.DocumentNeed.{DocumentNeed}
 use Rattle.document.specs.declared.undoing.Direction.{Direction}
 use Rattle.document.specs.declared.undoing.Direction.TheVariants.{Undo, Redo}
 use Rattle.document.specs.declared.undoing.ChangeOutline.{ChangeOutline}
 use Rattle.document.specs.declared.undoing.ChangeOutline.TheVariants.{Insert, Delete, Container}
 use Rattle.document.specs.declared.text_step.TextStep.{TextStep as Lent}
 use Rattle.document.specs.declared.text_step.TextStep.TheVariants as lent
-use Rattle.document.specs.Kept.{Kept, HasTextRoom, TakesRoom, no_room}
-use Rattle.document.specs.TextSteps.{bytes_out, deletion_room, insertion_room}
+use Rattle.document.specs.Kept.{Kept, HasTextRoom, nothing_needed, text_part}
+use Rattle.document.specs.TextSteps.{need_of_step}
 
 -- the changes that it performs, in their order
 abbrev pub changes_of : Direction → History → List Change
@@ -58,35 +58,18 @@ abbrev pub bytes_in : Change → List ℕ
 bytes_in (TextStep step) = model.step_bytes step
 bytes_in (ContainerStep token coalesce) = []
 
--- the room that a step needs, none of it in the history
-abbrev pub room_of_step : LineEndTypes → model.Step → DocumentRoom
-room_of_step types (model.Insert place bytes) = insertion_room types bytes
-room_of_step types (model.Delete place bytes) = deletion_room
-
-abbrev pub room_of_change : LineEndTypes → Change → DocumentRoom
-room_of_change types (TextStep step) = room_of_step types step
-room_of_change types (ContainerStep token coalesce) = no_room
-
--- the room that a change of the document needs, none of it in the history
-abbrev pub need_of_change : Kept → Change → DocumentRoom
-need_of_change k change = room_of_change k.document.line_end_types change
+-- what a change of the document needs, none of it in the history
+abbrev pub need_of_change : LineEndTypes → Change → DocumentNeed
+need_of_change types (TextStep step) = text_part (need_of_step types step)
+need_of_change types (ContainerStep token coalesce) = nothing_needed
 
 -- the new document is the old one after the step
 abbrev pub IsDocumentAfter : Kept → Kept → model.Step → Type 0
 IsDocumentAfter old new step = new.document ≡ document_after step old.document
 
--- from old to new, at most the room that the step needs was used
-abbrev pub TakesRoomOf : Kept → Kept → model.Step → Type 0
-TakesRoomOf old new step = TakesRoom old.room new.room (room_of_step old.document.line_end_types step)
-
--- the step takes at most the room in the text that it needs, and the bytes that it deletes become room
-abbrev pub FreesBytesOf : Kept → Kept → model.Step → Type 0
-FreesBytesOf old new step =
-    old.room.text + bytes_out step ≤ new.room.text + (room_of_step old.document.line_end_types step).text
-
 -- it is a step of the document's text, for which there is room
 abbrev pub CanMake : Kept → Change → Type 0
-CanMake k (TextStep step) = Fits step (text_of k.document) × HasTextRoom k (room_of_step k.document.line_end_types step)
+CanMake k (TextStep step) = Fits step (text_of k.document) × HasTextRoom (need_of_step k.document.line_end_types step) k
 CanMake k (ContainerStep token coalesce) = ⊥
 
 -- the step lends the bytes that the change inserts, or has the number of those that it deletes; a container's change

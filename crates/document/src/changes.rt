@@ -1,10 +1,9 @@
 //! Changes of a document that allocate nothing, and its list of views.
 
-ghost use Rattle.std.specs.Prelude.{◌≡◌, ◌≤◌, ◌<◌, ◌+◌, ◌-◌, ◌^◌, length, max, OnOk, OnErr, IsOk};
-ghost use Rattle.std.specs.Prelude.{vec_len, vec_capacity};
+ghost use Rattle.std.specs.Prelude.{◌≡◌, ◌≤◌, ◌<◌, ◌+◌, ◌-◌, ◌^◌, length, max, OnOk, OnErr, IsOk, vec_capacity};
 ghost use Rattle.ed_model.specs.History.{sealed_outside_groups, saved, group_begun, group_ended};
 ghost use Rattle.ed_model.specs.Session.{without, left_by};
-ghost use Rattle.document.specs.Kept.{view_room_in_all};
+ghost use Rattle.document.specs.Kept.{HasViewRoom};
 ghost use Rattle.document.specs.Changes.{with_attached_view, with_held_by_callers, with_history};
 ghost use Rattle.document.specs.Changes.{with_collecting, with_forgotten_history};
 
@@ -64,7 +63,7 @@ impl Document {
     }
 
     /// Forgets all steps, and frees their memory (`SCI_EMPTYUNDOBUFFER`). This state becomes the save point, and no
-    /// group is open. There is no room for a step of the history any more.
+    /// group is open.
     pub fn forget_history(&mut self)
         ensures { self.new ≡ with_forgotten_history self.old }
     {
@@ -94,17 +93,17 @@ impl Document {
         self.held_by_callers = self.held_by_callers.saturating_sub(1);
     }
 
-    /// Makes room for one more view. If there is none, it becomes room for as many as are attached, or for one.
+    /// Makes room for one more view. If there is none, it becomes room for twice as many as are attached, or for one.
     ///
     /// # Errors
     ///
     /// `AllocError` if the allocation fails. The document is then unchanged.
     pub fn reserve_view(&mut self) -> Result<(), AllocError>
-        ensures ok { OnOk result (0 < self.new.spare.views) }
-        ensures same { self.new ≡ record self.old { spare = record self.old.spare { views = self.new.spare.views } } }
-        ensures room_is_there { 0 < self.old.spare.views → IsOk result × (self.new ≡ self.old) }
-        ensures room_stays { self.old.spare.views ≤ self.new.spare.views }
-        ensures at_most { self.new.spare.views ≤ max self.old.spare.views (max 1 (length self.old.document.views)) }
+        ensures ok { OnOk result (HasViewRoom self.new) }
+        ensures rest { self.new ≡ record self.old { capacity = record self.old.capacity { views = self.new.capacity.views } } }
+        ensures room_is_there { HasViewRoom self.old → IsOk result × (self.new ≡ self.old) }
+        ensures capacity { self.old.capacity.views ≤ self.new.capacity.views }
+        ensures at_most { self.new.capacity.views ≤ max self.old.capacity.views (length self.old.document.views + max 1 (length self.old.document.views)) }
         ensures err { OnErr result (self.new ≡ self.old) }
     {
         let Ok(()) = vec_room::reserve(&mut self.views, 1) else {
@@ -115,23 +114,15 @@ impl Document {
 
     /// Attaches a view, behind those that are attached. There must be room for it.
     pub fn attach_reserved(&mut self, view: u32)
-        requires { 0 < self.old.spare.views }
-        ensures document { self.new.document ≡ with_attached_view view self.old.document }
-        ensures room { self.new.room ≡ self.old.room }
-        ensures memory { self.new.memory ≡ self.old.memory }
-        ensures spare { self.new.spare ≡ record self.old.spare { views = self.old.spare.views - 1 } }
+        requires { HasViewRoom self.old }
+        ensures { self.new ≡ with_attached_view view self.old }
     {
         self.views.push_reserved(view);
     }
 
-    /// Detaches a view, if it is attached. Its place becomes room again.
+    /// Detaches a view, if it is attached.
     pub fn detach(&mut self, view: u32)
-        ensures document { self.new.document ≡ left_by view self.old.document }
-        ensures room { self.new.room ≡ self.old.room }
-        ensures memory { self.new.memory ≡ self.old.memory }
-        ensures spare { self.new.spare ≡ record self.old.spare { views = self.new.spare.views } }
-        ensures room_stays { self.old.spare.views ≤ self.new.spare.views }
-        ensures view_room { view_room_in_all self.new ≡ view_room_in_all self.old }
+        ensures { self.new ≡ record self.old { document = left_by view self.old.document } }
     {
         leave(&mut self.views, view);
     }
@@ -140,7 +131,6 @@ impl Document {
 // Removes every copy of the view from the list.
 fn leave(views: &mut Vec<u32>, view: u32)
     ensures items { views.new.items ≡ without view views.old.items }
-    ensures room_stays { vec_capacity views.old - vec_len views.old ≤ vec_capacity views.new - vec_len views.new }
     ensures capacity { vec_capacity views.new ≡ vec_capacity views.old }
 {
     views.retain(|id| *id != view);

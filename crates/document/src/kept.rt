@@ -1,12 +1,10 @@
 //! `Document`: how it is made and read.
 
 ghost use Rattle.std.specs.Prelude.{◌≡◌, ◌≤◌, ◌<◌, ◌+◌, ◌-◌, ◌++◌, ◌^◌, length, min, slice_get, vec_len, vec_capacity, OnOk, OnErr, IsOk, IfOk, Some, nat_lt};
-ghost use Rattle.ed_model.specs.Text.{bytes_of, styles_of};
-ghost use Rattle.ed_model.specs.Lines.{line_starts, line_count, line_of, start_of_line, start_after_line, end_of_line};
-ghost use Rattle.ed_model.specs.Session.{new_document, text_of, lines_in, references, is_large};
+ghost use Rattle.ed_model.specs.Text.{styles_of};
+ghost use Rattle.ed_model.specs.Session.{text_of, lines_in, references, is_large};
 ghost use Rattle.line_index.specs.Index.{IsIndexOf};
-ghost use Rattle.document.specs.Kept.{FitsWidth, no_room, text_from};
-ghost use Rattle.document.specs.Memory.{memory_of_one_line};
+ghost use Rattle.document.specs.Kept.{FitsWidth, new_kept, text_from};
 
 use crate::places::{Indicators, Lines};
 use cell_buffer::Cells;
@@ -58,9 +56,7 @@ impl Document {
     ///
     /// `AllocError` if an allocation fails: the document stores the start of its one line.
     pub fn new(alloc: Global, id: u32, options: u32) -> Result<Self, AllocError>
-        ensures document { IfOk result (λ k. k.document ≡ new_document id options) }
-        ensures room { IfOk result (λ k. k.room ≡ no_room) }
-        ensures memory { IfOk result (λ k. k.memory ≡ memory_of_one_line) }
+        ensures { IfOk result (λ k. k ≡ new_kept id options) }
     {
         let is_large = options & document_option::TEXT_LARGE != 0;
         let lines = Lines::new(alloc, is_large)?;
@@ -105,8 +101,8 @@ impl Document {
     /// Returns the length of the text in bytes.
     pub fn len(&self) -> usize
         ensures len { result ≡ length self.now.document.cells }
-        ensures within { FitsWidth self.now.document (length self.now.document.cells + self.now.room.text) }
-        ensures small { length self.now.document.cells + self.now.room.text < 2 ^ 61 }
+        ensures within { FitsWidth self.now.document (length self.now.document.cells) }
+        ensures small { length self.now.document.cells < 2 ^ 61 }
     {
         self.cells.len()
     }

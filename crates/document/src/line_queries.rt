@@ -13,7 +13,7 @@ impl Document {
     pub fn line_count(&self) -> usize
         ensures count { result ≡ lines_in self.now.document }
         ensures some { 0 < result }
-        ensures within { result + self.now.room.lines < 2 ^ 63 }
+        ensures within { result < 2 ^ 63 }
         ensures few { result ≤ length self.now.document.cells + 1 }
         ensures narrow { is_large self.now.document ≡ false → result < 2 ^ 32 }
     {

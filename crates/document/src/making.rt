@@ -3,16 +3,16 @@
 ghost use Rattle.std.specs.Prelude.{◌≡◌, ◌≤◌, ◌+◌, length};
 ghost use Rattle.ed_model.specs.Text.{bytes_of};
 ghost use Rattle.ed_model.specs.Steps.{Insert};
+ghost use Rattle.line_index.specs.RoomLaws.{lines_for_deletion, lines_for_insertion};
 ghost use Rattle.line_index.specs.StepEdits.{SmallLines, change_of};
-ghost use Rattle.document.specs.Parts.{parts_in, AreOfOne, CanTakeInsertion, CanTakeDeletion, CanTakeStep};
-ghost use Rattle.document.specs.Parts.{AreInserted, AreDeleted, AreSteppedBy};
-ghost use Rattle.document.specs.TextSteps.{IsStepOn, deletion_change, step_change};
+ghost use Rattle.document.specs.Parts.{AreOfOne, AreStepped, AreSteppedBy, CanTake, CanTakeStep, text_parts};
+ghost use Rattle.document.specs.TextSteps.{IsStepOn, deletion_change, deletion_of, step_change};
 
 use crate::pieces::{carry_rows, put_in, take_out};
 use crate::places::{Indicators, Lines};
 use crate::text_step::TextStep;
 use cell_buffer::Cells;
-use line_index::LineChange;
+use line_index::{LineChange, room_for_steps};
 use line_rows::LineRows;
 
 // Inserts bytes. Inlined into its caller, like `delete`, so that the `LineChange` is written once.
@@ -25,15 +25,16 @@ fn insert(
     place: usize,
     bytes: &[u8],
 ) -> LineChange
-    requires parts { AreOfOne (parts_in cells.old lines.old rows.old indicators.old) }
+    requires parts { AreOfOne (text_parts cells.old lines.old rows.old indicators.old) }
     requires fits { place ≤ length cells.old.cells }
-    requires room { CanTakeInsertion bytes.now (parts_in cells.old lines.old rows.old indicators.old) }
-    ensures stepped { AreInserted place bytes.now (parts_in cells.old lines.old rows.old indicators.old)
-        (parts_in cells.new lines.new rows.new indicators.new) }
-    ensures styles { cells.new.keeps_styles ≡ cells.old.keeps_styles }
+    requires room { CanTake (length bytes.now) (lines_for_insertion lines.old.index.types bytes.now) 1
+        (text_parts cells.old lines.old rows.old indicators.old) }
+    ensures stepped { AreStepped (Insert place bytes.now) (text_parts cells.old lines.old rows.old indicators.old)
+        (text_parts cells.new lines.new rows.new indicators.new) }
     ensures lines { result ≡ change_of lines.old.index.types (Insert place bytes.now) (bytes_of cells.old.cells) }
     ensures small { SmallLines result.old_lines × SmallLines result.new_lines }
 {
+    room_for_steps();
     let change = put_in(cells, lines, place, bytes);
     carry_rows(rows, &change);
     indicators.insert(place, bytes.len());
@@ -50,15 +51,15 @@ fn delete(
     place: usize,
     count: usize,
 ) -> LineChange
-    requires parts { AreOfOne (parts_in cells.old lines.old rows.old indicators.old) }
+    requires parts { AreOfOne (text_parts cells.old lines.old rows.old indicators.old) }
     requires fits { place + count ≤ length cells.old.cells }
-    requires room { CanTakeDeletion (parts_in cells.old lines.old rows.old indicators.old) }
-    ensures stepped { AreDeleted place count (parts_in cells.old lines.old rows.old indicators.old)
-        (parts_in cells.new lines.new rows.new indicators.new) }
-    ensures styles { cells.new.keeps_styles ≡ cells.old.keeps_styles }
+    requires room { CanTake 0 lines_for_deletion 0 (text_parts cells.old lines.old rows.old indicators.old) }
+    ensures stepped { AreStepped (deletion_of place count (bytes_of cells.old.cells)) (text_parts cells.old lines.old rows.old indicators.old)
+        (text_parts cells.new lines.new rows.new indicators.new) }
     ensures lines { result ≡ deletion_change lines.old.index.types place count (bytes_of cells.old.cells) }
     ensures small { SmallLines result.old_lines × SmallLines result.new_lines }
 {
+    room_for_steps();
     let change = take_out(cells, lines, place, count);
     carry_rows(rows, &change);
     indicators.delete(place, count);
@@ -75,12 +76,11 @@ pub(crate) fn make_step(
     indicators: &mut Indicators,
     step: TextStep,
 ) -> LineChange
-    requires parts { AreOfOne (parts_in cells.old lines.old rows.old indicators.old) }
+    requires parts { AreOfOne (text_parts cells.old lines.old rows.old indicators.old) }
     requires fits { IsStepOn step (length cells.old.cells) }
-    requires room { CanTakeStep step (parts_in cells.old lines.old rows.old indicators.old) }
-    ensures stepped { AreSteppedBy step.entry (parts_in cells.old lines.old rows.old indicators.old)
-        (parts_in cells.new lines.new rows.new indicators.new) }
-    ensures styles { cells.new.keeps_styles ≡ cells.old.keeps_styles }
+    requires room { CanTakeStep step (text_parts cells.old lines.old rows.old indicators.old) }
+    ensures stepped { AreSteppedBy step.entry (text_parts cells.old lines.old rows.old indicators.old)
+        (text_parts cells.new lines.new rows.new indicators.new) }
     ensures lines { result ≡ step_change lines.old.index.types step.entry (bytes_of cells.old.cells) }
     ensures small { SmallLines result.old_lines × SmallLines result.new_lines }
 {

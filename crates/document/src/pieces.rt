@@ -2,14 +2,13 @@
 
 ghost use Rattle.std.specs.Prelude.{◌≡◌, ◌≤◌, ◌<◌, ◌+◌, length};
 ghost use Rattle.ed_model.specs.Text.{bytes_of};
-ghost use Rattle.ed_model.specs.Steps.{Insert, edited_cells};
+ghost use Rattle.ed_model.specs.Steps.{Insert};
 ghost use Rattle.line_index.specs.RoomLaws.{lines_for_deletion, lines_for_insertion};
 ghost use Rattle.line_index.specs.StepEdits.{SmallLines, change_of};
 ghost use Rattle.line_index.specs.Index.{IsIndexOf};
 ghost use Rattle.document.specs.Kept.{bound_of};
-ghost use Rattle.document.specs.Parts.{HasLinesOf, InsertionFits, WasChanged, AreCarriedBy};
-ghost use Rattle.document.specs.Places.{line_room_in_all};
-ghost use Rattle.document.specs.TextSteps.{cells_without, deletion_change};
+ghost use Rattle.document.specs.Parts.{AreCarriedBy, CanPut, InsertionFits, WasChanged, WereEdited};
+ghost use Rattle.document.specs.TextSteps.{deletion_change, deletion_of};
 
 use crate::places::Lines;
 use cell_buffer::Cells;
@@ -25,18 +24,9 @@ const PIECE: usize = 1 << 16;
 // may add.
 #[inline(always)]
 fn put_piece(cells: &mut Cells, lines: &mut Lines, place: usize, bytes: &[u8]) -> LineChange
-    requires place { place ≤ length cells.old.cells }
-    requires room { length bytes.now ≤ cells.old.room }
-    requires fits { length cells.old.cells + cells.old.room < bound_of lines.old.is_large }
-    requires lines { IsIndexOf (bytes_of cells.old.cells) lines.old.index }
+    requires can { CanPut place bytes.now cells.old lines.old }
     requires line_room { InsertionFits place bytes.now cells.old.cells lines.old.index }
-    ensures cells { cells.new.cells ≡ edited_cells (Insert place bytes.now) cells.old.cells }
-    ensures styles { cells.new.keeps_styles ≡ cells.old.keeps_styles }
-    ensures len { length cells.new.cells ≡ length cells.old.cells + length bytes.now }
-    ensures room { cells.new.room + length bytes.now ≡ cells.old.room }
-    ensures lines { HasLinesOf lines.old.index.types cells.new.cells lines.new.index }
-    ensures width { lines.new.is_large ≡ lines.old.is_large }
-    ensures line_room { line_room_in_all lines.new.index ≡ line_room_in_all lines.old.index }
+    ensures put { WereEdited (Insert place bytes.now) cells.old cells.new lines.old lines.new }
     ensures change { result ≡ change_of lines.old.index.types (Insert place bytes.now) (bytes_of cells.old.cells) }
     ensures small { SmallLines result.old_lines × SmallLines result.new_lines }
 {
@@ -49,18 +39,9 @@ fn put_piece(cells: &mut Cells, lines: &mut Lines, place: usize, bytes: &[u8]) -
 // Inserts more than one piece. Out of line, since most insertions are short.
 #[inline(never)]
 fn put_pieces(cells: &mut Cells, lines: &mut Lines, place: usize, bytes: &[u8]) -> LineChange
-    requires place { place ≤ length cells.old.cells }
-    requires room { length bytes.now ≤ cells.old.room }
-    requires fits { length cells.old.cells + cells.old.room < bound_of lines.old.is_large }
-    requires lines { IsIndexOf (bytes_of cells.old.cells) lines.old.index }
+    requires can { CanPut place bytes.now cells.old lines.old }
     requires line_room { lines_for_insertion lines.old.index.types bytes.now ≤ lines.old.index.room }
-    ensures cells { cells.new.cells ≡ edited_cells (Insert place bytes.now) cells.old.cells }
-    ensures styles { cells.new.keeps_styles ≡ cells.old.keeps_styles }
-    ensures len { length cells.new.cells ≡ length cells.old.cells + length bytes.now }
-    ensures room { cells.new.room + length bytes.now ≡ cells.old.room }
-    ensures lines { HasLinesOf lines.old.index.types cells.new.cells lines.new.index }
-    ensures width { lines.new.is_large ≡ lines.old.is_large }
-    ensures line_room { line_room_in_all lines.new.index ≡ line_room_in_all lines.old.index }
+    ensures put { WereEdited (Insert place bytes.now) cells.old cells.new lines.old lines.new }
     ensures change { result ≡ change_of lines.old.index.types (Insert place bytes.now) (bytes_of cells.old.cells) }
     ensures small { SmallLines result.old_lines × SmallLines result.new_lines }
 {
@@ -79,18 +60,9 @@ fn put_pieces(cells: &mut Cells, lines: &mut Lines, place: usize, bytes: &[u8]) 
 /// the lines that they may add.
 #[inline(always)]
 pub(crate) fn put_in(cells: &mut Cells, lines: &mut Lines, place: usize, bytes: &[u8]) -> LineChange
-    requires place { place ≤ length cells.old.cells }
-    requires room { length bytes.now ≤ cells.old.room }
-    requires fits { length cells.old.cells + cells.old.room < bound_of lines.old.is_large }
-    requires lines { IsIndexOf (bytes_of cells.old.cells) lines.old.index }
+    requires can { CanPut place bytes.now cells.old lines.old }
     requires line_room { lines_for_insertion lines.old.index.types bytes.now ≤ lines.old.index.room }
-    ensures cells { cells.new.cells ≡ edited_cells (Insert place bytes.now) cells.old.cells }
-    ensures styles { cells.new.keeps_styles ≡ cells.old.keeps_styles }
-    ensures len { length cells.new.cells ≡ length cells.old.cells + length bytes.now }
-    ensures room { cells.new.room + length bytes.now ≡ cells.old.room }
-    ensures lines { HasLinesOf lines.old.index.types cells.new.cells lines.new.index }
-    ensures width { lines.new.is_large ≡ lines.old.is_large }
-    ensures line_room { line_room_in_all lines.new.index ≡ line_room_in_all lines.old.index }
+    ensures put { WereEdited (Insert place bytes.now) cells.old cells.new lines.old lines.new }
     ensures change { result ≡ change_of lines.old.index.types (Insert place bytes.now) (bytes_of cells.old.cells) }
     ensures small { SmallLines result.old_lines × SmallLines result.new_lines }
 {
@@ -113,16 +85,10 @@ pub(crate) fn take_out(
     count: usize,
 ) -> LineChange
     requires place { place + count ≤ length cells.old.cells }
-    requires fits { length cells.old.cells + cells.old.room < bound_of lines.old.is_large }
+    requires width { length cells.old.cells < bound_of lines.old.is_large }
     requires lines { IsIndexOf (bytes_of cells.old.cells) lines.old.index }
     requires line_room { lines_for_deletion ≤ lines.old.index.room }
-    ensures cells { cells.new.cells ≡ cells_without place count cells.old.cells }
-    ensures styles { cells.new.keeps_styles ≡ cells.old.keeps_styles }
-    ensures len { length cells.new.cells + count ≡ length cells.old.cells }
-    ensures room { cells.new.room ≡ cells.old.room + count }
-    ensures lines { HasLinesOf lines.old.index.types cells.new.cells lines.new.index }
-    ensures width { lines.new.is_large ≡ lines.old.is_large }
-    ensures line_room { line_room_in_all lines.new.index ≡ line_room_in_all lines.old.index }
+    ensures taken { WereEdited (deletion_of place count (bytes_of cells.old.cells)) cells.old cells.new lines.old lines.new }
     ensures change { result ≡ deletion_change lines.old.index.types place count (bytes_of cells.old.cells) }
     ensures small { SmallLines result.old_lines × SmallLines result.new_lines }
 {

@@ -1,19 +1,18 @@
 //! Line starts and indicators of a text whose places are stored in 32 bits, or in 64 if the text may be large.
 
-ghost use Rattle.std.specs.Prelude.{◌≡◌, pos, ◌<◌, ◌≤◌, ◌+◌, ◌*◌, ◌^◌, ◌++◌, [], length, slice_index};
-ghost use Rattle.std.specs.Prelude.{IfOk, OnOk, OnErr, IsOk, Some, None, vec_len, vec_capacity};
+ghost use Rattle.std.specs.Prelude.{◌≡◌, ℕ, pos, ◌<◌, ◌≤◌, ◌+◌, ◌*◌, ◌^◌, ◌++◌, [], length, slice_index};
+ghost use Rattle.std.specs.Prelude.{IfOk, OnOk, IsOk, vec_len, vec_capacity};
 ghost use Rattle.ed_model.specs.Lines.{line_of, end_of_line};
 ghost use Rattle.std.specs.List.{AllByRecursion};
 ghost use Rattle.ed_model.specs.TextPlans.{at_place};
 ghost use Rattle.line_index.specs.Index.{IsIndexOf, WasInserted, WasDeleted, FollowsInsertion, FollowsDeletion};
 ghost use Rattle.line_index.specs.Change.{change_since, lines_about};
 ghost use Rattle.line_index.specs.StepEdits.{SmallLines};
-ghost use Rattle.decorations.specs.Decorated.{AreSlotsFor, HaveRunsOf, HaveSlotsOf, WereFilledFrom, values_of, run_about, mask_of};
+ghost use Rattle.cell_buffer.specs.Buffer.{most_held};
+ghost use Rattle.decorations.specs.Decorated.{HasRoomForFill, HasRoomForInsertions, IsCapacityForFill, IsCapacityForRuns, KeepsRuns, WereFilledFrom, filled_range, mask_of, run_about, values_of};
 ghost use Rattle.document.specs.Kept.{bound_of};
-ghost use Rattle.document.specs.Places.{LinesFit, StartsGrow, change_between};
-ghost use Rattle.document.specs.Places.{line_room_in_all, no_indicators, range_of_fill, type_edits};
-ghost use Rattle.document.specs.Places.{AreFilled, ChangeOnlyMemory, GainFillRoom, GainInsertionRoom};
-ghost use Rattle.document.specs.Places.{HaveDeleted, HaveInserted, HaveRunsFor, KeepRunsOfOthers};
+ghost use Rattle.document.specs.Places.{LinesFit, change_between, line_capacity, no_indicators, type_edits};
+ghost use Rattle.document.specs.Places.{AreFilled, ChangeCapacity, HaveDeleted, HaveInserted};
 
 use decorations::Decorations;
 use ed_model::LineEndTypes;
@@ -139,11 +138,11 @@ impl Lines {
     /// `AllocError` if the allocation fails. Nothing has changed then.
     #[inline(always)]
     pub(crate) fn reserve(&mut self, count: usize) -> Result<(), AllocError>
+        ensures rest { self.new ≡ record self.old { index = record self.old.index { room = self.new.index.room } } }
         ensures ok { OnOk result (count ≤ self.new.index.room) }
-        ensures same { self.new ≡ record self.old { index = record self.old.index { room = self.new.index.room } } }
         ensures room_is_there { count ≤ self.old.index.room → IsOk result × (self.new ≡ self.old) }
-        ensures room_stays { self.old.index.room ≤ self.new.index.room }
-        ensures at_most { StartsGrow count self.old.index self.new.index }
+        ensures capacity { self.old.index.room ≤ self.new.index.room }
+        ensures at_most { line_capacity self.new.index ≤ most_held (line_capacity self.old.index) (length self.old.index.starts + count) }
     {
         match &mut self.kept {
             LinesByWidth::Small(lines) => lines.reserve(count),
@@ -165,7 +164,7 @@ impl Lines {
         ensures width { self.new.is_large ≡ self.old.is_large }
         ensures types { self.new.index.types ≡ self.old.index.types }
         ensures index { FollowsInsertion place count (before.now ++ after.now) self.old.index self.new.index }
-        ensures room { line_room_in_all self.new.index ≡ line_room_in_all self.old.index }
+        ensures capacity { line_capacity self.new.index ≡ line_capacity self.old.index }
         ensures change { result ≡ change_between place place (place + count) self.old.index self.new.index }
         ensures small { SmallLines result.old_lines × SmallLines result.new_lines }
     {
@@ -189,7 +188,7 @@ impl Lines {
         ensures width { self.new.is_large ≡ self.old.is_large }
         ensures types { self.new.index.types ≡ self.old.index.types }
         ensures index { FollowsDeletion place count (before.now ++ after.now) self.old.index self.new.index }
-        ensures room { line_room_in_all self.new.index ≡ line_room_in_all self.old.index }
+        ensures capacity { line_capacity self.new.index ≡ line_capacity self.old.index }
         ensures change { result ≡ change_between place (place + count) place self.old.index self.new.index }
         ensures small { SmallLines result.old_lines × SmallLines result.new_lines }
     {
@@ -227,7 +226,7 @@ impl Lines {
         ensures width { self.new.is_large ≡ self.old.is_large }
         ensures types { self.new.index.types ≡ types }
         ensures index { IsIndexOf (before.now ++ after.now) self.new.index }
-        ensures room { line_room_in_all self.new.index ≡ line_room_in_all self.old.index }
+        ensures capacity { line_capacity self.new.index ≡ line_capacity self.old.index }
     {
         match &mut self.kept {
             LinesByWidth::Small(lines) => lines.set_types(types, before, after),
@@ -343,14 +342,13 @@ impl Indicators {
     ///
     /// # Errors
     ///
-    /// `AllocError` if an allocation fails. Nothing has changed then, except that there may be memory for more runs.
+    /// `AllocError` if an allocation fails. Nothing has changed then, except that more runs may fit in.
     #[inline(always)]
     pub(crate) fn reserve(&mut self, insertions: usize) -> Result<(), AllocError>
-        ensures ok { OnOk result (GainInsertionRoom insertions self.old self.new) }
-        ensures room_is_there { insertions ≤ self.old.decorated.room → IsOk result × (self.new ≡ self.old) }
-        ensures runs_at_most { HaveRunsFor (insertions + 3) self.old self.new }
-        ensures slots { HaveSlotsOf self.old.decorated.held self.new.decorated.held }
-        ensures err { OnErr result (ChangeOnlyMemory self.old self.new) }
+        ensures rest { ChangeCapacity self.old self.new }
+        ensures ok { OnOk result (HasRoomForInsertions insertions self.new.decorated) }
+        ensures room_is_there { HasRoomForInsertions insertions self.old.decorated → IsOk result × (self.new ≡ self.old) }
+        ensures at_most { IsCapacityForRuns (insertions + 2) self.old.decorated self.new.decorated.capacity }
     {
         match &mut self.kept {
             IndicatorsByWidth::Small(indicators) => indicators.reserve(insertions),
@@ -362,14 +360,12 @@ impl Indicators {
     pub(crate) fn insert(&mut self, place: usize, count: usize)
         requires within { place ≤ self.old.decorated.length }
         requires fits { self.old.decorated.length + count < bound_of self.old.is_large }
-        requires room { 0 < self.old.decorated.room }
+        requires room { HasRoomForInsertions 1 self.old.decorated }
         ensures width { self.new.is_large ≡ self.old.is_large }
         ensures length { self.new.decorated.length ≡ self.old.decorated.length + count }
         ensures values { HaveInserted place count self.old self.new }
-        ensures room { self.new.decorated.room + 1 ≡ self.old.decorated.room }
-        ensures ready { self.new.decorated.ready ≡ None }
-        ensures slots { HaveSlotsOf self.old.decorated.held self.new.decorated.held }
-        ensures runs { HaveRunsOf self.old.decorated self.new.decorated }
+        ensures room { (n : ℕ) → HasRoomForInsertions (n + 1) self.old.decorated → HasRoomForInsertions n self.new.decorated }
+        ensures capacity { KeepsRuns self.old.decorated self.new.decorated }
     {
         match &mut self.kept {
             IndicatorsByWidth::Small(indicators) => indicators.insert(place, count),
@@ -383,10 +379,8 @@ impl Indicators {
         ensures width { self.new.is_large ≡ self.old.is_large }
         ensures length { self.new.decorated.length + count ≡ self.old.decorated.length }
         ensures values { HaveDeleted place count self.old self.new }
-        ensures room { self.new.decorated.room ≡ self.old.decorated.room }
-        ensures ready { self.new.decorated.ready ≡ None }
-        ensures slots { HaveSlotsOf self.old.decorated.held self.new.decorated.held }
-        ensures runs { HaveRunsOf self.old.decorated self.new.decorated }
+        ensures room { (n : ℕ) → HasRoomForInsertions n self.old.decorated → HasRoomForInsertions n self.new.decorated }
+        ensures capacity { KeepsRuns self.old.decorated self.new.decorated }
     {
         match &mut self.kept {
             IndicatorsByWidth::Small(indicators) => indicators.delete(place, count),
@@ -398,16 +392,13 @@ impl Indicators {
     ///
     /// # Errors
     ///
-    /// `AllocError` if an allocation fails. Nothing has changed then, except that there may be memory for more slots
-    /// and runs.
+    /// `AllocError` if an allocation fails. Nothing has changed then, except that more slots and runs may fit in.
     pub(crate) fn reserve_fill(&mut self, indicator: usize) -> Result<(), AllocError>
         requires { indicator < 32 }
-        ensures ok { OnOk result (GainFillRoom indicator self.old self.new) }
-        ensures room_is_there { self.old.decorated.ready ≡ Some indicator → IsOk result × (self.new ≡ self.old) }
-        ensures runs_at_most { HaveRunsFor (self.old.decorated.room + 3) self.old self.new }
-        ensures others { KeepRunsOfOthers indicator self.old self.new }
-        ensures slots_at_most { AreSlotsFor (indicator + 1) self.old.decorated.held self.new.decorated.held }
-        ensures err { OnErr result (ChangeOnlyMemory self.old self.new) }
+        ensures rest { ChangeCapacity self.old self.new }
+        ensures ok { OnOk result (HasRoomForFill indicator self.new.decorated) }
+        ensures room_is_there { HasRoomForFill indicator self.old.decorated → IsOk result × (self.new ≡ self.old) }
+        ensures at_most { IsCapacityForFill indicator self.old.decorated self.new.decorated.capacity }
     {
         match &mut self.kept {
             IndicatorsByWidth::Small(indicators) => indicators.reserve_fill(indicator),
@@ -425,11 +416,10 @@ impl Indicators {
     ) -> Option<(usize, usize)>
         requires indicator { indicator < 32 }
         requires within { start + count ≤ self.old.decorated.length }
-        requires room { self.old.decorated.ready ≡ Some indicator }
+        requires room { HasRoomForFill indicator self.old.decorated }
         ensures values { AreFilled indicator start count value self.old self.new }
-        ensures slots { HaveSlotsOf self.old.decorated.held self.new.decorated.held }
-        ensures runs { WereFilledFrom indicator self.old.decorated self.new.decorated }
-        ensures changed { result ≡ range_of_fill indicator start count value self.old }
+        ensures capacity { WereFilledFrom indicator self.old.decorated self.new.decorated }
+        ensures changed { result ≡ filled_range self.old.decorated indicator start count value }
     {
         match &mut self.kept {
             IndicatorsByWidth::Small(indicators) => {

@@ -1,14 +1,14 @@
 //! Changes of the rows of a document's lines: markers, fold levels and line states. Lines are counted from 0.
 
 ghost use Rattle.std.specs.Prelude.{◌≡◌, ◌≤◌, ◌<◌, ◌+◌, ◌-◌, ◌^◌, [], length, OnOk, OnErr, IsOk};
-ghost use Rattle.ed_model.specs.declared.plan.DocumentChange.TheVariants.{AddMarker, AddMarkers, DeleteMarker, DeleteMarkers, DeleteHandle, SetLevel, SetState};
-ghost use Rattle.ed_model.specs.Changes.{changed_document, document_row};
+ghost use Rattle.ed_model.specs.declared.plan.DocumentChange.TheVariants.{AddMarker, AddMarkers, DeleteMarker, DeleteMarkers, DeleteHandle};
+ghost use Rattle.ed_model.specs.Changes.{document_row};
 ghost use Rattle.ed_model.specs.LinePlans.{numbers_in};
 ghost use Rattle.ed_model.specs.Session.{lines_in};
-ghost use Rattle.document.specs.Kept.{marker_room_in_all};
-ghost use Rattle.document.specs.Changes.{line_it_left, markers_changed, numbers_of, with_more_markers};
-ghost use Rattle.document.specs.Changes.{after_change, less_marker_room};
-ghost use Rattle.document.specs.Changes.{with_level_room, with_marker_room, with_state_room};
+ghost use Rattle.line_rows.specs.Kept.{HasRoomForMarkers, most_for_level, most_for_markers, most_for_state};
+ghost use Rattle.document.specs.Kept.{HasLevelRoom, HasMarkerRoom, HasStateRoom, rows_in};
+ghost use Rattle.document.specs.Memory.{ChangesRowCapacity, RowsGrowTo};
+ghost use Rattle.document.specs.Changes.{after_change, line_it_left, markers_changed, numbers_of, with_level, with_more_markers, with_state};
 
 use crate::kept::Document;
 use line_rows::LineRows;
@@ -26,7 +26,7 @@ pub fn count_numbers(mask: u32) -> usize
 // Adds a marker for each bit of a mask behind those of a line.
 fn add_markers(rows: &mut LineRows, line: usize, mask: u32)
     requires line { line < length rows.old.rows }
-    requires room { length (numbers_of mask) ≤ rows.old.room.markers }
+    requires room { HasRoomForMarkers (length (numbers_of mask)) rows.old }
     requires handles { rows.old.next_handle + length (numbers_of mask) < 2 ^ 32 }
     ensures { rows.new ≡ with_more_markers line (numbers_of mask) rows.old }
 {
@@ -42,11 +42,12 @@ impl Document {
     ///
     /// # Errors
     ///
-    /// `AllocError` if the allocation fails. The document is then unchanged.
+    /// `AllocError` if an allocation fails. Nothing has changed then, except that the markers of more lines may fit in.
     pub fn reserve_markers(&mut self, count: usize) -> Result<(), AllocError>
-        ensures ok { OnOk result (self.new ≡ with_marker_room count self.old) }
-        ensures room_is_there { count ≤ self.old.spare.markers → IsOk result × (self.new ≡ self.old) }
-        ensures err { OnErr result (self.new ≡ self.old) }
+        ensures rest { ChangesRowCapacity self.old self.new }
+        ensures ok { OnOk result (HasMarkerRoom count self.new) }
+        ensures room_is_there { HasMarkerRoom count self.old → IsOk result × (self.new ≡ self.old) }
+        ensures at_most { RowsGrowTo (most_for_markers count (rows_in self.old)) self.old self.new }
     {
         self.rows.reserve_markers(count)
     }
@@ -56,13 +57,10 @@ impl Document {
     pub fn add_marker_reserved(&mut self, line: usize, number: u32) -> u32
         requires line { line < lines_in self.old.document }
         requires number { number < 32 }
-        requires room { 0 < self.old.spare.markers }
+        requires room { HasMarkerRoom 1 self.old }
         requires handles { self.old.document.next_handle < 2 ^ 32 - 1 }
         ensures handle { result ≡ self.old.document.next_handle }
-        ensures document { self.new.document ≡ changed_document [] (AddMarker line number) self.old.document }
-        ensures room { self.new.room ≡ self.old.room }
-        ensures memory { self.new.memory ≡ self.old.memory }
-        ensures spare { self.new.spare ≡ less_marker_room 1 self.old.spare }
+        ensures document { self.new ≡ after_change [] (AddMarker line number) self.old }
     {
         self.rows.add_reserved(line, number)
     }
@@ -71,98 +69,87 @@ impl Document {
     /// must be room for them.
     pub fn add_markers_reserved(&mut self, line: usize, mask: u32)
         requires line { line < lines_in self.old.document }
-        requires room { length (numbers_in mask) ≤ self.old.spare.markers }
+        requires room { HasMarkerRoom (length (numbers_in mask)) self.old }
         requires handles { self.old.document.next_handle + length (numbers_in mask) < 2 ^ 32 }
-        ensures document { self.new.document ≡ changed_document [] (AddMarkers line mask) self.old.document }
-        ensures room { self.new.room ≡ self.old.room }
-        ensures memory { self.new.memory ≡ self.old.memory }
-        ensures spare { self.new.spare ≡ less_marker_room (length (numbers_in mask)) self.old.spare }
+        ensures { self.new ≡ after_change [] (AddMarkers line mask) self.old }
     {
         add_markers(&mut self.rows, line, mask);
     }
 
     /// Deletes the first marker of `line` with `number`, or all of its markers if `number` is `None`
-    /// (`SCI_MARKERDELETE`). Returns whether there was one. Their cells become room again.
+    /// (`SCI_MARKERDELETE`). Returns whether there was one.
     pub fn delete_marker(&mut self, line: usize, number: Option<u32>) -> bool
         requires { line < lines_in self.old.document }
         ensures went { result ≡ markers_changed self.old.document.rows self.new.document.rows }
-        ensures document { self.new.document ≡ changed_document [] (DeleteMarker line number) self.old.document }
-        ensures room { self.new.room ≡ self.old.room }
-        ensures memory { self.new.memory ≡ self.old.memory }
-        ensures spare { self.new.spare ≡ record self.old.spare { markers = self.new.spare.markers } }
-        ensures marker_room { marker_room_in_all self.new ≡ marker_room_in_all self.old }
+        ensures document { self.new ≡ after_change [] (DeleteMarker line number) self.old }
     {
         self.rows.delete(line, number)
     }
 
     /// Deletes all markers with `number`, or all markers if it is `None` (`SCI_MARKERDELETEALL`). Returns whether there
-    /// was one. Their cells become room again.
+    /// was one.
     pub fn delete_markers(&mut self, number: Option<u32>) -> bool
         ensures went { result ≡ markers_changed self.old.document.rows self.new.document.rows }
-        ensures document { self.new.document ≡ changed_document [] (DeleteMarkers number) self.old.document }
-        ensures room { self.new.room ≡ self.old.room }
-        ensures memory { self.new.memory ≡ self.old.memory }
-        ensures spare { self.new.spare ≡ record self.old.spare { markers = self.new.spare.markers } }
-        ensures marker_room { marker_room_in_all self.new ≡ marker_room_in_all self.old }
+        ensures document { self.new ≡ after_change [] (DeleteMarkers number) self.old }
     {
         self.rows.delete_all(number)
     }
 
     /// Deletes the marker with `handle`, and returns its line, or `None` if no marker has it
-    /// (`SCI_MARKERDELETEHANDLE`). Its cell becomes room again.
+    /// (`SCI_MARKERDELETEHANDLE`).
     pub fn delete_handle(&mut self, handle: u32) -> Option<usize>
         ensures line { result ≡ line_it_left handle self.old.document.rows self.new.document.rows }
-        ensures document { self.new.document ≡ changed_document [] (DeleteHandle handle) self.old.document }
-        ensures room { self.new.room ≡ self.old.room }
-        ensures memory { self.new.memory ≡ self.old.memory }
-        ensures spare { self.new.spare ≡ record self.old.spare { markers = self.new.spare.markers } }
-        ensures marker_room { marker_room_in_all self.new ≡ marker_room_in_all self.old }
+        ensures document { self.new ≡ after_change [] (DeleteHandle handle) self.old }
     {
         self.rows.delete_handle(handle)
     }
 
-    /// Makes room for the fold levels of the first `count` lines.
+    /// Makes room for the fold level of a line, and of those before it.
     ///
     /// # Errors
     ///
     /// `AllocError` if the allocation fails. The document is then unchanged.
-    pub fn reserve_levels(&mut self, count: usize) -> Result<(), AllocError>
-        ensures ok { OnOk result (self.new ≡ with_level_room count self.old) }
-        ensures room_is_there { count ≤ self.old.spare.levels → IsOk result × (self.new ≡ self.old) }
+    pub fn reserve_level(&mut self, line: usize) -> Result<(), AllocError>
+        ensures rest { ChangesRowCapacity self.old self.new }
+        ensures ok { OnOk result (HasLevelRoom line self.new) }
+        ensures room_is_there { HasLevelRoom line self.old → IsOk result × (self.new ≡ self.old) }
+        ensures at_most { RowsGrowTo (most_for_level line (rows_in self.old)) self.old self.new }
         ensures err { OnErr result (self.new ≡ self.old) }
     {
-        self.rows.reserve_levels(count)
+        self.rows.reserve_level(line)
     }
 
     /// Sets the fold level of a line, and returns the old one (`SCI_SETFOLDLEVEL`). There must be room for it.
     pub fn set_level(&mut self, line: usize, level: u32) -> u32
         requires line { line < lines_in self.old.document }
-        requires room { line < self.old.spare.levels }
+        requires room { HasLevelRoom line self.old }
         ensures before { result ≡ (document_row self.old.document line).level }
-        ensures document { self.new ≡ after_change [] (SetLevel line level) self.old }
+        ensures document { self.new ≡ with_level line level self.old }
     {
         self.rows.set_level(line, level)
     }
 
-    /// Makes room for the states of the first `count` lines.
+    /// Makes room for the state of a line, and of those before it.
     ///
     /// # Errors
     ///
     /// `AllocError` if the allocation fails. The document is then unchanged.
-    pub fn reserve_states(&mut self, count: usize) -> Result<(), AllocError>
-        ensures ok { OnOk result (self.new ≡ with_state_room count self.old) }
-        ensures room_is_there { count ≤ self.old.spare.states → IsOk result × (self.new ≡ self.old) }
+    pub fn reserve_state(&mut self, line: usize) -> Result<(), AllocError>
+        ensures rest { ChangesRowCapacity self.old self.new }
+        ensures ok { OnOk result (HasStateRoom line self.new) }
+        ensures room_is_there { HasStateRoom line self.old → IsOk result × (self.new ≡ self.old) }
+        ensures at_most { RowsGrowTo (most_for_state line (rows_in self.old)) self.old self.new }
         ensures err { OnErr result (self.new ≡ self.old) }
     {
-        self.rows.reserve_states(count)
+        self.rows.reserve_state(line)
     }
 
     /// Sets the state of a line, and returns the old one (`SCI_SETLINESTATE`). There must be room for it.
     pub fn set_state(&mut self, line: usize, state: i32) -> i32
         requires line { line < lines_in self.old.document }
-        requires room { line < self.old.spare.states }
+        requires room { HasStateRoom line self.old }
         ensures before { result ≡ (document_row self.old.document line).state }
-        ensures document { self.new ≡ after_change [] (SetState line state) self.old }
+        ensures document { self.new ≡ with_state line state self.old }
     {
         self.rows.set_state(line, state)
     }

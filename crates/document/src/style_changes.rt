@@ -1,11 +1,13 @@
 //! Changes of a document's styles and indicators.
 
-ghost use Rattle.std.specs.Prelude.{◌≡◌, ◌≤◌, ◌<◌, ◌+◌, true, [], length, OnOk, OnErr, IsOk, Some, None};
+ghost use Rattle.std.specs.Prelude.{◌≡◌, ◌≤◌, ◌<◌, ◌+◌, true, [], length, OnOk, OnErr, IsOk};
 ghost use Rattle.ed_model.specs.declared.plan.DocumentChange.TheVariants.{FillIndicator, StyleBytes, StyleRun};
 ghost use Rattle.ed_model.specs.Session.{keeps_no_styles};
-ghost use Rattle.document.specs.Changes.{CanStyle, DocumentIsChanged, after_change, changed_styles, changed_values};
-ghost use Rattle.document.specs.Changes.{with_fill_room};
-ghost use Rattle.document.specs.Memory.{IsMemoryForFill, KeepsMemoryFilling, with_indicators_of};
+ghost use Rattle.cell_buffer.specs.Buffer.{most_held};
+ghost use Rattle.decorations.specs.Decorated.{IsCapacityForFill};
+ghost use Rattle.document.specs.Kept.{HasFillRoom, decorated_in};
+ghost use Rattle.document.specs.Changes.{CanStyle, after_change, changed_styles, changed_values};
+ghost use Rattle.document.specs.Memory.{KeepsAllButStyles, KeepsMemoryFilling};
 
 use crate::kept::Document;
 use ed_types::document_option;
@@ -26,10 +28,10 @@ impl Document {
     /// `AllocError` if the allocation fails. The document is then unchanged.
     pub fn reserve_styles(&mut self) -> Result<(), AllocError>
         ensures ok { OnOk result (CanStyle self.new) }
-        ensures same { self.new ≡ record self.old { spare = record self.old.spare { styles = self.new.spare.styles } } }
+        ensures rest { KeepsAllButStyles self.old self.new }
         ensures room_is_there { CanStyle self.old → IsOk result × (self.new ≡ self.old) }
-        ensures room_stays { self.old.spare.styles ≡ true → self.new.spare.styles ≡ true }
-        ensures none { keeps_no_styles self.old.document ≡ true → IsOk result × (self.new ≡ self.old) }
+        ensures stored { self.old.stored.styles ≡ true → self.new.stored.styles ≡ true }
+        ensures at_most { self.new.capacity.cells.1 ≤ most_held self.old.capacity.cells.1 self.old.capacity.cells.0 }
         ensures err { OnErr result (self.new ≡ self.old) }
     {
         if self.keeps_no_styles() {
@@ -73,18 +75,17 @@ impl Document {
         self.cells.set_styles(start, styles)
     }
 
-    /// Makes room for one fill of an indicator, which replaces the one that was reserved before. The room lasts up to
-    /// the next fill, insertion or deletion.
+    /// Makes room for one fill of an indicator.
     ///
     /// # Errors
     ///
     /// `AllocError` if an allocation fails. The document is then unchanged, and its indicators may have more memory.
     pub fn reserve_fill(&mut self, indicator: usize) -> Result<(), AllocError>
         requires { indicator < 32 }
-        ensures ok { OnOk result (self.new ≡ with_indicators_of self.new (with_fill_room indicator self.old)) }
-        ensures room_is_there { self.old.spare.fill ≡ Some indicator → IsOk result × (self.new ≡ self.old) }
-        ensures at_most { IsMemoryForFill indicator self.old self.new }
-        ensures err { OnErr result (self.new ≡ with_indicators_of self.new self.old) }
+        ensures rest { self.new ≡ record self.old { capacity = record self.old.capacity { indicators = self.new.capacity.indicators } } }
+        ensures ok { OnOk result (HasFillRoom indicator self.new) }
+        ensures room_is_there { HasFillRoom indicator self.old → IsOk result × (self.new ≡ self.old) }
+        ensures at_most { IsCapacityForFill indicator (decorated_in self.old) self.new.capacity.indicators }
     {
         self.indicators.reserve_fill(indicator)
     }
@@ -101,11 +102,9 @@ impl Document {
     ) -> Option<(usize, usize)>
         requires indicator { indicator < 32 }
         requires within { start + count ≤ length self.old.document.cells }
-        requires room { self.old.spare.fill ≡ Some indicator }
-        ensures document { DocumentIsChanged (FillIndicator indicator start count value) self.old self.new }
-        ensures room { self.new.room ≡ self.old.room }
+        requires room { HasFillRoom indicator self.old }
+        ensures document { self.new ≡ record (after_change [] (FillIndicator indicator start count value) self.old) { capacity = self.new.capacity } }
         ensures memory { KeepsMemoryFilling indicator self.old self.new }
-        ensures spare { self.new.spare ≡ record self.old.spare { fill = None } }
         ensures changed { result ≡ changed_values indicator self.old self.new }
     {
         self.indicators.fill(indicator, start, count, value)

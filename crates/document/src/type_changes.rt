@@ -2,14 +2,14 @@
 
 ghost use Rattle.std.specs.Prelude.{◌≡◌, ◌≤◌, ◌-◌, ◌*◌, [], OnOk, IsOk, IfOk, vec_len, vec_capacity};
 ghost use Rattle.ed_model.specs.declared.plan.DocumentChange.TheVariants.{AppendContainer, SetLineEndTypes};
-ghost use Rattle.ed_model.specs.Changes.{changed_document};
 ghost use Rattle.line_index.specs.Edits.{fresh_lines};
-ghost use Rattle.document.specs.Kept.{HasHistoryRoom, IsAtMost, TakesRoom, document_room, marker_room_in_all, no_room};
-ghost use Rattle.document.specs.Changes.{BringFewLines, container_need, line_type_edits};
-ghost use Rattle.document.specs.Memory.{AreStartsFor};
+ghost use Rattle.undo_history.specs.Kept.{CapacityAtMost, KeepsCapacity};
+ghost use Rattle.document.specs.Kept.{HasHistoryRoom, HasLineRoom, history_in};
+ghost use Rattle.document.specs.Changes.{BringFewLines, after_change, container_need, line_type_edits};
+ghost use Rattle.document.specs.Memory.{ChangesLineCapacity, GrowsForLines};
 
 use crate::kept::Document;
-use crate::room::DocumentRoom;
+use crate::need::DocumentNeed;
 use ed_model::{LineEndTypes, rows_match_lines, rows_that_meet};
 use line_index::{LineEdit, edits_of_settings};
 use std::alloc::{AllocError, Global};
@@ -42,21 +42,15 @@ impl Document {
     ///
     /// `AllocError` if an allocation fails. The document is then unchanged, and may have more memory.
     pub fn reserve_lines(&mut self, lines: usize) -> Result<(), AllocError>
-        ensures same { self.new.document ≡ self.old.document }
-        ensures spare { self.new.spare ≡ self.old.spare }
-        ensures ok { OnOk result (lines ≤ self.new.room.lines) }
-        ensures room_is_there { lines ≤ self.old.room.lines → IsOk result }
-        ensures room_stays { TakesRoom self.old.room self.new.room no_room }
-        ensures at_most { IsAtMost self.new.room self.old.room (document_room 0 lines 0 0 0) }
-        ensures starts { AreStartsFor lines self.old self.new }
-        ensures indicators { self.new.memory.indicators ≡ self.old.memory.indicators }
-        ensures history { self.new.memory.history ≡ self.old.memory.history }
-        ensures memory_is_there { lines ≤ self.old.room.lines → self.new.memory ≡ self.old.memory }
+        ensures rest { ChangesLineCapacity self.old self.new }
+        ensures ok { OnOk result (HasLineRoom lines self.new) }
+        ensures room_is_there { HasLineRoom lines self.old → IsOk result × (self.new ≡ self.old) }
+        ensures at_most { GrowsForLines lines self.old self.new }
     {
         let Ok(()) = self.lines.reserve(lines) else {
             return Err(AllocError);
         };
-        self.rows.reserve(lines)
+        self.rows.reserve_lines(lines)
     }
 
     /// Sets which line ends count (`SCI_SETLINEENDTYPESALLOWED`). `edits` is the effect on the lines
@@ -64,13 +58,8 @@ impl Document {
     /// carries the flags that views keep of the lines.
     pub fn set_line_end_types(&mut self, types: LineEndTypes, edits: &[LineEdit])
         requires edits { edits.now ≡ line_type_edits types self.old.document }
-        requires room { fresh_lines edits.now ≤ self.old.room.lines }
-        ensures document { self.new.document ≡ changed_document [] (SetLineEndTypes types) self.old.document }
-        ensures room { self.new.room ≡ record self.old.room { lines = self.old.room.lines - fresh_lines edits.now } }
-        ensures memory { self.new.memory ≡ self.old.memory }
-        ensures spare { self.new.spare ≡ record self.old.spare { markers = self.new.spare.markers } }
-        ensures marker_room { self.old.spare.markers ≤ self.new.spare.markers }
-        ensures markers_in_all { marker_room_in_all self.new ≡ marker_room_in_all self.old }
+        requires room { HasLineRoom (fresh_lines edits.now) self.old }
+        ensures document { self.new ≡ record (after_change [] (SetLineEndTypes types) self.old) { stored = self.new.stored } }
     {
         edits_of_settings();
         rows_that_meet();
@@ -80,15 +69,26 @@ impl Document {
         self.rows.carry(edits);
     }
 
+    /// Makes room for a container's own step in the history, if that collects steps.
+    ///
+    /// # Errors
+    ///
+    /// `AllocError` if an allocation fails. The document is then unchanged, and its history may have more memory.
+    pub fn reserve_container(&mut self) -> Result<(), AllocError>
+        ensures rest { self.new ≡ record self.old { capacity = record self.old.capacity { history = self.new.capacity.history } } }
+        ensures ok { OnOk result (HasHistoryRoom container_need self.new) }
+        ensures room_is_there { HasHistoryRoom container_need self.old → IsOk result × (self.new ≡ self.old) }
+        ensures capacity { KeepsCapacity self.old.capacity.history self.new.capacity.history }
+        ensures at_most { CapacityAtMost 1 0 (history_in self.old) (history_in self.new) }
+    {
+        self.history.reserve(1, 0)
+    }
+
     /// Appends a container's own step with this token to the history (`SCI_ADDUNDOACTION`). A step that does not
     /// coalesce seals its transaction, unless a group is open. There must be room for it in the history.
     pub fn append_container_reserved(&mut self, token: i64, coalesce: bool)
-        requires { HasHistoryRoom self.old container_need }
-        ensures document { self.new.document ≡ changed_document [] (AppendContainer token coalesce) self.old.document }
-        ensures room_left { TakesRoom self.old.room self.new.room container_need }
-        ensures none_made { IsAtMost self.new.room self.old.room no_room }
-        ensures memory { self.new.memory ≡ self.old.memory }
-        ensures spare { self.new.spare ≡ self.old.spare }
+        requires { HasHistoryRoom container_need self.old }
+        ensures { self.new ≡ after_change [] (AppendContainer token coalesce) self.old }
     {
         self.history.append_container_reserved(token, coalesce);
     }

@@ -1,20 +1,18 @@
 //! Undo and redo of a document: their changes one by one, and the move of the history.
 
-ghost use Rattle.std.specs.Prelude.{◌≡◌, ◌<◌, ◌≤◌, ℕ, List, length, None, Some, IsSomeAnd};
+ghost use Rattle.std.specs.Prelude.{◌≡◌, ◌<◌, ℕ, List, length, Some, IsSomeAnd};
 ghost use Rattle.ed_model.specs.History.{at_save_point, inverse_change};
 ghost use Rattle.line_index.specs.StepEdits.{SmallLines};
 ghost use Rattle.undo_history.specs.Records.{change_of, HasItsBytes};
-ghost use Rattle.document.specs.Kept.{AddsNoRoomBut, marker_room_in_all};
 ghost use Rattle.document.specs.Changes.{with_history};
 ghost use Rattle.document.specs.Memory.{KeepsMemory};
-ghost use Rattle.document.specs.TextSteps.{bytes_out, line_change_of};
+ghost use Rattle.document.specs.TextSteps.{LeavesTextRoom, line_change_of};
 ghost use Rattle.document.specs.Undoing.{changes_of, history_behind, save_point_told, outline_of, bytes_in};
-ghost use Rattle.document.specs.Undoing.{need_of_change, performed_at, CanMake, FreesBytesOf, IfStep};
-ghost use Rattle.document.specs.Undoing.{IsDocumentAfter, IsLentOf, OfChange, TakesRoomOf};
+ghost use Rattle.document.specs.Undoing.{CanMake, IfStep, IsDocumentAfter, IsLentOf, OfChange, need_of_change, performed_at};
 
 use crate::kept::Document;
 use crate::making::make_step;
-use crate::room::DocumentRoom;
+use crate::need::DocumentNeed;
 use crate::text_step::TextStep;
 use line_index::{LineChange, lines_for_deletion, lines_for_insertion};
 use undo_history::{ChangeKind, LentChange, StepKind, UndoHistory};
@@ -170,16 +168,16 @@ impl Document {
         change_at(&self.history, direction, index).bytes
     }
 
-    /// Returns the change at `index` like `change_outline`, and the room that it needs, none of it in the history.
+    /// Returns the change at `index` like `change_outline`, and what it needs, none of it in the history.
     /// Looks the change up once for both.
     pub fn change_with_need(
         &self,
         direction: Direction,
         index: usize,
-    ) -> (ChangeOutline, DocumentRoom)
+    ) -> (ChangeOutline, DocumentNeed)
         requires there { index < length (changes_of direction self.now.document.history) }
         ensures outline { OfChange direction index self.now (λ change. result.0 ≡ outline_of change) }
-        ensures need { OfChange direction index self.now (λ change. result.1 ≡ need_of_change self.now change) }
+        ensures need { OfChange direction index self.now (λ change. result.1 ≡ need_of_change self.now.document.line_end_types change) }
     {
         let change = change_at(&self.history, direction, index);
         let count = change.bytes.len();
@@ -188,11 +186,11 @@ impl Document {
                 kind: StepKind::Insert,
                 place,
             } => {
-                let need = DocumentRoom {
+                let need = DocumentNeed {
                     text: count,
                     lines: lines_for_insertion(self.lines.types(), change.bytes),
                     insertions: 1,
-                    ..DocumentRoom::none()
+                    ..DocumentNeed::none()
                 };
                 (ChangeOutline::Insert { place, count }, need)
             }
@@ -200,32 +198,27 @@ impl Document {
                 kind: StepKind::Delete,
                 place,
             } => {
-                let need = DocumentRoom {
+                let need = DocumentNeed {
                     lines: lines_for_deletion(),
-                    ..DocumentRoom::none()
+                    ..DocumentNeed::none()
                 };
                 (ChangeOutline::Delete { place, count }, need)
             }
             ChangeKind::Container { token, .. } => {
-                (ChangeOutline::Container { token }, DocumentRoom::none())
+                (ChangeOutline::Container { token }, DocumentNeed::none())
             }
         }
     }
 
     /// Makes this change, a step of the text, with the bytes of the history, and returns its effect on the lines.
-    /// Everything but the history changes, as by `step`. There must be room for it. Deleted bytes become room again.
+    /// Everything but the history changes, as by `step`. There must be room for it.
     pub fn make_change(&mut self, direction: Direction, index: usize) -> LineChange
         requires can { OfChange direction index self.old (CanMake self.old) }
         ensures document { IfStep direction index self.old (IsDocumentAfter self.old self.new) }
-        ensures room_left { IfStep direction index self.old (TakesRoomOf self.old self.new) }
-        ensures text_freed { IfStep direction index self.old (FreesBytesOf self.old self.new) }
-        ensures none_made { IfStep direction index self.old (λ step. AddsNoRoomBut (bytes_out step) self.old self.new) }
+        ensures room { IfStep direction index self.old (λ step. LeavesTextRoom step self.old self.new) }
         ensures memory { KeepsMemory self.old self.new }
         ensures lines { IfStep direction index self.old (λ step. result ≡ line_change_of self.old step) }
         ensures small { SmallLines result.old_lines × SmallLines result.new_lines }
-        ensures spare { self.new.spare ≡ record self.old.spare { markers = self.new.spare.markers; fill = None } }
-        ensures marker_room { self.old.spare.markers ≤ self.new.spare.markers }
-        ensures markers_in_all { marker_room_in_all self.new ≡ marker_room_in_all self.old }
     {
         let Some(step) = step_at(&self.history, direction, index) else {
             unreachable!();

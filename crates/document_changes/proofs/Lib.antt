@@ -4,4 +4,3 @@ pub mod Told
 pub mod Counts
 pub mod Ranges
 pub mod States
-pub mod RoomLeft

@@ -1,5 +1,5 @@
 -- The effect of a change on a document, its views and the notes.
-use Rattle.std.specs.Prelude.{◌≡◌, ℕ, List, length, map, bit_or, Option}
+use Rattle.std.specs.Prelude.{◌≡◌, ℕ, List, [], length, map, bit_or, Option}
 use Rattle.std.specs.List.{AllByRecursion}
 use Rattle.ed_types.specs.declared.reply.Note.{Note}
 use Rattle.ed_types.specs.Heard.{with_text}
@@ -40,6 +40,10 @@ RangeIsTold kind range k views old new =
 -- the flags of the views follow the lines of the document through the change
 abbrev pub FlagsFollow : DocumentChange → Document → Entries KeptView → Entries KeptView → Type 0
 FlagsFollow what d views views' = views_of views'.entries ≡ map (changed_lines what d) (views_of views.entries)
+
+-- the change was made in the document, which reads no text of the message for it
+abbrev pub DocumentIsChanged : DocumentChange → Kept → Kept → Type 0
+DocumentIsChanged what old new = new.document ≡ changed_document [] what old.document
 
 -- the notes of the change were appended; `sender` is the id of the sending view
 abbrev pub NotesAreAppended : ℕ → DocumentChange → Kept → Kept → Entries KeptView → Gathered → Gathered → Type 0

@@ -3,4 +3,4 @@ pub mod Fit
 pub mod Needs
 pub mod Changed
 pub mod Lines
-pub mod RoomLeft
+pub mod Memory

@@ -1,16 +1,15 @@
 -- What a change needs: room for notes, and room in its document.
-use Rattle.std.specs.Prelude.{◌≡◌, ◌≤◌, ◌<◌, ◌+◌, max, ℕ, Bool, true, false, List, [], length, bit_or, Some}
+use Rattle.std.specs.Prelude.{◌≡◌, ℕ, Bool, true, false, List, [], length, bit_or}
 use Rattle.ed_model.specs.declared.plan.DocumentChange.{DocumentChange}
 use Rattle.ed_model.specs.declared.plan.DocumentChange.TheVariants as change
 use Rattle.ed_model.specs.History.{History}
 use Rattle.ed_model.specs.LinePlans.{numbers_in}
 use Rattle.ed_model.specs.Notes as notes
-use Rattle.ed_model.specs.Session.{View, Document}
+use Rattle.ed_model.specs.Session.{View}
 use Rattle.line_index.specs.declared.edit.LineEdit.{LineEdit}
 use Rattle.line_index.specs.Edits.{fresh_lines}
 use Rattle.document.specs.Changes.{CanStyle, container_need, line_type_edits}
-use Rattle.document.specs.declared.room.DocumentRoom.{DocumentRoom}
-use Rattle.document.specs.Kept.{Kept, ChangeRoom, HasHistoryRoom, IsAtMost, document_room, no_room}
+use Rattle.document.specs.Kept.{Kept, HasFillRoom, HasHistoryRoom, HasLevelRoom, HasLineRoom, HasMarkerRoom, HasStateRoom}
 use Rattle.id_table.specs.Entries.{Entries}
 use Rattle.ed_view.specs.Kept.{KeptView}
 use Rattle.scene.specs.Scenes.{watchers}
@@ -46,54 +45,19 @@ notes_of_change other h views = 0
 abbrev pub change_note_need : DocumentChange → Kept → Entries KeptView → ℕ
 change_note_need what k views = notes_of_change what k.document.history (watchers k.document views)
 
--- there is room for a marker for each bit of the mask
-abbrev pub HasMaskRoom : Kept → ℕ → Type 0
-HasMaskRoom k mask = length (numbers_in mask) ≤ k.spare.markers
-
 -- The document has room for the change, so that the change allocates nothing. When other line ends are set, `edits` are the changes of
 -- the lines.
 abbrev pub IsReady : Kept → DocumentChange → List LineEdit → Type 0
-IsReady k (change.SetLineEndTypes to) edits =
-    (edits ≡ line_type_edits to k.document) × (fresh_lines edits ≤ k.room.lines)
-IsReady k (change.AppendContainer token coalesce) edits = HasHistoryRoom k container_need
-IsReady k (change.AddMarker line number) edits = 0 < k.spare.markers
-IsReady k (change.AddMarkers line mask) edits = HasMaskRoom k mask
-IsReady k (change.SetLevel line level) edits = line < k.spare.levels
-IsReady k (change.SetState line state) edits = line < k.spare.states
+IsReady k (change.SetLineEndTypes to) edits = (edits ≡ line_type_edits to k.document) × HasLineRoom (fresh_lines edits) k
+IsReady k (change.AppendContainer token coalesce) edits = HasHistoryRoom container_need k
+IsReady k (change.AddMarker line number) edits = HasMarkerRoom 1 k
+IsReady k (change.AddMarkers line mask) edits = HasMarkerRoom (length (numbers_in mask)) k
+IsReady k (change.SetLevel line level) edits = HasLevelRoom line k
+IsReady k (change.SetState line state) edits = HasStateRoom line k
 IsReady k (change.StyleRun count style) edits = CanStyle k
 IsReady k (change.StyleBytes count) edits = CanStyle k
-IsReady k (change.FillIndicator indicator start count value) edits = k.spare.fill ≡ Some indicator
+IsReady k (change.FillIndicator indicator start count value) edits = HasFillRoom indicator k
 IsReady k other edits = Unit {0}
-
--- How much room for steps the change needs, and the other room after enough is reserved for it. `styles` says whether the document stores
--- styles.
-
-abbrev pub room_for : Document → DocumentChange → DocumentRoom
-room_for d (change.SetLineEndTypes to) = document_room 0 (fresh_lines (line_type_edits to d)) 0 0 0
-room_for d (change.AppendContainer token coalesce) = container_need
-room_for d other = no_room
-
-abbrev pub spare_for : DocumentChange → Bool → ChangeRoom → ChangeRoom
-spare_for (change.AddMarker line number) styles s = record s { markers = max s.markers 1 }
-spare_for (change.AddMarkers line mask) styles s = record s { markers = max s.markers (length (numbers_in mask)) }
-spare_for (change.SetLevel line level) styles s = record s { levels = max s.levels (line + 1) }
-spare_for (change.SetState line state) styles s = record s { states = max s.states (line + 1) }
-spare_for (change.StyleRun count style) styles s = record s { styles = styles }
-spare_for (change.StyleBytes count) styles s = record s { styles = styles }
-spare_for (change.FillIndicator indicator start count value) styles s = record s { fill = Some indicator }
-spare_for other styles s = s
-
--- at most the room for steps that the change needs was reserved
-abbrev pub ReservesAtMost : DocumentChange → Kept → Kept → Type 0
-ReservesAtMost what old new = IsAtMost new.room old.room (room_for old.document what)
-
--- the other room that the change needs was reserved, and no more of it
-abbrev pub ReservesSpare : DocumentChange → Kept → Kept → Type 0
-ReservesSpare what old new = new.spare ≡ spare_for what new.spare.styles old.spare
-
--- the document with a flag that says whether it stores styles
-abbrev pub with_styles : Bool → Kept → Kept
-with_styles styles k = record k { spare = record k.spare { styles = styles } }
 
 -- whether the change needs room in its document
 abbrev pub needs_room : DocumentChange → Bool

@@ -7,8 +7,8 @@ ghost use Rattle.notify.specs.Gathered.{CanPut};
 ghost use Rattle.scene.specs.Scenes.{IsWatched, KeepFoldCapacities};
 ghost use Rattle.document_changes.specs.Changed.{Changes, FlagsFollow, NotesAreAppended};
 ghost use Rattle.document_changes.specs.Fit.{IsFitChange, bytes_read};
+ghost use Rattle.document_changes.specs.Memory.{KeepsCapacity};
 ghost use Rattle.document_changes.specs.Needs.{IsReady, change_note_need};
-ghost use Rattle.document_changes.specs.RoomLeft.{LeavesRoom};
 
 use crate::history_changes::{append_container, change_without_notes, set_save_point};
 use crate::marker_changes::{
@@ -42,7 +42,7 @@ fn perform(
     requires watched { IsWatched document.old.document views.old }
     requires room { CanPut (change_note_need change document.old views.old) notes.old }
     ensures changed { Changes text.now change sender document.old document.new views.old views.new notes.old notes.new }
-    ensures room { LeavesRoom change document.old document.new }
+    ensures memory { KeepsCapacity change document.old document.new }
 {
     match change {
         DocumentChange::SetReadOnly { .. }
@@ -90,8 +90,9 @@ fn perform(
 /// the view whose id is `sender`.
 ///
 /// If other line ends count, the flags of the views follow the lines. There must be room for the change and for its
-/// notes. The change uses that room, and adds none but that of deleted markers. If it forgets the history, it leaves the
-/// history no memory and no room. The total room of each view for hidden and contracted lines does not change.
+/// notes: nothing is allocated. Each capacity of the document stays, except that a history that is forgotten holds no
+/// memory, and that a fill may drop runs of its indicator. The capacity of each view for hidden and contracted lines
+/// does not change.
 pub fn change_document(
     document: &mut Document,
     views: &mut IdTable<View>,
@@ -114,7 +115,7 @@ pub fn change_document(
     ensures next { views.new.next ≡ views.old.next }
     ensures view_capacity { views.new.capacity ≡ views.old.capacity }
     ensures fold_capacities { KeepFoldCapacities views.old views.new }
-    ensures room_left { LeavesRoom change document.old document.new }
+    ensures memory { KeepsCapacity change document.old document.new }
 {
     perform(
         document,

@@ -9,8 +9,8 @@ ghost use Rattle.notify.specs.Gathered.{CanPut};
 ghost use Rattle.scene.specs.Scenes.{watchers, IsWatched};
 ghost use Rattle.document_changes.specs.Changed.{IsMade, IsMadeForAnyViews};
 ghost use Rattle.document_changes.specs.Fit.{IsFitChange};
+ghost use Rattle.document_changes.specs.Memory.{KeepsCapacity};
 ghost use Rattle.document_changes.specs.Needs.{change_note_need, is_quiet};
-ghost use Rattle.document_changes.specs.RoomLeft.{LeavesHistory, LeavesRoom, room_kept};
 
 use crate::telling::tell_all;
 use document::Document;
@@ -26,9 +26,7 @@ fn set(document: &mut Document, change: DocumentChange)
     requires fits { IsFitChange document.old.document change }
     requires quiet { is_quiet change ≡ true }
     ensures document { (text : List ℕ) → document.new.document ≡ changed_document text change document.old.document }
-    ensures room { document.new.room ≡ room_kept change document.old.room }
-    ensures spare { document.new.spare ≡ document.old.spare }
-    ensures history { LeavesHistory change document.new }
+    ensures memory { KeepsCapacity change document.old document.new }
 {
     match change {
         DocumentChange::SetReadOnly { on } => document.set_read_only(on),
@@ -47,7 +45,7 @@ pub(crate) fn change_without_notes(document: &mut Document, change: DocumentChan
     requires fits { IsFitChange document.old.document change }
     requires quiet { is_quiet change ≡ true }
     ensures changed { IsMadeForAnyViews change document.old document.new }
-    ensures room { LeavesRoom change document.old document.new }
+    ensures memory { KeepsCapacity change document.old document.new }
 {
     set(document, change);
 }
@@ -58,7 +56,7 @@ pub(crate) fn set_save_point(document: &mut Document, views: &IdTable<View>, not
     requires watched { IsWatched document.old.document views.now }
     requires room { CanPut (length (watchers document.old.document views.now)) notes.old }
     ensures changed { IsMade SetSavePoint document.old document.new views.now notes.old notes.new }
-    ensures room { LeavesRoom SetSavePoint document.old document.new }
+    ensures memory { KeepsCapacity SetSavePoint document.old document.new }
 {
     document.set_save_point();
     tell_all(document, views, notes, SAVE_POINT_REACHED);
@@ -74,11 +72,11 @@ pub(crate) fn append_container(
     token: i64,
     coalesce: bool,
 )
-    requires ready { HasHistoryRoom document.old container_need }
+    requires ready { HasHistoryRoom container_need document.old }
     requires watched { IsWatched document.old.document views.now }
     requires room { CanPut (change_note_need (AppendContainer token coalesce) document.old views.now) notes.old }
     ensures changed { IsMade (AppendContainer token coalesce) document.old document.new views.now notes.old notes.new }
-    ensures room { LeavesRoom (AppendContainer token coalesce) document.old document.new }
+    ensures memory { KeepsCapacity (AppendContainer token coalesce) document.old document.new }
 {
     let is_left = leaves_save_point(document);
     document.append_container_reserved(token, coalesce);

@@ -5,13 +5,13 @@ ghost use Rattle.ed_model.specs.declared.plan.DocumentChange.TheVariants as chan
 ghost use Rattle.ed_model.specs.LinePlans.{numbers_in};
 ghost use Rattle.ed_model.specs.Notes.{change_marker};
 ghost use Rattle.ed_model.specs.Session.{lines_in};
+ghost use Rattle.document.specs.Kept.{HasMarkerRoom};
 ghost use Rattle.notify.specs.Gathered.{CanPut};
 ghost use Rattle.scene.specs.Scenes.{watchers, AreNamed, IsWatched};
 ghost use Rattle.scene.specs.Hearing.{hearers};
 ghost use Rattle.document_changes.specs.Changed.{HearersAreTold, IsMade};
 ghost use Rattle.document_changes.specs.Lines.{marker_notice};
-ghost use Rattle.document_changes.specs.Needs.{HasMaskRoom};
-ghost use Rattle.document_changes.specs.RoomLeft.{LeavesRoom};
+ghost use Rattle.document_changes.specs.Memory.{KeepsCapacity};
 
 use crate::laws::parts_match_text;
 use crate::telling::{change_note, line_note, tell_heard};
@@ -63,11 +63,11 @@ pub(crate) fn add_marker(
     requires line { line < lines_in document.old.document }
     requires number { number < 32 }
     requires handles { document.old.document.next_handle + 1 < 2 ^ 32 }
-    requires ready { 0 < document.old.spare.markers }
+    requires ready { HasMarkerRoom 1 document.old }
     requires watched { IsWatched document.old.document views.now }
     requires room { CanPut (hearers change_marker (watchers document.old.document views.now)) notes.old }
     ensures changed { IsMade (change.AddMarker line number) document.old document.new views.now notes.old notes.new }
-    ensures room { LeavesRoom (change.AddMarker line number) document.old document.new }
+    ensures memory { KeepsCapacity (change.AddMarker line number) document.old document.new }
 {
     parts_match_text(document);
     document.add_marker_reserved(line, number);
@@ -86,11 +86,11 @@ pub(crate) fn add_markers(
 )
     requires line { line < lines_in document.old.document }
     requires handles { document.old.document.next_handle + length (numbers_in mask) < 2 ^ 32 }
-    requires ready { HasMaskRoom document.old mask }
+    requires ready { HasMarkerRoom (length (numbers_in mask)) document.old }
     requires watched { IsWatched document.old.document views.now }
     requires room { CanPut (hearers change_marker (watchers document.old.document views.now)) notes.old }
     ensures changed { IsMade (change.AddMarkers line mask) document.old document.new views.now notes.old notes.new }
-    ensures room { LeavesRoom (change.AddMarkers line mask) document.old document.new }
+    ensures memory { KeepsCapacity (change.AddMarkers line mask) document.old document.new }
 {
     parts_match_text(document);
     document.add_markers_reserved(line, mask);
@@ -113,7 +113,7 @@ pub(crate) fn delete_marker(
     requires watched { IsWatched document.old.document views.now }
     requires room { CanPut (hearers change_marker (watchers document.old.document views.now)) notes.old }
     ensures changed { IsMade (change.DeleteMarker line number) document.old document.new views.now notes.old notes.new }
-    ensures room { LeavesRoom (change.DeleteMarker line number) document.old document.new }
+    ensures memory { KeepsCapacity (change.DeleteMarker line number) document.old document.new }
 {
     if document.delete_marker(line, number) {
         tell_markers(document, views, notes, line);
@@ -132,7 +132,7 @@ pub(crate) fn delete_markers(
     requires watched { IsWatched document.old.document views.now }
     requires room { CanPut (hearers change_marker (watchers document.old.document views.now)) notes.old }
     ensures changed { IsMade (change.DeleteMarkers number) document.old document.new views.now notes.old notes.new }
-    ensures room { LeavesRoom (change.DeleteMarkers number) document.old document.new }
+    ensures memory { KeepsCapacity (change.DeleteMarkers number) document.old document.new }
 {
     if document.delete_markers(number) {
         let mut note = change_note(CHANGE_MARKER);
@@ -153,7 +153,7 @@ pub(crate) fn delete_handle(
     requires watched { IsWatched document.old.document views.now }
     requires room { CanPut (hearers change_marker (watchers document.old.document views.now)) notes.old }
     ensures changed { IsMade (change.DeleteHandle handle) document.old document.new views.now notes.old notes.new }
-    ensures room { LeavesRoom (change.DeleteHandle handle) document.old document.new }
+    ensures memory { KeepsCapacity (change.DeleteHandle handle) document.old document.new }
 {
     document_is_small(document);
     parts_match_text(document);

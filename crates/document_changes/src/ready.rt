@@ -1,15 +1,16 @@
 //! Reserving room for a change in its document.
 
-ghost use Rattle.std.specs.Prelude.{◌≡◌, ◌<◌, [], false, length, Some, IfOk, IsOk, OnOk, OnErr};
+ghost use Rattle.std.specs.Prelude.{◌≡◌, ◌<◌, [], false, length, IfOk, IsOk, OnOk};
 ghost use Rattle.ed_model.specs.declared.plan.DocumentChange.TheVariants as change;
 ghost use Rattle.ed_model.specs.LinePlans.{numbers_in};
-ghost use Rattle.document.specs.Changes.{CanStyle, with_fill_room, with_marker_room};
-ghost use Rattle.document.specs.Kept.{TakesRoom, no_room};
-ghost use Rattle.document.specs.Memory.{with_indicators_of};
+ghost use Rattle.line_rows.specs.Kept.{most_for_markers};
+ghost use Rattle.document.specs.Changes.{CanStyle};
+ghost use Rattle.document.specs.Kept.{HasFillRoom, HasMarkerRoom, rows_in};
 ghost use Rattle.document_changes.specs.Fit.{IsFitChange};
-ghost use Rattle.document_changes.specs.Needs.{HasMaskRoom, IsReady, ReservesAtMost, ReservesSpare, is_of_types, needs_room, with_styles};
+ghost use Rattle.document_changes.specs.Memory.{ReservesFill, ReservesFor, ReservesRows, ReservesStyles};
+ghost use Rattle.document_changes.specs.Needs.{IsReady, is_of_types, needs_room};
 
-use document::{Document, DocumentRoom, count_numbers};
+use document::{Document, count_numbers};
 use ed_model::{DocumentChange, LineEndTypes};
 use line_index::{LineEdit, fresh_lines};
 use scene::document_is_small;
@@ -41,11 +42,8 @@ fn reserve_types(
 ) -> Result<ChangeReady, AllocError>
     ensures same { document.new.document ≡ document.old.document }
     ensures ready { IfOk result (λ ready. IsReady document.new (change.SetLineEndTypes types) ready) }
-    ensures room_is_there { IsReady document.old (change.SetLineEndTypes types) [] → IsOk result }
-    ensures room_stays { TakesRoom document.old.room document.new.room no_room }
-    ensures at_most { ReservesAtMost (change.SetLineEndTypes types) document.old document.new }
-    ensures spare { OnOk result (ReservesSpare (change.SetLineEndTypes types) document.old document.new) }
-    ensures err { OnErr result (document.new.spare ≡ document.old.spare) }
+    ensures room_is_there { IsReady document.old (change.SetLineEndTypes types) [] → IsOk result × (document.new ≡ document.old) }
+    ensures at_most { ReservesFor (change.SetLineEndTypes types) document.old document.new }
 {
     document_is_small(document);
     let edits = document.line_type_edits(alloc, types)?;
@@ -57,9 +55,9 @@ fn reserve_types(
 // level or a state needs no stack frame.
 #[inline(never)]
 fn reserve_numbers(document: &mut Document, mask: u32) -> Result<(), AllocError>
-    ensures ok { OnOk result (document.new ≡ with_marker_room (length (numbers_in mask)) document.old) }
-    ensures room_is_there { HasMaskRoom document.old mask → IsOk result × (document.new ≡ document.old) }
-    ensures err { OnErr result (document.new ≡ document.old) }
+    ensures ok { OnOk result (HasMarkerRoom (length (numbers_in mask)) document.new) }
+    ensures room_is_there { HasMarkerRoom (length (numbers_in mask)) document.old → IsOk result × (document.new ≡ document.old) }
+    ensures at_most { ReservesRows (most_for_markers (length (numbers_in mask)) (rows_in document.old)) document.old document.new }
 {
     document.reserve_markers(count_numbers(mask))
 }
@@ -68,9 +66,8 @@ fn reserve_numbers(document: &mut Document, mask: u32) -> Result<(), AllocError>
 #[inline(never)]
 fn reserve_styling(document: &mut Document) -> Result<(), AllocError>
     ensures ok { OnOk result (CanStyle document.new) }
-    ensures same { document.new ≡ with_styles document.new.spare.styles document.old }
     ensures room_is_there { CanStyle document.old → IsOk result × (document.new ≡ document.old) }
-    ensures err { OnErr result (document.new ≡ document.old) }
+    ensures at_most { ReservesStyles document.old document.new }
 {
     document.reserve_styles()
 }
@@ -79,9 +76,9 @@ fn reserve_styling(document: &mut Document) -> Result<(), AllocError>
 #[inline(never)]
 fn reserve_filling(document: &mut Document, indicator: usize) -> Result<(), AllocError>
     requires { indicator < 32 }
-    ensures ok { OnOk result (document.new ≡ with_indicators_of document.new (with_fill_room indicator document.old)) }
-    ensures room_is_there { document.old.spare.fill ≡ Some indicator → IsOk result × (document.new ≡ document.old) }
-    ensures err { OnErr result (document.new ≡ with_indicators_of document.new document.old) }
+    ensures ok { OnOk result (HasFillRoom indicator document.new) }
+    ensures room_is_there { HasFillRoom indicator document.old → IsOk result × (document.new ≡ document.old) }
+    ensures at_most { ReservesFill indicator document.old document.new }
 {
     document.reserve_fill(indicator)
 }
@@ -94,21 +91,15 @@ fn reserve_other(document: &mut Document, change: DocumentChange) -> Result<(), 
     ensures same { document.new.document ≡ document.old.document }
     ensures ready { OnOk result (IsReady document.new change []) }
     ensures free { needs_room change ≡ false → IsOk result × (document.new ≡ document.old) }
-    ensures room_is_there { IsReady document.old change [] → IsOk result }
-    ensures room_stays { TakesRoom document.old.room document.new.room no_room }
-    ensures at_most { ReservesAtMost change document.old document.new }
-    ensures spare { OnOk result (ReservesSpare change document.old document.new) }
-    ensures err { OnErr result (document.new.spare ≡ document.old.spare) }
+    ensures room_is_there { IsReady document.old change [] → IsOk result × (document.new ≡ document.old) }
+    ensures at_most { ReservesFor change document.old document.new }
 {
-    document_is_small(document);
     match change {
-        DocumentChange::AppendContainer { .. } => {
-            document.reserve(DocumentRoom::of_container_step())
-        }
+        DocumentChange::AppendContainer { .. } => document.reserve_container(),
         DocumentChange::AddMarker { .. } => document.reserve_markers(1),
         DocumentChange::AddMarkers { mask, .. } => reserve_numbers(document, mask),
-        DocumentChange::SetLevel { line, .. } => document.reserve_levels(line + 1),
-        DocumentChange::SetState { line, .. } => document.reserve_states(line + 1),
+        DocumentChange::SetLevel { line, .. } => document.reserve_level(line),
+        DocumentChange::SetState { line, .. } => document.reserve_state(line),
         DocumentChange::StyleRun { .. } | DocumentChange::StyleBytes { .. } => {
             reserve_styling(document)
         }
@@ -134,11 +125,8 @@ pub fn reserve_change(
     ensures same { document.new.document ≡ document.old.document }
     ensures ready { IfOk result (λ ready. IsReady document.new change ready) }
     ensures free { needs_room change ≡ false → IsOk result × (document.new ≡ document.old) }
-    ensures room_is_there { IsReady document.old change [] → IsOk result }
-    ensures room_stays { TakesRoom document.old.room document.new.room no_room }
-    ensures at_most { ReservesAtMost change document.old document.new }
-    ensures spare { OnOk result (ReservesSpare change document.old document.new) }
-    ensures err { OnErr result (document.new.spare ≡ document.old.spare) }
+    ensures room_is_there { IsReady document.old change [] → IsOk result × (document.new ≡ document.old) }
+    ensures at_most { ReservesFor change document.old document.new }
 {
     if let DocumentChange::SetLineEndTypes { to } = change {
         return reserve_types(alloc, document, to);

@@ -5,12 +5,13 @@ ghost use Rattle.ed_model.specs.declared.plan.DocumentChange.TheVariants as chan
 ghost use Rattle.ed_model.specs.Changes.{line_note as note_of_line};
 ghost use Rattle.ed_model.specs.Notes.{change_fold, change_line_state};
 ghost use Rattle.ed_model.specs.Session.{lines_in};
+ghost use Rattle.document.specs.Kept.{HasLevelRoom, HasStateRoom};
 ghost use Rattle.notify.specs.Gathered.{CanPut};
 ghost use Rattle.scene.specs.Scenes.{watchers, AreNamed, IsWatched};
 ghost use Rattle.scene.specs.Hearing.{hearers};
 ghost use Rattle.document_changes.specs.Changed.{HearersAreTold, IsMade};
 ghost use Rattle.document_changes.specs.Lines.{level_notice};
-ghost use Rattle.document_changes.specs.RoomLeft.{LeavesRoom};
+ghost use Rattle.document_changes.specs.Memory.{KeepsCapacity};
 
 use crate::telling::{line_note, tell_heard};
 use document::Document;
@@ -52,11 +53,11 @@ pub(crate) fn set_level(
     level: u32,
 )
     requires line { line < lines_in document.old.document }
-    requires ready { line < document.old.spare.levels }
+    requires ready { HasLevelRoom line document.old }
     requires watched { IsWatched document.old.document views.now }
     requires room { CanPut (hearers change_fold (watchers document.old.document views.now)) notes.old }
     ensures changed { IsMade (change.SetLevel line level) document.old document.new views.now notes.old notes.new }
-    ensures room { LeavesRoom (change.SetLevel line level) document.old document.new }
+    ensures memory { KeepsCapacity (change.SetLevel line level) document.old document.new }
 {
     document_is_small(document);
     let before = document.set_level(line, level);
@@ -100,11 +101,11 @@ pub(crate) fn set_state(
 )
     requires line { line < lines_in document.old.document }
     requires state { (int_le (negsuc (2 ^ 31 - 1)) state ≡ true) × (int_le state (pos (2 ^ 31 - 1)) ≡ true) }
-    requires ready { line < document.old.spare.states }
+    requires ready { HasStateRoom line document.old }
     requires watched { IsWatched document.old.document views.now }
     requires room { CanPut (hearers change_line_state (watchers document.old.document views.now)) notes.old }
     ensures changed { IsMade (change.SetState line state) document.old document.new views.now notes.old notes.new }
-    ensures room { LeavesRoom (change.SetState line state) document.old document.new }
+    ensures memory { KeepsCapacity (change.SetState line state) document.old document.new }
 {
     document_is_small(document);
     let state = narrowed(state);

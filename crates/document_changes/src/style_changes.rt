@@ -1,14 +1,15 @@
 //! Setting styles and indicators, and requests for styles.
 
-ghost use Rattle.std.specs.Prelude.{◌≡◌, ◌≤◌, ◌<◌, ◌+◌, ◌^◌, length, IfSome, Some};
+ghost use Rattle.std.specs.Prelude.{◌≤◌, ◌<◌, ◌+◌, ◌^◌, length, IfSome};
 ghost use Rattle.ed_model.specs.declared.plan.DocumentChange.TheVariants.{StyleRun, StyleBytes, NeedStyle, FillIndicator};
 ghost use Rattle.document.specs.Changes.{CanStyle};
+ghost use Rattle.document.specs.Kept.{HasFillRoom};
 ghost use Rattle.notify.specs.Gathered.{CanPut};
 ghost use Rattle.scene.specs.Scenes.{watchers, AreNamed, IsWatched};
 ghost use Rattle.scene.specs.Hearing.{hearers};
 ghost use Rattle.document_changes.specs.Changed.{IsFilled, IsMade, IsMadeBy, IsMadeWith, RangeIsTold};
+ghost use Rattle.document_changes.specs.Memory.{KeepsCapacity};
 ghost use Rattle.document_changes.specs.Needs.{indicator_kind, style_kind};
-ghost use Rattle.document_changes.specs.RoomLeft.{LeavesRoom};
 
 use crate::laws::parts_match_text;
 use crate::telling::{INDICATOR_KIND, STYLE_KIND, range_note, tell_heard, tell_style_needed};
@@ -75,7 +76,7 @@ pub(crate) fn style_run(
     requires watched { IsWatched document.old.document views.now }
     requires room { CanPut (hearers style_kind (watchers document.old.document views.now)) notes.old }
     ensures changed { IsMade (StyleRun count style) document.old document.new views.now notes.old notes.new }
-    ensures room { LeavesRoom (StyleRun count style) document.old document.new }
+    ensures memory { KeepsCapacity (StyleRun count style) document.old document.new }
 {
     document_is_small(document);
     let changed = document.style_run(count, style as u8);
@@ -96,7 +97,7 @@ pub(crate) fn style_bytes(
     requires watched { IsWatched document.old.document views.now }
     requires room { CanPut (hearers style_kind (watchers document.old.document views.now)) notes.old }
     ensures changed { IsMadeWith text.now (StyleBytes count) document.old document.new views.now notes.old notes.new }
-    ensures room { LeavesRoom (StyleBytes count) document.old document.new }
+    ensures memory { KeepsCapacity (StyleBytes count) document.old document.new }
 {
     document_is_small(document);
     let changed = document.style_bytes(&text[..count]);
@@ -117,7 +118,7 @@ pub(crate) fn need_style(
     requires watched { IsWatched document.old.document views.now }
     requires room { CanPut 1 notes.old }
     ensures changed { IsMadeBy sender (NeedStyle start end) document.old document.new views.now notes.old notes.new }
-    ensures room { LeavesRoom (NeedStyle start end) document.old document.new }
+    ensures memory { KeepsCapacity (NeedStyle start end) document.old document.new }
 {
     document_is_small(document);
     let styled = document.end_styled();
@@ -137,11 +138,11 @@ pub(crate) fn fill_indicator(
 )
     requires indicator { indicator < 32 }
     requires within { start + count ≤ length document.old.document.cells }
-    requires ready { document.old.spare.fill ≡ Some indicator }
+    requires ready { HasFillRoom indicator document.old }
     requires watched { IsWatched document.old.document views.now }
     requires room { CanPut (hearers indicator_kind (watchers document.old.document views.now)) notes.old }
     ensures changed { IsFilled indicator start count value document.old document.new views.now notes.old notes.new }
-    ensures room { LeavesRoom (FillIndicator indicator start count value) document.old document.new }
+    ensures memory { KeepsCapacity (FillIndicator indicator start count value) document.old document.new }
 {
     document_is_small(document);
     parts_match_text(document);

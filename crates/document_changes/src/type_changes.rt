@@ -1,12 +1,13 @@
 //! Setting which line ends count.
 
-ghost use Rattle.std.specs.Prelude.{◌≡◌, ◌≤◌};
+ghost use Rattle.std.specs.Prelude.{◌≡◌};
 ghost use Rattle.ed_model.specs.declared.plan.DocumentChange.TheVariants as change;
 ghost use Rattle.line_index.specs.Edits.{fresh_lines};
 ghost use Rattle.document.specs.Changes.{line_type_edits};
+ghost use Rattle.document.specs.Kept.{HasLineRoom};
 ghost use Rattle.scene.specs.Scenes.{IsWatched};
 ghost use Rattle.document_changes.specs.Changed.{IsMadeWithoutNotes};
-ghost use Rattle.document_changes.specs.RoomLeft.{LeavesRoom};
+ghost use Rattle.document_changes.specs.Memory.{KeepsCapacity};
 
 use document::Document;
 use ed_model::LineEndTypes;
@@ -25,10 +26,10 @@ pub(crate) fn set_line_end_types(
     edits: &[LineEdit],
 )
     requires edits { edits.now ≡ line_type_edits types document.old.document }
-    requires ready { fresh_lines edits.now ≤ document.old.room.lines }
+    requires ready { HasLineRoom (fresh_lines edits.now) document.old }
     requires watched { IsWatched document.old.document views.old }
     ensures changed { IsMadeWithoutNotes (change.SetLineEndTypes types) document.old document.new views.old views.new }
-    ensures room { LeavesRoom (change.SetLineEndTypes types) document.old document.new }
+    ensures memory { KeepsCapacity (change.SetLineEndTypes types) document.old document.new }
 {
     regroup(document, views, types, edits);
     document.set_line_end_types(types, edits);

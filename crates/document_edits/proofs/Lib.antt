@@ -1,5 +1,5 @@
 pub mod Names
 pub mod Stepping
 pub mod Needing
-pub mod Widths
+pub mod Asked
 pub mod Going

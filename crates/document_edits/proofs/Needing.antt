@@ -1,38 +1,51 @@
--- What is told of needs.
-use Rattle.document_edits.proofs.Names.{◌≡◌, ℕ, ap, sym, ◌∙◌, List, [], ◌∷◌, length, subst, ◌+◌, arith, ◌<◌, ◌≤◌, ◌-◌, ◌^◌, min, watching, Scene, Step, Insert, Delete, TextStep, amount_sum, room_sum, no_room, DocumentRoom, capped, capped_room, room_of_step, room_of_steps, free_behind, note_room, notes_of_step, bytes_of_step, leaving_count, same_room, SceneNeed, no_need, need_sum, IsAtLeast, NeedsSteps}
+-- What one step needs, and two, is what an edit with these steps needs.
+use Rattle.document_edits.proofs.Names.{◌≡◌, ℕ, ap, ◌∙◌, List, [], ◌∷◌, length, ◌+◌, arith, ◌≤◌, ◌-◌, ◌^◌, min, watching, Scene, Step, Delete, TextStep, amount_sum, amounts_added, nothing_needed, DocumentNeed, need_of_step, capped, capped_room, room_of_steps, free_behind, notes_of_step, bytes_of_step, leaving_count, same_room, SceneNeed, scene_need, need_sum, edit_need}
 use Rattle.ed_model.specs.declared.plan.LineEndTypes.{LineEndTypes}
+
+-- A step alone, with what it needs of the document.
+abbrev pub alone : Scene → Step → DocumentNeed → SceneNeed
+alone scene step room = let views = watching scene.views scene.document in scene_need (notes_of_step views step) (bytes_of_step views step) room
+
+abbrev pub of_leaving : ℕ → SceneNeed
+of_leaving leaving = scene_need leaving 0 nothing_needed
+
+-- the need behind a deletion of so many bytes
+abbrev pub less_text : ℕ → DocumentNeed → DocumentNeed
+less_text freed need = record need { text = need.text - freed }
+
+same_need : (n n' b b' : ℕ) (d d' : DocumentNeed) → n ≡ n' → b ≡ b' → d ≡ d' → scene_need n b d ≡ scene_need n' b' d'
+same_need n n' b b' d d' p q r = cc
 
 -- One step.
 
-sum_counted : (a b : ℕ) → amount_sum a b < 2 ^ 64 - 1 → a + b ≤ amount_sum a b
-sum_counted a b h = omega arith
+one_room : (types : LineEndTypes) (step : Step) → amounts_added (need_of_step types step) nothing_needed ≡ capped_room (room_of_steps types (step ∷ []))
+one_room types step =
+    let x = need_of_step types step in same_room _ _ _ _ _ _ _ _ _ _ (text x.text) (more x.lines) (more x.insertions) (more x.steps) (more x.bytes)
+  where
+    text : (a : ℕ) → amount_sum a 0 ≡ capped (a - 0 + 0)
+    text a = omega arith
 
-none_beside : (a : ℕ) → amount_sum a 0 < 2 ^ 64 - 1 → a - 0 + 0 ≤ amount_sum a 0
-none_beside a h = omega arith
+    more : (a : ℕ) → amount_sum a 0 ≡ capped (a + 0)
+    more a = omega arith
 
--- the need of one step: the sum of its own and of what is needed where the save point is left
-pub one_step_summed : (scene : Scene) (step : Step) (room : DocumentRoom) (leaving : ℕ) (need first extra : SceneNeed) → room_of_step scene.document.line_end_types step ≡ room
-    → leaving ≡ leaving_count (watching scene.views scene.document) scene.document.history
-    → first ≡ record { notes = note_room (notes_of_step (watching scene.views scene.document) step) (bytes_of_step (watching scene.views scene.document) step); document = room }
-    → extra ≡ record no_need { notes = note_room leaving 0 } → need ≡ need_sum first extra → NeedsSteps (step ∷ []) scene need
-one_step_summed scene step room leaving need first extra is left e f sum =
-    let base : SceneNeed = record { notes = note_room (notes_of_step (watching scene.views scene.document) step) (bytes_of_step (watching scene.views scene.document) step); document = room } in
-    let whole : need ≡ need_sum base (record no_need { notes = note_room leaving 0 }) = sum ∙ ap (λ n. need_sum n extra) e ∙ ap (λ n. need_sum base n) f in
-    rw whole (record {
-      enough = λ c. record {
-        notes_there = (let n = sum_counted (notes_of_step (watching scene.views scene.document) step) leaving c.notes in omega (arith, n, left));
-        bytes_there = (let n = sum_counted (bytes_of_step (watching scene.views scene.document) step) 0 c.note_bytes in omega (arith, n));
-        document_there = subst (λ (x : DocumentRoom). IsAtLeast (room_sum room no_room) (record { text = x.text - 0 + 0; lines = x.lines + 0; insertions = x.insertions + 0; steps = x.steps + 0; bytes = x.bytes + 0 })) (sym is)
-            (record {
-              text = none_beside room.text c.text;
-              lines = sum_counted room.lines 0 c.lines;
-              insertions = sum_counted room.insertions 0 c.insertions;
-              steps = sum_counted room.steps 0 c.steps;
-              bytes = sum_counted room.bytes 0 c.bytes;
-            });
-      };
-      none = λ empty. absurd (cc);
-    })
+one_summed : (scene : Scene) (step : Step) → let left = leaving_count (watching scene.views scene.document) scene.document.history in
+    need_sum (alone scene step (need_of_step scene.document.line_end_types step)) (of_leaving left) ≡ edit_need (step ∷ []) scene
+one_summed scene step =
+    let views = watching scene.views scene.document in
+    same_need _ _ _ _ _ _ (notes (notes_of_step views step) (leaving_count views scene.document.history)) (bytes (bytes_of_step views step)) (one_room scene.document.line_end_types step)
+  where
+    notes : (a left : ℕ) → amount_sum a left ≡ capped (left + (a + 0))
+    notes a left = omega arith
+
+    bytes : (a : ℕ) → amount_sum a 0 ≡ capped (a + 0)
+    bytes a = omega arith
+
+pub one_step : (scene : Scene) (step : Step) (leaving : ℕ) (need first extra : SceneNeed) → leaving ≡ leaving_count (watching scene.views scene.document) scene.document.history
+    → first ≡ alone scene step (need_of_step scene.document.line_end_types step) → extra ≡ of_leaving leaving → need ≡ need_sum first extra → need ≡ edit_need (step ∷ []) scene
+one_step scene step leaving need first extra left f e sum =
+    sum ∙ ap (λ n. need_sum n extra) f ∙ ap (λ n. need_sum (alone scene step (need_of_step scene.document.line_end_types step)) n) (e ∙ ap of_leaving left) ∙ one_summed scene step
+
+-- Two steps: a deletion, and an insertion beside what it frees.
 
 -- A deletion leaves room for all bytes that it takes out.
 pub frees_all : (start count : ℕ) (bytes : List ℕ) → length bytes ≡ count → count ≤ 2 ^ 64 - 1 → free_behind 0 (TextStep (Delete start bytes)) ≡ count
@@ -41,63 +54,10 @@ frees_all start count bytes long small = go (length bytes) (2 ^ 64 - 1) long sma
     go : (n m : ℕ) → n ≡ count → count ≤ m → min (0 + n) m ≡ count
     go n m e h = omega arith
 
--- A deletion, and an insertion beside what it leaves: the need is the sum of theirs.
-pub two_steps : (scene : Scene) (gone : Step) (start count : ℕ) (bytes : List ℕ) (leaving : ℕ) (need first extra both second beside : SceneNeed)
-    → let views = watching scene.views scene.document in let come = Insert start bytes in let types = scene.document.line_end_types in
-    count ≤ free_behind 0 (TextStep gone) → leaving ≡ leaving_count views scene.document.history
-    → first ≡ record { notes = note_room (notes_of_step views gone) (bytes_of_step views gone); document = room_of_step types gone }
-    → extra ≡ record no_need { notes = note_room leaving 0 } → both ≡ need_sum first extra
-    → second ≡ record { notes = note_room (notes_of_step views come) (bytes_of_step views come); document = room_of_step types come }
-    → beside ≡ record second { document = record second.document { text = second.document.text - count } } → need ≡ need_sum both beside → NeedsSteps (gone ∷ come ∷ []) scene need
-two_steps scene gone start count bytes leaving need first extra both second beside frees left f e b s n sum =
-    let views = watching scene.views scene.document in let come = Insert start bytes in
-    let types = scene.document.line_end_types in let x = room_of_step types gone in let y = room_of_step types come in
-    let one : SceneNeed = record { notes = note_room (notes_of_step views gone) (bytes_of_step views gone); document = x } in
-    let two : SceneNeed = record { notes = note_room (notes_of_step views come) (bytes_of_step views come); document = y } in
-    let sealed : SceneNeed = record no_need { notes = note_room leaving 0 } in
-    let is : need ≡ need_sum (need_sum one sealed) (record two { document = record y { text = y.text - count } }) =
-    sum ∙ ap (λ v. need_sum both v) (n ∙ ap (λ (v : SceneNeed). record v { document = record v.document { text = v.document.text - count } }) s)
-    ∙ ap (λ v. need_sum v (record two { document = record y { text = y.text - count } })) (b ∙ ap (λ v. need_sum first v) e ∙ ap (λ v. need_sum v sealed) f) in
-    rw is (record {
-      enough = λ c. record {
-        notes_there = (let h = three (notes_of_step views gone) leaving (notes_of_step views come) c.notes in omega (arith, h, left));
-        bytes_there = both_there (bytes_of_step views gone) (bytes_of_step views come) c.note_bytes;
-        document_there = record {
-          text = freed x.text y.text count (free_behind 0 (TextStep gone)) frees c.text;
-          lines = both_there x.lines y.lines c.lines;
-          insertions = both_there x.insertions y.insertions c.insertions;
-          steps = both_there x.steps y.steps c.steps;
-          bytes = both_there x.bytes y.bytes c.bytes;
-        };
-      };
-      none = λ empty. absurd (cc);
-    })
-  where
-    three : (a b c : ℕ) → amount_sum (amount_sum a b) c < 2 ^ 64 - 1 → b + (a + (c + 0)) ≤ amount_sum (amount_sum a b) c
-    three a b c h = omega arith
-
-    both_there : (a b : ℕ) → amount_sum (amount_sum a 0) b < 2 ^ 64 - 1 → a + (b + 0) ≤ amount_sum (amount_sum a 0) b
-    both_there a b h = omega arith
-
-    freed : (a b count free : ℕ) → count ≤ free → amount_sum (amount_sum a 0) (b - count) < 2 ^ 64 - 1 → a - 0 + (b - free + 0) ≤ amount_sum (amount_sum a 0) (b - count)
-    freed a b count free l h = omega arith
-
--- The room that is asked for, exactly: for one step, and for an insertion beside what a deletion leaves.
-
-pub one_room : (types : LineEndTypes) (step : Step) → room_sum (room_of_step types step) no_room ≡ capped_room (room_of_steps types (step ∷ []))
-one_room types step =
-    let x = room_of_step types step in same_room _ _ _ _ _ _ _ _ _ _ (text x.text) (more x.lines) (more x.insertions) (more x.steps) (more x.bytes)
-  where
-    text : (a : ℕ) → amount_sum a 0 ≡ capped (a - 0 + 0)
-    text a = omega arith
-
-    more : (a : ℕ) → amount_sum a 0 ≡ capped (a + 0)
-    more a = omega arith
-
-pub two_rooms : (types : LineEndTypes) (gone come : Step) (count : ℕ) → free_behind 0 (TextStep gone) ≡ count
-    → let y = room_of_step types come in room_sum (room_sum (room_of_step types gone) no_room) (record y { text = y.text - count }) ≡ capped_room (room_of_steps types (gone ∷ come ∷ []))
+two_rooms : (types : LineEndTypes) (gone come : Step) (count : ℕ) → free_behind 0 (TextStep gone) ≡ count
+    → amounts_added (amounts_added (need_of_step types gone) nothing_needed) (less_text count (need_of_step types come)) ≡ capped_room (room_of_steps types (gone ∷ come ∷ []))
 two_rooms types gone come count e =
-    let x = room_of_step types gone in let y = room_of_step types come in
+    let x = need_of_step types gone in let y = need_of_step types come in
     same_room _ _ _ _ _ _ _ _ _ _ (text x.text y.text count (free_behind 0 (TextStep gone)) e) (more x.lines y.lines) (more x.insertions y.insertions) (more x.steps y.steps) (more x.bytes y.bytes)
   where
     text : (a b count free : ℕ) → free ≡ count → amount_sum (amount_sum a 0) (b - count) ≡ capped (a - 0 + (b - free + 0))
@@ -106,17 +66,26 @@ two_rooms types gone come count e =
     more : (a b : ℕ) → amount_sum (amount_sum a 0) b ≡ capped (a + (b + 0))
     more a b = omega arith
 
-pub one_step_room : (types : LineEndTypes) (step : Step) (need first extra : SceneNeed) → first.document ≡ room_of_step types step → extra.document ≡ no_room → need ≡ need_sum first extra
-    → need.document ≡ capped_room (room_of_steps types (step ∷ []))
-one_step_room types step need first extra f e sum =
-    ap (λ (n : SceneNeed). n.document) sum ∙ ap (λ r. room_sum r extra.document) f ∙ ap (λ r. room_sum (room_of_step types step) r) e ∙ one_room types step
+two_summed : (scene : Scene) (gone come : Step) (count : ℕ) → free_behind 0 (TextStep gone) ≡ count
+    → let types = scene.document.line_end_types in let left = leaving_count (watching scene.views scene.document) scene.document.history in
+    need_sum (need_sum (alone scene gone (need_of_step types gone)) (of_leaving left)) (alone scene come (less_text count (need_of_step types come))) ≡ edit_need (gone ∷ come ∷ []) scene
+two_summed scene gone come count frees =
+    let views = watching scene.views scene.document in
+    same_need _ _ _ _ _ _ (notes (notes_of_step views gone) (leaving_count views scene.document.history) (notes_of_step views come)) (bytes (bytes_of_step views gone) (bytes_of_step views come))
+    (two_rooms scene.document.line_end_types gone come count frees)
+  where
+    notes : (a left b : ℕ) → amount_sum (amount_sum a left) b ≡ capped (left + (a + (b + 0)))
+    notes a left b = omega arith
 
-pub two_steps_room : (types : LineEndTypes) (gone come : Step) (count : ℕ) (need first extra both second beside : SceneNeed) → free_behind 0 (TextStep gone) ≡ count
-    → first.document ≡ room_of_step types gone → extra.document ≡ no_room → both ≡ need_sum first extra → second.document ≡ room_of_step types come
-    → beside ≡ record second { document = record second.document { text = second.document.text - count } } → need ≡ need_sum both beside
-    → need.document ≡ capped_room (room_of_steps types (gone ∷ come ∷ []))
-two_steps_room types gone come count need first extra both second beside frees f e b s n sum =
-    let x = room_of_step types gone in
-    let put = ap (λ (v : SceneNeed). v.document) b ∙ ap (λ r. room_sum r extra.document) f ∙ ap (λ r. room_sum x r) e in
-    let less = ap (λ (v : SceneNeed). v.document) n ∙ ap (λ (r : DocumentRoom). record r { text = r.text - count }) s in
-    ap (λ (v : SceneNeed). v.document) sum ∙ ap (λ r. room_sum r beside.document) put ∙ ap (λ r. room_sum (room_sum x no_room) r) less ∙ two_rooms types gone come count frees
+    bytes : (a b : ℕ) → amount_sum (amount_sum a 0) b ≡ capped (a + (b + 0))
+    bytes a b = omega arith
+
+pub two_steps : (scene : Scene) (gone come : Step) (count leaving : ℕ) (need first extra both second beside : SceneNeed) → let types = scene.document.line_end_types in free_behind 0 (TextStep gone) ≡ count
+    → leaving ≡ leaving_count (watching scene.views scene.document) scene.document.history
+    → first ≡ alone scene gone (need_of_step types gone) → extra ≡ of_leaving leaving → both ≡ need_sum first extra
+    → second ≡ alone scene come (need_of_step types come) → beside ≡ record second { document = less_text count second.document } → need ≡ need_sum both beside → need ≡ edit_need (gone ∷ come ∷ []) scene
+two_steps scene gone come count leaving need first extra both second beside frees left f e b s n sum =
+    let one = alone scene gone (need_of_step scene.document.line_end_types gone) in
+    let put : both ≡ need_sum one (of_leaving (leaving_count (watching scene.views scene.document) scene.document.history)) = b ∙ ap (λ v. need_sum v extra) f ∙ ap (λ v. need_sum one v) (e ∙ ap of_leaving left) in
+    let less = n ∙ ap (λ (v : SceneNeed). record v { document = less_text count v.document }) s in
+    sum ∙ ap (λ v. need_sum v beside) put ∙ ap (λ v. need_sum (need_sum one (of_leaving (leaving_count (watching scene.views scene.document) scene.document.history))) v) less ∙ two_summed scene gone come count frees

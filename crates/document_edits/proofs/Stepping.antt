@@ -1,9 +1,10 @@
--- Steps in turn, out of the room that was made for all of them.
-use Rattle.document_edits.proofs.Names.{◌≡◌, ℕ, ◌==◌, ap, sym, ◌∙◌, true, false, List, [], ◌∷◌, ◌++◌, length, refl, subst, Bool, cond, ◌+◌, arith, ◌<◌, ◌≤◌, slice_range, ◌-◌, ◌≢◌, zero, suc, eqb-true, eqb-false, nil_from_length, Document, text_of, Scene, edit_made, step_made, sealed_scene, Step, insertion, Insert, Delete, replacement, deletion, TextStep, History, Transaction, sealed_outside_groups, with_last_sealed, length_of_range, Gathered, Kept, HasRoom, TakesRoom, bytes_out, step_in, need_of, scene_in, IsWatched, room_of_step, room_of_steps, notes_for, bytes_needed, held_behind, CanHold, CanHoldSteps, CanHoldEdit, NeedsAreEnough, with_room, appended_collects, deletion_needs, first_room, next_room, first_held, next_held}
+-- Steps in turn, in the room that was made for all of them.
+use Rattle.document_edits.proofs.Names.{◌≡◌, ℕ, ◌==◌, ap, sym, ◌∙◌, true, false, List, [], ◌∷◌, ◌++◌, length, refl, subst, ◌+◌, arith, ◌<◌, ◌≤◌, slice_range, ◌-◌, ◌≢◌, zero, suc, eqb-true, eqb-false, nil_from_length, Document, text_of, Scene, edit_made, step_made, sealed_scene, Step, insertion, Insert, Delete, replacement, deletion, sealed_outside_groups, length_of_range, Gathered, Kept, HasRoom, LeavesRoom, step_in, step_on, need_of, need_of_step, with_history, seal_room, scene_in, IsWatched, room_of_steps, notes_for, bytes_needed, held_behind, CanHold, CanHoldSteps, CanHoldEdit, NeedsAreEnough, IsCounted, SceneNeed, with_room, capped, deletion_needs, first_room, next_room, first_held, next_held, StepsFit}
 use Rattle.id_table.specs.Entries.{Entries, Entry}
 use Rattle.document.specs.declared.text_step.TextStep.TheVariants as lent
 use Rattle.ed_view.specs.Kept.{KeptView}
 use Rattle.scene.specs.proved.Watched.{watched_with_history}
+use Rattle.document_edits.proofs.Asked.{not_capped}
 
 -- The steps of a replacement.
 
@@ -43,21 +44,19 @@ module _ (d : Document) (start count : ℕ) (bytes : List ℕ) where
       deletes_some d start count range (positive count some) bytes
       ∙ ap (λ ss. Delete start (slice_range (text_of d) start (start + count)) ∷ ss) (inserts_none start bytes (eqb-true (length bytes) 0 (sym none)))
 
-pub sealed_collects : (h : History) → (sealed_outside_groups h).collecting ≡ h.collecting
-sealed_collects h = go (h.depth == 0) h.past
-  where
-    last : (past : List Transaction) → (with_last_sealed (record h { past = past })).collecting ≡ h.collecting
-    last [] = refl
-    last (t ∷ ts) = refl
+-- Room for steps in turn is room for the first of them, and for a deletion as it is lent.
 
-    go : (b : Bool) (past : List Transaction) → (cond b (with_last_sealed h) h).collecting ≡ h.collecting
-    go true past = last h.past
-    go false past = refl
+pub first_fits : (k : Kept) (step : Step) (steps rest : List Step) → steps ≡ step ∷ rest → StepsFit steps k → HasRoom (need_of_step k.document.line_end_types step) k
+first_fits k step steps rest is room = first_room k k.document.line_end_types step rest (subst (λ ss. StepsFit ss k) is room)
+
+pub deletion_fits : (k : Kept) (start count : ℕ) (steps rest : List Step) → start + count ≤ length k.document.cells → steps ≡ Delete start (slice_range (text_of k.document) start (start + count)) ∷ rest
+    → StepsFit steps k → HasRoom (need_of k.document.line_end_types (lent.Delete start count)) k
+deletion_fits k start count steps rest range is room =
+    subst (λ need. HasRoom need k) (deletion_needs k.document.line_end_types k.document start count range) (first_fits k (Delete start (slice_range (text_of k.document) start (start + count))) steps rest is room)
 
 -- A document whose last transaction is sealed.
-
 abbrev pub sealed_kept : Kept → Kept
-sealed_kept k = record k { document = (let d = k.document in record d { history = sealed_outside_groups d.history }) }
+sealed_kept k = with_history (sealed_outside_groups k.document.history) k
 
 -- Two steps, between seals.
 module _ (start count : ℕ) (bytes : List ℕ) (k k1 : Kept) (views : Entries KeptView) (notes : Gathered) (range : start + count ≤ length k.document.cells) (some : (0 < count) × (0 < length bytes)) (sealed : k1 ≡ sealed_kept k) where
@@ -76,6 +75,14 @@ module _ (start count : ℕ) (bytes : List ℕ) (k k1 : Kept) (views : Entries K
   -- the scene after the deletion
   pub scene_between : (between : Scene) → between ≡ step_made false (step_in (lent.Delete start count) (text_of k1.document)) (scene_in k1.document views.entries notes.notes) → between ≡ step_made false gone (sealed_scene at_first)
   scene_between between e = subst (λ x. between ≡ step_made false (step_in (lent.Delete start count) (text_of x.document)) (scene_in x.document views.entries notes.notes)) sealed e
+
+  -- there is room for both steps, and for the deletion, which is made on the sealed document
+
+  both_fit : StepsFit (replacement start count bytes (text_of k.document)) k → StepsFit (gone ∷ come ∷ []) (sealed_kept k)
+  both_fit room = seal_room k (room_of_steps k.document.line_end_types (gone ∷ come ∷ [])) (subst (λ ss. StepsFit ss k) are_two room)
+
+  pub room_of_first : StepsFit (replacement start count bytes (text_of k.document)) k → HasRoom (need_of k1.document.line_end_types (lent.Delete start count)) k1
+  room_of_first room = subst (λ x. HasRoom (need_of x.document.line_end_types (lent.Delete start count)) x) (sym sealed) (deletion_fits (sealed_kept k) start count (gone ∷ come ∷ []) (come ∷ []) range refl (both_fit room))
 
   -- the list of notes can hold those of both steps
   both_held : CanHoldEdit (replacement start count bytes (text_of k.document)) at_first notes → CanHoldSteps false (gone ∷ come ∷ []) (sealed_scene at_first) notes
@@ -101,20 +108,12 @@ module _ (start count : ℕ) (bytes : List ℕ) (k k1 : Kept) (views : Entries K
         subst (λ x. notes2.held ≡ held_behind false (step_in (lent.Delete start count) (text_of x.document)) (scene_in x.document views.entries notes.notes) notes.held) sealed held in
         next_held false gone (come ∷ []) (sealed_scene at_first) between notes notes2 (both_held h) (scene_between between made) same held'
 
-    pub second_room : HasRoom k (room_of_steps k.document.line_end_types (replacement start count bytes (text_of k.document))) → TakesRoom k1.room k2.room (need_of k1.document.line_end_types (lent.Delete start count))
-        → k1.room.text + bytes_out (step_in (lent.Delete start count) (text_of k1.document)) ≤ k2.room.text + (need_of k1.document.line_end_types (lent.Delete start count)).text
-        → HasRoom k2 (room_of_step k2.document.line_end_types come)
-    second_room room left freed =
-        let types = k.document.line_end_types in let is = scene_between between made in
-        let room' : HasRoom k (room_of_steps types (gone ∷ come ∷ [])) = subst (λ ss. HasRoom k (room_of_steps types ss)) are_two room in
-        let at_k : TakesRoom (sealed_kept k).room k2.room (need_of types (lent.Delete start count)) = subst (λ x. TakesRoom x.room k2.room (need_of x.document.line_end_types (lent.Delete start count))) sealed left in
-        let left' : TakesRoom k.room k2.room (room_of_step types gone) = subst (λ n. TakesRoom k.room k2.room n) (sym (deletion_needs types k.document start count range)) at_k in
-        let freed' : k.room.text + bytes_out gone ≤ k2.room.text + (room_of_step types gone).text =
-        subst (λ x. x.room.text + bytes_out (step_in (lent.Delete start count) (text_of x.document)) ≤ k2.room.text + (need_of x.document.line_end_types (lent.Delete start count)).text) sealed freed in
-        let collects : k2.document.history.collecting ≡ k.document.history.collecting =
-        ap (λ (x : Scene). x.document.history.collecting) is ∙ appended_collects false (TextStep gone) (sealed_outside_groups k.document.history) ∙ sealed_collects k.document.history in
-        let same_types : k2.document.line_end_types ≡ types = ap (λ (x : Scene). x.document.line_end_types) is in
-        subst (λ t. HasRoom k2 (room_of_step t come)) (sym same_types) (first_room k2 types come [] (next_room k k2 types gone (come ∷ []) room' left' freed' collects))
+    pub second_room : StepsFit (replacement start count bytes (text_of k.document)) k → LeavesRoom (step_on k1 (lent.Delete start count)) k1 k2 → HasRoom (need_of_step k2.document.line_end_types come) k2
+    second_room room left =
+        let types = k.document.line_end_types in
+        let behind = next_room (sealed_kept k) k2 gone (come ∷ []) (both_fit room) (subst (λ x. LeavesRoom (step_on x (lent.Delete start count)) x k2) sealed left) in
+        let same_types : k2.document.line_end_types ≡ types = ap (λ (x : Scene). x.document.line_end_types) (scene_between between made) in
+        subst (λ t. HasRoom (need_of_step t come) k2) (sym same_types) (first_room k2 types come [] behind)
 
     pub two_made : (k3 k4 : Kept) (views3 : Entries KeptView) (notes3 : Gathered) → scene_in k3.document views3.entries notes3.notes ≡ step_made true come between → k4 ≡ sealed_kept k3
         → scene_in k4.document views3.entries notes3.notes ≡ edit_made (replacement start count bytes (text_of k.document)) at_first
@@ -132,10 +131,12 @@ needs_alike : (steps : List Step) (scene : Scene) (g : Gathered)
 needs_alike [] scene g = refl
 needs_alike (step ∷ steps) scene g = refl
 
--- After room for so many notes and bytes was made, the list can hold those of an edit that needs no more.
-pub edit_held : NeedsAreEnough → (steps : List Step) (d : Document) (views : List (Entry KeptView)) (g g' : Gathered) (notes bytes : ℕ) → g' ≡ with_room notes bytes g
-    → notes_for steps (scene_in d views []) ≤ notes → bytes_needed (scene_in d views []) steps ≤ bytes → CanHoldEdit steps (scene_in d views g'.notes) g'
-edit_held law steps d views g g' notes bytes made few short =
+-- After room for the notes that an edit needs was made, the list can hold them.
+pub edit_held : NeedsAreEnough → (steps : List Step) (d : Document) (views : List (Entry KeptView)) (g g' : Gathered) (need : SceneNeed) → g' ≡ with_room need.notes.notes need.notes.bytes g
+    → need.notes.notes ≡ capped (notes_for steps (scene_in d views [])) → need.notes.bytes ≡ capped (bytes_needed (scene_in d views []) steps) → IsCounted need → CanHoldEdit steps (scene_in d views g'.notes) g'
+edit_held law steps d views g g' need made notes_are bytes_are counted =
+    let few = not_capped (notes_for steps (scene_in d views [])) need.notes.notes notes_are counted.notes in
+    let short = not_capped (bytes_needed (scene_in d views []) steps) need.notes.bytes bytes_are counted.note_bytes in
     let scene = scene_in d views g'.notes in
     let alike = needs_alike steps (scene_in d views []) g' in
     let most = law steps scene g'.held in
@@ -143,6 +144,6 @@ edit_held law steps d views g g' notes bytes made few short =
     let t = most.1 in
     let length_is = ap (λ (x : Gathered). length x.notes) made in
     let held_is = ap (λ (x : Gathered). x.held) made in
-    let notes_are = ap (λ (x : Gathered). x.capacity.notes) made in
-    let bytes_are = ap (λ (x : Gathered). x.capacity.bytes) made in
+    let notes_fit = ap (λ (x : Gathered). x.capacity.notes) made in
+    let bytes_fit = ap (λ (x : Gathered). x.capacity.bytes) made in
     (omega arith, omega arith)

@@ -45,6 +45,10 @@ pub fn convert_with_room(
     // States that what the steps need is enough for their notes.
     needs_are_enough();
     let need = conversion_need(document, views, to);
+    if need.document.steps == 0 {
+        // Even for no step `reserve` may allocate, since it makes room for a fill of each indicator.
+        return Ok(());
+    }
     if !need.is_counted() {
         return Err(AllocError);
     }

@@ -2,14 +2,12 @@
 
 ghost use Rattle.std.specs.Prelude.{◌≡◌, ◌≤◌, ◌+◌, ◌-◌, [], length};
 ghost use Rattle.document.specs.TextSteps.{IsStepOn};
-ghost use Rattle.scene.specs.Conversion.{room_of_steps};
 ghost use Rattle.scene.specs.Needs.{note_room};
 ghost use Rattle.scene.specs.Scenes.{scene_in, AreNamed};
-ghost use Rattle.scene.specs.Undoing.{capped_room};
-ghost use Rattle.document_edits.specs.Needs.{no_need, need_sum, NeedsSteps, need_of_step};
+ghost use Rattle.document_edits.specs.Needs.{no_need, need_sum, need_of_lent, edit_need};
 ghost use Rattle.document_edits.specs.Edits.{replacement_in};
 
-use document::{Document, DocumentRoom, TextStep};
+use document::{Document, DocumentNeed, TextStep};
 use ed_view::View;
 use id_table::IdTable;
 use scene::{NoteRoom, SceneNeed, leaving_need, note_need};
@@ -20,7 +18,7 @@ fn none() -> SceneNeed
 {
     SceneNeed {
         notes: NoteRoom::none(),
-        document: DocumentRoom::none(),
+        document: DocumentNeed::none(),
     }
 }
 
@@ -34,12 +32,12 @@ fn plus(first: SceneNeed, second: SceneNeed) -> SceneNeed
     }
 }
 
-/// Returns the need after steps that free `freed` bytes of the text, which become room.
+/// Returns the need after steps that delete `freed` bytes of the text, whose capacity is there again.
 fn beside(need: SceneNeed, freed: usize) -> SceneNeed
     ensures { result ≡ record need { document = record need.document { text = need.document.text - freed } } }
 {
     SceneNeed {
-        document: DocumentRoom {
+        document: DocumentNeed {
             text: need.document.text.saturating_sub(freed),
             ..need.document
         },
@@ -61,7 +59,7 @@ fn of_notes(notes: usize) -> SceneNeed
 fn step_need(document: &Document, views: &IdTable<View>, step: TextStep) -> SceneNeed
     requires fits { IsStepOn step (length document.now.document.cells) }
     requires named { AreNamed views.now.entries }
-    ensures { result ≡ need_of_step step.entry document.now views.now }
+    ensures { result ≡ need_of_lent step.entry document.now views.now }
 {
     SceneNeed {
         notes: note_need(document, views, step),
@@ -69,8 +67,8 @@ fn step_need(document: &Document, views: &IdTable<View>, step: TextStep) -> Scen
     }
 }
 
-/// Returns what the steps need that replace the `count` bytes from `start` on by `bytes`. Deleted bytes become room for
-/// inserted ones.
+/// Returns what the steps need that replace the `count` bytes from `start` on by `bytes`. Inserted bytes take the place
+/// of deleted ones.
 pub(crate) fn replacement_need(
     document: &Document,
     views: &IdTable<View>,
@@ -80,10 +78,8 @@ pub(crate) fn replacement_need(
 ) -> SceneNeed
     requires range { start + count ≤ length document.now.document.cells }
     requires named { AreNamed views.now.entries }
-    ensures enough { let steps = replacement_in start count bytes.now document.now in
-        NeedsSteps steps (scene_in document.now.document views.now.entries []) result }
-    ensures document { let steps = replacement_in start count bytes.now document.now in
-        result.document ≡ capped_room (room_of_steps document.now.document.line_end_types steps) }
+    ensures { let steps = replacement_in start count bytes.now document.now in
+        result ≡ edit_need steps (scene_in document.now.document views.now.entries []) }
 {
     let deletion = TextStep::Delete {
         place: start,

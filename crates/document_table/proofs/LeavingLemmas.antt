@@ -1,11 +1,11 @@
 -- The documents of a table after one was replaced or dropped.
 use Rattle.std.proofs.Common.{◌≡◌, ◌≢◌, ℕ, ◌==◌, Bool, true, false, cond, List, [], ◌∷◌, Some, None, refl, sym, ap, ◌∙◌, option_map, eq-eqb}
-use Rattle.std.specs.Prelude.{◌+◌, length, not, nat_lt, find}
+use Rattle.std.specs.Prelude.{not, nat_lt, find}
 use Rattle.std.proofs.lemmas.Bool.{eqb-true, ne_eqb}
 use Rattle.ed_model.specs.Session.{Document, references}
 use Rattle.document.specs.Kept.{Kept, document_of}
 use Rattle.id_table.specs.Entries.{Entry, entry, value_at, with_value_at, without_id}
-use Rattle.document_table.specs.Leaving.{document_in, documents_in, let_go, SameRoom, KeepsRoom}
+use Rattle.document_table.specs.Leaving.{document_in, documents_in, let_go, KeepsRest}
 
 -- The documents alone.
 
@@ -100,11 +100,11 @@ none_without id (e ∷ es) = by_test (e.id == id) refl (none_without id es)
     by_test true t more = more
     by_test false t more = rw t more
 
-pub room_with : (id : ℕ) (was left : Kept) (es : List (Entry Kept)) → value_at es id ≡ Some was → SameRoom was left → KeepsRoom id es (with_value_at id left es)
-room_with id was left es found same = rw (here_with id left es, found) same
+pub rest_with : (id : ℕ) (was left : Kept) (d : Document) (es : List (Entry Kept)) → value_at es id ≡ Some was → left ≡ record was { document = d } → KeepsRest id es (with_value_at id left es)
+rest_with id was left d es found e = rw (here_with id left es, found) (rw e refl)
 
-pub room_without : (id : ℕ) (left : Kept) (es : List (Entry Kept)) → KeepsRoom id es (without_id id (with_value_at id left es))
-room_without id left es = rw (none_without id (with_value_at id left es)) tt
+pub rest_without : (id : ℕ) (left : Kept) (es : List (Entry Kept)) → KeepsRest id es (without_id id (with_value_at id left es))
+rest_without id left es = rw (none_without id (with_value_at id left es)) tt
 
 -- What is left.
 
@@ -120,7 +120,3 @@ pub gone : (id : ℕ) (change : Document → Document) (es : List (Entry Kept)) 
     → documents_in (without_id id (with_value_at id left es)) ≡ let_go id change (documents_in es)
 gone id change es was left found changed held =
     rw (document_at_id id es, found, ← changed, held) (ap documents_in (without_written id left es) ∙ without_document_in id es)
-
--- the same document, of which callers hold another number of references
-pub same_room : (was left : Kept) (held : ℕ) → left ≡ record was { document = record was.document { held_by_callers = held } } → SameRoom was left
-same_room was left held e = (ap (λ (k : Kept). k.room) e, rw e refl, ap (λ (k : Kept). k.spare.views + length k.document.views) e)

@@ -1,11 +1,11 @@
 -- The documents that are left after one has lost a reference.
-use Rattle.std.specs.Prelude.{◌≡◌, ◌≢◌, ◌<◌, ℕ, ◌+◌, ◌-◌, nat_lt, if◌then◌else◌, List, length, map, Option, Some, None, option_map, IfSome, IsSomeAnd}
+use Rattle.std.specs.Prelude.{◌≡◌, ◌≢◌, ◌<◌, ℕ, ◌-◌, nat_lt, if◌then◌else◌, List, map, Option, Some, None, option_map, IfSome, IsSomeAnd}
 use Rattle.std.specs.List.{AllByRecursion}
 use Rattle.ed_model.specs.Session.{Document, references, living}
 use Rattle.document.specs.Kept.{Kept}
 use Rattle.id_table.specs.Entries.{Entry, Rise, entry, id_of, value_of, value_at, with_value_at, without_id}
 
--- the documents and their ids, without their room
+-- the documents and their ids, without what is stored of them, and without their capacities
 abbrev pub document_in : Entry Kept → Entry Document
 document_in e = entry e.id e.value.document
 
@@ -28,15 +28,9 @@ left_over_of id entries (Some d) = left_over id d entries
 abbrev pub let_go : ℕ → (Document → Document) → List (Entry Document) → List (Entry Document)
 let_go id change entries = left_over_of id entries (option_map change (value_at entries id))
 
--- a document has the room of another; the list of its views has a free place for each view that was detached
-abbrev pub SameRoom : Kept → Kept → Type 0
-SameRoom was left =
-    (left.room ≡ was.room) × (left.spare ≡ record was.spare { views = left.spare.views })
-    × (left.spare.views + length left.document.views ≡ was.spare.views + length was.document.views)
-
--- the document at an id keeps its room, if it still exists
-abbrev pub KeepsRoom : ℕ → List (Entry Kept) → List (Entry Kept) → Type 0
-KeepsRoom id old new = IfSome (value_at new id) (λ left. IsSomeAnd (value_at old id) (λ was. SameRoom was left))
+-- if the document at an id still exists, as much of it is stored as before, and as much fits in
+abbrev pub KeepsRest : ℕ → List (Entry Kept) → List (Entry Kept) → Type 0
+KeepsRest id old new = IfSome (value_at new id) (λ left. IsSomeAnd (value_at old id) (λ was. left ≡ record was { document = left.document }))
 
 -- The model changes every document, and keeps those with a reference.
 

@@ -4,7 +4,7 @@ ghost use Rattle.std.specs.Option.{option_copied_mut};
 ghost use Rattle.std.specs.Borrow.{sem};
 ghost use Rattle.ed_model.specs.Session.{left_by};
 ghost use Rattle.id_table.specs.Entries.{HasRoom, KeepsCapacity, Rise, empty_table, entry, id_of, most_ids, value_at, without_id};
-ghost use Rattle.document_table.specs.Leaving.{documents_in, let_go, released, KeepsRoom};
+ghost use Rattle.document_table.specs.Leaving.{documents_in, let_go, released, KeepsRest};
 
 use document::Document;
 use id_table::IdTable;
@@ -98,7 +98,7 @@ impl DocumentTable {
     pub fn leave(&mut self, id: u32, view: u32)
         ensures documents { documents_in self.new.entries ≡ let_go id (left_by view) (documents_in self.old.entries) }
         ensures others { (other : ℕ) → other ≢ id → value_at self.new.entries other ≡ value_at self.old.entries other }
-        ensures room_stays { KeepsRoom id self.old.entries self.new.entries }
+        ensures rest { KeepsRest id self.old.entries self.new.entries }
         ensures next { self.new.next ≡ self.old.next }
         ensures capacity { self.new.capacity ≡ self.old.capacity }
     {
@@ -116,7 +116,7 @@ impl DocumentTable {
     pub fn release(&mut self, id: u32)
         ensures documents { documents_in self.new.entries ≡ let_go id released (documents_in self.old.entries) }
         ensures others { (other : ℕ) → other ≢ id → value_at self.new.entries other ≡ value_at self.old.entries other }
-        ensures room_stays { KeepsRoom id self.old.entries self.new.entries }
+        ensures rest { KeepsRest id self.old.entries self.new.entries }
         ensures next { self.new.next ≡ self.old.next }
         ensures capacity { self.new.capacity ≡ self.old.capacity }
     {

@@ -42,7 +42,7 @@ pub use Rattle.scene.specs.Undoing.{bits_of, place_behind_any, rooms_beside}
 pub use Rattle.ed_model.specs.History.{latest_text_step, TextStep, at_save_point, History, Change, ContainerStep}
 pub use Rattle.ed_types.specs.declared.refusal.Refusal.{Refusal}
 pub use Rattle.ed_types.specs.declared.refusal.Refusal.TheVariants.{NoSuchView, BadArgument, OutOfMemory, UnknownMessage}
-pub use Rattle.scene.specs.Conversion.{free_behind, changes_for, room_of_steps_beside}
+pub use Rattle.scene.specs.Conversion.{free_behind, room_of_steps_beside}
 pub use Rattle.ed_types.specs.declared.limits.Limits.{Limits}
 pub use Rattle.ed_model.specs.declared.plan.SessionChange.{SessionChange}
 pub use Rattle.ed_model.specs.Notes.{told, modify_attempt, blank, bit_if, multi_step}

@@ -1,5 +1,5 @@
 -- A text that keeps to its limit is within the width of its document's places.
-use Rattle.editor_session.proofs.Names.{arith, ◌≡◌, ◌==◌, ℕ, ◌+◌, ◌-◌, ◌≤◌, ◌<◌, ◌^◌, min, nat_le, Bool, true, false, cond, List, [], ◌∷◌, length, refl, ap, sym, subst, slice_range, and_parts, leb-true, length-take, length-drop, length-map, Limits, stays_within, Change, TextStep, ContainerStep, IsRoomFor, IsSoundRequest, Request, text, Document, is_allowed, is_large, limit_of, text_of, AreStepsOf, IsSoundDocument, Step, Insert, Delete, edited, Cell, length-inserted, length-deleted_within, found_all, FitsWidth, bound_of, changes_for, room_of_steps_beside, free_behind, rooms_beside, StepsFitWidth, ChangesFitWidth}
+use Rattle.editor_session.proofs.Names.{arith, ◌≡◌, ◌==◌, ℕ, ◌+◌, ◌-◌, ◌≤◌, ◌<◌, ◌^◌, min, nat_le, Bool, true, false, cond, List, [], ◌∷◌, map, length, refl, ap, sym, subst, slice_range, and_parts, leb-true, length-take, length-drop, length-map, Limits, stays_within, Change, TextStep, ContainerStep, IsRoomFor, IsSoundRequest, Request, text, Document, is_allowed, is_large, limit_of, text_of, AreStepsOf, IsSoundDocument, Step, Insert, Delete, edited, Cell, length-inserted, length-deleted_within, found_all, FitsWidth, bound_of, room_of_steps_beside, free_behind, rooms_beside, StepsFitWidth, ChangesFitWidth}
 use Rattle.ed_model.specs.declared.plan.LineEndTypes.{LineEndTypes}
 use Rattle.ed_model.specs.InverseLaws.{Fits}
 use Rattle.ed_model.specs.UndoPlans.{text_steps}
@@ -16,7 +16,7 @@ deleted_within p bytes text fits =
     within : (p n size cut : ℕ) → p ≤ size → cut ≡ min (p + n - p) (size - p) → cut ≡ n → p + n ≤ size
     within p n size cut there is whole = omega arith
 
--- The text never grows past its limit, so neither does the room that is asked for it: `free` bytes of room are left by earlier changes.
+-- The text never grows past its limit, so neither does the capacity that is asked for it: earlier changes have freed `free` bytes.
 grows : (types : LineEndTypes) (limit free : ℕ) (text : List ℕ) (cs : List Change) → limit < 2 ^ 64 - 1 → AreStepsOf text (text_steps cs) → stays_within limit (length text) (text_steps cs) ≡ true
     → length text + free ≤ limit → (rooms_beside types free cs).text + (length text + free) ≤ limit
 grows types limit free text [] small steps within fits = omega (arith, fits)
@@ -53,13 +53,13 @@ grows types limit free text (TextStep (Delete p bytes) ∷ cs) small steps withi
     gone : (p n free len now limit m x : ℕ) → now ≡ len - n → p + n ≤ len → limit < m → len + free ≤ limit → x + (now + min (free + n) m) ≤ limit → 0 - free + x + (len + free) ≤ limit
     gone p n free len now limit m x e h small f r = omega arith
 
--- The steps of an edit need as much room in the text as the same steps in the history.
-same_text_room : (types : LineEndTypes) (free : ℕ) (steps : List Step) → (room_of_steps_beside types free steps).text ≡ (rooms_beside types free (changes_for steps)).text
+-- The steps of an edit need as much capacity of the text as the same steps in the history.
+same_text_room : (types : LineEndTypes) (free : ℕ) (steps : List Step) → (room_of_steps_beside types free steps).text ≡ (rooms_beside types free (map TextStep steps)).text
 same_text_room types free [] = refl
 same_text_room types free (Insert p bytes ∷ steps) = ap (λ x. length bytes - free + x) (same_text_room types (free - length bytes) steps)
 same_text_room types free (Delete p bytes ∷ steps) = ap (λ x. 0 - free + x) (same_text_room types (free_behind free (TextStep (Delete p bytes))) steps)
 
-text_steps_of : (steps : List Step) → text_steps (changes_for steps) ≡ steps
+text_steps_of : (steps : List Step) → text_steps (map TextStep steps) ≡ steps
 text_steps_of [] = refl
 text_steps_of (step ∷ steps) = ap (λ ss. step ∷ ss) (text_steps_of steps)
 
@@ -93,4 +93,4 @@ module _ (r : Request) (allowed : is_allowed r.session.limits ≡ true) (sound :
   steps_fit_width steps fit within =
       let d = r.document in let is = text_steps_of steps in
       subst (λ x. FitsWidth d (length d.cells + x)) (sym (same_text_room d.line_end_types 0 steps))
-      (changes_fit_width (changes_for steps) (subst (λ ss. AreStepsOf (text r) ss) (sym is) fit) (subst (λ ss. IsRoomFor r ss) (sym is) within))
+      (changes_fit_width (map TextStep steps) (subst (λ ss. AreStepsOf (text r) ss) (sym is) fit) (subst (λ ss. IsRoomFor r ss) (sym is) within))

@@ -1,4 +1,5 @@
 pub mod Names
+pub mod Carried
 pub mod LeastHeading
 pub mod MarkerTotals
 pub mod Padded

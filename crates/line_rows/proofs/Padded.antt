@@ -1,8 +1,10 @@
 -- The stored values of the first lines, padded with the default, through edits of lines.
-use Rattle.line_rows.proofs.Names.{◌≡◌, ◌≤◌, ◌<◌, ◌+◌, ◌-◌, ℕ, zero, suc, List, [], ◌∷◌, ◌++◌, length, take, drop, replicate, get_or, set, min, refl, ap, sym, ◌∙◌, arith, append_assoc, inl, inr, length-append, length-take, length-take-le, length-drop, length-replicate, take-append-le, drop-append-le, take-replicate, drop-replicate, replicate-append-replicate, drop_all, take_all, replicate_more, append-nil, set-append_left, length-set, drop_more, take_more, slice_range, inserted, deleted, first_or, padded}
+use Rattle.line_rows.proofs.Names.{◌≡◌, ◌≤◌, ◌<◌, ◌+◌, ◌-◌, ℕ, zero, suc, List, [], ◌∷◌, ◌++◌, length, take, drop, replicate, get_or, set, min, refl, ap, sym, ◌∙◌, arith, append_assoc, inl, inr, length-append, length-take, length-take-le, length-drop, length-replicate, take-append-le, drop-append-le, take-replicate, drop-replicate, replicate-append-replicate, drop_all, take_all, replicate_more, append-nil, set-append_left, length-set, drop_more, take_more, slice_range, inserted, deleted, first_or, padded, max, Valued, valued, with_value}
 use Rattle.std.proofs.lemmas.Bool.{cases_lt}
 use Rattle.std.proofs.Math.Seq.{take-append-add, drop-append-add}
 use Rattle.line_index.specs.Edits.{with_fresh, with_joined}
+use Rattle.split_vector.specs.Split.{Split}
+use Rattle.line_rows.specs.Values.{capacity_of, values_in}
 
 module _ {V : Type 0} where
   set_last : (d : V) (xs : List V) (n : ℕ) (x : V) → length xs ≡ n → set (xs ++ d ∷ []) n x ≡ xs ++ x ∷ []
@@ -137,3 +139,12 @@ module _ {V : Type 0} where
   padded_all d n xs h =
       let none : n - length xs ≡ 0 = omega arith in
       rw none (append-nil xs)
+
+  -- the value of a line is set, and the values of the lines up to it are stored
+  pub value_set : (old new : Split V) (d : V) (lines line : ℕ) (x : V) (v : Valued V) → values_in old d lines ≡ v →
+      padded d lines new.items ≡ set (padded d lines old.items) line x → length new.items ≡ max (length old.items) (line + 1) → capacity_of new ≡ capacity_of old → values_in new d lines ≡ with_value v line x
+  value_set old new d lines line x v view values reached kept =
+      ap (λ vs. valued d vs (length new.items) (capacity_of new)) values
+      ∙ ap (λ n. valued d (set (padded d lines old.items) line x) n (capacity_of new)) reached
+      ∙ ap (λ n. valued d (set (padded d lines old.items) line x) (max (length old.items) (line + 1)) n) kept
+      ∙ ap (λ v. with_value v line x) view

@@ -1,5 +1,9 @@
 -- Reads and changes of rows, part by part.
-use Rattle.line_rows.proofs.Names.{◌≡◌, ◌≢◌, ◌↔◌, IsTrue, min, max, reverse, ◌<◌, ◌+◌, ◌-◌, ℕ, zero, suc, ℤ, pos, Bool, not, cond, List, [], ◌∷◌, ◌++◌, length, filter, get_or, set, Option, Some, refl, sym, ap, ◌∙◌, arith, range_with_len, find, set-get_or, get_or_read, sum_by-cons, Marker, Row, base_level, with_markers, without_markers, new_markers, without_marker, marker_count, markers_of, marker_total, without, KeptRows, RowRoom, RowBlocks, kept_rows, row_room, row_at, levels_of, rows_of}
+use Rattle.std.proofs.lemmas.Bool.{cases_lt}
+use Rattle.split_vector.specs.Split.{most_room}
+use Rattle.marker_store.specs.Lines.{HasRoom}
+use Rattle.line_rows.specs.Values.{most_held, wanted_if}
+use Rattle.line_rows.proofs.Names.{inl, inr, ◌*◌, ◌≤◌, length-append, length-set, sum_by-set, AreParts, HasRoomForMarkers, MarkedLines, Valued, kept_in, with_level, with_state, with_marker, with_value, with_marker_on, without_marker_on, store_without, ◌≡◌, ◌≢◌, ◌↔◌, IsTrue, min, max, reverse, ◌<◌, ◌+◌, ◌-◌, ℕ, zero, suc, ℤ, pos, Bool, not, cond, List, [], ◌∷◌, ◌++◌, length, filter, get_or, set, Option, Some, refl, sym, ap, ◌∙◌, arith, range_with_len, find, set-get_or, get_or_read, sum_by-cons, Marker, Row, base_level, with_markers, without_markers, new_markers, without_marker, marker_count, markers_of, marker_total, without, KeptRows, row_at, levels_of, rows_of}
 
 abbrev pub row : List Marker → ℕ → ℤ → Row
 row m l s = record { markers = m; level = l; state = s }
@@ -64,67 +68,6 @@ pub find_same : (p q : ℕ → Bool) → ((k : ℕ) → p k ≡ q k) → (ks : L
 find_same p q e [] = refl
 find_same p q e (k ∷ ks) = rw (e k) (ap (λ rest. cond (q k) (Some k) rest) (find_same p q e ks))
 
--- With the value of a `LineRows`.
-
-pub parts_length : (ms : List (List Marker)) (ls : List ℕ) (ss : List ℤ) (h : ℕ) (room : RowRoom) (blocks : RowBlocks) (r : KeptRows) → length ms ≡ length ls → length ms ≡ length ss → kept_rows (rows_of ms ls ss) h room blocks ≡ r → length ms ≡ length r.rows
-parts_length ms ls ss h room blocks r e f view = sym (rows_length ms ls ss e f) ∙ ap (λ (v : KeptRows). length v.rows) view
-
-pub parts_level : (ms : List (List Marker)) (ls : List ℕ) (ss : List ℤ) (h : ℕ) (room : RowRoom) (blocks : RowBlocks) (r : KeptRows) (k x : ℕ) → length ms ≡ length ls → length ms ≡ length ss → kept_rows (rows_of ms ls ss) h room blocks ≡ r → k < length ls → x ≡ get_or ls k x → x ≡ (row_at r.rows k).level
-parts_level ms ls ss h room blocks r k x e f view inside read = get_or_read ls k x inside read base_level ∙ ap (λ (w : Row). w.level) (sym (rows_at ms ls ss k e f)) ∙ ap (λ (v : KeptRows). (row_at v.rows k).level) view
-
-pub parts_state : (ms : List (List Marker)) (ls : List ℕ) (ss : List ℤ) (h : ℕ) (room : RowRoom) (blocks : RowBlocks) (r : KeptRows) (k : ℕ) (x : ℤ) → length ms ≡ length ls → length ms ≡ length ss → kept_rows (rows_of ms ls ss) h room blocks ≡ r → k < length ss → x ≡ get_or ss k x → x ≡ (row_at r.rows k).state
-parts_state ms ls ss h room blocks r k x e f view inside read = get_or_read ss k x inside read (pos 0) ∙ ap (λ (w : Row). w.state) (sym (rows_at ms ls ss k e f)) ∙ ap (λ (v : KeptRows). (row_at v.rows k).state) view
-
-pub parts_markers : (ms : List (List Marker)) (ls : List ℕ) (ss : List ℤ) (h : ℕ) (room : RowRoom) (blocks : RowBlocks) (r : KeptRows) (k : ℕ) → length ms ≡ length ls → length ms ≡ length ss → kept_rows (rows_of ms ls ss) h room blocks ≡ r → markers_of k ms ≡ (row_at r.rows k).markers
-parts_markers ms ls ss h room blocks r k e f view = markers_at ms ls ss k e f ∙ ap (λ (v : KeptRows). (row_at v.rows k).markers) view
-
-pub with_level : (ms : List (List Marker)) (ls ls' : List ℕ) (ss : List ℤ) (h : ℕ) (room : RowRoom) (blocks : RowBlocks) (r : KeptRows) (k l : ℕ) → length ms ≡ length ls → length ms ≡ length ss → ls' ≡ set ls k l → kept_rows (rows_of ms ls ss) h room blocks ≡ r →
-    kept_rows (rows_of ms ls' ss) h room (record blocks { stored_levels = max blocks.stored_levels (k + 1) })
-    ≡ record r { rows = set r.rows k (record (row_at r.rows k) { level = l }); blocks = record r.blocks { stored_levels = max r.blocks.stored_levels (k + 1) } }
-with_level ms ls ls' ss h room blocks r k l e f was view =
-    ap (λ rows. kept_rows rows h room (record blocks { stored_levels = max blocks.stored_levels (k + 1) })) (ap (λ levels. rows_of ms levels ss) was ∙ level_set ms ls ss k l e f)
-    ∙ ap (λ (v : KeptRows). kept_rows (set v.rows k (record (row_at v.rows k) { level = l })) v.next_handle v.room (record v.blocks { stored_levels = max v.blocks.stored_levels (k + 1) })) view
-
-pub with_state : (ms : List (List Marker)) (ls : List ℕ) (ss ss' : List ℤ) (h : ℕ) (room : RowRoom) (blocks : RowBlocks) (r : KeptRows) (k : ℕ) (s : ℤ) → length ms ≡ length ls → length ms ≡ length ss → ss' ≡ set ss k s → kept_rows (rows_of ms ls ss) h room blocks ≡ r →
-    kept_rows (rows_of ms ls ss') h room (record blocks { stored_states = max blocks.stored_states (k + 1) })
-    ≡ record r { rows = set r.rows k (record (row_at r.rows k) { state = s }); blocks = record r.blocks { stored_states = max r.blocks.stored_states (k + 1) } }
-with_state ms ls ss ss' h room blocks r k s e f was view =
-    ap (λ rows. kept_rows rows h room (record blocks { stored_states = max blocks.stored_states (k + 1) })) (ap (rows_of ms ls) was ∙ state_set ms ls ss k s e f)
-    ∙ ap (λ (v : KeptRows). kept_rows (set v.rows k (record (row_at v.rows k) { state = s })) v.next_handle v.room (record v.blocks { stored_states = max v.blocks.stored_states (k + 1) })) view
-
-pub with_marker : (ms ms' : List (List Marker)) (ls : List ℕ) (ss : List ℤ) (h h' lines levels states m m' : ℕ) (blocks : RowBlocks) (k n : ℕ) (r : KeptRows) → length ms ≡ length ls → length ms ≡ length ss →
-    ms' ≡ set ms k (markers_of k ms ++ new_markers h (n ∷ [])) → h' ≡ h + 1 → m' + 1 ≡ m → kept_rows (rows_of ms ls ss) h (row_room lines levels states m) blocks ≡ r →
-    kept_rows (rows_of ms' ls ss) h' (row_room lines levels states m') blocks ≡ record r { rows = with_markers k ((row_at r.rows k).markers ++ new_markers r.next_handle (n ∷ [])) r.rows; next_handle = r.next_handle + 1; room = record r.room { markers = r.room.markers - 1 } }
-with_marker ms ms' ls ss h h' lines levels states m m' blocks k n r e f was next room view =
-    let less : m' ≡ m - 1 = omega arith in
-    ap (λ rows. kept_rows rows h' (row_room lines levels states m') blocks)
-    (ap (λ l. rows_of l ls ss) was ∙ markers_set ms ls ss k (markers_of k ms ++ new_markers h (n ∷ [])) e f ∙ ap (λ mk. with_markers k (mk ++ new_markers h (n ∷ [])) (rows_of ms ls ss)) (markers_at ms ls ss k e f))
-    ∙ ap (λ j. kept_rows (with_markers k ((row_at (rows_of ms ls ss) k).markers ++ new_markers h (n ∷ [])) (rows_of ms ls ss)) j (row_room lines levels states m') blocks) next
-    ∙ ap (λ j. kept_rows (with_markers k ((row_at (rows_of ms ls ss) k).markers ++ new_markers h (n ∷ [])) (rows_of ms ls ss)) (h + 1) (row_room lines levels states j) blocks) less
-    ∙ ap (λ (v : KeptRows). kept_rows (with_markers k ((row_at v.rows k).markers ++ new_markers v.next_handle (n ∷ [])) v.rows) (v.next_handle + 1) (row_room v.room.lines v.room.levels v.room.states (v.room.markers - 1)) v.blocks) view
-
-pub rows_deleted : (ms ms' : List (List Marker)) (ls : List ℕ) (ss : List ℤ) (h : ℕ) (room : RowRoom) (blocks : RowBlocks) (r : KeptRows) (k : ℕ) (number : Option ℕ) → length ms ≡ length ls → length ms ≡ length ss → ms' ≡ set ms k (without_marker number (markers_of k ms)) →
-    kept_rows (rows_of ms ls ss) h room blocks ≡ r → rows_of ms' ls ss ≡ with_markers k (without_marker number (row_at r.rows k).markers) r.rows
-rows_deleted ms ms' ls ss h room blocks r k number e f was view =
-    ap (λ l. rows_of l ls ss) was ∙ markers_set ms ls ss k (without_marker number (markers_of k ms)) e f ∙ ap (λ mk. with_markers k (without_marker number mk) (rows_of ms ls ss)) (markers_at ms ls ss k e f)
-    ∙ ap (λ (v : KeptRows). with_markers k (without_marker number (row_at v.rows k).markers) v.rows) view
-
-pub rows_dropped : (drops : Marker → Bool) (ms ms' : List (List Marker)) (ls : List ℕ) (ss : List ℤ) (h : ℕ) (room : RowRoom) (blocks : RowBlocks) (r : KeptRows) → ms' ≡ without drops ms → kept_rows (rows_of ms ls ss) h room blocks ≡ r → rows_of ms' ls ss ≡ without_markers drops r.rows
-rows_dropped drops ms ms' ls ss h room blocks r was view = ap (λ l. rows_of l ls ss) was ∙ rows_without drops ms ls ss ∙ ap (λ (v : KeptRows). without_markers drops v.rows) view
-
--- a search among the lines, by their markers
-pub found_from : (P : List Marker → Bool) (ms : List (List Marker)) (ls : List ℕ) (ss : List ℤ) (h : ℕ) (room : RowRoom) (blocks : RowBlocks) (r : KeptRows) (from : ℕ) → length ms ≡ length ls → length ms ≡ length ss → kept_rows (rows_of ms ls ss) h room blocks ≡ r →
-    find (λ k. P (markers_of k ms)) (range_with_len from (length ms - from)) ≡ find (λ k. P (row_at r.rows k).markers) (range_with_len from (length r.rows - from))
-found_from P ms ls ss h room blocks r from e f view =
-    ap (λ n. find (λ k. P (markers_of k ms)) (range_with_len from (n - from))) (parts_length ms ls ss h room blocks r e f view)
-    ∙ find_same (λ k. P (markers_of k ms)) (λ k. P (row_at r.rows k).markers) (λ k. ap P (parts_markers ms ls ss h room blocks r k e f view)) (range_with_len from (length r.rows - from))
-
-pub found_up_to : (P : List Marker → Bool) (ms : List (List Marker)) (ls : List ℕ) (ss : List ℤ) (h : ℕ) (room : RowRoom) (blocks : RowBlocks) (r : KeptRows) (from : ℕ) → length ms ≡ length ls → length ms ≡ length ss → kept_rows (rows_of ms ls ss) h room blocks ≡ r →
-    find (λ k. P (markers_of k ms)) (reverse (range_with_len 0 (min (from + 1) (length ms)))) ≡ find (λ k. P (row_at r.rows k).markers) (reverse (range_with_len 0 (min (from + 1) (length r.rows))))
-found_up_to P ms ls ss h room blocks r from e f view =
-    ap (λ n. find (λ k. P (markers_of k ms)) (reverse (range_with_len 0 (min (from + 1) n)))) (parts_length ms ls ss h room blocks r e f view)
-    ∙ find_same (λ k. P (markers_of k ms)) (λ k. P (row_at r.rows k).markers) (λ k. ap P (parts_markers ms ls ss h room blocks r k e f view)) (reverse (range_with_len 0 (min (from + 1) (length r.rows))))
-
 -- how many markers there are
 pub rows_count : (ms : List (List Marker)) (ls : List ℕ) (ss : List ℤ) → length ms ≡ length ls → length ms ≡ length ss → marker_total ms ≡ marker_count (rows_of ms ls ss)
 rows_count [] ls ss e f = refl
@@ -133,5 +76,138 @@ rows_count (m ∷ ms) (l ∷ ls) [] e f = absurd (omega arith)
 rows_count (m ∷ ms) (l ∷ ls) (s ∷ ss) e f =
     sum_by-cons length m ms ∙ ap (λ n. length m + n) (rows_count ms ls ss (omega arith) (omega arith)) ∙ sym (sum_by-cons (λ (r : Row). length r.markers) (row m l s) (rows_of ms ls ss))
 
-pub went : (b : Bool) (a c a' c' : ℕ) → a ≡ a' → c ≡ c' → (IsTrue b ↔ (a ≢ c)) → (IsTrue b ↔ (a' ≢ c'))
-went b a c a' c' e f h = (λ t k. h.0 t (e ∙ k ∙ sym f), λ apart. h.1 (λ k. apart (sym e ∙ k ∙ f)))
+-- one more marker behind those of a line
+pub one_more : (lines : List (List Marker)) (k : ℕ) (m : Marker) → k < length lines → marker_total (set lines k (markers_of k lines ++ m ∷ [])) ≡ marker_total lines + 1
+one_more lines k m inside =
+    omega (arith, sum_by-set length lines k (markers_of k lines ++ m ∷ []) [] inside, length-append (markers_of k lines) (m ∷ []))
+
+-- memory stays or grows
+pub held_at_least : (capacity wanted : ℕ) → capacity ≤ most_held capacity wanted
+held_at_least capacity wanted = grind arith
+
+-- memory that stays where it needs to hold no more
+grew : (some held wanted new : ℕ) → ((0 < some → wanted ≤ held) → new ≡ held) → new ≤ max wanted (0 + 2 * held) → new ≤ most_held held (wanted_if some wanted)
+grew some held wanted new same most =
+    elim (cases_lt 0 some) [
+      | inr none ↦ omega (arith, same (λ h. absurd (omega arith)), held_at_least held (wanted_if some wanted))
+      | inl more ↦ elim (cases_lt held wanted) [
+        | inr fits ↦ omega (arith, same (λ h. omega arith), held_at_least held (wanted_if some wanted))
+        | inl less ↦ grind arith
+      ]
+    ]
+
+-- Of the parts of a `LineRows`.
+module _ (markers : MarkedLines) (levels : Valued ℕ) (states : Valued ℤ) (parts : AreParts markers levels states) where
+  -- there are other markers, no more than before
+  pub fewer_parts : (lines : List (List Marker)) → length lines ≡ length markers.lines → marker_total lines ≤ marker_total markers.lines → AreParts (record markers { lines = lines }) levels states
+  fewer_parts lines long fewer = record {
+    levelled = long ∙ parts.levelled;
+    stated = long ∙ parts.stated;
+    base = parts.base;
+    zero_state = parts.zero_state;
+    markers_fit = omega (arith, fewer, parts.markers_fit);
+    lines_fit = λ some. omega (arith, parts.lines_fit some, long);
+  }
+
+  -- a line has one more marker
+  pub added_parts : (k n : ℕ) → k < length markers.lines → marker_total markers.lines + 1 ≤ markers.capacity → AreParts (record markers { lines = with_marker_on k n markers; next_handle = markers.next_handle + 1 }) levels states
+  added_parts k n inside room =
+      let new = new_markers markers.next_handle (n ∷ []) in
+      let long = length-set {A = List Marker} markers.lines k (markers_of k markers.lines ++ new) in
+      record {
+        levelled = long ∙ parts.levelled;
+        stated = long ∙ parts.stated;
+        base = parts.base;
+        zero_state = parts.zero_state;
+        markers_fit = omega (arith, room, one_more markers.lines k (record { handle = markers.next_handle; number = n }) inside);
+        lines_fit = λ some. omega (arith, parts.lines_fit some, long);
+      }
+
+  module _ (r : KeptRows) (view : kept_in markers levels states ≡ r) where
+    pub parts_length : length markers.lines ≡ length r.rows
+    parts_length = sym (rows_length markers.lines levels.values states.values parts.levelled parts.stated) ∙ ap (λ (v : KeptRows). length v.rows) view
+
+    -- memory for the markers of more lines, which grew only if it had to
+    pub line_memory : (new : MarkedLines) (count : ℕ) → (HasRoom 0 count markers → new ≡ markers) → new.line_capacity ≤ most_room 0 markers.line_capacity (length markers.lines + count) →
+        new.line_capacity ≤ most_held r.capacity.marker_lines (wanted_if r.capacity.markers (length r.rows + count))
+    line_memory new count there most =
+        rw (← ap (λ (v : KeptRows). v.capacity.marker_lines) view, ← ap (λ (v : KeptRows). v.capacity.markers) view, ← parts_length) (
+        grew markers.capacity markers.line_capacity (length markers.lines + count) new.line_capacity
+        (λ h. ap (λ (m : MarkedLines). m.line_capacity) (there (omega (arith, parts.markers_fit), h))) most
+        )
+
+    pub parts_count : marker_total markers.lines ≡ marker_count r.rows
+    parts_count = rows_count markers.lines levels.values states.values parts.levelled parts.stated ∙ ap (λ (v : KeptRows). marker_count v.rows) view
+
+    -- whether a marker went
+    pub some_went : (went : Bool) (lines : List (List Marker)) → length lines ≡ length markers.lines → (IsTrue went ↔ (marker_total lines ≢ marker_total markers.lines)) → (IsTrue went ↔ (marker_count (rows_of lines levels.values states.values) ≢ marker_count r.rows))
+    some_went went lines long h =
+        let after = rows_count lines levels.values states.values (long ∙ parts.levelled) (long ∙ parts.stated) in
+        (λ t k. h.0 t (after ∙ k ∙ sym parts_count), λ apart. h.1 (λ k. apart (sym after ∙ k ∙ parts_count)))
+
+    pub parts_levels : levels.values ≡ levels_of r.rows
+    parts_levels = rows_levels markers.lines levels.values states.values parts.levelled parts.stated ∙ ap (λ (v : KeptRows). levels_of v.rows) view
+
+    pub parts_level : (k x : ℕ) → k < length levels.values → x ≡ get_or levels.values k x → x ≡ (row_at r.rows k).level
+    parts_level k x inside read =
+        get_or_read levels.values k x inside read base_level ∙ ap (λ (w : Row). w.level) (sym (rows_at markers.lines levels.values states.values k parts.levelled parts.stated))
+        ∙ ap (λ (v : KeptRows). (row_at v.rows k).level) view
+
+    pub parts_state : (k : ℕ) (x : ℤ) → k < length states.values → x ≡ get_or states.values k x → x ≡ (row_at r.rows k).state
+    parts_state k x inside read =
+        get_or_read states.values k x inside read (pos 0) ∙ ap (λ (w : Row). w.state) (sym (rows_at markers.lines levels.values states.values k parts.levelled parts.stated))
+        ∙ ap (λ (v : KeptRows). (row_at v.rows k).state) view
+
+    pub parts_markers : (k : ℕ) → markers_of k markers.lines ≡ (row_at r.rows k).markers
+    parts_markers k = markers_at markers.lines levels.values states.values k parts.levelled parts.stated ∙ ap (λ (v : KeptRows). (row_at v.rows k).markers) view
+
+    pub level_changed : (k l : ℕ) → kept_in markers (with_value levels k l) states ≡ with_level r k l
+    level_changed k l =
+        ap (λ rows. record (kept_in markers levels states) { rows = rows; stored_levels = max levels.stored (k + 1) }) (level_set markers.lines levels.values states.values k l parts.levelled parts.stated)
+        ∙ ap (λ v. with_level v k l) view
+
+    pub state_changed : (k : ℕ) (s : ℤ) → kept_in markers levels (with_value states k s) ≡ with_state r k s
+    state_changed k s =
+        ap (λ rows. record (kept_in markers levels states) { rows = rows; stored_states = max states.stored (k + 1) }) (state_set markers.lines levels.values states.values k s parts.levelled parts.stated)
+        ∙ ap (λ v. with_state v k s) view
+
+    pub marker_added : (k n : ℕ) → kept_in (record markers { lines = with_marker_on k n markers; next_handle = markers.next_handle + 1 }) levels states ≡ with_marker r k n
+    marker_added k n =
+        let new = new_markers markers.next_handle (n ∷ []) in
+        ap (λ rows. record (kept_in markers levels states) { rows = rows; next_handle = markers.next_handle + 1 })
+        (markers_set markers.lines levels.values states.values k (markers_of k markers.lines ++ new) parts.levelled parts.stated
+        ∙ ap (λ mk. with_markers k (mk ++ new) (rows_of markers.lines levels.values states.values)) (markers_at markers.lines levels.values states.values k parts.levelled parts.stated))
+        ∙ ap (λ v. with_marker v k n) view
+
+    -- there is room for more markers behind it, if there was for it and these
+    pub room_left : (k n more : ℕ) → k < length markers.lines → HasRoomForMarkers (1 + more) r → HasRoomForMarkers more (with_marker r k n)
+    room_left k n more inside h =
+        let new = with_marker_on k n markers in
+        let long = length-set {A = List Marker} markers.lines k (markers_of k markers.lines ++ new_markers markers.next_handle (n ∷ [])) in
+        let count = rows_count new levels.values states.values (long ∙ parts.levelled) (long ∙ parts.stated) ∙ ap (λ (v : KeptRows). marker_count v.rows) (marker_added k n) in
+        omega (arith, h, parts_count, count, one_more markers.lines k (record { handle = markers.next_handle; number = n }) inside)
+
+    pub marker_deleted : (k : ℕ) (number : Option ℕ) → kept_in (record markers { lines = store_without k number markers.lines }) levels states ≡ record r { rows = without_marker_on k number r.rows }
+    marker_deleted k number =
+        ap (λ rows. record (kept_in markers levels states) { rows = rows })
+        (markers_set markers.lines levels.values states.values k (without_marker number (markers_of k markers.lines)) parts.levelled parts.stated
+        ∙ ap (λ mk. with_markers k (without_marker number mk) (rows_of markers.lines levels.values states.values)) (markers_at markers.lines levels.values states.values k parts.levelled parts.stated))
+        ∙ ap (λ (v : KeptRows). record v { rows = without_marker_on k number v.rows }) view
+
+    pub markers_dropped : (drops : Marker → Bool) → kept_in (record markers { lines = without drops markers.lines }) levels states ≡ record r { rows = without_markers drops r.rows }
+    markers_dropped drops =
+        ap (λ rows. record (kept_in markers levels states) { rows = rows }) (rows_without drops markers.lines levels.values states.values)
+        ∙ ap (λ (v : KeptRows). record v { rows = without_markers drops v.rows }) view
+
+    -- a search among the lines, by their markers
+    pub found_from : (P : List Marker → Bool) (from : ℕ) →
+        find (λ k. P (markers_of k markers.lines)) (range_with_len from (length markers.lines - from)) ≡ find (λ k. P (row_at r.rows k).markers) (range_with_len from (length r.rows - from))
+    found_from P from =
+        ap (λ n. find (λ k. P (markers_of k markers.lines)) (range_with_len from (n - from))) parts_length
+        ∙ find_same (λ k. P (markers_of k markers.lines)) (λ k. P (row_at r.rows k).markers) (λ k. ap P (parts_markers k)) (range_with_len from (length r.rows - from))
+
+    pub found_up_to : (P : List Marker → Bool) (from : ℕ) →
+        find (λ k. P (markers_of k markers.lines)) (reverse (range_with_len 0 (min (from + 1) (length markers.lines)))) ≡ find (λ k. P (row_at r.rows k).markers) (reverse (range_with_len 0 (min (from + 1) (length r.rows))))
+    found_up_to P from =
+        ap (λ n. find (λ k. P (markers_of k markers.lines)) (reverse (range_with_len 0 (min (from + 1) n)))) parts_length
+        ∙ find_same (λ k. P (markers_of k markers.lines)) (λ k. P (row_at r.rows k).markers) (λ k. ap P (parts_markers k)) (reverse (range_with_len 0 (min (from + 1) (length r.rows))))

@@ -1,40 +1,35 @@
 -- What a contract sees of `LineValues`.
-use Rattle.std.specs.Prelude.{◌≡◌, ℕ, ◌+◌, ◌-◌, ◌<◌, ◌≤◌, ◌==◌, nat_le, if◌then◌else◌, min, max, List, [], ◌∷◌, ◌++◌, length, replicate, fold, slice_set, refl}
+use Rattle.std.specs.Prelude.{◌≡◌, ℕ, ◌+◌, ◌-◌, ◌*◌, ◌<◌, ◌≤◌, ◌==◌, nat_le, if◌then◌else◌, min, max, List, [], ◌∷◌, ◌++◌, length, replicate, fold, slice_set, refl}
 use Rattle.std.specs.Coded.{Coded, code_by, coded×, coded_list, coded_ℕ}
-use Rattle.split_vector.specs.Split.{Split, most_room}
-use Rattle.line_index.specs.Edits.{with_fresh, with_joined}
+use Rattle.split_vector.specs.Split.{Split}
+use Rattle.line_index.specs.Edits.{with_fresh, with_joined, after_edits}
 use Rattle.line_index.specs.declared.edit.LineEdit.{LineEdit}
 use Rattle.line_index.specs.declared.edit.LineEdit.TheVariants.{Come, Join, Restart}
 
--- The value of a line for which none was set, and the value of each line. For how many fresh lines there is room, and
--- for how many lines, from the first on, a value can be set. For how many lines, from the first on, the values are
--- stored, and for how many there is memory.
+-- The value of a line for which none was set, and the value of each line. For how many lines, from the first on, the values
+-- are stored, and for how many there is memory.
 pub record Valued (V : Type 0) : Type 0 where
   pub default : V
   pub values : List V
-  pub room : ℕ
-  pub reach : ℕ
   pub stored : ℕ
-  pub block : ℕ
+  pub capacity : ℕ
 
--- For how many values there must be memory, with so many stored, once there is room for so many fresh lines and for the
--- values of the first `reach` lines: for none as long as no value can be set.
-abbrev pub wanted_block : (stored room reach : ℕ) → ℕ
-wanted_block stored room reach = if reach == 0 then 0 else max stored reach + room
+-- so many values need memory, or none as long as none is stored
+abbrev pub wanted_if : (stored all : ℕ) → ℕ
+wanted_if stored all = if stored == 0 then 0 else all
 
--- For how many values there is memory then at most, if there was memory for a block of them: for those for which there
--- must be, or for twice the block.
-abbrev pub most_block : (stored block room reach : ℕ) → ℕ
-most_block stored block room reach = most_room 0 block (wanted_block stored room reach)
+-- for how many there is memory at most after room was made for these: for as many as before if they fit in, otherwise for
+-- these or for twice as many as before
+abbrev pub most_held : (capacity wanted : ℕ) → ℕ
+most_held capacity wanted = if nat_le wanted capacity then capacity else max wanted (2 * capacity)
 
 module _ {V : Type 0} where
-  abbrev pub valued : V → List V → ℕ → ℕ → ℕ → ℕ → Valued V
-  valued value values room reach stored block = record { default = value; values = values; room = room; reach = reach; stored = stored; block = block }
+  abbrev pub valued : V → List V → ℕ → ℕ → Valued V
+  valued value values stored capacity = record { default = value; values = values; stored = stored; capacity = capacity }
 
   abbrev pub valued_code : Coded V → Coded (Valued V)
   valued_code c =
-      code_by (V × (List V × (ℕ × (ℕ × (ℕ × ℕ))))) (coded× c (coded× (coded_list c) (coded× coded_ℕ (coded× coded_ℕ (coded× coded_ℕ coded_ℕ)))))
-      (λ r. (r.default, (r.values, (r.room, (r.reach, (r.stored, r.block)))))) (λ p. valued p.0 p.1.0 p.1.1.0 p.1.1.1.0 p.1.1.1.1.0 p.1.1.1.1.1) (λ _. refl)
+      code_by (V × (List V × (ℕ × ℕ))) (coded× c (coded× (coded_list c) (coded× coded_ℕ coded_ℕ))) (λ r. (r.default, (r.values, (r.stored, r.capacity)))) (λ p. valued p.0 p.1.0 p.1.1.0 p.1.1.1) (λ _. refl)
 
   -- the value of joined lines: that of the first
   abbrev pub first_or : V → List V → V
@@ -54,28 +49,12 @@ module _ {V : Type 0} where
   AreInHalves v first second = v.values ≡ padded_halves v.default (length v.values) first second
 
   -- for how many values the vector has memory
-  abbrev pub block_of : Split V → ℕ
-  block_of stored = length stored.items + stored.spare
+  abbrev pub capacity_of : Split V → ℕ
+  capacity_of stored = length stored.items + stored.spare
 
-  -- the vector has memory for the values of the first `reach` lines, with `room` fresh ones
-  abbrev pub HasBlock : Split V → ℕ → ℕ → Type 0
-  HasBlock stored room reach = wanted_block (length stored.items) room reach ≤ block_of stored
-
-  -- what a contract sees of the stored values, the default, the number of lines, the room and the reach
-  abbrev pub values_in : Split V → V → (lines room reach : ℕ) → Valued V
-  values_in stored value lines room reach =
-      valued value (padded value lines stored.items) room reach (length stored.items) (block_of stored)
-
-  -- No more values are stored than there are lines, and none as long as none can be set. Once one can be set, there is
-  -- memory for the fresh lines behind the stored values, and behind the first `reach` values.
-  abbrev pub AreStored : Split V → (lines room reach : ℕ) → Type 0
-  AreStored stored lines room reach =
-      record {
-        fewer : length stored.items ≤ lines;
-        unused : reach ≡ 0 → length stored.items ≡ 0;
-        for_lines : 0 < reach → room ≤ stored.spare;
-        for_values : 0 < reach → reach + room ≤ block_of stored;
-      }
+  -- what a contract sees of the stored values, the default and the number of lines
+  abbrev pub values_in : Split V → V → ℕ → Valued V
+  values_in stored value lines = valued value (padded value lines stored.items) (length stored.items) (capacity_of stored)
 
   -- the values of all lines, however many there are, get `count` defaults before the line
   abbrev pub GainsLines : Split V → Split V → V → (line count : ℕ) → Type 0
@@ -95,22 +74,13 @@ module _ {V : Type 0} where
   FitsLinesLeft old new line count =
       (lines : ℕ) → length old.items ≤ lines → line + count < lines → length new.items ≤ lines - count
 
-  -- there is room for `lines` fresh lines, or the old room if that is more, and the same for the values of the first
-  -- `reach` lines; nothing else changes
-  abbrev pub HasRoom : Valued V → Valued V → (lines reach : ℕ) → Type 0
-  HasRoom old new lines reach = new ≡ record old { room = max old.room lines; reach = max old.reach reach }
+  -- The values of `count` more lines fit in. As long as no value is stored, none of theirs is.
+  abbrev pub HasRoomForLines : ℕ → Valued V → Type 0
+  HasRoomForLines count v = 0 < v.stored → v.stored + count ≤ v.capacity
 
-  -- the values gain that room; besides, only the memory changes
-  abbrev pub GainsRoom : Valued V → Valued V → (lines reach : ℕ) → Type 0
-  GainsRoom old new lines reach = new ≡ record old { room = max old.room lines; reach = max old.reach reach; block = new.block }
-
-  -- there is memory for the values with that room
-  abbrev pub HasMemory : Valued V → (lines reach : ℕ) → Type 0
-  HasMemory v lines reach = wanted_block v.stored (max v.room lines) (max v.reach reach) ≤ v.block
-
-  -- for how many values there is memory at most after that room was made
-  abbrev pub most_memory : Valued V → (lines reach : ℕ) → ℕ
-  most_memory v lines reach = most_block v.stored v.block (max v.room lines) (max v.reach reach)
+  -- the value of the line fits in, with those of the lines before it
+  abbrev pub HasRoomForValue : ℕ → Valued V → Type 0
+  HasRoomForValue line v = line < v.capacity
 
   -- the values after that of a line was set: those of the lines up to it are stored
   abbrev pub with_value : Valued V → ℕ → V → Valued V
@@ -125,3 +95,7 @@ stored_after_edit stored Restart = 0
 
 abbrev pub stored_after : List LineEdit → ℕ → ℕ
 stored_after edits stored = fold stored_after_edit stored edits
+
+-- the values after edits of lines: fresh lines have the default
+abbrev pub values_after : {V : Type 0} → List LineEdit → Valued V → Valued V
+values_after edits v = record v { values = after_edits (first_or v.default) edits v.values; stored = stored_after edits v.stored }

@@ -1,8 +1,8 @@
 //! `FoldLevels`: the fold level of each line, and a bound for the numbers of all headers.
-ghost use Rattle.std.specs.Prelude.{◌≡◌, ◌≤◌, ◌<◌, ◌+◌, ◌^◌, ◌∷◌, [], length, slice_index_or, OnOk, OnErr, IsOk};
+ghost use Rattle.std.specs.Prelude.{◌≡◌, ℕ, ◌≤◌, ◌<◌, ◌+◌, ◌^◌, ◌∷◌, [], length, slice_index_or, OnOk, OnErr, IsOk};
 ghost use Rattle.ed_model.specs.Rows.{base_level};
-ghost use Rattle.line_index.specs.Edits.{after_edits, FitLines, fresh_lines};
-ghost use Rattle.line_rows.specs.Values.{valued, first_or, HasRoom, GainsRoom, HasMemory, most_memory, with_value, stored_after};
+ghost use Rattle.line_index.specs.Edits.{FitLines, fresh_lines};
+ghost use Rattle.line_rows.specs.Values.{valued, HasRoomForLines, HasRoomForValue, most_held, wanted_if, with_value, values_after};
 
 use crate::values::LineValues;
 use contraction::Levels;
@@ -33,9 +33,9 @@ impl Model for FoldLevels {
 }
 
 impl FoldLevels {
-    /// Returns the level of one fresh line, and no room. Allocates nothing.
+    /// Returns the level of one fresh line. Allocates nothing.
     pub(crate) fn new(alloc: Global) -> Self
-        ensures { result ≡ valued base_level (base_level ∷ []) 0 0 0 0 }
+        ensures { result ≡ valued base_level (base_level ∷ []) 0 0 }
     {
         FoldLevels {
             values: LineValues::new(alloc, fold_level::BASE),
@@ -59,11 +59,11 @@ impl FoldLevels {
         Levels::from_least(first, second, self.values.count(), self.least)
     }
 
-    /// Returns for how many fresh lines there is room.
-    pub(crate) fn room(&self) -> usize
-        ensures { result ≡ self.now.room }
+    /// What is stored fits in.
+    pub(crate) fn fits_in(&self)
+        ensures { self.now.stored ≤ self.now.capacity }
     {
-        self.values.room()
+        self.values.fits_in();
     }
 
     /// Returns the level of a line.
@@ -74,26 +74,43 @@ impl FoldLevels {
         self.values.get(line)
     }
 
-    /// Makes room, like `LineValues::reserve`.
+    /// Makes room for more lines, like `LineValues::reserve_lines`.
     ///
     /// # Errors
     ///
     /// `AllocError` if the allocation fails. Nothing has changed then.
     #[inline(always)]
-    pub(crate) fn reserve(&mut self, lines: usize, reach: usize) -> Result<(), AllocError>
-        ensures ok { OnOk result (GainsRoom self.old self.new lines reach) }
-        ensures room_is_there { lines ≤ self.old.room → reach ≤ self.old.reach → IsOk result × (self.new ≡ self.old) }
-        ensures memory_is_there { HasMemory self.old lines reach → IsOk result × HasRoom self.old self.new lines reach }
-        ensures at_most { self.new.block ≤ most_memory self.old lines reach }
+    pub(crate) fn reserve_lines(&mut self, count: usize) -> Result<(), AllocError>
+        ensures rest { self.new ≡ record self.old { capacity = self.new.capacity } }
+        ensures ok { OnOk result (HasRoomForLines count self.new) }
+        ensures room_is_there { HasRoomForLines count self.old → IsOk result × (self.new ≡ self.old) }
+        ensures capacity { self.old.capacity ≤ self.new.capacity }
+        ensures at_most { self.new.capacity ≤ most_held self.old.capacity (wanted_if self.old.stored (self.old.stored + count)) }
         ensures err { OnErr result (self.new ≡ self.old) }
     {
-        self.values.reserve(lines, reach)
+        self.values.reserve_lines(count)
+    }
+
+    /// Makes room for the level of a line, like `LineValues::reserve_value`.
+    ///
+    /// # Errors
+    ///
+    /// `AllocError` if the allocation fails. Nothing has changed then.
+    pub(crate) fn reserve_value(&mut self, line: usize) -> Result<(), AllocError>
+        ensures rest { self.new ≡ record self.old { capacity = self.new.capacity } }
+        ensures ok { OnOk result (HasRoomForValue line self.new) }
+        ensures room_is_there { HasRoomForValue line self.old → IsOk result × (self.new ≡ self.old) }
+        ensures capacity { self.old.capacity ≤ self.new.capacity }
+        ensures at_most { self.new.capacity ≤ most_held self.old.capacity (line + 1) }
+        ensures err { OnErr result (self.new ≡ self.old) }
+    {
+        self.values.reserve_value(line)
     }
 
     /// Sets the level of a line. There must be room for it.
     pub(crate) fn set(&mut self, line: usize, level: u32)
         requires line { line < length self.old.values }
-        requires room { line < self.old.reach }
+        requires room { HasRoomForValue line self.old }
         ensures { self.new ≡ with_value self.old line level }
     {
         if level & fold_level::HEADER != 0 {
@@ -106,13 +123,8 @@ impl FoldLevels {
     pub(crate) fn carry(&mut self, edits: &[LineEdit])
         requires lines { FitLines (length self.old.values) edits.now }
         requires fits { length self.old.values + fresh_lines edits.now < 2 ^ 63 }
-        requires room { fresh_lines edits.now ≤ self.old.room }
-        ensures values { self.new.values ≡ after_edits (first_or self.old.default) edits.now self.old.values }
-        ensures default { self.new.default ≡ self.old.default }
-        ensures room { self.new.room + fresh_lines edits.now ≡ self.old.room }
-        ensures reach { self.new.reach ≡ self.old.reach }
-        ensures stored { self.new.stored ≡ stored_after edits.now self.old.stored }
-        ensures block { self.new.block ≡ self.old.block }
+        requires room { HasRoomForLines (fresh_lines edits.now) self.old }
+        ensures { self.new ≡ values_after edits.now self.old }
     {
         self.values.carry(edits);
     }

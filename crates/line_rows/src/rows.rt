@@ -1,11 +1,11 @@
 //! `LineRows` and its calls.
-ghost use Rattle.std.specs.Prelude.{◌≡◌, ◌≢◌, ◌↔◌, IsTrue, ◌≤◌, ◌<◌, ◌+◌, ◌-◌, ◌^◌, ◌==◌, ◌∷◌, [], length, max, OnOk, OnErr, IsOk};
+ghost use Rattle.std.specs.Prelude.{◌≡◌, ◌≢◌, ◌↔◌, IsTrue, ℕ, ◌≤◌, ◌<◌, ◌+◌, ◌-◌, ◌^◌, ◌==◌, ◌∷◌, [], length, OnOk, OnErr, IsOk};
 ghost use Rattle.ed_model.specs.Changes.{without_markers, is_of_number, marker_count};
 ghost use Rattle.ed_model.specs.LinePlans.{mask_of};
-ghost use Rattle.ed_model.specs.Rows.{base_level, fresh_row, rows_together};
+ghost use Rattle.ed_model.specs.Rows.{base_level, fresh_row};
 ghost use Rattle.line_index.specs.Edits.{after_edit, after_edits, FitsLines, FitLines, fresh_by, fresh_lines};
-ghost use Rattle.line_rows.specs.Kept.{kept_rows, row_room, row_blocks, LinesFit, LevelsFit, StatesFit, with_line_room, with_level_room, with_state_room, GainsLineRoom, GainsLevelRoom, GainsStateRoom, GainsMarkerRoom, most_level_block, most_state_block, most_marker_block, most_marker_lines, StateLinesGrow, ChangesOnlyLineMemory, ChangesOnlyMarkerLines, blocks_after, markers_in_all, row_at, with_level, with_state, with_marker, without_marker_on, levels_of, is_marked, has_handle, first_from, last_up_to};
-ghost use Rattle.marker_store.specs.Lines.{HasLineRoom, marker_total};
+ghost use Rattle.line_rows.specs.Kept.{kept_rows, row_capacity, HasRoomForLines, HasRoomForLevel, HasRoomForState, HasRoomForMarkers, IsAtMost, most_for_lines, most_for_level, most_for_state, most_for_markers, rows_after, row_at, with_level, with_state, with_marker, without_marker_on, levels_of, is_marked, has_handle, first_from, last_up_to};
+ghost use Rattle.marker_store.specs.Lines.{HasLineRoom};
 ghost use Rattle.line_rows.specs.Rows.{markers_together};
 
 use crate::fold_levels::FoldLevels;
@@ -20,8 +20,6 @@ use std::marker::Model;
 #[derive(Drop)]
 pub struct LineRows {
     markers: MarkerStore,
-    // How many more markers were reserved.
-    marker_room: usize,
     levels: FoldLevels,
     states: LineValues<i32>,
 }
@@ -31,9 +29,9 @@ impl Model for LineRows {
 
     ghost Value = { KeptRows };
 
-    ghost view = { λ r. kept_in r.markers r.marker_room r.levels r.states };
+    ghost view = { λ r. kept_in r.markers r.levels r.states };
 
-    ghost invariant = { λ r. AreParts r.markers r.marker_room r.levels r.states };
+    ghost invariant = { λ r. AreParts r.markers r.levels r.states };
 }
 
 // Carries the markers of lines through one edit.
@@ -41,9 +39,7 @@ fn carry_one(markers: &mut MarkerStore, edit: LineEdit)
     requires lines { FitsLines (length markers.old.lines) edit }
     requires fits { length markers.old.lines + fresh_by edit ≤ 2 ^ 62 }
     requires room { HasLineRoom (fresh_by edit) markers.old }
-    ensures lines { markers.new.lines ≡ after_edit markers_together markers.old.lines edit }
-    ensures rest { markers.new ≡ record markers.old { lines = markers.new.lines } }
-    ensures fewer { marker_total markers.new.lines ≤ marker_total markers.old.lines }
+    ensures { markers.new ≡ record markers.old { lines = after_edit markers_together markers.old.lines edit } }
 {
     match edit {
         LineEdit::Come { line, count } => markers.shift(line, count),
@@ -57,9 +53,7 @@ fn carry_markers(markers: &mut MarkerStore, edits: &[LineEdit])
     requires lines { FitLines (length markers.old.lines) edits.now }
     requires fits { length markers.old.lines + fresh_lines edits.now ≤ 2 ^ 62 }
     requires room { HasLineRoom (fresh_lines edits.now) markers.old }
-    ensures lines { markers.new.lines ≡ after_edits markers_together edits.now markers.old.lines }
-    ensures rest { markers.new ≡ record markers.old { lines = markers.new.lines } }
-    ensures fewer { marker_total markers.new.lines ≤ marker_total markers.old.lines }
+    ensures { markers.new ≡ record markers.old { lines = after_edits markers_together edits.now markers.old.lines } }
 {
     for edit in edits {
         carry_one(markers, *edit);
@@ -67,19 +61,19 @@ fn carry_markers(markers: &mut MarkerStore, edits: &[LineEdit])
 }
 
 impl LineRows {
-    /// Returns the row of one fresh line, and no room. The next handle is 1. Allocates nothing.
+    /// Returns the row of one fresh line. The next handle is 1. Allocates nothing.
     pub fn new(alloc: Global) -> Self
-        ensures { result ≡ kept_rows (fresh_row ∷ []) 1 (row_room 0 0 0 0) (row_blocks 0 0 0 0 0 0 0) }
+        ensures { result ≡ kept_rows (fresh_row ∷ []) 1 0 0 (row_capacity 0 0 0 0) }
     {
         LineRows {
             markers: MarkerStore::new(alloc),
-            marker_room: 0,
             levels: FoldLevels::new(alloc),
             states: LineValues::new(alloc, 0),
         }
     }
 
     /// Returns the number of lines, which is at least 1.
+    #[tactic(auto, using(crate::proofs::RowReads::parts_length))]
     pub fn count(&self) -> usize
         ensures count { result ≡ length self.now.rows }
         ensures within { (0 < length self.now.rows) × (length self.now.rows ≤ 2 ^ 62) }
@@ -87,129 +81,101 @@ impl LineRows {
         self.markers.lines()
     }
 
-    /// Makes room for `lines` fresh lines. Allocates nothing if the memory is there, and nothing for levels, states
-    /// or markers as long as none can be set.
+    /// What the rows hold fits in.
+    #[tactic(auto, using(crate::proofs::RowReads::parts_length, crate::proofs::RowReads::parts_count, crate::proofs::RowReads::rows_length, crate::proofs::RowReads::rows_count))]
+    pub fn fits_in(&self)
+        ensures lines { HasRoomForLines 0 self.now }
+        ensures markers { HasRoomForMarkers 0 self.now }
+    {
+        self.levels.fits_in();
+        self.states.fits_in();
+    }
+
+    /// Makes room for `count` more lines. Allocates nothing if they fit in, nothing for levels or states as long as
+    /// none is stored, and nothing for markers as long as there is no memory for one. What grows has memory for the lines
+    /// then, or twice as much as before if that is more.
     ///
     /// # Errors
     ///
-    /// `AllocError` if an allocation fails. Nothing has changed then, except that the states and the markers may have
-    /// more memory.
-    #[inline(always)]
-    pub fn reserve(&mut self, lines: usize) -> Result<(), AllocError>
-        ensures ok { OnOk result (GainsLineRoom self.old self.new lines) }
-        ensures room_is_there { lines ≤ self.old.room.lines → IsOk result × (self.new ≡ self.old) }
-        ensures memory_is_there { LinesFit self.old lines → IsOk result × (self.new ≡ with_line_room self.old lines) }
-        ensures levels_at_most { self.new.blocks.level_block ≤ most_level_block (with_line_room self.old lines) }
-        ensures states_at_most { self.new.blocks.state_block ≤ most_state_block (with_line_room self.old lines) }
-        ensures state_lines { StateLinesGrow self.old self.new lines }
-        ensures marker_lines { self.new.blocks.marker_lines ≤ most_marker_lines self.old (max self.old.room.lines lines) }
-        ensures err { OnErr result (ChangesOnlyLineMemory self.old self.new) }
+    /// `AllocError` if an allocation fails. The rows are then as they were, and there may be memory for more states and
+    /// for the markers of more lines.
+    #[inline]
+    #[tactic(auto, using(crate::proofs::RowReads::parts_length, crate::proofs::RowReads::rows_length))]
+    pub fn reserve_lines(&mut self, count: usize) -> Result<(), AllocError>
+        ensures rest { self.new ≡ record self.old { capacity = self.new.capacity } }
+        ensures ok { OnOk result (HasRoomForLines count self.new) }
+        ensures room_is_there { HasRoomForLines count self.old → IsOk result × (self.new ≡ self.old) }
+        ensures capacity { IsAtMost self.old.capacity self.new.capacity }
+        ensures at_most { IsAtMost self.new.capacity (most_for_lines count self.old) }
+        ensures err { OnErr result (self.new.capacity.levels ≡ self.old.capacity.levels) }
     {
-        // The states have at least as much room for lines as the levels.
-        if lines <= self.levels.room() {
-            return Ok(());
-        }
-        self.make_room(lines)
+        self.states.reserve_lines(count)?;
+        self.markers.reserve(0, count)?;
+        self.levels.reserve_lines(count)
     }
 
-    // The slow path of `reserve`: there is too little room for `lines` fresh lines.
-    #[inline(never)]
-    fn make_room(&mut self, lines: usize) -> Result<(), AllocError>
-        ensures memory_is_there { LinesFit self.old lines → IsOk result × (self.new ≡ with_line_room self.old lines) }
-        ensures ok { OnOk result (GainsLineRoom self.old self.new lines) }
-        ensures levels_at_most { self.new.blocks.level_block ≤ most_level_block (with_line_room self.old lines) }
-        ensures states_at_most { self.new.blocks.state_block ≤ most_state_block (with_line_room self.old lines) }
-        ensures state_lines { StateLinesGrow self.old self.new lines }
-        ensures marker_lines { self.new.blocks.marker_lines ≤ most_marker_lines self.old (max self.old.room.lines lines) }
-        ensures err { OnErr result (ChangesOnlyLineMemory self.old self.new) }
-    {
-        let Ok(()) = self.states.reserve(lines, 0) else {
-            return Err(AllocError);
-        };
-        let fresh = lines.max(self.levels.room());
-        let Ok(()) = self.markers.reserve(0, fresh) else {
-            return Err(AllocError);
-        };
-        let Ok(()) = self.levels.reserve(lines, 0) else {
-            return Err(AllocError);
-        };
-        Ok(())
-    }
-
-    /// Makes room for the levels of the first `count` lines.
+    /// Makes room for the level of a line. Allocates nothing if it fits in, with those of the lines before it. Otherwise
+    /// there is memory for these levels then, or for twice as many as before if that is more.
     ///
     /// # Errors
     ///
     /// `AllocError` if the allocation fails. Nothing has changed then.
-    pub fn reserve_levels(&mut self, count: usize) -> Result<(), AllocError>
-        ensures ok { OnOk result (GainsLevelRoom self.old self.new count) }
-        ensures room_is_there { count ≤ self.old.room.levels → IsOk result × (self.new ≡ self.old) }
-        ensures memory_is_there { LevelsFit self.old count → IsOk result × (self.new ≡ with_level_room self.old count) }
-        ensures at_most { self.new.blocks.level_block ≤ most_level_block (with_level_room self.old count) }
+    pub fn reserve_level(&mut self, line: usize) -> Result<(), AllocError>
+        ensures rest { self.new ≡ record self.old { capacity = self.new.capacity } }
+        ensures ok { OnOk result (HasRoomForLevel line self.new) }
+        ensures room_is_there { HasRoomForLevel line self.old → IsOk result × (self.new ≡ self.old) }
+        ensures capacity { IsAtMost self.old.capacity self.new.capacity }
+        ensures at_most { IsAtMost self.new.capacity (most_for_level line self.old) }
         ensures err { OnErr result (self.new ≡ self.old) }
     {
-        let Ok(()) = self.levels.reserve(0, count) else {
-            return Err(AllocError);
-        };
-        Ok(())
+        self.levels.reserve_value(line)
     }
 
-    /// Makes room for the states of the first `count` lines.
+    /// Makes room for the state of a line. Allocates nothing if it fits in, with those of the lines before it. Otherwise
+    /// there is memory for these states then, or for twice as many as before if that is more.
     ///
     /// # Errors
     ///
     /// `AllocError` if the allocation fails. Nothing has changed then.
-    pub fn reserve_states(&mut self, count: usize) -> Result<(), AllocError>
-        ensures ok { OnOk result (GainsStateRoom self.old self.new count) }
-        ensures room_is_there { count ≤ self.old.room.states → IsOk result × (self.new ≡ self.old) }
-        ensures memory_is_there { StatesFit self.old count → IsOk result × (self.new ≡ with_state_room self.old count) }
-        ensures at_most { self.new.blocks.state_block ≤ most_state_block (with_state_room self.old count) }
+    pub fn reserve_state(&mut self, line: usize) -> Result<(), AllocError>
+        ensures rest { self.new ≡ record self.old { capacity = self.new.capacity } }
+        ensures ok { OnOk result (HasRoomForState line self.new) }
+        ensures room_is_there { HasRoomForState line self.old → IsOk result × (self.new ≡ self.old) }
+        ensures capacity { IsAtMost self.old.capacity self.new.capacity }
+        ensures at_most { IsAtMost self.new.capacity (most_for_state line self.old) }
         ensures err { OnErr result (self.new ≡ self.old) }
     {
-        let Ok(()) = self.states.reserve(0, count) else {
-            return Err(AllocError);
-        };
-        Ok(())
+        self.states.reserve_value(line)
     }
 
-    /// Makes room for `count` markers, and for those of each line and of the fresh lines that there is room for.
+    /// Makes room for `count` more markers, on any lines. Allocates nothing if they fit in. What grows has memory for
+    /// them then, or twice as much as before if that is more.
     ///
     /// # Errors
     ///
     /// `AllocError` if an allocation fails. Nothing has changed then, except that there may be memory for the markers of
     /// more lines.
+    #[tactic(auto, using(crate::proofs::RowReads::parts_length, crate::proofs::RowReads::rows_count))]
     pub fn reserve_markers(&mut self, count: usize) -> Result<(), AllocError>
-        ensures ok { OnOk result (GainsMarkerRoom self.old self.new count) }
-        ensures room_is_there { count ≤ self.old.room.markers → IsOk result × (self.new ≡ self.old) }
-        ensures at_most { self.new.blocks.marker_block ≤ most_marker_block self.old count }
-        ensures lines_at_most { self.new.blocks.marker_lines ≤ most_marker_lines self.old self.old.room.lines }
-        ensures err { OnErr result (ChangesOnlyMarkerLines self.old self.new) }
+        ensures rest { self.new ≡ record self.old { capacity = self.new.capacity } }
+        ensures ok { OnOk result (HasRoomForMarkers count self.new) }
+        ensures room_is_there { HasRoomForMarkers count self.old → IsOk result × (self.new ≡ self.old) }
+        ensures capacity { IsAtMost self.old.capacity self.new.capacity }
+        ensures at_most { IsAtMost self.new.capacity (most_for_markers count self.old) }
+        ensures err { OnErr result (self.new.capacity.markers ≡ self.old.capacity.markers) }
     {
-        if count <= self.marker_room {
-            return Ok(());
-        }
-        let Ok(()) = self.markers.reserve(count, self.levels.room()) else {
-            return Err(AllocError);
-        };
-        self.marker_room = count;
+        self.markers.reserve(count, 0)?;
         Ok(())
     }
 
-    /// Carries the rows through edits of lines. There must be room for the fresh lines. Markers that are removed become
-    /// room again, and no edit adds any.
+    /// Carries the rows through edits of lines. There must be room for the fresh lines.
     #[inline(always)]
     pub fn carry(&mut self, edits: &[LineEdit])
         requires lines { FitLines (length self.old.rows) edits.now }
         requires fits { length self.old.rows + fresh_lines edits.now ≤ 2 ^ 62 }
-        requires room { fresh_lines edits.now ≤ self.old.room.lines }
-        ensures rows { self.new.rows ≡ after_edits rows_together edits.now self.old.rows }
-        ensures next_handle { self.new.next_handle ≡ self.old.next_handle }
-        ensures line_room { self.new.room.lines + fresh_lines edits.now ≡ self.old.room.lines }
-        ensures level_room { self.new.room.levels ≡ self.old.room.levels }
-        ensures state_room { self.new.room.states ≡ self.old.room.states }
-        ensures marker_room { self.old.room.markers ≤ self.new.room.markers }
-        ensures markers_in_all { markers_in_all self.new ≡ markers_in_all self.old }
-        ensures blocks { self.new.blocks ≡ blocks_after edits.now self.old.blocks }
+        requires room { HasRoomForLines (fresh_lines edits.now) self.old }
+        ensures rows { self.new ≡ rows_after edits.now self.old }
+        ensures room { (count : ℕ) → HasRoomForLines (fresh_lines edits.now + count) self.old → HasRoomForLines count self.new }
     {
         if !edits.is_empty() {
             self.carry_some(edits);
@@ -217,28 +183,22 @@ impl LineRows {
     }
 
     // Carries the rows through at least one edit.
+    #[tactic(auto, using(crate::proofs::RowReads::parts_length, crate::proofs::Carried::fit_markers, crate::proofs::Carried::room_for_markers, crate::proofs::Carried::carried_view))]
     #[inline(never)]
     fn carry_some(&mut self, edits: &[LineEdit])
         requires lines { FitLines (length self.old.rows) edits.now }
         requires fits { length self.old.rows + fresh_lines edits.now ≤ 2 ^ 62 }
-        requires room { fresh_lines edits.now ≤ self.old.room.lines }
-        ensures rows { self.new.rows ≡ after_edits rows_together edits.now self.old.rows }
-        ensures next_handle { self.new.next_handle ≡ self.old.next_handle }
-        ensures line_room { self.new.room.lines + fresh_lines edits.now ≡ self.old.room.lines }
-        ensures level_room { self.new.room.levels ≡ self.old.room.levels }
-        ensures state_room { self.new.room.states ≡ self.old.room.states }
-        ensures marker_room { self.old.room.markers ≤ self.new.room.markers }
-        ensures markers_in_all { markers_in_all self.new ≡ markers_in_all self.old }
-        ensures blocks { self.new.blocks ≡ blocks_after edits.now self.old.blocks }
+        requires room { HasRoomForLines (fresh_lines edits.now) self.old }
+        ensures rows { self.new ≡ rows_after edits.now self.old }
+        ensures room { (count : ℕ) → HasRoomForLines (fresh_lines edits.now + count) self.old → HasRoomForLines count self.new }
     {
-        let markers = self.markers.markers();
         carry_markers(&mut self.markers, edits);
-        self.marker_room += markers - self.markers.markers();
         self.levels.carry(edits);
         self.states.carry(edits);
     }
 
     /// Lends the levels of all lines as values.
+    #[tactic(auto, using(crate::proofs::RowReads::parts_levels))]
     pub fn levels(&self) -> &LineValues<u32>
         ensures values { result.now.values ≡ levels_of self.now.rows }
         ensures default { result.now.default ≡ base_level }
@@ -248,6 +208,7 @@ impl LineRows {
 
     /// Lends the levels of all lines for look-ups of folds. For most lines without a fold parent, such a look-up needs
     /// no search.
+    #[tactic(auto, using(crate::proofs::RowReads::parts_levels, crate::proofs::RowReads::parts_length))]
     pub fn fold_levels(&self) -> Levels<'_>
         ensures levels { result ≡ levels_of self.now.rows }
         ensures lines { length result ≡ length self.now.rows }
@@ -256,6 +217,7 @@ impl LineRows {
     }
 
     /// Returns the fold level of a line (`SCI_GETFOLDLEVEL`).
+    #[tactic(auto, using(crate::proofs::RowReads::parts_length, crate::proofs::RowReads::parts_level))]
     pub fn level(&self, line: usize) -> u32
         requires { line < length self.now.rows }
         ensures { result ≡ (row_at self.now.rows line).level }
@@ -264,6 +226,7 @@ impl LineRows {
     }
 
     /// Returns the state of a line (`SCI_GETLINESTATE`).
+    #[tactic(auto, using(crate::proofs::RowReads::parts_length, crate::proofs::RowReads::parts_state))]
     pub fn state(&self, line: usize) -> i32
         requires { line < length self.now.rows }
         ensures { result ≡ (row_at self.now.rows line).state }
@@ -272,9 +235,10 @@ impl LineRows {
     }
 
     /// Sets the fold level of a line, and returns the old one (`SCI_SETFOLDLEVEL`). There must be room for it.
+    #[tactic(auto, using(crate::proofs::RowReads::parts_length, crate::proofs::RowReads::parts_level, crate::proofs::RowReads::level_changed))]
     pub fn set_level(&mut self, line: usize, level: u32) -> u32
         requires line { line < length self.old.rows }
-        requires room { line < self.old.room.levels }
+        requires room { HasRoomForLevel line self.old }
         ensures before { result ≡ (row_at self.old.rows line).level }
         ensures rows { self.new ≡ with_level self.old line level }
     {
@@ -284,9 +248,10 @@ impl LineRows {
     }
 
     /// Sets the state of a line, and returns the old one (`SCI_SETLINESTATE`). There must be room for it.
+    #[tactic(auto, using(crate::proofs::RowReads::parts_length, crate::proofs::RowReads::parts_state, crate::proofs::RowReads::state_changed))]
     pub fn set_state(&mut self, line: usize, state: i32) -> i32
         requires line { line < length self.old.rows }
-        requires room { line < self.old.room.states }
+        requires room { HasRoomForState line self.old }
         ensures before { result ≡ (row_at self.old.rows line).state }
         ensures rows { self.new ≡ with_state self.old line state }
     {
@@ -304,65 +269,48 @@ impl LineRows {
 
     /// Adds a marker with `number` behind those of `line`, and returns its handle (`SCI_MARKERADD`). There must be room
     /// for it.
+    #[tactic(auto, using(crate::proofs::RowReads::parts_length, crate::proofs::RowReads::parts_count, crate::proofs::RowReads::marker_added))]
     pub fn add_reserved(&mut self, line: usize, number: u32) -> u32
         requires line { line < length self.old.rows }
         requires number { number < 32 }
-        requires room { 0 < self.old.room.markers }
+        requires room { HasRoomForMarkers 1 self.old }
         requires handles { self.old.next_handle < 2 ^ 32 - 1 }
         ensures handle { result ≡ self.old.next_handle }
         ensures rows { self.new ≡ with_marker self.old line number }
+        ensures room { (count : ℕ) → HasRoomForMarkers (1 + count) self.old → HasRoomForMarkers count self.new }
     {
-        self.marker_room -= 1;
         self.markers.add_reserved(line, number)
     }
 
     /// Deletes the first marker of `line` with `number`, or all of its markers if `number` is `None`
-    /// (`SCI_MARKERDELETE`). Returns whether there was one. Their cells become room again.
+    /// (`SCI_MARKERDELETE`). Returns whether there was one.
+    #[tactic(auto, using(crate::proofs::RowReads::parts_length, crate::proofs::RowReads::marker_deleted, crate::proofs::RowReads::fewer_parts))]
     pub fn delete(&mut self, line: usize, number: Option<u32>) -> bool
         requires { line < length self.old.rows }
         ensures went { IsTrue result ↔ (marker_count self.new.rows ≢ marker_count self.old.rows) }
-        ensures rows { self.new.rows ≡ without_marker_on line number self.old.rows }
-        ensures next_handle { self.new.next_handle ≡ self.old.next_handle }
-        ensures room { self.new.room ≡ record self.old.room { markers = self.new.room.markers } }
-        ensures marker_room { markers_in_all self.new ≡ markers_in_all self.old }
-        ensures blocks { self.new.blocks ≡ self.old.blocks }
+        ensures rows { self.new ≡ record self.old { rows = without_marker_on line number self.old.rows } }
     {
-        let markers = self.markers.markers();
-        let went = self.markers.delete(line, number);
-        self.marker_room += markers - self.markers.markers();
-        went
+        self.markers.delete(line, number)
     }
 
     /// Deletes all markers with `number`, or all markers if it is `None` (`SCI_MARKERDELETEALL`). Returns whether there
-    /// was one. Their cells become room again.
+    /// was one.
+    #[tactic(auto, using(crate::proofs::RowReads::markers_dropped, crate::proofs::RowReads::fewer_parts))]
     pub fn delete_all(&mut self, number: Option<u32>) -> bool
         ensures went { IsTrue result ↔ (marker_count self.new.rows ≢ marker_count self.old.rows) }
-        ensures rows { self.new.rows ≡ without_markers (is_of_number number) self.old.rows }
-        ensures next_handle { self.new.next_handle ≡ self.old.next_handle }
-        ensures room { self.new.room ≡ record self.old.room { markers = self.new.room.markers } }
-        ensures marker_room { markers_in_all self.new ≡ markers_in_all self.old }
-        ensures blocks { self.new.blocks ≡ self.old.blocks }
+        ensures rows { self.new ≡ record self.old { rows = without_markers (is_of_number number) self.old.rows } }
     {
-        let markers = self.markers.markers();
-        let went = self.markers.delete_all(number);
-        self.marker_room += markers - self.markers.markers();
-        went
+        self.markers.delete_all(number)
     }
 
     /// Deletes the marker with `handle`, and returns its line, or `None` if no marker has it
-    /// (`SCI_MARKERDELETEHANDLE`). Its cell becomes room again.
+    /// (`SCI_MARKERDELETEHANDLE`).
+    #[tactic(auto, using(crate::proofs::RowReads::markers_dropped, crate::proofs::RowReads::fewer_parts))]
     pub fn delete_handle(&mut self, handle: u32) -> Option<usize>
         ensures line { result ≡ first_from (has_handle handle self.old.rows) self.old.rows 0 }
-        ensures rows { self.new.rows ≡ without_markers (λ m. m.handle == handle) self.old.rows }
-        ensures next_handle { self.new.next_handle ≡ self.old.next_handle }
-        ensures room { self.new.room ≡ record self.old.room { markers = self.new.room.markers } }
-        ensures marker_room { markers_in_all self.new ≡ markers_in_all self.old }
-        ensures blocks { self.new.blocks ≡ self.old.blocks }
+        ensures rows { self.new ≡ record self.old { rows = without_markers (λ m. m.handle == handle) self.old.rows } }
     {
-        let markers = self.markers.markers();
-        let line = self.markers.delete_handle(handle);
-        self.marker_room += markers - self.markers.markers();
-        line
+        self.markers.delete_handle(handle)
     }
 
     /// Returns the line of the marker with `handle`, or `None` if no marker has it (`SCI_MARKERLINEFROMHANDLE`).
@@ -373,6 +321,7 @@ impl LineRows {
     }
 
     /// Returns the mask of a line: the bit of each number that a marker of the line has (`SCI_MARKERGET`).
+    #[tactic(auto, using(crate::proofs::RowReads::parts_length, crate::proofs::RowReads::parts_markers))]
     pub fn mask(&self, line: usize) -> u32
         requires { line < length self.now.rows }
         ensures { result ≡ mask_of (row_at self.now.rows line).markers }

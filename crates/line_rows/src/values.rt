@@ -1,8 +1,8 @@
 //! `LineValues`: a value for each line, such as a fold level or a line state.
-ghost use Rattle.std.specs.Prelude.{◌≡◌, ◌≤◌, ◌<◌, ◌+◌, ◌^◌, ◌∷◌, [], length, slice_set, slice_index_or, OnOk, OnErr, IsOk};
-ghost use Rattle.line_index.specs.Edits.{after_edit, after_edits, FitsLines, FitLines, fresh_by, fresh_lines};
+ghost use Rattle.std.specs.Prelude.{◌≡◌, ℕ, ◌≤◌, ◌<◌, ◌+◌, ◌^◌, ◌∷◌, [], length, slice_set, slice_index_or, OnOk, OnErr, IsOk};
+ghost use Rattle.line_index.specs.Edits.{FitsLines, FitLines, fresh_by, fresh_lines};
 ghost use Rattle.line_index.specs.declared.edit.LineEdit.TheVariants.{Come, Join};
-ghost use Rattle.line_rows.specs.Values.{valued, first_or, padded, AreInHalves, block_of, HasBlock, GainsLines, LosesLines, FitsLinesLeft, HasRoom, GainsRoom, HasMemory, most_memory, with_value, wanted_block, most_block, stored_after_edit, stored_after};
+ghost use Rattle.line_rows.specs.Values.{valued, padded, AreInHalves, capacity_of, GainsLines, LosesLines, FitsLinesLeft, HasRoomForLines, HasRoomForValue, most_held, wanted_if, with_value, stored_after_edit, values_after};
 
 use line_index::LineEdit;
 use split_vector::SplitVector;
@@ -17,30 +17,27 @@ pub struct LineValues<T: Copy> {
     // The value of all lines behind the stored ones.
     default: T,
     lines: usize,
-    // How many fresh lines were reserved.
-    room: usize,
-    // A value can be set for this many lines, from the first on.
-    reach: usize,
 }
 
 impl<T: Copy> Model for LineValues<T> {
-    ghost use Rattle.line_rows.specs.Values.{Valued, valued_code, values_in, AreStored};
+    ghost use Rattle.std.specs.Prelude.{◌≤◌, length};
+    ghost use Rattle.line_rows.specs.Values.{Valued, valued_code, values_in};
 
     ghost Value = { Valued T };
 
     ghost coded = { valued_code T.code };
 
-    ghost view = { λ v. values_in v.stored v.default v.lines v.room v.reach };
+    ghost view = { λ v. values_in v.stored v.default v.lines };
 
-    ghost invariant = { λ v. AreStored v.stored v.lines v.room v.reach };
+    ghost invariant = { λ v. length v.stored.items ≤ v.lines };
 }
 
 // Appends defaults up to `len` values, if there are fewer. Out of line, since values are usually set line after line.
 #[inline(never)]
 fn pad<T: Copy>(stored: &mut SplitVector<T>, default: T, len: usize)
-    requires { len ≤ block_of stored.old }
+    requires { len ≤ capacity_of stored.old }
     ensures items { stored.new.items ≡ padded default len stored.old.items }
-    ensures all { block_of stored.new ≡ block_of stored.old }
+    ensures capacity { capacity_of stored.new ≡ capacity_of stored.old }
 {
     let before = stored.len();
     stored.insert_fill_reserved(before, len.saturating_sub(before), default);
@@ -49,9 +46,9 @@ fn pad<T: Copy>(stored: &mut SplitVector<T>, default: T, len: usize)
 // Appends the value of a line to the stored ones, with defaults between.
 fn put_behind<T: Copy>(stored: &mut SplitVector<T>, default: T, line: usize, value: T)
     requires behind { length stored.old.items ≤ line }
-    requires room { line < block_of stored.old }
+    requires room { line < capacity_of stored.old }
     ensures items { stored.new.items ≡ slice_set (padded default (line + 1) stored.old.items) line value }
-    ensures all { block_of stored.new ≡ block_of stored.old }
+    ensures capacity { capacity_of stored.new ≡ capacity_of stored.old }
 {
     if line > stored.len() {
         pad(stored, default, line);
@@ -61,12 +58,11 @@ fn put_behind<T: Copy>(stored: &mut SplitVector<T>, default: T, line: usize, val
 
 // Inserts `count` fresh lines before a line.
 fn put_in<T: Copy>(stored: &mut SplitVector<T>, default: T, line: usize, count: usize)
-    requires { line < length stored.old.items → count ≤ stored.old.spare }
+    requires { 0 < length stored.old.items → length stored.old.items + count ≤ capacity_of stored.old }
     ensures values { GainsLines stored.old stored.new default line count }
     ensures few { length stored.new.items ≤ length stored.old.items + count }
     ensures stored { length stored.new.items ≡ stored_after_edit (length stored.old.items) (Come line count) }
-    ensures spare { stored.old.spare ≤ stored.new.spare + count }
-    ensures all { block_of stored.new ≡ block_of stored.old }
+    ensures capacity { capacity_of stored.new ≡ capacity_of stored.old }
 {
     if stored.len() <= line {
         return;
@@ -74,26 +70,17 @@ fn put_in<T: Copy>(stored: &mut SplitVector<T>, default: T, line: usize, count: 
     stored.insert_fill_reserved(line, count, default);
 }
 
-// Makes sure that there is memory for the values of the first `reach` lines, with `room` fresh ones. As long as no
-// value can be set, none is stored, so it allocates nothing.
-fn reserve_values<T: Copy>(
-    stored: &mut SplitVector<T>,
-    room: usize,
-    reach: usize,
-) -> Result<(), AllocError>
+// Makes room for `count` more values.
+fn reserve_more<T: Copy>(stored: &mut SplitVector<T>, count: usize) -> Result<(), AllocError>
     ensures items { stored.new.items ≡ stored.old.items }
-    ensures ok { OnOk result (wanted_block (length stored.old.items) room reach ≤ block_of stored.new) }
-    ensures memory_is_there { HasBlock stored.old room reach → IsOk result × (stored.new ≡ stored.old) }
-    ensures at_most { block_of stored.new ≤ most_block (length stored.old.items) (block_of stored.old) room reach }
+    ensures ok { OnOk result (length stored.new.items + count ≤ capacity_of stored.new) }
+    ensures room_is_there { length stored.old.items + count ≤ capacity_of stored.old → IsOk result × (stored.new ≡ stored.old) }
+    ensures capacity { capacity_of stored.old ≤ capacity_of stored.new }
+    ensures at_most { capacity_of stored.new ≤ most_held (capacity_of stored.old) (length stored.old.items + count) }
     ensures err { OnErr result (stored.new ≡ stored.old) }
+    ensures within { capacity_of stored.new < 2 ^ 63 }
 {
-    if reach == 0 {
-        return Ok(());
-    }
-    let Some(wanted) = reach.saturating_sub(stored.len()).checked_add(room) else {
-        return Err(AllocError);
-    };
-    stored.reserve(wanted)
+    stored.reserve(count)
 }
 
 // Deletes the `count` lines behind a line.
@@ -101,8 +88,7 @@ fn take_behind<T: Copy>(stored: &mut SplitVector<T>, line: usize, count: usize)
     ensures values { LosesLines stored.old stored.new line count }
     ensures few { FitsLinesLeft stored.old stored.new line count }
     ensures stored { length stored.new.items ≡ stored_after_edit (length stored.old.items) (Join line count) }
-    ensures spare { stored.old.spare ≤ stored.new.spare }
-    ensures all { block_of stored.new ≡ block_of stored.old }
+    ensures capacity { capacity_of stored.new ≡ capacity_of stored.old }
 {
     let before = stored.len();
     if before <= line || before - line <= 1 {
@@ -115,14 +101,12 @@ fn take_behind<T: Copy>(stored: &mut SplitVector<T>, line: usize, count: usize)
 impl<T: Copy> LineValues<T> {
     /// Returns the value of one line, which is the default. Allocates nothing.
     pub fn new(alloc: Global, default: T) -> Self
-        ensures { result ≡ valued default (default ∷ []) 0 0 0 0 }
+        ensures { result ≡ valued default (default ∷ []) 0 0 }
     {
         LineValues {
             stored: SplitVector::new(alloc),
             default,
             lines: 1,
-            room: 0,
-            reach: 0,
         }
     }
 
@@ -133,11 +117,12 @@ impl<T: Copy> LineValues<T> {
         self.lines
     }
 
-    /// Returns for how many fresh lines there is room.
-    pub(crate) fn room(&self) -> usize
-        ensures { result ≡ self.now.room }
+    /// What is stored fits in.
+    pub(crate) fn fits_in(&self)
+        ensures { self.now.stored ≤ self.now.capacity }
     {
-        self.room
+        // A use of the field brings what always holds of it.
+        let _ = self.stored.len();
     }
 
     /// Returns the value of a line.
@@ -161,49 +146,50 @@ impl<T: Copy> LineValues<T> {
         self.stored.halves()
     }
 
-    /// Makes room for `lines` fresh lines, and for the values of the first `reach` lines. If there is too little
-    /// memory, it is allocated for the values that are to fit in, or for twice as many as before if that is more. As
-    /// long as no value can be set, nothing is allocated.
+    /// Makes room for the values of `count` more lines. Allocates nothing if they fit in, or as long as no value is
+    /// stored. Otherwise there is memory for the stored values and `count` more then, or for twice as many values as
+    /// before if that is more.
     ///
     /// # Errors
     ///
     /// `AllocError` if the allocation fails. Nothing has changed then.
     #[inline(always)]
-    pub fn reserve(&mut self, lines: usize, reach: usize) -> Result<(), AllocError>
-        ensures ok { OnOk result (GainsRoom self.old self.new lines reach) }
-        ensures room_is_there { lines ≤ self.old.room → reach ≤ self.old.reach → IsOk result × (self.new ≡ self.old) }
-        ensures memory_is_there { HasMemory self.old lines reach → IsOk result × HasRoom self.old self.new lines reach }
-        ensures at_most { self.new.block ≤ most_memory self.old lines reach }
+    pub fn reserve_lines(&mut self, count: usize) -> Result<(), AllocError>
+        ensures rest { self.new ≡ record self.old { capacity = self.new.capacity } }
+        ensures ok { OnOk result (HasRoomForLines count self.new) }
+        ensures room_is_there { HasRoomForLines count self.old → IsOk result × (self.new ≡ self.old) }
+        ensures capacity { self.old.capacity ≤ self.new.capacity }
+        ensures at_most { self.new.capacity ≤ most_held self.old.capacity (wanted_if self.old.stored (self.old.stored + count)) }
         ensures err { OnErr result (self.new ≡ self.old) }
     {
-        if lines <= self.room && reach <= self.reach {
+        if self.stored.is_empty() {
             return Ok(());
         }
-        self.make_room(lines, reach)
+        reserve_more(&mut self.stored, count)
     }
 
-    // Makes the room if less was requested so far. The memory is usually there.
-    #[inline]
-    fn make_room(&mut self, lines: usize, reach: usize) -> Result<(), AllocError>
-        ensures ok { OnOk result (GainsRoom self.old self.new lines reach) }
-        ensures memory_is_there { HasMemory self.old lines reach → IsOk result × HasRoom self.old self.new lines reach }
-        ensures at_most { self.new.block ≤ most_memory self.old lines reach }
+    /// Makes room for the value of a line, and for those of the lines before it. Allocates nothing if they fit in.
+    /// Otherwise there is memory for these values then, or for twice as many as before if that is more.
+    ///
+    /// # Errors
+    ///
+    /// `AllocError` if the allocation fails. Nothing has changed then.
+    pub fn reserve_value(&mut self, line: usize) -> Result<(), AllocError>
+        ensures rest { self.new ≡ record self.old { capacity = self.new.capacity } }
+        ensures ok { OnOk result (HasRoomForValue line self.new) }
+        ensures room_is_there { HasRoomForValue line self.old → IsOk result × (self.new ≡ self.old) }
+        ensures capacity { self.old.capacity ≤ self.new.capacity }
+        ensures at_most { self.new.capacity ≤ most_held self.old.capacity (line + 1) }
         ensures err { OnErr result (self.new ≡ self.old) }
     {
-        let room = self.room.max(lines);
-        let reach = self.reach.max(reach);
-        let Ok(()) = reserve_values(&mut self.stored, room, reach) else {
-            return Err(AllocError);
-        };
-        self.room = room;
-        self.reach = reach;
-        Ok(())
+        let missing = line.saturating_add(1).saturating_sub(self.stored.len());
+        reserve_more(&mut self.stored, missing)
     }
 
     /// Sets the value of a line. There must be room for it.
     pub fn set(&mut self, line: usize, value: T)
         requires line { line < length self.old.values }
-        requires room { line < self.old.reach }
+        requires room { HasRoomForValue line self.old }
         ensures { self.new ≡ with_value self.old line value }
     {
         if line < self.stored.len() {
@@ -216,19 +202,13 @@ impl<T: Copy> LineValues<T> {
     fn carry_one(&mut self, edit: LineEdit)
         requires lines { FitsLines (length self.old.values) edit }
         requires fits { length self.old.values + fresh_by edit < 2 ^ 63 }
-        requires room { fresh_by edit ≤ self.old.room }
-        ensures values { self.new.values ≡ after_edit (first_or self.old.default) self.old.values edit }
-        ensures default { self.new.default ≡ self.old.default }
-        ensures room { self.new.room + fresh_by edit ≡ self.old.room }
-        ensures reach { self.new.reach ≡ self.old.reach }
-        ensures stored { self.new.stored ≡ stored_after_edit self.old.stored edit }
-        ensures block { self.new.block ≡ self.old.block }
+        requires room { HasRoomForLines (fresh_by edit) self.old }
+        ensures { self.new ≡ values_after (edit ∷ []) self.old }
     {
         match edit {
             LineEdit::Come { line, count } => {
                 put_in(&mut self.stored, self.default, line, count);
                 self.lines += count;
-                self.room -= count;
             }
             LineEdit::Join { line, count } => {
                 take_behind(&mut self.stored, line, count);
@@ -238,7 +218,6 @@ impl<T: Copy> LineValues<T> {
                 let stored = self.stored.len();
                 self.stored.delete(0, stored);
                 self.lines = 1;
-                self.room -= 1;
             }
         }
     }
@@ -248,13 +227,9 @@ impl<T: Copy> LineValues<T> {
     pub fn carry(&mut self, edits: &[LineEdit])
         requires lines { FitLines (length self.old.values) edits.now }
         requires fits { length self.old.values + fresh_lines edits.now < 2 ^ 63 }
-        requires room { fresh_lines edits.now ≤ self.old.room }
-        ensures values { self.new.values ≡ after_edits (first_or self.old.default) edits.now self.old.values }
-        ensures default { self.new.default ≡ self.old.default }
-        ensures room { self.new.room + fresh_lines edits.now ≡ self.old.room }
-        ensures reach { self.new.reach ≡ self.old.reach }
-        ensures stored { self.new.stored ≡ stored_after edits.now self.old.stored }
-        ensures block { self.new.block ≡ self.old.block }
+        requires room { HasRoomForLines (fresh_lines edits.now) self.old }
+        ensures values { self.new ≡ values_after edits.now self.old }
+        ensures room { (count : ℕ) → HasRoomForLines (fresh_lines edits.now + count) self.old → HasRoomForLines count self.new }
     {
         for edit in edits {
             self.carry_one(*edit);

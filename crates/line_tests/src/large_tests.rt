@@ -63,7 +63,7 @@ fn line_ends_turned_and_back(rt: HostRuntime) {
 
 // Adds one more line at the end.
 fn line_comes(rt: &impl Abort, rows: &mut LineRows) {
-    rows.reserve(1).expect(rt, "memory");
+    rows.reserve_lines(1).expect(rt, "memory");
     let lines = rows.count();
     assert!(rt; lines < MARKED_LINES);
     rows.carry(&[LineEdit::Come {
@@ -74,12 +74,12 @@ fn line_comes(rt: &impl Abort, rows: &mut LineRows) {
 
 fn row_is_set(rt: &impl Abort, rows: &mut LineRows, line: usize) {
     assert!(rt; line < MARKED_LINES);
-    rows.reserve_levels(line + 1).expect(rt, "memory");
-    rows.reserve_states(line + 1).expect(rt, "memory");
-    rows.reserve_markers(1).expect(rt, "memory");
+    rows.reserve_level(line).expect(rt, "memory");
+    rows.reserve_state(line).expect(rt, "memory");
     assert!(rt; line < rows.count() && rows.next_handle() <= 100_000);
     let _ = rows.set_level(line, 0x401);
     let _ = rows.set_state(line, 5);
+    rows.reserve_markers(1).expect(rt, "memory");
     let _ = rows.add_reserved(line, 3);
 }
 
@@ -110,15 +110,15 @@ fn rows_line_by_line(rt: HostRuntime) {
 }
 
 fn reserve_at_once(rt: &impl Abort, rows: &mut LineRows) {
-    rows.reserve(MARKED_LINES).expect(rt, "memory");
+    rows.reserve_lines(MARKED_LINES - 2).expect(rt, "memory");
     let lines = rows.count();
     assert!(rt; lines == 1);
     rows.carry(&[LineEdit::Come {
         line: 1,
         count: MARKED_LINES - 2,
     }]);
-    rows.reserve_levels(MARKED_LINES - 2).expect(rt, "memory");
-    rows.reserve_states(MARKED_LINES - 2).expect(rt, "memory");
+    rows.reserve_level(MARKED_LINES - 3).expect(rt, "memory");
+    rows.reserve_state(MARKED_LINES - 3).expect(rt, "memory");
     rows.reserve_markers(MARKED_LINES).expect(rt, "memory");
     assert!(rt; rows.count() == MARKED_LINES - 1);
 }
@@ -129,6 +129,8 @@ fn set_and_join_all(rt: &impl Abort, rows: &mut LineRows) {
     }
     assert!(rt; rows.count() == MARKED_LINES - 1);
     assert!(rt; rows.next(50_000, 1 << 3) == Some(50_000) && rows.mask(99_998) == 0);
+    // States that the rows fit in, which is enough to join lines.
+    rows.fits_in();
     rows.carry(&[LineEdit::Join {
         line: 0,
         count: 99_998,

@@ -4,10 +4,10 @@ use line_rows::LineRows;
 use std::process::Abort;
 
 fn reserve_for_many(rt: &impl Abort, rows: &mut LineRows) {
-    rows.reserve(100_000).expect(rt, "memory");
-    rows.reserve_levels(100_000).expect(rt, "memory");
-    rows.reserve_states(100_000).expect(rt, "memory");
+    rows.reserve_level(99_999).expect(rt, "memory");
+    rows.reserve_state(99_999).expect(rt, "memory");
     rows.reserve_markers(100_000).expect(rt, "memory");
+    rows.reserve_lines(99_999).expect(rt, "memory");
     let lines = rows.count();
     assert!(rt; lines == 1);
     rows.carry(&[LineEdit::Come {

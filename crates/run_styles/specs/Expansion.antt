@@ -2,7 +2,7 @@
 use Rattle.std.specs.Prelude.{◌≡◌, ◌≢◌, ℕ, ◌+◌, ◌-◌, ◌<◌, ◌≤◌, Bool, true, List, [], ◌∷◌, ◌++◌, length, map, take, drop, replicate, slice_index, slice_index_or}
 use Rattle.split_vector.specs.Split.{Split}
 use Rattle.partitioning.specs.Partitions.{Partitions}
-use Rattle.run_styles.specs.Runs.{inserted, filled, deleted}
+use Rattle.run_styles.specs.Runs.{RunCapacity, run_capacity, inserted, filled, deleted}
 
 module _ {V : Type 0} where
   -- each value from its start up to the next one, or up to the end
@@ -35,13 +35,11 @@ module _ {V : Type 0} where
     pub single : end ≡ 0 → length starts ≡ 1
 
 module _ {V : Type 0} where
-  -- a table of runs that are as long as possible, and the room for more that was promised
-  pub record AreRuns (eq : V → V → Bool) (starts : List ℕ) (end starts_room : ℕ) (values : List V) (values_room room : ℕ) : Type 0 where
+  -- a table of runs that are as long as possible
+  pub record AreRuns (eq : V → V → Bool) (starts : List ℕ) (end : ℕ) (values : List V) : Type 0 where
     pub table : IsTable starts values end
     pub differ : NeighboursDiffer values
     pub exact : IsExact eq
-    pub for_starts : room ≤ starts_room
-    pub for_values : room ≤ values_room
 
 -- where the run starts
 abbrev pub start_of_run : Partitions → ℕ → ℕ
@@ -80,6 +78,21 @@ abbrev pub starts_without : Partitions → ℕ → ℕ → List ℕ
 starts_without starts index count = take index starts.starts ++ map (λ s. s - count) (drop (index + 1) starts.starts)
 
 module _ {V : Type 0} where
+  -- how many starts and how many values fit in
+  abbrev pub capacity_of : Partitions → Split V → RunCapacity
+  capacity_of starts values = run_capacity (length starts.starts + starts.room) (length values.items + values.spare)
+
+  -- each block has as many cells as before
+  abbrev pub KeepCells : Partitions → Split V → Partitions → Split V → Type 0
+  KeepCells starts values starts' values' =
+      (length starts'.starts + starts'.room ≡ length starts.starts + starts.room)
+      × (length values'.items + values'.spare ≡ length values.items + values.spare)
+
+  -- there are at most so many runs more than before
+  abbrev pub GainAtMost : ℕ → Partitions → Split V → Partitions → Split V → Type 0
+  GainAtMost count starts values starts' values' =
+      (length starts'.starts ≤ length starts.starts + count) × (length values'.items ≤ length values.items + count)
+
   -- the list that the runs stand for
   abbrev pub list_of : Partitions → Split V → List V
   list_of starts values = expansion starts.starts values.items starts.length

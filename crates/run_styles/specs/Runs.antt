@@ -1,53 +1,45 @@
 -- What a contract sees of a `RunStyles`, and what its calls do to the list.
-use Rattle.std.specs.Prelude.{◌≡◌, ◌≢◌, ℕ, ◌+◌, ◌-◌, ◌<◌, ◌≤◌, Bool, ◌||◌, ◌==◌, if◌then◌else◌, max, List, [], ◌∷◌, ◌++◌, length, take, drop, replicate, slice_get, slice_index_or, refl}
+use Rattle.std.specs.Prelude.{◌≡◌, ◌≢◌, ℕ, ◌+◌, ◌-◌, ◌<◌, ◌≤◌, Bool, ◌||◌, ◌==◌, if◌then◌else◌, ◌*◌, max, List, [], ◌∷◌, ◌++◌, length, take, drop, replicate, slice_get, slice_index_or, refl}
 use Rattle.std.specs.Coded.{Coded, code_by, coded×, coded_list, coded_ℕ}
-use Rattle.split_vector.specs.Split.{most_room}
 
--- how many more starts of runs, and how many more values of runs, fit in without an allocation
-pub record Spare : Type 0 where
+-- how many starts of runs, and how many values of runs, fit in without an allocation
+pub record RunCapacity : Type 0 where
   pub starts : ℕ
   pub values : ℕ
 
-abbrev pub spare : ℕ → ℕ → Spare
-spare starts values = record { starts = starts; values = values }
+abbrev pub run_capacity : ℕ → ℕ → RunCapacity
+run_capacity starts values = record { starts = starts; values = values }
 
--- With `runs` runs, the spare capacity is at most `count`, which was requested, or that of blocks of twice the size.
--- If it was `count` before, it stays the same.
-pub record IsSpareFor (runs count : ℕ) (old new : Spare) : Type 0 where
-  pub starts : new.starts ≤ most_room runs old.starts count
-  pub values : new.values ≤ most_room runs old.values count
-  pub starts_there : count ≤ old.starts → new.starts ≡ old.starts
-  pub values_there : count ≤ old.values → new.values ≡ old.values
+-- so many runs fit in
+abbrev pub Fit : ℕ → RunCapacity → Type 0
+Fit count capacity = (count ≤ capacity.starts) × (count ≤ capacity.values)
 
--- the statement holds if there is memory for so many more runs
-abbrev pub IfMemory : ℕ → Spare → Type 0 → Type 0
-IfMemory count memory P = count ≤ memory.starts → count ≤ memory.values → P
+-- no capacity is given back
+abbrev pub KeepsCapacity : RunCapacity → RunCapacity → Type 0
+KeepsCapacity old new = (old.starts ≤ new.starts) × (old.values ≤ new.values)
 
--- memory for more starts may be there, and that for values is the same
-abbrev pub GainsOnlyStarts : Spare → Spare → Type 0
-GainsOnlyStarts old new = (new.values ≡ old.values) × (old.starts ≤ new.starts)
+-- The capacity is at most `wanted`, which was requested, or that of blocks of twice the size. If `wanted` fitted in
+-- before, it stays the same.
+pub record IsCapacityFor (wanted : ℕ) (old new : RunCapacity) : Type 0 where
+  pub starts : new.starts ≤ max wanted (2 * old.starts)
+  pub values : new.values ≤ max wanted (2 * old.values)
+  pub starts_there : wanted ≤ old.starts → new.starts ≡ old.starts
+  pub values_there : wanted ≤ old.values → new.values ≡ old.values
 
--- No memory was allocated or freed: the runs and the spare capacity together are as many before (`was` runs) as
--- afterwards (`now` runs).
-pub record IsSameMemory (was : ℕ) (old : Spare) (now : ℕ) (new : Spare) : Type 0 where
-  pub starts : now + new.starts ≡ was + old.starts
-  pub values : now + new.values ≡ was + old.values
-
--- the default value, the value at each place, how many more runs have been reserved, and for how many there is memory
+-- the default value, the value at each place, and how many runs fit in
 pub record Runs (V : Type 0) : Type 0 where
   pub default : V
   pub values : List V
-  pub room : ℕ
-  pub spare : Spare
+  pub capacity : RunCapacity
 
 module _ {V : Type 0} where
-  abbrev pub runs : V → List V → ℕ → Spare → Runs V
-  runs value values room spare = record { default = value; values = values; room = room; spare = spare }
+  abbrev pub runs : V → List V → RunCapacity → Runs V
+  runs value values capacity = record { default = value; values = values; capacity = capacity }
 
   abbrev pub runs_code : Coded V → Coded (Runs V)
   runs_code c =
-      code_by (V × (List V × (ℕ × (ℕ × ℕ)))) (coded× c (coded× (coded_list c) (coded× coded_ℕ (coded× coded_ℕ coded_ℕ))))
-      (λ r. (r.default, (r.values, (r.room, (r.spare.starts, r.spare.values))))) (λ p. runs p.0 p.1.0 p.1.1.0 (spare p.1.1.1.0 p.1.1.1.1)) (λ _. refl)
+      code_by (V × (List V × (ℕ × ℕ))) (coded× c (coded× (coded_list c) (coded× coded_ℕ coded_ℕ)))
+      (λ r. (r.default, (r.values, (r.capacity.starts, r.capacity.values)))) (λ p. runs p.0 p.1.0 (run_capacity p.1.1.0 p.1.1.1)) (λ _. refl)
 
   -- xs with count places inserted before the place, each with the value x
   abbrev pub inserted : List V → ℕ → ℕ → V → List V
@@ -74,23 +66,15 @@ module _ {V : Type 0} where
   abbrev pub IsFilled : List V → ℕ → ℕ → V → Type 0
   IsFilled xs place count x = filled xs place count x ≡ xs
 
-  -- there is room for so many more runs, or the old room if that is more
-  abbrev pub with_room : Runs V → ℕ → Runs V
-  with_room r count = record r { room = max r.room count }
-
-  -- nothing has changed except the room and the memory
-  abbrev pub ChangesOnlyRoom : Runs V → Runs V → Type 0
-  ChangesOnlyRoom old new = new ≡ record old { room = new.room; spare = new.spare }
-
   -- how many runs of equal values xs has; an empty list is one run
   abbrev pub run_count : (V → V → Bool) → List V → ℕ
   run_count eq [] = 1
   run_count eq (x ∷ []) = 1
   run_count eq (x ∷ y ∷ ys) = if eq x y then run_count eq (y ∷ ys) else run_count eq (y ∷ ys) + 1
 
-  -- no memory was allocated or freed for the runs
-  abbrev pub KeepsMemory : (V → V → Bool) → Runs V → Runs V → Type 0
-  KeepsMemory eq old new = IsSameMemory (run_count eq old.values) old.spare (run_count eq new.values) new.spare
+  -- so many more runs fit in
+  abbrev pub HasRoom : (V → V → Bool) → ℕ → Runs V → Type 0
+  HasRoom eq count r = Fit (run_count eq r.values + count) r.capacity
 
   -- from the start up to the place all values are equal, and the one before the start differs
   pub record IsRunStart (xs : List V) (place start : ℕ) : Type 0 where

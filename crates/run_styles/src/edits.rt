@@ -1,6 +1,6 @@
 //! The steps of an insertion and of a deletion, over the two fields of `RunStyles`.
 ghost use Rattle.std.specs.Prelude.{◌≡◌, ◌≤◌, ◌<◌, ◌+◌, length};
-ghost use Rattle.run_styles.specs.Expansion.{IsExact, IsTable, NeighboursDiffer, inserted_at_end, list_of};
+ghost use Rattle.run_styles.specs.Expansion.{GainAtMost, IsExact, IsTable, KeepCells, NeighboursDiffer, inserted_at_end, list_of};
 ghost use Rattle.run_styles.specs.Runs.{inserted, deleted, with_space};
 
 use crate::table::{delete_runs, end_of, insert_first, insert_last, join_at, run_about};
@@ -24,10 +24,8 @@ fn insert_at_start<P: Place, V: Copy + Eq, A: Allocator>(
     ensures table { IsTable starts.new.starts values.new.items starts.new.length }
     ensures list { list_of starts.new values.new ≡ inserted (list_of starts.old values.old) 0 count default }
     ensures differ { NeighboursDiffer values.new.items }
-    ensures room { starts.old.room ≤ starts.new.room + 1 }
-    ensures spare { values.old.spare ≤ values.new.spare + 1 }
-    ensures start_cells { length starts.new.starts + starts.new.room ≡ length starts.old.starts + starts.old.room }
-    ensures value_cells { length values.new.items + values.new.spare ≡ length values.old.items + values.old.spare }
+    ensures few { GainAtMost 1 starts.old values.old starts.new values.new }
+    ensures cells { KeepCells starts.old values.old starts.new values.new }
 {
     if values.get(0) == default {
         starts.insert_text(0, count);
@@ -52,10 +50,8 @@ fn insert_at_end<P: Place, V: Copy + Eq, A: Allocator>(
     ensures table { IsTable starts.new.starts values.new.items starts.new.length }
     ensures list { list_of starts.new values.new ≡ inserted_at_end starts.old values.old count default }
     ensures differ { NeighboursDiffer values.new.items }
-    ensures room { starts.old.room ≤ starts.new.room + 1 }
-    ensures spare { values.old.spare ≤ values.new.spare + 1 }
-    ensures start_cells { length starts.new.starts + starts.new.room ≡ length starts.old.starts + starts.old.room }
-    ensures value_cells { length values.new.items + values.new.spare ≡ length values.old.items + values.old.spare }
+    ensures few { GainAtMost 1 starts.old values.old starts.new values.new }
+    ensures cells { KeepCells starts.old values.old starts.new values.new }
 {
     let last = starts.count() - 1;
     if values.get(last) == default {
@@ -79,8 +75,8 @@ fn insert_inside<P: Place, V: Copy + Eq, A: Allocator>(
     requires fits { starts.old.length + count ≤ P.GREATEST }
     ensures table { IsTable starts.new.starts values.now.items starts.new.length }
     ensures list { list_of starts.new values.now ≡ with_space V.eq default (list_of starts.old values.now) place count }
-    ensures room { starts.new.room ≡ starts.old.room }
-    ensures start_cells { length starts.new.starts + starts.new.room ≡ length starts.old.starts + starts.old.room }
+    ensures few { length starts.new.starts ≡ length starts.old.starts }
+    ensures cells { length starts.new.starts + starts.new.room ≡ length starts.old.starts + starts.old.room }
 {
     let run = run_about(starts, place);
     if starts.start_of(run) == place && values.get(run) != default {
@@ -108,10 +104,8 @@ pub(crate) fn insert_default<P: Place, V: Copy + Eq, A: Allocator>(
     ensures table { IsTable starts.new.starts values.new.items starts.new.length }
     ensures list { list_of starts.new values.new ≡ with_space V.eq default (list_of starts.old values.old) place count }
     ensures differ { NeighboursDiffer values.new.items }
-    ensures room { starts.old.room ≤ starts.new.room + 1 }
-    ensures spare { values.old.spare ≤ values.new.spare + 1 }
-    ensures start_cells { length starts.new.starts + starts.new.room ≡ length starts.old.starts + starts.old.room }
-    ensures value_cells { length values.new.items + values.new.spare ≡ length values.old.items + values.old.spare }
+    ensures few { GainAtMost 1 starts.old values.old starts.new values.new }
+    ensures cells { KeepCells starts.old values.old starts.new values.new }
 {
     let length = starts.length();
     if length == 0 {
@@ -140,10 +134,8 @@ pub(crate) fn delete_places<P: Place, V: Copy + Eq, A: Allocator>(
     ensures table { IsTable starts.new.starts values.new.items starts.new.length }
     ensures list { list_of starts.new values.new ≡ deleted (list_of starts.old values.old) place count }
     ensures differ { NeighboursDiffer values.new.items }
-    ensures room { starts.old.room ≤ starts.new.room }
-    ensures spare { values.old.spare ≤ values.new.spare }
-    ensures start_cells { length starts.new.starts + starts.new.room ≡ length starts.old.starts + starts.old.room }
-    ensures value_cells { length values.new.items + values.new.spare ≡ length values.old.items + values.old.spare }
+    ensures few { GainAtMost 0 starts.old values.old starts.new values.new }
+    ensures cells { KeepCells starts.old values.old starts.new values.new }
 {
     let run = run_about(starts, place);
     if starts.start_of(run) == place {

@@ -1,7 +1,7 @@
-//! `RunStyles` and its calls. A contract sees it as its default value, its list of values and its room for runs.
-ghost use Rattle.std.specs.Prelude.{◌≡◌, ◌≤◌, ◌<◌, ◌+◌, ◌↔◌, [], length, max, slice_get, Some, All, IsTrue, IfOk, IfNone, IfSome, OnOk, OnErr, IsOk};
+//! `RunStyles` and its calls. A contract sees it as its default value, its list of values and its capacity for runs.
+ghost use Rattle.std.specs.Prelude.{◌≡◌, ◌≤◌, ◌<◌, ◌+◌, ◌^◌, ◌↔◌, [], length, slice_get, Some, All, IsTrue, IfOk, IfNone, IfSome, OnOk, OnErr, IsOk};
 ghost use Rattle.run_styles.specs.Expansion.{IsExact};
-ghost use Rattle.run_styles.specs.Runs.{runs, spare, inserted, deleted, filled, run_count, with_room, with_space, ChangesOnlyRoom, GainsOnlyStarts, IfMemory, IsSpareFor, IsRunStart, IsRunEnd, IsChangedRange, KeepsMemory};
+ghost use Rattle.run_styles.specs.Runs.{runs, run_capacity, inserted, deleted, filled, run_count, with_space, HasRoom, IsCapacityFor, IsRunStart, IsRunEnd, IsChangedRange, KeepsCapacity};
 
 use crate::edits::{delete_places, insert_default};
 use crate::table::{changed_range, end_of, overwrite, run_at, run_near, run_of};
@@ -18,22 +18,20 @@ pub struct RunStyles<P: Place, V: Copy + Eq, A: Allocator = Global> {
     starts: Partitioning<P, A>,
     values: SplitVector<V, A>,
     default: V,
-    // How many more runs fit in, as reserved. Runs that are joined do not raise it.
-    room: usize,
 }
 
 impl<P: Place, V: Copy + Eq, A: Allocator> Model for RunStyles<P, V, A> {
-    ghost use Rattle.run_styles.specs.Runs.{Runs, runs, runs_code, spare};
+    ghost use Rattle.run_styles.specs.Runs.{Runs, runs, runs_code};
 
     ghost Value = { Runs V };
 
     ghost coded = { runs_code V.code };
 
-    ghost use Rattle.run_styles.specs.Expansion.{expansion, AreRuns};
+    ghost use Rattle.run_styles.specs.Expansion.{expansion, capacity_of, AreRuns};
 
-    ghost view = { λ s. runs s.default (expansion s.starts.starts s.values.items s.starts.length) s.room (spare s.starts.room s.values.spare) };
+    ghost view = { λ s. runs s.default (expansion s.starts.starts s.values.items s.starts.length) (capacity_of s.starts s.values) };
 
-    ghost invariant = { λ s. AreRuns V.eq s.starts.starts s.starts.length s.starts.room s.values.items s.values.spare s.room };
+    ghost invariant = { λ s. AreRuns V.eq s.starts.starts s.starts.length s.values.items };
 }
 
 impl<P: Place, V: Copy + Eq, A: Allocator + Copy> RunStyles<P, V, A> {
@@ -45,7 +43,7 @@ impl<P: Place, V: Copy + Eq, A: Allocator + Copy> RunStyles<P, V, A> {
     /// `AllocError` if the allocation fails.
     pub fn new(alloc: A, default: V) -> Result<Self, AllocError>
         requires exact { IsExact V.eq }
-        ensures { IfOk result (λ s. s ≡ runs default [] 0 (spare 0 0)) }
+        ensures { IfOk result (λ s. s ≡ runs default [] (run_capacity 1 1)) }
     {
         let starts = Partitioning::new(alloc)?;
         let mut values = SplitVector::new(alloc);
@@ -55,7 +53,6 @@ impl<P: Place, V: Copy + Eq, A: Allocator + Copy> RunStyles<P, V, A> {
             starts,
             values,
             default,
-            room: 0,
         })
     }
 }
@@ -126,40 +123,44 @@ impl<P: Place, V: Copy + Eq, A: Allocator> RunStyles<P, V, A> {
         self.starts.length() == 0 || self.starts.count() == 1 && self.values.get(0) == value
     }
 
-    /// Makes room for `count` more runs. The starts need no allocation if memory for `count` more of them is there, and
-    /// likewise the values. If both need none, it cannot fail.
+    /// What the list holds fits in.
+    #[inline(always)]
+    pub fn fits_in(&self)
+        ensures fits { HasRoom V.eq 0 self.now }
+        ensures within { self.now.capacity.starts < 2 ^ 63 }
+    {
+        self.starts.count();
+    }
+
+    /// Makes room for `count` more runs. The starts need no allocation if `count` more of them fit in, and likewise the
+    /// values. If both need none, it cannot fail.
     ///
     /// # Errors
     ///
-    /// `AllocError` if an allocation fails. Nothing has changed then, except that memory for more starts may be there.
+    /// `AllocError` if an allocation fails. Nothing has changed then, except that more starts may fit in.
     pub fn reserve(&mut self, count: usize) -> Result<(), AllocError>
-        ensures ok { OnOk result ((count ≤ self.new.room) × ChangesOnlyRoom self.old self.new) }
-        ensures room_is_there { count ≤ self.old.room → IsOk result × (self.new ≡ self.old) }
-        ensures room_stays { self.old.room ≤ self.new.room }
-        ensures at_most { OnOk result (self.new.room ≤ max self.old.room count) }
-        ensures spare_at_most { IsSpareFor (run_count V.eq self.old.values) count self.old.spare self.new.spare }
-        ensures memory_is_there { IfMemory count self.old.spare (IsOk result × (self.new ≡ with_room self.old count)) }
-        ensures err { OnErr result (self.new ≡ record self.old { spare = self.new.spare }) }
-        ensures err_memory { OnErr result (GainsOnlyStarts self.old.spare self.new.spare) }
+        ensures ok { OnOk result (HasRoom V.eq count self.new) }
+        ensures room_is_there { HasRoom V.eq count self.old → IsOk result × (self.new ≡ self.old) }
+        ensures rest { self.new ≡ record self.old { capacity = self.new.capacity } }
+        ensures capacity { KeepsCapacity self.old.capacity self.new.capacity }
+        ensures at_most { IsCapacityFor (run_count V.eq self.old.values + count) self.old.capacity self.new.capacity }
+        ensures err { OnErr result (self.new.capacity.values ≡ self.old.capacity.values) }
     {
-        if count <= self.room {
-            return Ok(());
-        }
         self.starts.reserve(count)?;
         self.values.reserve(count)?;
-        self.room = count;
         Ok(())
     }
 
     /// Sets `count` places from `place` on to `value`. Returns the smallest range that holds all places that changed, as
-    /// its first place and its length, or `None` if none changed. Needs room for at most two runs, and does not allocate.
+    /// its first place and its length, or `None` if none changed. There must be room for two more
+    /// runs. Allocates nothing.
     pub fn fill(&mut self, place: usize, count: usize, value: V) -> Option<(usize, usize)>
         requires within { place + count ≤ length self.old.values }
-        requires room { 2 ≤ self.old.room }
+        requires room { HasRoom V.eq 2 self.old }
         ensures values { self.new.values ≡ filled self.old.values place count value }
         ensures default { self.new.default ≡ self.old.default }
-        ensures room { self.old.room ≤ self.new.room + 2 }
-        ensures memory { KeepsMemory V.eq self.old self.new }
+        ensures runs { run_count V.eq self.new.values ≤ run_count V.eq self.old.values + 2 }
+        ensures capacity { self.new.capacity ≡ self.old.capacity }
         ensures none { IfNone result (self.new.values ≡ self.old.values) }
         ensures changed { IfSome result (IsChangedRange self.old.values self.new.values) }
     {
@@ -191,20 +192,20 @@ impl<P: Place, V: Copy + Eq, A: Allocator> RunStyles<P, V, A> {
             high,
             value,
         );
-        self.room -= 2;
         Some((low, high - low))
     }
 
     /// Inserts `count` places before `place`. They get the default at both ends of the list and where the value at
-    /// `place` is the default, and otherwise the value before. Needs room for at most one run, and does not allocate.
+    /// `place` is the default, and otherwise the value before. There must be room for one
+    /// more run. Allocates nothing.
     pub fn insert_space(&mut self, place: usize, count: usize)
         requires within { place ≤ length self.old.values }
         requires fits { length self.old.values + count ≤ P.GREATEST }
-        requires room { 1 ≤ self.old.room }
+        requires room { HasRoom V.eq 1 self.old }
         ensures values { self.new.values ≡ with_space V.eq self.old.default self.old.values place count }
         ensures default { self.new.default ≡ self.old.default }
-        ensures room { self.old.room ≤ self.new.room + 1 }
-        ensures memory { KeepsMemory V.eq self.old self.new }
+        ensures runs { run_count V.eq self.new.values ≤ run_count V.eq self.old.values + 1 }
+        ensures capacity { self.new.capacity ≡ self.old.capacity }
     {
         if count == 0 {
             return;
@@ -216,18 +217,18 @@ impl<P: Place, V: Copy + Eq, A: Allocator> RunStyles<P, V, A> {
             count,
             self.default,
         );
-        self.room -= 1;
     }
 
-    /// Inserts `count` places with `value` before `place`. Needs room for at most two runs, and does not allocate.
+    /// Inserts `count` places with `value` before `place`. There must be room for two more
+    /// runs. Allocates nothing.
     pub fn insert_value(&mut self, place: usize, count: usize, value: V)
         requires within { place ≤ length self.old.values }
         requires fits { length self.old.values + count ≤ P.GREATEST }
-        requires room { 2 ≤ self.old.room }
+        requires room { HasRoom V.eq 2 self.old }
         ensures values { self.new.values ≡ inserted self.old.values place count value }
         ensures default { self.new.default ≡ self.old.default }
-        ensures room { self.old.room ≤ self.new.room + 2 }
-        ensures memory { KeepsMemory V.eq self.old self.new }
+        ensures runs { run_count V.eq self.new.values ≤ run_count V.eq self.old.values + 2 }
+        ensures capacity { self.new.capacity ≡ self.old.capacity }
     {
         if count == 0 {
             return;
@@ -237,13 +238,13 @@ impl<P: Place, V: Copy + Eq, A: Allocator> RunStyles<P, V, A> {
         let _ = self.fill(place, count, value);
     }
 
-    /// Deletes `count` places from `place` on. Needs no room, and does not allocate.
+    /// Deletes `count` places from `place` on. Adds no run, and allocates nothing.
     pub fn delete_range(&mut self, place: usize, count: usize)
         requires { place + count ≤ length self.old.values }
         ensures values { self.new.values ≡ deleted self.old.values place count }
         ensures default { self.new.default ≡ self.old.default }
-        ensures room { self.old.room ≤ self.new.room }
-        ensures memory { KeepsMemory V.eq self.old self.new }
+        ensures runs { run_count V.eq self.new.values ≤ run_count V.eq self.old.values }
+        ensures capacity { self.new.capacity ≡ self.old.capacity }
     {
         if count == 0 {
             return;

@@ -1,8 +1,7 @@
 //! The steps of the calls of `RunStyles`, over its two fields: the starts of the runs, and their values. Between the
-//! steps two neighbouring runs may have the same value. No step allocates: the number of cells of each block stays the
-//! same (`start_cells`, `value_cells`).
+//! steps two neighbouring runs may have the same value. No step allocates: each block keeps its cells (`cells`).
 ghost use Rattle.std.specs.Prelude.{ℕ, ◌≡◌, ◌≢◌, ◌⊎◌, ◌≤◌, ◌<◌, ◌+◌, ◌-◌, ◌^◌, [], ◌∷◌, ◌++◌, Some, length, take, drop, slice_get, slice_index, slice_index_or, insert, remove, IfNone, IfSome};
-ghost use Rattle.run_styles.specs.Expansion.{DifferBefore, HasPlaces, IsExact, IsInRun, IsInsideOrEnd, IsInsideRun, IsTable, NeighboursDiffer, deleted_from_run, deleted_in_run, end_of_run, inserted_at_end, list_of, runs_filled, start_of_run, start_or_end, starts_without};
+ghost use Rattle.run_styles.specs.Expansion.{DifferBefore, GainAtMost, HasPlaces, IsExact, IsInRun, IsInsideOrEnd, IsInsideRun, IsTable, KeepCells, NeighboursDiffer, deleted_from_run, deleted_in_run, end_of_run, inserted_at_end, list_of, runs_filled, start_of_run, start_or_end, starts_without};
 ghost use Rattle.run_styles.specs.Runs.{IsFilled, filled, inserted};
 ghost use Rattle.run_styles.specs.Changes.{IsTrimmed};
 
@@ -112,10 +111,8 @@ pub(crate) fn join_runs<P: Place, V: Copy, A: Allocator>(
     ensures starts { starts.new.starts ≡ take from starts.old.starts ++ drop to starts.old.starts }
     ensures values { values.new.items ≡ take from values.old.items ++ drop to values.old.items }
     ensures length { starts.new.length ≡ starts.old.length }
-    ensures room { starts.old.room ≤ starts.new.room }
-    ensures spare { values.old.spare ≤ values.new.spare }
-    ensures start_cells { length starts.new.starts + starts.new.room ≡ length starts.old.starts + starts.old.room }
-    ensures value_cells { length values.new.items + values.new.spare ≡ length values.old.items + values.old.spare }
+    ensures few { GainAtMost 0 starts.old values.old starts.new values.new }
+    ensures cells { KeepCells starts.old values.old starts.new values.new }
 {
     for _ in from..to {
         starts.remove(from);
@@ -138,10 +135,8 @@ pub(crate) fn split_run<P: Place, V: Copy, A: Allocator>(
     ensures starts { starts.new.starts ≡ insert starts.old.starts (index + 1) place }
     ensures values { values.new.items ≡ take (index + 1) values.old.items ++ drop index values.old.items }
     ensures length { starts.new.length ≡ starts.old.length }
-    ensures room { starts.new.room + 1 ≡ starts.old.room }
-    ensures spare { values.new.spare + 1 ≡ values.old.spare }
-    ensures start_cells { length starts.new.starts + starts.new.room ≡ length starts.old.starts + starts.old.room }
-    ensures value_cells { length values.new.items + values.new.spare ≡ length values.old.items + values.old.spare }
+    ensures few { GainAtMost 1 starts.old values.old starts.new values.new }
+    ensures cells { KeepCells starts.old values.old starts.new values.new }
 {
     let _count = starts.count();
     let value = values.get(index);
@@ -166,10 +161,8 @@ pub(crate) fn end_at<P: Place, V: Copy, A: Allocator>(
     ensures front { take (index + 1) values.new.items ≡ take (index + 1) values.old.items }
     ensures behind { NeighboursDiffer (drop (index + 1) values.new.items) }
     ensures length { starts.new.length ≡ starts.old.length }
-    ensures room { starts.old.room ≤ starts.new.room + 1 }
-    ensures spare { values.old.spare ≤ values.new.spare + 1 }
-    ensures start_cells { length starts.new.starts + starts.new.room ≡ length starts.old.starts + starts.old.room }
-    ensures value_cells { length values.new.items + values.new.spare ≡ length values.old.items + values.old.spare }
+    ensures few { GainAtMost 1 starts.old values.old starts.new values.new }
+    ensures cells { KeepCells starts.old values.old starts.new values.new }
 {
     if place < end_of(starts, index) {
         split_run(starts, values, index, place);
@@ -195,10 +188,8 @@ pub(crate) fn start_at<P: Place, V: Copy, A: Allocator>(
     ensures starts_behind { drop (result + 1) starts.new.starts ≡ drop (index + 1) starts.old.starts }
     ensures values_behind { drop (result + 1) values.new.items ≡ drop (index + 1) values.old.items }
     ensures length { starts.new.length ≡ starts.old.length }
-    ensures room { starts.old.room ≤ starts.new.room + 1 }
-    ensures spare { values.old.spare ≤ values.new.spare + 1 }
-    ensures start_cells { length starts.new.starts + starts.new.room ≡ length starts.old.starts + starts.old.room }
-    ensures value_cells { length values.new.items + values.new.spare ≡ length values.old.items + values.old.spare }
+    ensures few { GainAtMost 1 starts.old values.old starts.new values.new }
+    ensures cells { KeepCells starts.old values.old starts.new values.new }
 {
     if starts.start_of(index) == place {
         return index;
@@ -264,10 +255,8 @@ pub(crate) fn replace_runs<P: Place, V: Copy + Eq, A: Allocator>(
     ensures list { list_of starts.new values.new ≡ runs_filled starts.old values.old first end value }
     ensures differ { NeighboursDiffer values.new.items }
     ensures length { starts.new.length ≡ starts.old.length }
-    ensures room { starts.old.room ≤ starts.new.room }
-    ensures spare { values.old.spare ≤ values.new.spare }
-    ensures start_cells { length starts.new.starts + starts.new.room ≡ length starts.old.starts + starts.old.room }
-    ensures value_cells { length values.new.items + values.new.spare ≡ length values.old.items + values.old.spare }
+    ensures few { GainAtMost 0 starts.old values.old starts.new values.new }
+    ensures cells { KeepCells starts.old values.old starts.new values.new }
 {
     let from = widened_start(values, first, value);
     let to = widened_end(values, end, value);
@@ -294,10 +283,8 @@ pub(crate) fn overwrite<P: Place, V: Copy + Eq, A: Allocator>(
     ensures list { list_of starts.new values.new ≡ filled (list_of starts.old values.old) low (high - low) value }
     ensures differ { NeighboursDiffer values.new.items }
     ensures length { starts.new.length ≡ starts.old.length }
-    ensures room { starts.old.room ≤ starts.new.room + 2 }
-    ensures spare { values.old.spare ≤ values.new.spare + 2 }
-    ensures start_cells { length starts.new.starts + starts.new.room ≡ length starts.old.starts + starts.old.room }
-    ensures value_cells { length values.new.items + values.new.spare ≡ length values.old.items + values.old.spare }
+    ensures few { GainAtMost 2 starts.old values.old starts.new values.new }
+    ensures cells { KeepCells starts.old values.old starts.new values.new }
 {
     let last = run_near(starts, high - 1, likely_last);
     end_at(starts, values, last, high);
@@ -398,10 +385,8 @@ pub(crate) fn join_at<P: Place, V: Copy + Eq, A: Allocator>(
     ensures list { list_of starts.new values.new ≡ list_of starts.old values.old }
     ensures differ { NeighboursDiffer values.new.items }
     ensures length { starts.new.length ≡ starts.old.length }
-    ensures room { starts.old.room ≤ starts.new.room }
-    ensures spare { values.old.spare ≤ values.new.spare }
-    ensures start_cells { length starts.new.starts + starts.new.room ≡ length starts.old.starts + starts.old.room }
-    ensures value_cells { length values.new.items + values.new.spare ≡ length values.old.items + values.old.spare }
+    ensures few { GainAtMost 0 starts.old values.old starts.new values.new }
+    ensures cells { KeepCells starts.old values.old starts.new values.new }
 {
     let count = starts.count();
     if 0 < index && index < count && values.get(index - 1) == values.get(index) {
@@ -422,10 +407,8 @@ pub(crate) fn drop_run<P: Place, V: Copy, A: Allocator>(
     ensures starts { starts.new.starts ≡ starts_without starts.old index count }
     ensures values { values.new.items ≡ take index values.old.items ++ drop (index + 1) values.old.items }
     ensures length { starts.new.length + count ≡ starts.old.length }
-    ensures room { starts.old.room ≤ starts.new.room }
-    ensures spare { values.old.spare ≤ values.new.spare }
-    ensures start_cells { length starts.new.starts + starts.new.room ≡ length starts.old.starts + starts.old.room }
-    ensures value_cells { length values.new.items + values.new.spare ≡ length values.old.items + values.old.spare }
+    ensures few { GainAtMost 0 starts.old values.old starts.new values.new }
+    ensures cells { KeepCells starts.old values.old starts.new values.new }
 {
     // The run before it, or the first, takes its places, and then loses as many.
     let joined = index.max(1);
@@ -449,10 +432,8 @@ pub(crate) fn take_from<P: Place, V: Copy, A: Allocator>(
     ensures front { take index values.new.items ≡ take index values.old.items }
     ensures behind { NeighboursDiffer (drop index values.old.items) → NeighboursDiffer (drop index values.new.items) }
     ensures length { starts.new.length + count ≡ starts.old.length }
-    ensures room { starts.old.room ≤ starts.new.room }
-    ensures spare { values.old.spare ≤ values.new.spare }
-    ensures start_cells { length starts.new.starts + starts.new.room ≡ length starts.old.starts + starts.old.room }
-    ensures value_cells { length values.new.items + values.new.spare ≡ length values.old.items + values.old.spare }
+    ensures few { GainAtMost 0 starts.old values.old starts.new values.new }
+    ensures cells { KeepCells starts.old values.old starts.new values.new }
 {
     let whole = end_of(starts, index) - starts.start_of(index);
     if count < whole {
@@ -480,10 +461,8 @@ pub(crate) fn delete_runs<P: Place, V: Copy, A: Allocator>(
     ensures index { index ≤ length values.new.items }
     ensures front { take index values.new.items ≡ take index values.old.items }
     ensures behind { NeighboursDiffer (drop index values.new.items) }
-    ensures room { starts.old.room ≤ starts.new.room }
-    ensures spare { values.old.spare ≤ values.new.spare }
-    ensures start_cells { length starts.new.starts + starts.new.room ≡ length starts.old.starts + starts.old.room }
-    ensures value_cells { length values.new.items + values.new.spare ≡ length values.old.items + values.old.spare }
+    ensures few { GainAtMost 0 starts.old values.old starts.new values.new }
+    ensures cells { KeepCells starts.old values.old starts.new values.new }
 {
     let mut left = count;
     while left > 0 {
@@ -508,10 +487,8 @@ pub(crate) fn insert_first<P: Place, V: Copy, A: Allocator>(
     ensures table { IsTable starts.new.starts values.new.items starts.new.length }
     ensures list { list_of starts.new values.new ≡ inserted (list_of starts.old values.old) 0 count value }
     ensures values { values.new.items ≡ value ∷ values.old.items }
-    ensures room { starts.old.room ≤ starts.new.room + 1 }
-    ensures spare { values.old.spare ≤ values.new.spare + 1 }
-    ensures start_cells { length starts.new.starts + starts.new.room ≡ length starts.old.starts + starts.old.room }
-    ensures value_cells { length values.new.items + values.new.spare ≡ length values.old.items + values.old.spare }
+    ensures few { GainAtMost 1 starts.old values.old starts.new values.new }
+    ensures cells { KeepCells starts.old values.old starts.new values.new }
 {
     starts.insert_text(0, count);
     starts.insert_reserved(1, count);
@@ -532,10 +509,8 @@ pub(crate) fn insert_last<P: Place, V: Copy, A: Allocator>(
     ensures table { IsTable starts.new.starts values.new.items starts.new.length }
     ensures list { list_of starts.new values.new ≡ inserted_at_end starts.old values.old count value }
     ensures values { values.new.items ≡ values.old.items ++ value ∷ [] }
-    ensures room { starts.old.room ≤ starts.new.room + 1 }
-    ensures spare { values.old.spare ≤ values.new.spare + 1 }
-    ensures start_cells { length starts.new.starts + starts.new.room ≡ length starts.old.starts + starts.old.room }
-    ensures value_cells { length values.new.items + values.new.spare ≡ length values.old.items + values.old.spare }
+    ensures few { GainAtMost 1 starts.old values.old starts.new values.new }
+    ensures cells { KeepCells starts.old values.old starts.new values.new }
 {
     let place = starts.length();
     let index = starts.count();

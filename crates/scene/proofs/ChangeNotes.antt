@@ -1,8 +1,7 @@
 -- The notes of the changes that undo or redo performs are at most as many as the need says.
-use Rattle.scene.proofs.Names.{◌≡◌, ℕ, zero, suc, ◌+◌, ◌*◌, ◌≤◌, Bool, true, false, cond, List, [], ◌∷◌, ◌++◌, length, refl, ap, ◌∙◌, subst, arith, length-append, ℤ, filter, filter_map, bit_or, nat_lt, slice_get, Some, length-map, Notice, meets, growth, Step, Insert, Delete, step_bytes, Change, TextStep, ContainerStep, heard, before_note, after_note, View, view_at, watching, lines_in, Scene, document_after, view_after, last_bits, container_note, change_performed, Direction, hearers, before_kind, after_kind, bits_of, all_bits, every_kind, performed_kinds, container_kinds, notes_of_change, bytes_of_change, notes_of_changes, bytes_of_changes}
+use Rattle.scene.proofs.Names.{◌≡◌, ℕ, zero, suc, ◌+◌, ◌*◌, ◌≤◌, Bool, true, false, cond, List, [], ◌∷◌, ◌++◌, length, refl, ap, ◌∙◌, subst, arith, length-append, ℤ, filter_map, bit_or, nat_lt, slice_get, Some, length-map, Notice, meets, growth, Step, Insert, Delete, step_bytes, Change, TextStep, ContainerStep, heard, before_note, after_note, View, view_at, watching, lines_in, Scene, document_after, view_after, last_bits, container_note, change_performed, Direction, hearers, before_kind, after_kind, bits_of, all_bits, every_kind, performed_kinds, container_kinds, notes_of_change, bytes_of_change, notes_of_changes, bytes_of_changes}
 use Rattle.ed_model.specs.Notes as notes
 use Rattle.document.specs.declared.undoing.Direction.TheVariants.{Undo, Redo}
-use Rattle.scene.proofs.ToldSoFar.{length_told}
 use Rattle.scene.proofs.KindLemmas.{meets_left, meets_right, meets_more, after_more, heard_few, hearers_more, before_kind_is, after_kind_is}
 use Rattle.scene.proofs.NeedLemmas.{hear_same, watch_after}
 

@@ -1,12 +1,10 @@
--- The steps among the changes that undo or redo performs, and the room left for them.
-use Rattle.scene.proofs.Names.{◌≡◌, ℕ, suc, ◌+◌, ◌-◌, ◌^◌, ◌<◌, ◌≤◌, Bool, List, ◌∷◌, length, drop, refl, ap, sym, ◌∙◌, subst, arith, drop-cons, slice_range, slice_get, Option, Some, IsSomeAnd, length-drop, length-take, slice_get_within, get_or_from_slice_get, LineEndTypes, Step, place_of, step_bytes, edited, CellsFollowBytes, Change, ContainerStep, end_of, Document, View, text_of, AreStepsOf, text_steps, Scene, document_after, change_performed, length_slice, DocumentRoom, step_in, IsStepOn, TakesRoom, no_room, outline_of, room_of_change, movement_of, count_of, IsSmallStep, hearers, note_room, bytes_of_change, notes_of_change, free_behind, freed_by, outline_kinds, outline_movement, performed_kinds, room_beside, ChangeFits}
+-- The steps among the changes that undo or redo performs.
+use Rattle.scene.proofs.Names.{◌≡◌, ℕ, suc, ◌+◌, ◌-◌, ◌^◌, ◌<◌, ◌≤◌, Bool, List, ◌∷◌, length, drop, refl, ap, sym, ◌∙◌, subst, arith, drop-cons, slice_range, slice_get, Option, Some, IsSomeAnd, length-drop, length-take, slice_get_within, get_or_from_slice_get, LineEndTypes, Step, place_of, step_bytes, edited, CellsFollowBytes, Change, ContainerStep, end_of, Document, View, text_of, AreStepsOf, text_steps, Scene, document_after, change_performed, length_slice, step_in, IsStepOn, need_of_step, outline_of, movement_of, count_of, IsSmallStep, hearers, note_room, bytes_of_change, notes_of_change, outline_kinds, outline_movement, performed_kinds, ChangeFits}
 use Rattle.ed_model.specs.Steps as model
 use Rattle.ed_model.specs.History.{TextStep as Text}
 use Rattle.ed_model.specs.InverseLaws.{Fits}
 use Rattle.document.specs.declared.text_step.TextStep.{TextStep}
 use Rattle.document.specs.declared.text_step.TextStep.TheVariants.{Insert, Delete}
-use Rattle.document.specs.Undoing.{room_of_step}
-use Rattle.scene.specs.Undoing.{both_rooms}
 
 -- A step of a change.
 
@@ -68,62 +66,17 @@ pub steps_left : CellsFollowBytes → (who several : ℕ) (last changed : Bool) 
 steps_left law who several last changed (Text s) cs scene all = subst (λ text. AreStepsOf text (text_steps cs)) (sym (text_after law s scene.document)) all.1
 steps_left law who several last changed (ContainerStep token coalesce) cs scene all = all
 
--- The room now is at least the old room and the `free` bytes, less what the changes so far needed.
-pub record LeavesRoom (old now : DocumentRoom) (free : ℕ) (whole rest : DocumentRoom) : Type 0 where
-  pub text : old.text + free + rest.text ≤ now.text + whole.text
-  pub lines : old.lines + rest.lines ≤ now.lines + whole.lines
-  pub insertions : old.insertions + rest.insertions ≤ now.insertions + whole.insertions
-  pub steps : old.steps + rest.steps ≤ now.steps + whole.steps
-  pub bytes : old.bytes + rest.bytes ≤ now.bytes + whole.bytes
-
-pub leaves_all : (old whole : DocumentRoom) → LeavesRoom old old 0 whole whole
-leaves_all old whole = record { text = omega arith; lines = omega arith; insertions = omega arith; steps = omega arith; bytes = omega arith }
-
-text_next : (types : LineEndTypes) (c : Change) (old now new free whole rest : ℕ) → old + free + (((room_of_change types c).text - free) + rest) ≤ now + whole
-    → now + freed_by c ≤ new + (room_of_change types c).text → old + free_behind free c + rest ≤ new + whole
-text_next types (Text (model.Insert place bytes)) old now new free whole rest so freed = omega arith
-text_next types (Text (model.Delete place bytes)) old now new free whole rest so freed = omega arith
-text_next types (ContainerStep token coalesce) old now new free whole rest so freed = omega arith
-
-pub leaves_next : (types : LineEndTypes) (c : Change) (old now new : DocumentRoom) (free : ℕ) (whole rest : DocumentRoom) → LeavesRoom old now free whole (both_rooms (room_beside types free c) rest)
-    → TakesRoom now new (room_of_change types c) → now.text + freed_by c ≤ new.text + (room_of_change types c).text → LeavesRoom old new (free_behind free c) whole rest
-leaves_next types c old now new free whole rest so takes freed =
-    let b = so.lines in
-    let i = so.insertions in
-    let d = so.steps in
-    let e = so.bytes in
-    let b' = takes.lines_left in
-    let i' = takes.insertions_left in
-    let d' = takes.steps_left in
-    let e' = takes.bytes_left in
-    record {
-      text = text_next types c old.text now.text new.text free whole.text rest.text so.text freed;
-      lines = omega arith;
-      insertions = omega arith;
-      steps = omega arith;
-      bytes = omega arith;
-    }
-
-pub leaves_none : (old now : DocumentRoom) (free : ℕ) (whole : DocumentRoom) → LeavesRoom old now free whole no_room → TakesRoom old now whole
-leaves_none old now free whole so =
-    let a = so.text in
-    let b = so.lines in
-    let c = so.insertions in
-    let d = so.steps in
-    let e = so.bytes in
-    record { text_left = omega arith; lines_left = omega arith; insertions_left = omega arith; steps_left = omega arith; bytes_left = omega arith }
-
 -- The numbers of a step that has its room are small.
 
-pub small_count : (types : LineEndTypes) (s : Step) (text : List ℕ) (room : ℕ) → Fits s text → (room_of_step types s).text ≤ room → length text + room < 2 ^ 61
+pub small_count : (types : LineEndTypes) (s : Step) (text : List ℕ) → Fits s text → length text + (need_of_step types s).text < 2 ^ 61
     → length text + count_of (movement_of s) < 2 ^ 64
-small_count types (model.Insert p bytes) text room fits put bound = omega arith
-small_count types (model.Delete p bytes) text room fits put bound = let w = deletes_within p bytes text fits in omega arith
+small_count types (model.Insert p bytes) text fits bound = omega arith
+small_count types (model.Delete p bytes) text fits bound = let w = deletes_within p bytes text fits in omega arith
 
-pub small_fits : (types : LineEndTypes) (s : Step) (text : List ℕ) (room : ℕ) → Fits s text → (room_of_step types s).text ≤ room → length text + room < 2 ^ 61
+pub small_fits : (types : LineEndTypes) (s : Step) (text : List ℕ) → Fits s text → length text + (need_of_step types s).text < 2 ^ 61
     → (place_of s < 2 ^ 63) × (length (step_bytes s) < 2 ^ 63)
-small_fits types (model.Insert p bytes) text room fits put bound = let within : p ≤ length text = fits in (omega arith, omega arith)
-small_fits types (model.Delete p bytes) text room fits put bound = let w = deletes_within p bytes text fits in (omega arith, omega arith)
+small_fits types (model.Insert p bytes) text fits bound = let within : p ≤ length text = fits in (omega arith, omega arith)
+small_fits types (model.Delete p bytes) text fits bound = let w = deletes_within p bytes text fits in (omega arith, omega arith)
 
 -- the numbers of a lent step are those of the step that it stands for
 pub small_lent : (step : TextStep) (s : Step) (text : List ℕ) → step_in step text ≡ s → IsStepOn step (length text) → place_of s < 2 ^ 63

@@ -1,5 +1,5 @@
 -- What the steps of a conversion need: the same for each that inserts a byte, and the same for each that deletes one.
-use Rattle.scene.proofs.Names.{suc, ◌≡◌, ℕ, ◌+◌, ◌-◌, ◌*◌, ◌^◌, ◌==◌, min, Bool, true, false, cond, List, [], ◌∷◌, ◌++◌, length, refl, ap, sym, ◌∙◌, arith, nat_lt, if◌then◌else◌, lt-ltb, LineEnd, LineEndTypes, Default, Unicode, Step, Insert, Delete, lacks_return, lacks_feed, missing_at, missing_from, is_unwanted, unwanted_at, place_after, unwanted_from, TextStep, View, watching, Scene, completed, lines_for_insertion, DocumentRoom, document_room, amount_sum, room_sum, NoteRoom, note_room, leaving_count, notes_of_step, bytes_of_step, notes_of_steps, bytes_of_steps, both_rooms, bytes_needed, capped_room, deletions_of, notes_for, room_of_many, room_of_step, room_of_steps, rooms_added, room_of_steps_beside, same_room}
+use Rattle.scene.proofs.Names.{suc, ◌≡◌, ℕ, ◌+◌, ◌-◌, ◌*◌, ◌^◌, ◌==◌, min, Bool, true, false, cond, List, [], ◌∷◌, ◌++◌, length, refl, ap, sym, ◌∙◌, arith, nat_lt, if◌then◌else◌, lt-ltb, LineEnd, LineEndTypes, Default, Unicode, Step, Insert, Delete, lacks_return, lacks_feed, missing_at, missing_from, is_unwanted, unwanted_at, place_after, unwanted_from, TextStep, View, watching, Scene, completed, lines_for_insertion, DocumentNeed, document_need, amount_sum, amounts_added, NoteRoom, note_room, leaving_count, notes_of_step, bytes_of_step, notes_of_steps, bytes_of_steps, both_rooms, bytes_needed, capped_room, deletions_of, notes_for, room_of_many, need_of_step, room_of_steps, rooms_added, room_of_steps_beside, same_room}
 use Rattle.std.proofs.Math.Nat.{mul-suc}
 use Rattle.scene.specs.Conversion.{free_behind, capped, capped_notes}
 
@@ -7,7 +7,7 @@ use Rattle.scene.specs.Conversion.{free_behind, capped, capped_notes}
 pub record NeedsAs (types : LineEndTypes) (views : List View) (one step : Step) : Type 0 where
   pub notes : notes_of_step views step ≡ notes_of_step views one
   pub bytes : bytes_of_step views step ≡ bytes_of_step views one
-  pub room : room_of_step types step ≡ room_of_step types one
+  pub room : need_of_step types step ≡ need_of_step types one
 
 abbrev AllNeedAs : LineEndTypes → List View → Step → List Step → Type 0
 AllNeedAs types views one [] = Unit {0}
@@ -34,15 +34,15 @@ many_bytes types views one (s ∷ steps) all =
     ap (λ n. n + bytes_of_steps views steps) all.0.bytes ∙ ap (λ n. bytes_of_step views one + n) (many_bytes types views one steps all.1)
     ∙ one_more (bytes_of_step views one) (length steps)
 
-many_rooms : (types : LineEndTypes) (views : List View) (one : Step) (steps : List Step) → AllNeedAs types views one steps → rooms_added types steps ≡ room_of_many (length steps) (room_of_step types one)
+many_rooms : (types : LineEndTypes) (views : List View) (one : Step) (steps : List Step) → AllNeedAs types views one steps → rooms_added types steps ≡ room_of_many (length steps) (need_of_step types one)
 many_rooms types views one [] all =
-    let need = room_of_step types one in
+    let need = need_of_step types one in
     same_room _ _ _ _ _ _ _ _ _ _ (none need.text) (none need.lines) (none need.insertions) (none need.steps) (none need.bytes)
   where
     none : (x : ℕ) → 0 ≡ x * 0
     none x = omega arith
 many_rooms types views one (s ∷ steps) all =
-    let need = room_of_step types one in
+    let need = need_of_step types one in
     let n = length steps in
     ap (λ r. both_rooms r (rooms_added types steps)) all.0.room ∙ ap (both_rooms need) (many_rooms types views one steps all.1)
     ∙ same_room _ _ _ _ _ _ _ _ _ _ (one_more need.text n) (one_more need.lines n) (one_more need.insertions n) (one_more need.steps n) (one_more need.bytes n)
@@ -53,7 +53,7 @@ abbrev pub a_put : Step
 a_put = Insert 0 (10 ∷ [])
 
 put_as : (types : LineEndTypes) (views : List View) (p b : ℕ) → lines_for_insertion types (b ∷ []) ≡ lines_for_insertion types (10 ∷ []) → NeedsAs types views a_put (Insert p (b ∷ []))
-put_as types views p b e = record { notes = refl; bytes = refl; room = ap (λ n. document_room 1 n 1 1 1) e }
+put_as types views p b e = record { notes = refl; bytes = refl; room = ap (λ n. document_need 1 n 1 1 1) e }
 
 return_as_feed : (types : LineEndTypes) → lines_for_insertion types (13 ∷ []) ≡ lines_for_insertion types (10 ∷ [])
 return_as_feed Default = refl
@@ -99,9 +99,9 @@ pub puts_notes : (types : LineEndTypes) (views : List View) (to : LineEnd) (text
 puts_notes types views to text count e = counted_notes types views a_put (missing_from 0 false to text) count (puts_as types views to text false 0) e
 
 pub puts_room : (types : LineEndTypes) (views : List View) (to : LineEnd) (text : List ℕ) (count : ℕ) → count ≡ length (missing_from 0 false to text)
-    → capped_room (room_of_many count (room_of_step types a_put)) ≡ capped_room (rooms_added types (missing_from 0 false to text))
+    → capped_room (room_of_many count (need_of_step types a_put)) ≡ capped_room (rooms_added types (missing_from 0 false to text))
 puts_room types views to text count e =
-    ap (λ k. capped_room (room_of_many k (room_of_step types a_put))) e
+    ap (λ k. capped_room (room_of_many k (need_of_step types a_put))) e
     ∙ ap capped_room (sym (many_rooms types views a_put (missing_from 0 false to text) (puts_as types views to text false 0)))
 
 pub takes_notes : (types : LineEndTypes) (views : List View) (to : LineEnd) (text bytes : List ℕ) (count : ℕ) → length bytes ≡ 1 → count ≡ length (deletions_of to text)
@@ -111,9 +111,9 @@ takes_notes types views to text bytes count one e =
     counted_notes types views (Delete 0 bytes) (deletions_of to text) count (takes_as types views (Delete 0 bytes) (take_as types views bytes one) to (completed to text) false 0) e
 
 pub takes_room : (types : LineEndTypes) (views : List View) (to : LineEnd) (text bytes : List ℕ) (count : ℕ) → length bytes ≡ 1 → count ≡ length (deletions_of to text)
-    → capped_room (room_of_many count (room_of_step types (Delete 0 bytes))) ≡ capped_room (rooms_added types (deletions_of to text))
+    → capped_room (room_of_many count (need_of_step types (Delete 0 bytes))) ≡ capped_room (rooms_added types (deletions_of to text))
 takes_room types views to text bytes count one e =
-    ap (λ k. capped_room (room_of_many k (room_of_step types (Delete 0 bytes)))) e
+    ap (λ k. capped_room (room_of_many k (need_of_step types (Delete 0 bytes)))) e
     ∙ ap capped_room (sym (many_rooms types views (Delete 0 bytes) (deletions_of to text) (takes_as types views (Delete 0 bytes) (take_as types views bytes one) to (completed to text) false 0)))
 
 -- Insertions and deletions together.
@@ -134,7 +134,7 @@ room_of_both types [] b =
     none : (x : ℕ) → x ≡ 0 + x
     none x = omega arith
 room_of_both types (s ∷ a) b =
-    let n = room_of_step types s in
+    let n = need_of_step types s in
     let x = rooms_added types a in
     let y = rooms_added types b in
     ap (both_rooms n) (room_of_both types a b)
@@ -155,7 +155,7 @@ capped_three a b c = at_most a b c (2 ^ 64 - 1)
     at_most : (a b c m : ℕ) → min (min (min a m + min b m) m + c) m ≡ min (c + (a + b)) m
     at_most a b c m = omega arith
 
-pub both_needs : (types : LineEndTypes) (a b : List Step) → room_sum (capped_room (rooms_added types a)) (capped_room (rooms_added types b)) ≡ capped_room (rooms_added types (a ++ b))
+pub both_needs : (types : LineEndTypes) (a b : List Step) → amounts_added (capped_room (rooms_added types a)) (capped_room (rooms_added types b)) ≡ capped_room (rooms_added types (a ++ b))
 both_needs types a b =
     let x = rooms_added types a in
     let y = rooms_added types b in
@@ -163,12 +163,12 @@ both_needs types a b =
     ∙ ap capped_room (sym (room_of_both types a b))
 
 -- A conversion inserts bytes before it deletes any, so no step leaves room for a later one.
-takes_beside : (types : LineEndTypes) (views : List View) (one : Step) (steps : List Step) (free : ℕ) → AllNeedAs types views one steps → (room_of_step types one).text ≡ 0
+takes_beside : (types : LineEndTypes) (views : List View) (one : Step) (steps : List Step) (free : ℕ) → AllNeedAs types views one steps → (need_of_step types one).text ≡ 0
     → room_of_steps_beside types free steps ≡ rooms_added types steps
 takes_beside types views one [] free all e = refl
 takes_beside types views one (s ∷ steps) free all e =
-    let need = room_of_step types s in
-    let none : need.text ≡ 0 = ap (λ (r : DocumentRoom). r.text) all.0.room ∙ e in
+    let need = need_of_step types s in
+    let none : need.text ≡ 0 = ap (λ (r : DocumentNeed). r.text) all.0.room ∙ e in
     let same : need.text - free ≡ need.text = omega arith in
     ap (λ t. both_rooms (record need { text = t }) (room_of_steps_beside types (free_behind free (TextStep s)) steps)) same
     ∙ ap (both_rooms need) (takes_beside types views one steps (free_behind free (TextStep s)) all.1 e)
@@ -177,13 +177,13 @@ puts_beside : (types : LineEndTypes) (views : List View) (a b : List Step) → A
     → room_of_steps_beside types 0 (a ++ b) ≡ rooms_added types (a ++ b)
 puts_beside types views [] b all rest = rest
 puts_beside types views (Insert p bytes ∷ a) b all rest =
-    let need = room_of_step types (Insert p bytes) in
+    let need = need_of_step types (Insert p bytes) in
     let same : need.text - 0 ≡ need.text = omega arith in
     let none : 0 - length bytes ≡ 0 = omega arith in
     ap (λ t. both_rooms (record need { text = t }) (room_of_steps_beside types (0 - length bytes) (a ++ b))) same
     ∙ ap (λ f. both_rooms need (room_of_steps_beside types f (a ++ b))) none ∙ ap (both_rooms need) (puts_beside types views a b all.1 rest)
 puts_beside types views (Delete p bytes ∷ a) b all rest =
-    let e : 0 ≡ 1 = ap (λ (r : DocumentRoom). r.text) all.0.room in absurd (omega (arith, e))
+    let e : 0 ≡ 1 = ap (λ (r : DocumentNeed). r.text) all.0.room in absurd (omega (arith, e))
 
 pub conversion_beside : (types : LineEndTypes) (to : LineEnd) (text : List ℕ)
     → room_of_steps types (missing_from 0 false to text ++ deletions_of to text) ≡ rooms_added types (missing_from 0 false to text ++ deletions_of to text)

@@ -1,5 +1,5 @@
 -- The caret after the latest step of the text among the first changes.
-use Rattle.scene.proofs.Names.{◌≡◌, ℕ, ◌+◌, ◌^◌, ◌<◌, ◌≤◌, List, [], ◌∷◌, length, take, reverse, get_or, refl, ap, sym, ◌∙◌, arith, slice_get, ℤ, Option, Some, take_more, take_all, reverse-append, slice_get_within, get_or_from_slice_get, LineEndTypes, Change, TextStep, ContainerStep, latest_text_step, outline_of, room_of_change, ChangeFits, place_behind_any, place_by}
+use Rattle.scene.proofs.Names.{◌≡◌, ℕ, ◌+◌, ◌^◌, ◌<◌, ◌≤◌, List, [], ◌∷◌, length, take, reverse, get_or, refl, ap, sym, ◌∙◌, arith, slice_get, ℤ, Option, Some, take_more, take_all, reverse-append, slice_get_within, get_or_from_slice_get, LineEndTypes, Change, TextStep, ContainerStep, latest_text_step, outline_of, need_of_change, ChangeFits, place_behind_any, place_by}
 use Rattle.ed_model.specs.Steps as model
 use Rattle.document.specs.declared.undoing.ChangeOutline.{ChangeOutline}
 use Rattle.document.specs.declared.undoing.ChangeOutline.TheVariants.{Insert, Delete, Container}
@@ -59,12 +59,12 @@ caret_next cs i c (Delete place count) before at e b = sym (deletion_found cs i 
 caret_next cs i c (Container token) before at e b = b ∙ sym (container_passed cs i c token at e)
 
 -- an insertion that has its room ends at a place that is small enough
-pub ends_small : (types : LineEndTypes) (c : Change) (text : List ℕ) (room place count : ℕ) → Insert place count ≡ outline_of c → ChangeFits c text
-    → (room_of_change types c).text ≤ room → length text + room < 2 ^ 61 → place + count < 2 ^ 64
-ends_small types (TextStep (model.Insert p bytes)) text room place count e fits put bound =
+pub ends_small : (types : LineEndTypes) (c : Change) (text : List ℕ) (place count : ℕ) → Insert place count ≡ outline_of c → ChangeFits c text
+    → length text + (need_of_change types c).text < 2 ^ 61 → place + count < 2 ^ 64
+ends_small types (TextStep (model.Insert p bytes)) text place count e fits bound =
     let a : place ≡ p = cc in
     let b : count ≡ length bytes = cc in
     let within : p ≤ length text = fits in
     omega arith
-ends_small types (TextStep (model.Delete p bytes)) text room place count e fits put bound = absurd (cc)
-ends_small types (ContainerStep token coalesce) text room place count e fits put bound = absurd (cc)
+ends_small types (TextStep (model.Delete p bytes)) text place count e fits bound = absurd (cc)
+ends_small types (ContainerStep token coalesce) text place count e fits bound = absurd (cc)

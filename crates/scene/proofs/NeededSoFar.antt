@@ -1,5 +1,5 @@
 -- What the changes so far need in undo or redo, and what the remaining ones need.
-use Rattle.scene.proofs.Names.{◌≡◌, ℕ, ◌+◌, ◌^◌, ◌<◌, List, [], ◌∷◌, length, ap, ◌∙◌, subst, arith, slice_get, Some, get_or_from_slice_get, LineEndTypes, Change, View, DocumentRoom, room_of_change, no_room, amount_sum, room_sum, NoteRoom, note_room, notes_of_change, bytes_of_change, notes_of_changes, bytes_of_changes, free_behind, room_beside, room_of_changes, rooms_beside, capped, capped_notes, same_room}
+use Rattle.scene.proofs.Names.{◌≡◌, ℕ, ◌+◌, ◌^◌, ◌<◌, List, [], ◌∷◌, length, ap, ◌∙◌, subst, arith, slice_get, Some, get_or_from_slice_get, LineEndTypes, Change, View, DocumentNeed, need_of_change, nothing_needed, amount_sum, amounts_added, NoteRoom, note_room, notes_of_change, bytes_of_change, notes_of_changes, bytes_of_changes, free_behind, room_beside, room_of_changes, rooms_beside, capped, capped_notes, same_room}
 use Rattle.scene.specs.declared.need.SceneNeed.{SceneNeed}
 use Rattle.scene.specs.Undoing.{capped_room}
 
@@ -22,14 +22,14 @@ pub record IsNeededSoFar (views : List View) (who : ℕ) (types : LineEndTypes) 
   pub steps : IsSum need.document.steps (rooms_beside types free rest).steps (room_of_changes types all).steps
   pub bytes : IsSum need.document.bytes (rooms_beside types free rest).bytes (room_of_changes types all).bytes
 
-abbrev pub history_need : NoteRoom → DocumentRoom → SceneNeed
+abbrev pub history_need : NoteRoom → DocumentNeed → SceneNeed
 history_need notes document = record { notes = notes; document = document }
 
 pub needed_next : (views : List View) (who : ℕ) (types : LineEndTypes) (told free : ℕ) (c : Change) (rest after all : List Change) (need : SceneNeed)
     → IsNeededSoFar views who types told free rest all need → rest ≡ c ∷ after
     → IsNeededSoFar views who types told (free_behind free c) after all (history_need
     (note_room (amount_sum need.notes.notes (notes_of_change views who c)) (amount_sum need.notes.bytes (bytes_of_change views who c)))
-    (room_sum need.document (room_beside types free c)))
+    (amounts_added need.document (room_beside types free c)))
 needed_next views who types told free c rest after all need so e =
     let so = subst (λ cs. IsNeededSoFar views who types told free cs all need) e so in
     let room = room_beside types free c in
@@ -77,8 +77,8 @@ notes_of_one views who told cs c need e is =
     let shared : amount_sum need.bytes 0 ≡ capped (bytes_of_changes views who (c ∷ [])) = omega arith in
     rw e (ap (λ x. note_room x (amount_sum need.bytes 0)) notes ∙ ap (λ x. note_room (capped (notes_of_changes views who (c ∷ []) + told)) x) shared)
 
-pub room_of_one : (types : LineEndTypes) (cs : List Change) (c : Change) (need : DocumentRoom) → cs ≡ c ∷ [] → need ≡ room_of_change types c
-    → room_sum no_room need ≡ capped_room (room_of_changes types cs)
+pub room_of_one : (types : LineEndTypes) (cs : List Change) (c : Change) (need : DocumentNeed) → cs ≡ c ∷ [] → need ≡ need_of_change types c
+    → amounts_added nothing_needed need ≡ capped_room (room_of_changes types cs)
 room_of_one types cs c need e is =
-    let r = room_of_change types c in
+    let r = need_of_change types c in
     rw (e, is) (same_room _ _ _ _ _ _ _ _ _ _ (omega arith) (omega arith) (omega arith) (omega arith) (omega arith))

@@ -1,33 +1,10 @@
 -- The changes of undo or redo that were performed, and those that are still to be performed.
-use Rattle.scene.proofs.Names.{◌≡◌, ℕ, ◌+◌, ◌-◌, ◌<◌, ◌≤◌, Bool, true, false, List, [], ◌∷◌, map, length, drop, get_or, refl, ap, sym, ◌∙◌, subst, arith, inl, inr, ◌==◌, ◌&&◌, ◌||◌, bit_and, not, nat_lt, slice_get, Some, length-drop, and_parts, eq-eqb, ne_eqb, eqb-true, or_cases, slice_get-get_or, bit_if, multi_step, told, blank, save_point_reached, save_point_left, CellsFollowBytes, Change, TextStep, ContainerStep, Document, View, text_of, watching, AreStepsOf, text_steps, Scene, is_last, change_performed, changes_performed, save_point_change, Entries, id_of, Gathered, NoteCapacity, CanPut, is_full, KeptView, Direction, DocumentRoom, Kept, ChangeRoom, HasTextRoom, TakesRoom, IsAtMost, no_room, with_freed, marker_room_in_all, changes_of, room_of_change, save_point_told, scene_in, watchers, KeepFoldCapacities, IsWatched, hearers, masks_of, bits_of, every_kind, notes_of_changes, notes_of_change, bytes_of_changes, free_behind, freed_by, fill_behind, fill_behind_all, SpareLeft, room_of_changes, rooms_beside, save_point_notes, several_bits, CanPerform, IsPerformed}
+use Rattle.scene.proofs.Names.{◌≡◌, ℕ, ◌+◌, ◌-◌, ◌<◌, Bool, true, false, List, [], ◌∷◌, map, length, drop, get_or, refl, ap, sym, ◌∙◌, subst, arith, inl, inr, ◌==◌, ◌&&◌, ◌||◌, bit_and, not, nat_lt, slice_get, Some, length-drop, and_parts, eq-eqb, ne_eqb, eqb-true, or_cases, slice_get-get_or, bit_if, multi_step, told, blank, save_point_reached, save_point_left, CellsFollowBytes, Change, TextStep, ContainerStep, Document, View, text_of, watching, AreStepsOf, text_steps, Scene, is_last, change_performed, changes_performed, save_point_change, Entries, id_of, Gathered, NoteCapacity, CanPut, is_full, KeptView, Direction, Kept, HasTextRoom, KeepsCapacity, changes_of, save_point_told, scene_in, watchers, KeepFoldCapacities, IsWatched, hearers, masks_of, bits_of, every_kind, notes_of_changes, notes_of_change, bytes_of_changes, room_of_changes, save_point_notes, several_bits, CanPerform, IsPerformed, first_change, keeps_both, next_change}
 use Rattle.scene.specs.declared.performing.Turn.{Turn}
-use Rattle.scene.specs.Undoing.{freed_by_all}
 use Rattle.scene.specs.Performed.{CanPerformAll, AreAllPerformed}
 use Rattle.scene.proofs.KindLemmas.{none_by_masks}
 use Rattle.scene.proofs.ChangeNotes.{HearAlike, hear_alike_still, notes_alike, bytes_alike, none_of_all, performed_few, still_none}
-use Rattle.scene.proofs.ChangeSteps.{LeavesRoom, leaves_all, leaves_next, leaves_none, next_fits, steps_left}
-
--- The changes add no room except what deleted bytes leave.
-
-pub made_none : (room : DocumentRoom) → IsAtMost room room no_room
-made_none room = record { text = omega arith; lines = omega arith; insertions = omega arith; steps = omega arith; bytes = omega arith }
-
-pub made_next : (c : Change) (after : List Change) (freed : ℕ) (old now new : DocumentRoom) → IsAtMost (with_freed (freed_by_all (c ∷ after)) now) (with_freed freed old) no_room
-    → IsAtMost new (with_freed (freed_by c) now) no_room → IsAtMost (with_freed (freed_by_all after) new) (with_freed freed old) no_room
-made_next c after freed old now new so p =
-    let a = so.text in let b = so.lines in let d = so.insertions in let f = so.steps in let g = so.bytes in
-    let a' = p.text in let b' = p.lines in let d' = p.insertions in let f' = p.steps in let g' = p.bytes in
-    record { text = omega arith; lines = omega arith; insertions = omega arith; steps = omega arith; bytes = omega arith }
-
-pub made_all : (old now : DocumentRoom) → IsAtMost (with_freed 0 now) old no_room → IsAtMost now old no_room
-made_all old now so =
-    let a = so.text in
-    record { text = omega arith; lines = so.lines; insertions = so.insertions; steps = so.steps; bytes = so.bytes }
-
-pub spare_next : (all after : List Change) (c : Change) (old now new : ChangeRoom) → SpareLeft all (c ∷ after) old now
-    → new ≡ record now { markers = new.markers; fill = fill_behind now.fill c } → SpareLeft all after old new
-spare_next all after c old now new so p =
-    ap (λ (s : ChangeRoom). record s { fill = fill_behind_all s.fill after }) p ∙ ap (λ (s : ChangeRoom). record s { markers = new.markers }) so
+use Rattle.scene.proofs.ChangeSteps.{next_fits, steps_left}
 
 pub record IsPerformedSoFar (direction : Direction) (rest : List Change) (changed : Bool) (old : Kept) (views : Entries KeptView) (gathered : Gathered)
     (now : Kept) (views' : Entries KeptView) (gathered' : Gathered) : Type 0 where
@@ -37,11 +14,9 @@ pub record IsPerformedSoFar (direction : Direction) (rest : List Change) (change
       (changes_of direction old.document.history) (scene_in old.document views.entries gathered.notes)
   pub watched : IsWatched now.document views'
   pub history : now.document.history ≡ old.document.history
-  pub types : now.document.line_end_types ≡ old.document.line_end_types
   pub steps : AreStepsOf (text_of now.document) (text_steps rest)
-  pub free : ℕ
-  pub room : LeavesRoom old.room now.room free (room_of_changes old.document.line_end_types (changes_of direction old.document.history))
-      (rooms_beside old.document.line_end_types free rest)
+  pub room : HasTextRoom (room_of_changes now.document.line_end_types rest) now
+  pub memory : KeepsCapacity old now
   pub notes : CanPut (notes_of_changes (watchers now.document views') (bits_of direction) rest
       + save_point_notes (save_point_told direction old.document.history) (length (watchers now.document views'))) gathered'
   pub hear : (k : ℕ) → hearers k (watchers now.document views') ≡ hearers k (watchers old.document views)
@@ -51,9 +26,6 @@ pub record IsPerformedSoFar (direction : Direction) (rest : List Change) (change
   pub ids : map id_of views'.entries ≡ map id_of views.entries
   pub next : views'.next ≡ views.next
   pub view_capacity : views'.capacity ≡ views.capacity
-  pub none_made : IsAtMost (with_freed (freed_by_all rest) now.room) (with_freed (freed_by_all (changes_of direction old.document.history)) old.room) no_room
-  pub spare : SpareLeft (changes_of direction old.document.history) rest old.spare now.spare
-  pub markers_in_all : marker_room_in_all now ≡ marker_room_in_all old
   pub fold_capacities : KeepFoldCapacities views views'
 
 pub performed_none : (direction : Direction) (old : Kept) (views : Entries KeptView) (gathered : Gathered) → CanPerformAll direction old views gathered
@@ -62,10 +34,9 @@ performed_none direction old views gathered can = record {
   scene = refl;
   watched = can.watched;
   history = refl;
-  types = refl;
   steps = can.steps;
-  free = 0;
-  room = leaves_all old.room (room_of_changes old.document.line_end_types (changes_of direction old.document.history));
+  room = can.room;
+  memory = refl;
   notes = can.notes;
   hear = λ k. refl;
   capacity = refl;
@@ -73,9 +44,6 @@ performed_none direction old views gathered can = record {
   ids = refl;
   next = refl;
   view_capacity = refl;
-  none_made = made_none (with_freed (freed_by_all (changes_of direction old.document.history)) old.room);
-  spare = refl;
-  markers_in_all = refl;
   fold_capacities = refl;
 }
 
@@ -122,21 +90,14 @@ module _ (turn : Turn) (c : Change) (rest after : List Change) (changed : Bool) 
   pub next_can : CanPerformAll turn.direction old views gathered → slice_get (changes_of turn.direction old.document.history) turn.index ≡ Some c
       → CanPerform turn now views' gathered' c
   next_can can at =
-      let room = subst (λ cs. LeavesRoom old.room now.room so.free (room_of_changes old.document.line_end_types (changes_of turn.direction old.document.history)) (rooms_beside old.document.line_end_types so.free cs)) e so.room in
       let notes = subst (λ cs. CanPut (notes_of_changes (watchers now.document views') (bits_of turn.direction) cs + save_point_notes (save_point_told turn.direction old.document.history) (length (watchers now.document views'))) gathered') e so.notes in
       let texts = sym (ap (λ cs. gathered'.held + bytes_of_changes (watchers now.document views') (bits_of turn.direction) cs) e) ∙ so.held in
       let there = can.texts in
       let fit = ap (λ (c : NoteCapacity). c.bytes) so.capacity in
-      let text = room.text in
-      let lines = room.lines in
-      let insertions = room.insertions in
-      let a = can.room.0 in
-      let b = can.room.1 in
-      let d = can.room.2 in
       record {
         at = subst (λ h. slice_get (changes_of turn.direction h) turn.index ≡ Some c) (sym so.history) at;
         fits = next_fits c after (text_of now.document) (subst (λ cs. AreStepsOf (text_of now.document) (text_steps cs)) e so.steps);
-        room = subst (λ types. HasTextRoom now (room_of_change types c)) (sym so.types) (omega arith, omega arith, omega arith);
+        room = first_change now now.document.line_end_types c after (subst (λ cs. HasTextRoom (room_of_changes now.document.line_end_types cs) now) e so.room);
         watched = so.watched;
         notes = omega arith;
         texts = omega arith;
@@ -180,7 +141,7 @@ module _ (turn : Turn) (c : Change) (rest after : List Change) (changed : Bool) 
         let who = bits_of turn.direction in
         let all = changes_of turn.direction old.document.history in
         let W = watchers now.document views' in
-        let types = old.document.line_end_types in
+        let types = now.document.line_end_types in
         let document : new.document ≡ performed.document = ap (λ (s : Scene). s.document) p.scene in
         let put : length gathered''.notes ≡ length performed.notes = ap (λ (s : Scene). length s.notes) p.scene in
         let few = performed_few turn.direction turn.several turn.last changed' c before in
@@ -196,14 +157,12 @@ module _ (turn : Turn) (c : Change) (rest after : List Change) (changed : Bool) 
           scene = scene_next ∙ so.scene;
           watched = p.watched;
           history = ap (λ (d : Document). d.history) document ∙ history_still c who (several_bits turn) turn.last changed' before ∙ so.history;
-          types = ap (λ (d : Document). d.line_end_types) document ∙ types_still c who (several_bits turn) turn.last changed' before ∙ so.types;
           steps = subst (λ (d : Document). AreStepsOf (text_of d) (text_steps after)) (sym document)
               (steps_left law who (several_bits turn) turn.last changed' c after before (subst (λ cs. AreStepsOf (text_of now.document) (text_steps cs)) e so.steps));
-          free = free_behind so.free c;
-          room = leaves_next types c old.room now.room new.room so.free (room_of_changes types all) (rooms_beside types (free_behind so.free c) after)
-              (subst (λ cs. LeavesRoom old.room now.room so.free (room_of_changes types all) (rooms_beside types so.free cs)) e so.room)
-              (subst (λ t. TakesRoom now.room new.room (room_of_change t c)) so.types p.room)
-              (subst (λ t. now.room.text + freed_by c ≤ new.room.text + (room_of_change t c).text) so.types p.freed);
+          room = subst (λ t. HasTextRoom (room_of_changes t after) new)
+              (sym (ap (λ (d : Document). d.line_end_types) document ∙ types_still c who (several_bits turn) turn.last changed' before))
+              (next_change now new c after (subst (λ cs. HasTextRoom (room_of_changes types cs) now) e so.room) p.room);
+          memory = keeps_both old now new so.memory p.memory;
           notes = omega arith;
           hear = λ k. alike.hear k ∙ so.hear k;
           capacity = p.capacity ∙ so.capacity;
@@ -211,10 +170,6 @@ module _ (turn : Turn) (c : Change) (rest after : List Change) (changed : Bool) 
           ids = p.ids ∙ so.ids;
           next = p.next ∙ so.next;
           view_capacity = p.view_capacity ∙ so.view_capacity;
-          none_made = made_next c after (freed_by_all all) old.room now.room new.room
-              (subst (λ cs. IsAtMost (with_freed (freed_by_all cs) now.room) (with_freed (freed_by_all all) old.room) no_room) e so.none_made) p.none_made;
-          spare = spare_next all after c old.spare now.spare new.spare (subst (λ cs. SpareLeft all cs old.spare now.spare) e so.spare) p.spare;
-          markers_in_all = p.markers_in_all ∙ so.markers_in_all;
           fold_capacities = p.fold_capacities ∙ so.fold_capacities;
         }
 
@@ -230,18 +185,13 @@ performed_all direction rest changed old now views views' gathered gathered' so 
       scene = ap (λ cs. changes_performed who bits changed cs (scene_in now.document views'.entries gathered'.notes)) (sym e) ∙ so.scene;
       history = so.history;
       watched = so.watched;
-      room = leaves_none old.room now.room so.free (room_of_changes old.document.line_end_types all)
-          (subst (λ cs. LeavesRoom old.room now.room so.free (room_of_changes old.document.line_end_types all) (rooms_beside old.document.line_end_types so.free cs)) e so.room);
+      memory = so.memory;
       left = omega arith;
       capacity = so.capacity;
       held = omega arith;
       ids = so.ids;
       next = so.next;
       view_capacity = so.view_capacity;
-      none_made = made_all (with_freed (freed_by_all all) old.room) now.room
-          (subst (λ cs. IsAtMost (with_freed (freed_by_all cs) now.room) (with_freed (freed_by_all all) old.room) no_room) e so.none_made);
-      spare = subst (λ cs. SpareLeft all cs old.spare now.spare) e so.spare;
-      markers_in_all = so.markers_in_all;
       fold_capacities = so.fold_capacities;
     }
 

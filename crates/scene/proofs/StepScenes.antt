@@ -1,12 +1,13 @@
 -- A scene under a step: each view on the document can follow, all follow as the model says, and their positions are in the new text.
-use Rattle.scene.proofs.Names.{◌≡◌, ℕ, ◌+◌, ◌^◌, ◌<◌, ◌≤◌, Bool, true, false, cond, List, [], ◌∷◌, map, length, refl, ap, sym, ◌∙◌, subst, arith, ◌==◌, ◌&&◌, Some, AllByRecursion, eqb-true, eqb-false, Notice, LineEdit, fresh_lines, lines_for_step, EditsBringFewLines, Movement, movement_of, count_of, LineEndTypes, Step, end_of, History, appended, begins_transaction, at_save_point, told, blank, save_point_left, performed_user, View, Document, view_at, text_of, is_large, watching, Scene, document_after, moved_view, view_after, leaving, step_heard, step_made, Rise, StandsOn, IsViewOn, occurrences, view_id, ids_of, same_ids, length_text, view_after_id, view_after_document, all_two, map_where, length_slice, Entry, Entries, AreFewLines, KeptView, step_edits, MovesAreThoseOfSteps, StepsFitViews, bound_of, FitsWidth, step_in, IsStepOn, need_of, views_of, scene_in, AreNamed, StandsIfOn, IsWatched, left_note, user_bits, followed_at, CanFollow, CanFollowInTurn, IsSmallStep, count_in}
+use Rattle.scene.proofs.Names.{◌≡◌, ℕ, ◌+◌, ◌^◌, ◌<◌, ◌≤◌, Bool, true, false, cond, List, [], ◌∷◌, map, length, refl, ap, sym, ◌∙◌, subst, arith, ◌==◌, ◌&&◌, Some, AllByRecursion, eqb-true, eqb-false, Notice, LineEdit, fresh_lines, lines_for_step, EditsBringFewLines, Movement, movement_of, count_of, LineEndTypes, Step, end_of, History, appended, begins_transaction, at_save_point, told, blank, save_point_left, performed_user, View, Document, view_at, text_of, is_large, watching, Scene, document_after, moved_view, view_after, leaving, step_heard, step_made, Rise, StandsOn, IsViewOn, occurrences, view_id, ids_of, same_ids, length_text, view_after_id, view_after_document, all_two, map_where, length_slice, Entry, Entries, AreFewLines, KeptView, step_edits, MovesAreThoseOfSteps, StepsFitViews, DocumentNeed, Kept, HasHistoryRoom, HasTextRoom, bound_of, FitsWidth, step_in, IsStepOn, need_of, need_of_step, views_of, scene_in, AreNamed, StandsIfOn, IsWatched, left_note, user_bits, followed_at, CanFollow, CanFollowInTurn, IsSmallStep, count_in}
 use Rattle.ed_model.specs.Steps as model
 use Rattle.ed_model.specs.History.{TextStep as Text}
 use Rattle.ed_model.specs.StandingLaws.{StepsKeepViewsStanding}
 use Rattle.ed_model.specs.proved.Lines.{few_lines}
+use Rattle.undo_history.specs.Kept.{HistoryCapacity, kept, HasRoom as HistoryHasRoom}
+use Rattle.document.specs.Changes.{with_history}
 use Rattle.document.specs.declared.text_step.TextStep.{TextStep}
 use Rattle.document.specs.declared.text_step.TextStep.TheVariants.{Insert, Delete}
-use Rattle.document.specs.Undoing.{room_of_step}
 use Rattle.scene.proofs.Watching.{through, followed_through, through_none, through_once, can_in_turn, Ready, each_found, found_has, not_listed}
 
 abbrev pub scene_with : Document → List View → List Notice → Scene
@@ -22,17 +23,13 @@ end_within (Insert p bytes) text h = h
 end_within (Delete p n) text h = let l = length_slice text p n h in omega arith
 
 -- the numbers of the step are small
-pub small_step : (types : LineEndTypes) (step : TextStep) (size room : ℕ) → IsStepOn step size → (need_of types step).text ≤ room → size + room < 2 ^ 61 → IsSmallStep step
-small_step types (Insert p bytes) size room on put bound = (omega arith, omega arith)
-small_step types (Delete p n) size room on put bound = (omega arith, omega arith)
+pub small_step : (types : LineEndTypes) (step : TextStep) (size : ℕ) → IsStepOn step size → size + (need_of types step).text < 2 ^ 61 → IsSmallStep step
+small_step types (Insert p bytes) size on bound = (omega arith, omega arith)
+small_step types (Delete p n) size on bound = (omega arith, omega arith)
 
 pub count_is : (step : TextStep) (text : List ℕ) → IsStepOn step (length text) → count_of (movement_of (step_in step text)) ≡ count_in step
 count_is (Insert p bytes) text h = refl
 count_is (Delete p n) text h = length_slice text p n h
-
-pub lines_of_need : (types : LineEndTypes) (step : TextStep) (text : List ℕ) → (need_of types step).lines ≡ lines_for_step types (step_in step text)
-lines_of_need types (Insert p bytes) text = refl
-lines_of_need types (Delete p n) text = refl
 
 pub same_scene : (d d' : Document) (vs vs' : List View) (ns ns' : List Notice) → d ≡ d' → vs ≡ vs' → ns ≡ ns'
     → scene_with d vs ns ≡ scene_with d' vs' ns'
@@ -75,20 +72,22 @@ pub few_enough : (large : Bool) (n k : ℕ) → n < bound_of large → k ≤ n +
 few_enough true n k bound few = (omega arith, λ e. absurd (cc))
 few_enough false n k bound few = (omega arith, λ e. omega arith)
 
-pub narrower : (d : Document) (n m : ℕ) → FitsWidth d (n + m) → FitsWidth d n
-narrower d n m wide = less (bound_of (is_large d)) wide
+-- a text that fits into the width of a document is short
+pub short_enough : (d : Document) (n : ℕ) → FitsWidth d n → n < 2 ^ 61
+short_enough d n wide = go (is_large d) wide
   where
-    less : (bound : ℕ) → n + m < bound → n < bound
-    less bound h = omega arith
+    go : (large : Bool) → n < bound_of large → n < 2 ^ 61
+    go true h = h
+    go false h = omega arith
 
--- a step that finds room in the text adds few lines
-pub few_for_step : (types : LineEndTypes) (step : Step) (room : ℕ) → (room_of_step types step).text ≤ room → lines_for_step types step ≤ room + 6
-few_for_step types (model.Insert place bytes) room fits = let few = few_lines types bytes in omega arith
-few_for_step types (model.Delete place bytes) room fits = omega arith
+-- a step adds few lines beyond its bytes
+pub few_for_step : (types : LineEndTypes) (step : Step) → lines_for_step types step ≤ (need_of_step types step).text + 6
+few_for_step types (model.Insert place bytes) = let few = few_lines types bytes in omega arith
+few_for_step types (model.Delete place bytes) = omega arith
 
-pub few_for_lent : (types : LineEndTypes) (step : TextStep) (text : List ℕ) (room : ℕ) → (need_of types step).text ≤ room → lines_for_step types (step_in step text) ≤ room + 6
-few_for_lent types (Insert place bytes) text room fits = let few = few_lines types bytes.now in omega arith
-few_for_lent types (Delete place count) text room fits = omega arith
+pub few_for_lent : (types : LineEndTypes) (step : TextStep) (text : List ℕ) → lines_for_step types (step_in step text) ≤ (need_of types step).text + 6
+few_for_lent types (Insert place bytes) text = let few = few_lines types bytes.now in omega arith
+few_for_lent types (Delete place count) text = omega arith
 
 pub stands_can : (step : Step) (d : Document) (room : ℕ) (v : View) → StepsFitViews → EditsBringFewLines → end_of step ≤ length (text_of d)
     → length d.cells + count_of (movement_of step) < 2 ^ 64 → FitsWidth d (length d.cells + room) → lines_for_step d.line_end_types step ≤ room + 6 → StandsOn d v
@@ -188,3 +187,14 @@ pub made_as_heard : (later : Bool) (s : Step) (d : Document) (entries : List (En
 made_as_heard later s d entries ns =
     ap (λ l. step_heard performed_user (user_bits (begins_transaction later (Text s) d.history)) l s (scene_in (record d { history = appended later (Text s) d.history }) entries ns))
     (left_is_leaving (watching (views_of entries) d) d.history)
+
+-- Room is what the document's parts say: another history keeps that for the text, and the same history in the same capacity keeps its own.
+
+pub text_room_with_history : (k : Kept) (h : History) (need : DocumentNeed) → HasTextRoom need k → HasTextRoom need (with_history h k)
+text_room_with_history k h need room = record { width = room.width; bytes = room.bytes; styles = room.styles; lines = room.lines; runs = room.runs }
+
+pub same_history_room : (k k' : Kept) (need : DocumentNeed) → k'.document.history ≡ k.document.history → k'.capacity.history ≡ k.capacity.history
+    → HasHistoryRoom need k → HasHistoryRoom need k'
+same_history_room k k' need same capacity room =
+    subst (λ (c : HistoryCapacity). HistoryHasRoom need.steps need.bytes (kept k'.document.history c)) (sym capacity)
+    (subst (λ (h : History). HistoryHasRoom need.steps need.bytes (kept h k.capacity.history)) (sym same) room)

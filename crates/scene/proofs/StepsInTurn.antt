@@ -1,119 +1,42 @@
 -- Steps in turn, from the room that was reserved for all of them.
-use Rattle.scene.proofs.Names.{zero, suc, ◌≡◌, ℕ, ◌+◌, ◌<◌, ◌≤◌, Bool, true, false, List, [], ◌∷◌, ◌++◌, length, map, take, drop, refl, ap, sym, ◌∙◌, subst, arith, slice_range, None, length-take, length-drop, LineEnd, Step, Insert, Delete, edited, after_steps, conversion_steps, unwanted_from, TextStep, Document, text_of, Scene, step_made, steps_made, bytes_of_edited_cells, length_of_range, length_text, DocumentRoom, Kept, ChangeRoom, HasRoom, TakesRoom, no_room, AddsNoRoomBut, marker_room_in_all, bytes_out, need_of, Entries, KeptView, Gathered, IsNextMissing, IsNextUnwanted, completed, missing_in, unwanted_in, scene_in, KeepFoldCapacities, IsWatched, held_behind, next_held, appended_collects, deletion_needs, next_room, AreLeft, RoomsStay, both_rooms, changes_for, freed_by_all, deletions_of, room_of_step, room_of_steps, rooms_added}
+use Rattle.scene.proofs.Names.{zero, suc, ◌≡◌, ℕ, ◌+◌, ◌<◌, ◌≤◌, Bool, true, false, List, [], ◌∷◌, ◌++◌, length, take, drop, refl, ap, sym, ◌∙◌, subst, arith, slice_range, length-take, length-drop, LineEnd, Step, Insert, Delete, edited, after_steps, conversion_steps, unwanted_from, Document, text_of, Scene, step_made, steps_made, bytes_of_edited_cells, length_of_range, length_text, Kept, HasRoom, LeavesRoom, need_of, Entries, KeptView, Gathered, IsNextMissing, IsNextUnwanted, completed, missing_in, unwanted_in, scene_in, IsWatched, held_behind, next_held, deletion_needs, first_room, keeps_both, next_room, AreLeft, RoomsStay, deletions_of, room_of_steps}
 use Rattle.std.proofs.lemmas.List.{length-append}
 use Rattle.document.specs.declared.text_step.TextStep.TheVariants as lent
-use Rattle.scene.proofs.PerformedSoFar.{made_next, spare_next}
 
 -- The text after a step.
 
 pub text_after : (later : Bool) (s : Step) (scene after : Scene) → after ≡ step_made later s scene → text_of after.document ≡ edited s (text_of scene.document)
 text_after later s scene after e = ap (λ (x : Scene). text_of x.document) e ∙ bytes_of_edited_cells s scene.document.cells
 
--- Rooms.
-
--- a step uses at most the room that it needs, and adds only that of the bytes and markers that it deletes
-pub record StepLeaves (s : Step) (k k' : Kept) (v v' : Entries KeptView) : Type 0 where
-  pub text_freed : k.room.text + bytes_out s ≤ k'.room.text + (room_of_step k.document.line_end_types s).text
-  pub none_made : AddsNoRoomBut (bytes_out s) k k'
-  pub spare : k'.spare ≡ record k.spare { markers = k'.spare.markers; fill = None }
-  pub markers_in_all : marker_room_in_all k' ≡ marker_room_in_all k
-  pub fold_capacities : KeepFoldCapacities v v'
-  pub view_capacity : v'.capacity ≡ v.capacity
-
--- room left before the first step, after one more of them, after some and then the rest, and after all
-
-left_next : (old now new need rest all : DocumentRoom) → TakesRoom (both_rooms old (both_rooms need rest)) now all → TakesRoom now new need → TakesRoom (both_rooms old rest) new all
-left_next old now new need rest all so takes = record {
-  text_left = omega (arith, so.text_left, takes.text_left);
-  lines_left = omega (arith, so.lines_left, takes.lines_left);
-  insertions_left = omega (arith, so.insertions_left, takes.insertions_left);
-  steps_left = omega (arith, so.steps_left, takes.steps_left);
-  bytes_left = omega (arith, so.bytes_left, takes.bytes_left);
+-- steps that allocate nothing, and then others that allocate nothing
+pub stay_both : (k0 k k' : Kept) (v0 v v' : Entries KeptView) (n0 n n' : Gathered) → RoomsStay k0 k v0 v n0 n → RoomsStay k k' v v' n n' → RoomsStay k0 k' v0 v' n0 n'
+stay_both k0 k k' v0 v v' n0 n n' so then = record {
+  document = keeps_both k0 k k' so.document then.document;
+  fold_capacities = then.fold_capacities ∙ so.fold_capacities;
+  view_capacity = then.view_capacity ∙ so.view_capacity;
+  capacity = then.capacity ∙ so.capacity;
 }
-
-left_both : (old now new rest all : DocumentRoom) → TakesRoom (both_rooms old rest) now all → TakesRoom (both_rooms now no_room) new rest → TakesRoom (both_rooms old no_room) new all
-left_both old now new rest all so then = record {
-  text_left = omega (arith, so.text_left, then.text_left);
-  lines_left = omega (arith, so.lines_left, then.lines_left);
-  insertions_left = omega (arith, so.insertions_left, then.insertions_left);
-  steps_left = omega (arith, so.steps_left, then.steps_left);
-  bytes_left = omega (arith, so.bytes_left, then.bytes_left);
-}
-
-pub left_all : (old new all : DocumentRoom) → TakesRoom (both_rooms old no_room) new all → TakesRoom old new all
-left_all old new all so = record {
-  text_left = omega (arith, so.text_left);
-  lines_left = omega (arith, so.lines_left);
-  insertions_left = omega (arith, so.insertions_left);
-  steps_left = omega (arith, so.steps_left);
-  bytes_left = omega (arith, so.bytes_left);
-}
-
-rooms_next : (s : Step) (rest steps : List Step) (k0 k k' : Kept) (v0 v v' : Entries KeptView) (n0 n n' : Gathered) → RoomsStay (s ∷ rest) steps k0 k v0 v n0 n → StepLeaves s k k' v v'
-    → k'.document.line_end_types ≡ k.document.line_end_types → TakesRoom k.room k'.room (room_of_step k.document.line_end_types s)
-    → n'.capacity ≡ n.capacity → RoomsStay rest steps k0 k' v0 v' n0 n'
-rooms_next s rest steps k0 k k' v0 v v' n0 n n' so p types takes same = record {
-  types = types ∙ so.types;
-  room_left = left_next k0.room k.room k'.room (room_of_step k0.document.line_end_types s) (rooms_added k0.document.line_end_types rest) (rooms_added k0.document.line_end_types steps)
-      so.room_left (subst (λ t. TakesRoom k.room k'.room (room_of_step t s)) so.types takes);
-  none_made = made_next (TextStep s) (changes_for rest) (freed_by_all (changes_for steps)) k0.room k.room k'.room so.none_made p.none_made;
-  spare = spare_next (changes_for steps) (changes_for rest) (TextStep s) k0.spare k.spare k'.spare so.spare p.spare;
-  markers_in_all = p.markers_in_all ∙ so.markers_in_all;
-  fold_capacities = p.fold_capacities ∙ so.fold_capacities;
-  view_capacity = p.view_capacity ∙ so.view_capacity;
-  capacity = same ∙ so.capacity;
-}
-
--- room after some of the steps, and then after the rest
-rooms_both : (rest steps : List Step) (k0 k k' : Kept) (v0 v v' : Entries KeptView) (n0 n n' : Gathered) → RoomsStay rest steps k0 k v0 v n0 n → RoomsStay [] rest k k' v v' n n'
-    → RoomsStay [] steps k0 k' v0 v' n0 n'
-rooms_both rest steps k0 k k' v0 v v' n0 n n' so then =
-    let a = so.none_made.text in let b = so.none_made.lines in let d = so.none_made.insertions in let f = so.none_made.steps in let g = so.none_made.bytes in
-    let a' = then.none_made.text in let b' = then.none_made.lines in let d' = then.none_made.insertions in let f' = then.none_made.steps in let g' = then.none_made.bytes in
-    record {
-      types = then.types ∙ so.types;
-      room_left = left_both k0.room k.room k'.room (rooms_added k0.document.line_end_types rest) (rooms_added k0.document.line_end_types steps) so.room_left
-          (subst (λ t. TakesRoom (both_rooms k.room no_room) k'.room (rooms_added t rest)) so.types then.room_left);
-      none_made = record { text = omega arith; lines = omega arith; insertions = omega arith; steps = omega arith; bytes = omega arith };
-      spare = then.spare ∙ ap (λ (s : ChangeRoom). record s { markers = k'.spare.markers }) so.spare;
-      markers_in_all = then.markers_in_all ∙ so.markers_in_all;
-      fold_capacities = then.fold_capacities ∙ so.fold_capacities;
-      view_capacity = then.view_capacity ∙ so.view_capacity;
-      capacity = then.capacity ∙ so.capacity;
-    }
-
--- room after the insertions of a conversion, and then after its deletions
-pub rooms_of_all : (to : LineEnd) (k0 k k' : Kept) (v0 v v' : Entries KeptView) (n0 n n' : Gathered)
-    → RoomsStay (deletions_of to (text_of k0.document)) (conversion_steps to (text_of k0.document)) k0 k v0 v n0 n → text_of k.document ≡ completed to (text_of k0.document)
-    → RoomsStay [] (unwanted_from 0 false to (text_of k.document)) k k' v v' n n' → RoomsStay [] (conversion_steps to (text_of k0.document)) k0 k' v0 v' n0 n'
-rooms_of_all to k0 k k' v0 v v' n0 n n' put text took =
-    rooms_both (deletions_of to (text_of k0.document)) (conversion_steps to (text_of k0.document)) k0 k k' v0 v v' n0 n n' put
-    (subst (λ t. RoomsStay [] (unwanted_from 0 false to t) k k' v v' n n') text took)
 
 -- One of the steps is made.
 pub made_left :
     (s : Step) (rest steps : List Step) (later was : Bool) (k0 k k' : Kept) (v0 v v' : Entries KeptView) (n0 n n' : Gathered)
     → AreLeft (s ∷ rest) later steps was k0 k v0 v n0 n
     → scene_in k'.document v'.entries n'.notes ≡ step_made later s (scene_in k.document v.entries n.notes)
-    → IsWatched k'.document v' → TakesRoom k.room k'.room (room_of_step k.document.line_end_types s)
-    → n'.capacity ≡ n.capacity → n'.held ≡ held_behind later s (scene_in k.document v.entries n.notes) n.held
-    → StepLeaves s k k' v v' → v'.next ≡ v.next → AreLeft rest true steps was k0 k' v0 v' n0 n'
-made_left s rest steps later was k0 k k' v0 v v' n0 n n' left made watched takes same held leaves next =
+    → IsWatched k'.document v' → LeavesRoom s k k' → n'.held ≡ held_behind later s (scene_in k.document v.entries n.notes) n.held
+    → RoomsStay k k' v v' n n' → v'.next ≡ v.next → AreLeft rest true steps was k0 k' v0 v' n0 n'
+made_left s rest steps later was k0 k k' v0 v v' n0 n n' left made watched leaves held stay next =
     let scene = scene_in k.document v.entries n.notes in
     let after = scene_in k'.document v'.entries n'.notes in
     let types : k'.document.line_end_types ≡ k.document.line_end_types = ap (λ (x : Scene). x.document.line_end_types) made in
-    let collects : k'.document.history.collecting ≡ k.document.history.collecting =
-    ap (λ (x : Scene). x.document.history.collecting) made ∙ appended_collects later (TextStep s) k.document.history in
-    let room : HasRoom k' (room_of_steps k.document.line_end_types rest) = next_room k k' k.document.line_end_types s rest left.can.room takes leaves.text_freed collects in
     record {
       scene = ap (steps_made true rest) made ∙ left.scene;
       can = record {
         watched = watched;
-        room = subst (λ t. HasRoom k' (room_of_steps t rest)) (sym types) room;
-        holds = next_held later s rest scene after n n' left.can.holds made same held;
+        room = subst (λ t. HasRoom (room_of_steps t rest) k') (sym types) (next_room k k' s rest left.can.room leaves);
+        holds = next_held later s rest scene after n n' left.can.holds made stay.capacity held;
       };
       next = next ∙ left.next;
-      rooms = rooms_next s rest steps k0 k k' v0 v v' n0 n n' left.rooms leaves types takes same;
+      rooms = stay_both k0 k k' v0 v v' n0 n n' left.rooms stay;
     }
 
 -- The insertions of a conversion.
@@ -142,14 +65,13 @@ pub put_made :
     (to : LineEnd) (start place byte : ℕ) (later : Bool) (k0 k k' : Kept) (v0 v v' : Entries KeptView) (n0 n n' : Gathered)
     → PutsLeft to start later k0 k v0 v n0 n → IsNextMissing to (text_of k.document) start place byte
     → scene_in k'.document v'.entries n'.notes ≡ step_made later (put_of place byte) (scene_in k.document v.entries n.notes)
-    → IsWatched k'.document v' → TakesRoom k.room k'.room (room_of_step k.document.line_end_types (put_of place byte))
-    → n'.capacity ≡ n.capacity → n'.held ≡ held_behind later (put_of place byte) (scene_in k.document v.entries n.notes) n.held
-    → StepLeaves (put_of place byte) k k' v v' → v'.next ≡ v.next → PutsLeft to (place + 1) true k0 k' v0 v' n0 n'
-put_made to start place byte later k0 k k' v0 v v' n0 n n' so next made watched takes fit held leaves same =
+    → IsWatched k'.document v' → LeavesRoom (put_of place byte) k k' → n'.held ≡ held_behind later (put_of place byte) (scene_in k.document v.entries n.notes) n.held
+    → RoomsStay k k' v v' n n' → v'.next ≡ v.next → PutsLeft to (place + 1) true k0 k' v0 v' n0 n'
+put_made to start place byte later k0 k k' v0 v v' n0 n n' so next made watched leaves held stay same =
     let s = put_of place byte in
     let text : text_of k'.document ≡ edited s (text_of k.document) = text_after later s (scene_in k.document v.entries n.notes) (scene_in k'.document v'.entries n'.notes) made in
     let left = made_left s (puts_behind to place byte k0 k) (conversion_steps to (text_of k0.document)) later false k0 k k' v0 v v' n0 n n'
-    (put_next to start place byte later k0 k v0 v n0 n so next) made watched takes fit held leaves same in
+    (put_next to start place byte later k0 k v0 v n0 n so next) made watched leaves held stay same in
     let done : after_steps (missing_in to (edited s (text_of k.document)) (place + 1)) (edited s (text_of k.document)) ≡ completed to (text_of k0.document) =
     sym (ap (λ l. after_steps l (text_of k.document)) next.steps) ∙ so.text in
     let size : length (text_of k'.document) ≡ length (text_of k.document) + 1 = ap length text ∙ one_longer place byte (text_of k.document) in
@@ -188,24 +110,24 @@ take_next to start place later was k0 k v0 v n0 n so next =
 pub take_within : (to : LineEnd) (start place : ℕ) (k : Kept) → IsNextUnwanted to (text_of k.document) start place → place + 1 ≤ length k.document.cells
 take_within to start place k next = let w = next.within in omega (arith, length_text k.document)
 
--- the room that a deletion uses in the document is that of its step
-pub take_room : (to : LineEnd) (start place : ℕ) (k : Kept) (P : DocumentRoom → Type 0) → IsNextUnwanted to (text_of k.document) start place
-    → P (need_of k.document.line_end_types (lent.Delete place 1)) → P (room_of_step k.document.line_end_types (take_of place k))
-take_room to start place k P next h = subst P (sym (deletion_needs k.document.line_end_types k.document place 1 (take_within to start place k next))) h
+-- there is room for the next deletion
+pub take_room : (to : LineEnd) (start place : ℕ) (rest : List Step) (k : Kept) → IsNextUnwanted to (text_of k.document) start place
+    → HasRoom (room_of_steps k.document.line_end_types (take_of place k ∷ rest)) k → HasRoom (need_of k.document.line_end_types (lent.Delete place 1)) k
+take_room to start place rest k next room =
+    let types = k.document.line_end_types in
+    subst (λ need. HasRoom need k) (deletion_needs types k.document place 1 (take_within to start place k next)) (first_room k types (take_of place k) rest room)
 
 pub take_made :
     (to : LineEnd) (start place : ℕ) (later was : Bool) (k0 k k' : Kept) (v0 v v' : Entries KeptView) (n0 n n' : Gathered)
     → TakesLeft to start later was k0 k v0 v n0 n → IsNextUnwanted to (text_of k.document) start place
     → scene_in k'.document v'.entries n'.notes ≡ step_made later (take_of place k) (scene_in k.document v.entries n.notes)
-    → IsWatched k'.document v' → TakesRoom k.room k'.room (need_of k.document.line_end_types (lent.Delete place 1))
-    → n'.capacity ≡ n.capacity → n'.held ≡ held_behind later (take_of place k) (scene_in k.document v.entries n.notes) n.held
-    → StepLeaves (take_of place k) k k' v v' → v'.next ≡ v.next → TakesLeft to place true was k0 k' v0 v' n0 n'
-take_made to start place later was k0 k k' v0 v v' n0 n n' so next made watched takes fit held leaves same =
+    → IsWatched k'.document v' → LeavesRoom (take_of place k) k k' → n'.held ≡ held_behind later (take_of place k) (scene_in k.document v.entries n.notes) n.held
+    → RoomsStay k k' v v' n n' → v'.next ≡ v.next → TakesLeft to place true was k0 k' v0 v' n0 n'
+take_made to start place later was k0 k k' v0 v v' n0 n n' so next made watched leaves held stay same =
     let s = take_of place k in
     let text : text_of k'.document ≡ edited s (text_of k.document) = text_after later s (scene_in k.document v.entries n.notes) (scene_in k'.document v'.entries n'.notes) made in
     let left = made_left s (unwanted_in to (edited s (text_of k.document)) place) (unwanted_from 0 false to (text_of k0.document)) later was k0 k k' v0 v v' n0 n n'
-    (take_next to start place later was k0 k v0 v n0 n so next) made watched
-    (take_room to start place k (λ need. TakesRoom k.room k'.room need) next takes) fit held leaves same in
+    (take_next to start place later was k0 k v0 v n0 n so next) made watched leaves held stay same in
     let w = next.within in
     let one : length (slice_range (text_of k.document) place (place + 1)) ≡ 1 = length_of_range k.document.cells place 1 (take_within to start place k next) in
     let size : length (text_of k'.document) + 1 ≡ length (text_of k.document) =

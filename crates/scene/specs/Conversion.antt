@@ -1,69 +1,57 @@
 -- Converting the line ends of a document's text to one kind: what the steps need, and how many of them are made.
-use Rattle.std.specs.Prelude.{◌≡◌, ℕ, ◌-◌, ◌*◌, nat_lt, Bool, false, List, [], ◌∷◌, length, map, Option}
+use Rattle.std.specs.Prelude.{◌≡◌, ℕ, ◌-◌, ◌*◌, nat_lt, Bool, false, List, [], ◌∷◌, length}
 use Rattle.ed_model.specs.declared.plan.LineEnd.{LineEnd}
 use Rattle.ed_model.specs.declared.plan.LineEndTypes.{LineEndTypes}
-use Rattle.ed_model.specs.Steps.{Step, Insert, Delete}
+use Rattle.ed_model.specs.Steps.{Step}
 use Rattle.ed_model.specs.LineEnds.{conversion_steps, missing_from, unwanted_from}
-use Rattle.ed_model.specs.History.{Change, TextStep}
+use Rattle.ed_model.specs.History.{TextStep}
 use Rattle.ed_model.specs.Session.{text_of}
 use Rattle.ed_model.specs.Performing.{edit_made, steps_made}
-use Rattle.line_index.specs.RoomLaws.{lines_for_insertion, lines_for_deletion}
 use Rattle.line_ends.specs.Conversion.{IsNextMissing, IsNextUnwanted, completed, missing_in, unwanted_in}
 use Rattle.id_table.specs.Entries.{Entries}
 use Rattle.ed_view.specs.Kept.{KeptView}
 use Rattle.notify.specs.Gathered.{Gathered}
-use Rattle.document.specs.declared.room.DocumentRoom.{DocumentRoom}
+use Rattle.document.specs.declared.need.DocumentNeed.{DocumentNeed}
 use Rattle.document.specs.declared.text_step.TextStep.{TextStep as Lent}
-use Rattle.document.specs.Kept.{Kept, document_room, no_room, with_freed, HasRoom, IsAtMost, TakesRoom, marker_room_in_all}
+use Rattle.document.specs.Kept.{Kept, HasRoom, document_need, nothing_needed}
+use Rattle.document.specs.Memory.{KeepsCapacity}
+use Rattle.document.specs.TextSteps.{need_of_step}
 use Rattle.scene.specs.declared.need.NoteRoom.{NoteRoom}
 use Rattle.scene.specs.Scenes.{scene_in, kept_scene, watchers, KeepFoldCapacities, IsWatched}
 use Rattle.scene.specs.Needs.{CanHoldSteps, CanHoldEdit, notes_for, bytes_needed, notes_for_step, bytes_for_step, notes_of_steps, bytes_of_steps}
-pub use Rattle.scene.specs.Undoing.{freed_by_all, fill_behind_all, SpareLeft, both_rooms, free_behind, capped, capped_room, capped_notes}
+pub use Rattle.scene.specs.Undoing.{both_rooms, free_behind, capped, capped_room, capped_notes}
 
--- the room that a step needs in its document
-abbrev pub room_of_step : LineEndTypes → Step → DocumentRoom
-room_of_step types (Insert place bytes) = document_room (length bytes) (lines_for_insertion types bytes) 1 1 (length bytes)
-room_of_step types (Delete place bytes) = document_room 0 lines_for_deletion 0 1 (length bytes)
-
--- the same for steps in turn, if earlier steps have left `free` bytes of room
-abbrev pub room_of_steps_beside : LineEndTypes → ℕ → List Step → DocumentRoom
-room_of_steps_beside types free [] = no_room
+-- what steps in turn need of their document, if earlier steps have freed `free` bytes
+abbrev pub room_of_steps_beside : LineEndTypes → ℕ → List Step → DocumentNeed
+room_of_steps_beside types free [] = nothing_needed
 room_of_steps_beside types free (step ∷ steps) =
-    let need = room_of_step types step in both_rooms (record need { text = need.text - free }) (room_of_steps_beside types (free_behind free (TextStep step)) steps)
+    let need = need_of_step types step in both_rooms (record need { text = need.text - free }) (room_of_steps_beside types (free_behind free (TextStep step)) steps)
 
--- The room that steps in turn need. Of the text it is the most that the length ever grows beyond the length now, since deleted bytes
--- become room for inserted ones.
-abbrev pub room_of_steps : LineEndTypes → List Step → DocumentRoom
+-- What steps in turn need. Of the text it is the most that the length ever grows beyond the length now, since deleted bytes are there for
+-- inserted ones.
+abbrev pub room_of_steps : LineEndTypes → List Step → DocumentNeed
 room_of_steps types steps = room_of_steps_beside types 0 steps
 
--- the rooms of single steps, added up
-abbrev pub rooms_added : LineEndTypes → List Step → DocumentRoom
-rooms_added types [] = no_room
-rooms_added types (step ∷ steps) = both_rooms (room_of_step types step) (rooms_added types steps)
+-- what single steps need, added up
+abbrev pub rooms_added : LineEndTypes → List Step → DocumentNeed
+rooms_added types [] = nothing_needed
+rooms_added types (step ∷ steps) = both_rooms (need_of_step types step) (rooms_added types steps)
 
 -- there is room for the steps, and for their notes; `later` says that the first of them is a later step of its message
 pub record CanMakeSteps (later : Bool) (steps : List Step) (k : Kept) (views : Entries KeptView) (notes : Gathered) : Type 0 where
   pub watched : IsWatched k.document views
-  pub room : HasRoom k (room_of_steps k.document.line_end_types steps)
+  pub room : HasRoom (room_of_steps k.document.line_end_types steps) k
   pub holds : CanHoldSteps later steps (scene_in k.document views.entries notes.notes) notes
 
 -- there is room for the steps of an edit, and for their notes
 pub record CanMakeEdit (steps : List Step) (k : Kept) (views : Entries KeptView) (notes : Gathered) : Type 0 where
   pub watched : IsWatched k.document views
-  pub room : HasRoom k (room_of_steps k.document.line_end_types steps)
+  pub room : HasRoom (room_of_steps k.document.line_end_types steps) k
   pub holds : CanHoldEdit steps (scene_in k.document views.entries notes.notes) notes
 
-abbrev pub changes_for : List Step → List Change
-changes_for steps = map (λ (step : Step). TextStep step) steps
-
--- While the steps `rest` are still to be made, the others have used at most what they need, and no room was added except what deleted
--- bytes leave. Each view has kept its room, there is as much room for more views, and as many notes and texts fit in.
-pub record RoomsStay (rest steps : List Step) (before after : Kept) (views views' : Entries KeptView) (notes notes' : Gathered) : Type 0 where
-  pub types : after.document.line_end_types ≡ before.document.line_end_types
-  pub room_left : TakesRoom (both_rooms before.room (rooms_added before.document.line_end_types rest)) after.room (rooms_added before.document.line_end_types steps)
-  pub none_made : IsAtMost (with_freed (freed_by_all (changes_for rest)) after.room) (with_freed (freed_by_all (changes_for steps)) before.room) no_room
-  pub spare : SpareLeft (changes_for steps) (changes_for rest) before.spare after.spare
-  pub markers_in_all : marker_room_in_all after ≡ marker_room_in_all before
+-- Nothing was allocated: the document, the views and the notes keep their capacity.
+pub record RoomsStay (before after : Kept) (views views' : Entries KeptView) (notes notes' : Gathered) : Type 0 where
+  pub document : KeepsCapacity before after
   pub fold_capacities : KeepFoldCapacities views views'
   pub view_capacity : views'.capacity ≡ views.capacity
   pub capacity : notes'.capacity ≡ notes.capacity
@@ -74,15 +62,15 @@ pub record AreLeft (rest : List Step) (later : Bool) (steps : List Step) (was_la
   pub scene : steps_made later rest (scene_in after.document views'.entries notes'.notes) ≡ steps_made was_later steps (scene_in before.document views.entries notes.notes)
   pub can : CanMakeSteps later rest after views' notes'
   pub next : views'.next ≡ views.next
-  pub rooms : RoomsStay rest steps before after views views' notes notes'
+  pub rooms : RoomsStay before after views views' notes notes'
 
 -- the deletions of a conversion
 abbrev pub deletions_of : LineEnd → List ℕ → List Step
 deletions_of to text = unwanted_from 0 false to (completed to text)
 
 -- the same room for each of `count` steps
-abbrev pub room_of_many : ℕ → DocumentRoom → DocumentRoom
-room_of_many count need = document_room (need.text * count) (need.lines * count) (need.insertions * count) (need.steps * count) (need.bytes * count)
+abbrev pub room_of_many : ℕ → DocumentNeed → DocumentNeed
+room_of_many count need = document_need (need.text * count) (need.lines * count) (need.insertions * count) (need.steps * count) (need.bytes * count)
 
 -- A conversion of a document's text.
 
@@ -133,11 +121,6 @@ abbrev pub DeletionsAreMade : LineEnd → Bool → Kept → Kept → Entries Kep
 DeletionsAreMade to later before after views views' notes notes' =
     kept_scene after views' notes' ≡ steps_made later (unwanted_steps to before) (kept_scene before views notes)
 
--- the deletion of each unwanted byte adds no room except what deleted bytes and markers leave
-abbrev pub DeletionsKeepRooms : LineEnd → Kept → Kept → Entries KeptView → Entries KeptView → Gathered → Gathered → Type 0
-DeletionsKeepRooms to before after views views' notes notes' =
-    RoomsStay [] (unwanted_steps to before) before after views views' notes notes'
-
 -- the new scene is the old one after all steps of the conversion
 abbrev pub ConversionIsMade : LineEnd → Kept → Kept → Entries KeptView → Entries KeptView → Gathered → Gathered → Type 0
 ConversionIsMade to before after views views' notes notes' =
@@ -147,18 +130,6 @@ ConversionIsMade to before after views views' notes notes' =
 abbrev pub IsConverted : LineEnd → Kept → Kept → Entries KeptView → Entries KeptView → Gathered → Gathered → Type 0
 IsConverted to before after views views' notes notes' =
     kept_scene after views' notes' ≡ edit_made (conversion_of to before) (kept_scene before views notes)
-
--- the room that the steps of the conversion need, added up
-abbrev pub conversion_room : LineEnd → Kept → DocumentRoom
-conversion_room to k = rooms_added k.document.line_end_types (conversion_of to k)
-
--- how many bytes the conversion deletes
-abbrev pub conversion_freed : LineEnd → Kept → ℕ
-conversion_freed to k = freed_by_all (changes_for (conversion_of to k))
-
--- the indicator for whose fill there is room afterwards
-abbrev pub conversion_fill : LineEnd → Kept → Option ℕ
-conversion_fill to k = fill_behind_all k.spare.fill (changes_for (conversion_of to k))
 
 -- the room for the notes of so many steps like this one
 abbrev pub notes_for_many : ℕ → Lent → Kept → Entries KeptView → NoteRoom
@@ -171,7 +142,7 @@ notes_for_all steps k views =
     capped_notes (notes_of_steps (watchers k.document views) steps) (bytes_of_steps (watchers k.document views) steps)
 
 -- the room in the document for the steps, added up
-abbrev pub room_for_all : List Step → Kept → DocumentRoom
+abbrev pub room_for_all : List Step → Kept → DocumentNeed
 room_for_all steps k = capped_room (rooms_added k.document.line_end_types steps)
 
 -- the room for the notes of the conversion
@@ -181,5 +152,5 @@ notes_for_conversion to k views =
     (bytes_needed (scene_in k.document views.entries []) (conversion_of to k))
 
 -- the room in the document for the conversion
-abbrev pub room_for_conversion : LineEnd → Kept → DocumentRoom
+abbrev pub room_for_conversion : LineEnd → Kept → DocumentNeed
 room_for_conversion to k = capped_room (room_of_steps k.document.line_end_types (conversion_of to k))

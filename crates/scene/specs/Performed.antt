@@ -9,16 +9,17 @@ use Rattle.id_table.specs.Entries.{Entries, id_of}
 use Rattle.notify.specs.Gathered.{Gathered, CanPut, CanShare}
 use Rattle.ed_view.specs.Kept.{KeptView}
 use Rattle.document.specs.declared.undoing.Direction.{Direction}
-use Rattle.document.specs.Kept.{Kept, HasTextRoom, TakesRoom, AddsNoRoomBut, marker_room_in_all}
+use Rattle.document.specs.Kept.{Kept, HasTextRoom}
+use Rattle.document.specs.Memory.{KeepsCapacity}
 use Rattle.document.specs.Undoing.{changes_of, history_behind, save_point_told}
 use Rattle.scene.specs.Scenes.{scene_in, kept_scene, watchers, KeepFoldCapacities, IsWatched}
 use Rattle.scene.specs.Telling.{with_notes}
-use Rattle.scene.specs.Undoing.{bits_of, freed_by_all, fill_behind_all, bytes_of_changes, notes_of_history, room_of_changes, save_point_notes}
+use Rattle.scene.specs.Undoing.{bits_of, bytes_of_changes, history_room, notes_of_history, save_point_notes}
 
 -- the changes are steps of the text that fit one after another, and there is room for them and for all notes
 pub record CanPerformAll (direction : Direction) (k : Kept) (views : Entries KeptView) (gathered : Gathered) : Type 0 where
   pub steps : AreStepsOf (text_of k.document) (text_steps (changes_of direction k.document.history))
-  pub room : HasTextRoom k (room_of_changes k.document.line_end_types (changes_of direction k.document.history))
+  pub room : HasTextRoom (history_room direction k) k
   pub watched : IsWatched k.document views
   pub notes : CanPut (notes_of_history (watchers k.document views) direction k.document.history) gathered
   pub texts : CanShare (bytes_of_changes (watchers k.document views) (bits_of direction) (changes_of direction k.document.history)) gathered
@@ -31,16 +32,13 @@ pub record AreAllPerformed (direction : Direction) (k : Kept) (views : Entries K
       (changes_of direction k.document.history) (scene_in k.document views.entries gathered.notes)
   pub history : k'.document.history ≡ k.document.history
   pub watched : IsWatched k'.document views'
-  pub room : TakesRoom k.room k'.room (room_of_changes k.document.line_end_types (changes_of direction k.document.history))
+  pub memory : KeepsCapacity k k'
   pub left : CanPut (save_point_notes (save_point_told direction k.document.history) (length (watchers k'.document views'))) gathered'
   pub capacity : gathered'.capacity ≡ gathered.capacity
   pub held : gathered'.held ≡ gathered.held + bytes_of_changes (watchers k.document views) (bits_of direction) (changes_of direction k.document.history)
   pub ids : map id_of views'.entries ≡ map id_of views.entries
   pub next : views'.next ≡ views.next
   pub view_capacity : views'.capacity ≡ views.capacity
-  pub none_made : AddsNoRoomBut (freed_by_all (changes_of direction k.document.history)) k k'
-  pub spare : k'.spare ≡ record k.spare { markers = k'.spare.markers; fill = fill_behind_all k.spare.fill (changes_of direction k.document.history) }
-  pub markers_in_all : marker_room_in_all k' ≡ marker_room_in_all k
   pub fold_capacities : KeepFoldCapacities views views'
 
 -- the changes are steps of the text that fit one after another

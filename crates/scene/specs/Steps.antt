@@ -1,5 +1,4 @@
--- A step of a document, with its notes and the views that follow: who hears it, the scene after it, and the room that
--- it takes.
+-- A step of a document, with its notes and the views that follow: who hears it, and the scene after it.
 use Rattle.std.specs.Prelude.{◌≡◌, ℕ, ◌+◌, Bool, List, ◌++◌, length}
 use Rattle.ed_types.specs.Notices.{Notice}
 use Rattle.ed_model.specs.Steps.{step_bytes}

@@ -1,5 +1,5 @@
 -- One change of those that undo or redo performs.
-use Rattle.std.specs.Prelude.{◌≡◌, ℕ, ℤ, [], ◌<◌, ◌^◌, ◌+◌, ◌≤◌, ◌++◌, ◌==◌, nat_lt, Bool, true, false, if◌then◌else◌, List, length, map, slice_get, bit_or, Option, Some, IsSomeAnd}
+use Rattle.std.specs.Prelude.{◌≡◌, ℕ, ℤ, [], ◌<◌, ◌^◌, ◌+◌, ◌++◌, ◌==◌, nat_lt, Bool, true, false, if◌then◌else◌, List, length, map, slice_get, bit_or, Option, Some, IsSomeAnd}
 use Rattle.ed_types.specs.Notices.{Notice}
 use Rattle.ed_model.specs.Steps.{Step, place_of, step_bytes}
 use Rattle.ed_model.specs.History.{History, Change, TextStep, ContainerStep}
@@ -13,12 +13,13 @@ use Rattle.ed_view.specs.Kept.{KeptView}
 use Rattle.document.specs.declared.text_step.TextStep.{TextStep as Lent}
 use Rattle.document.specs.declared.undoing.ChangeOutline.{ChangeOutline}
 use Rattle.document.specs.declared.undoing.Direction.{Direction}
-use Rattle.document.specs.Kept.{Kept, HasTextRoom, TakesRoom, AddsNoRoomBut, marker_room_in_all}
+use Rattle.document.specs.Kept.{Kept, HasTextRoom}
+use Rattle.document.specs.Memory.{KeepsCapacity}
 use Rattle.document.specs.TextSteps.{step_in, IsStepOn}
-use Rattle.document.specs.Undoing.{changes_of, outline_of, room_of_change}
+use Rattle.document.specs.Undoing.{changes_of, need_of_change, outline_of}
 use Rattle.scene.specs.declared.performing.Turn.{Turn}
 use Rattle.scene.specs.Scenes.{scene_in, watchers, KeepFoldCapacities, IsWatched}
-use Rattle.scene.specs.Undoing.{bits_of, freed_by, fill_behind, container_kinds, performed_kinds, notes_of_change, bytes_of_change}
+use Rattle.scene.specs.Undoing.{LeavesRoomBehind, bits_of, container_kinds, performed_kinds, notes_of_change, bytes_of_change}
 use Rattle.scene.specs.Hearing.{hearers}
 use Rattle.scene.specs.Telling.{with_notes}
 
@@ -49,7 +50,7 @@ IsStepAt turn k lent =
 abbrev pub CanMakeOutlined : ChangeOutline → Kept → Type 0
 CanMakeOutlined outline k =
     (change : Change) × (outline ≡ outline_of change) × ChangeFits change (text_of k.document)
-    × HasTextRoom k (room_of_change k.document.line_end_types change)
+    × HasTextRoom (need_of_change k.document.line_end_types change) k
 
 -- the bit that says that there are several changes
 abbrev pub several_bits : Turn → ℕ
@@ -63,7 +64,7 @@ bits_behind turn lines_changed = bit_or (bit_or (bits_of turn.direction) (severa
 pub record CanPerform (turn : Turn) (k : Kept) (views : Entries KeptView) (gathered : Gathered) (change : Change) : Type 0 where
   pub at : change_at turn k.document.history ≡ Some change
   pub fits : ChangeFits change (text_of k.document)
-  pub room : HasTextRoom k (room_of_change k.document.line_end_types change)
+  pub room : HasTextRoom (need_of_change k.document.line_end_types change) k
   pub watched : IsWatched k.document views
   pub notes : CanPut (notes_of_change (watchers k.document views) (bits_of turn.direction) change) gathered
   pub texts : CanShare (bytes_of_change (watchers k.document views) (bits_of turn.direction) change) gathered
@@ -75,16 +76,13 @@ pub record IsPerformed (turn : Turn) (lines_changed changed : Bool) (k : Kept) (
   pub scene : scene_in k'.document views'.entries gathered'.notes
       ≡ change_performed (bits_of turn.direction) (several_bits turn) turn.last changed change (scene_in k.document views.entries gathered.notes)
   pub watched : IsWatched k'.document views'
-  pub room : TakesRoom k.room k'.room (room_of_change k.document.line_end_types change)
-  pub freed : k.room.text + freed_by change ≤ k'.room.text + (room_of_change k.document.line_end_types change).text
+  pub room : LeavesRoomBehind change k k'
+  pub memory : KeepsCapacity k k'
   pub capacity : gathered'.capacity ≡ gathered.capacity
   pub held : gathered'.held ≡ gathered.held + bytes_of_change (watchers k.document views) (bits_of turn.direction) change
   pub ids : map id_of views'.entries ≡ map id_of views.entries
   pub next : views'.next ≡ views.next
   pub view_capacity : views'.capacity ≡ views.capacity
-  pub none_made : AddsNoRoomBut (freed_by change) k k'
-  pub spare : k'.spare ≡ record k.spare { markers = k'.spare.markers; fill = fill_behind k.spare.fill change }
-  pub markers_in_all : marker_room_in_all k' ≡ marker_room_in_all k
   pub fold_capacities : KeepFoldCapacities views views'
 
 -- the views that hear the step are notified before it is made, and its bytes are shared if any view hears it, which `hears` says

@@ -10,14 +10,14 @@ use Rattle.document.specs.declared.undoing.Direction.{Direction}
 use Rattle.document.specs.declared.undoing.Direction.TheVariants.{Undo, Redo}
 use Rattle.document.specs.declared.undoing.ChangeOutline.{ChangeOutline}
 use Rattle.document.specs.declared.undoing.ChangeOutline.TheVariants as outline
-use Rattle.document.specs.declared.room.DocumentRoom.{DocumentRoom}
+use Rattle.document.specs.declared.need.DocumentNeed.{DocumentNeed}
 use Rattle.selection.specs.declared.movements.Movement.{Movement}
 use Rattle.selection.specs.declared.movements.Movement.TheVariants.{Inserted, Deleted}
 use Rattle.id_table.specs.Entries.{Entries}
 use Rattle.ed_view.specs.Kept.{KeptView}
-use Rattle.document.specs.Kept.{Kept, ChangeRoom, document_room, no_room, amount_sum}
-use Rattle.document.specs.TextSteps.{bytes_out}
-use Rattle.document.specs.Undoing.{changes_of, is_other, outline_of, room_of_change, save_point_told}
+use Rattle.document.specs.Kept.{Kept, HasTextRoom, document_need, nothing_needed, amount_sum}
+use Rattle.document.specs.TextSteps.{LeavesTextRoom}
+use Rattle.document.specs.Undoing.{changes_of, is_other, need_of_change, outline_of, save_point_told}
 use Rattle.scene.specs.declared.need.NoteRoom.{NoteRoom}
 use Rattle.scene.specs.Scenes.{watchers}
 use Rattle.scene.specs.Hearing.{step_kinds, hearers, masks_of, bytes_shared}
@@ -74,50 +74,32 @@ abbrev pub bytes_of_changes : List View → ℕ → List Change → ℕ
 bytes_of_changes views who [] = 0
 bytes_of_changes views who (c ∷ cs) = bytes_of_change views who c + bytes_of_changes views who cs
 
-abbrev pub both_rooms : DocumentRoom → DocumentRoom → DocumentRoom
+abbrev pub both_rooms : DocumentNeed → DocumentNeed → DocumentNeed
 both_rooms a b =
-    document_room (a.text + b.text) (a.lines + b.lines) (a.insertions + b.insertions) (a.steps + b.steps) (a.bytes + b.bytes)
+    document_need (a.text + b.text) (a.lines + b.lines) (a.insertions + b.insertions) (a.steps + b.steps) (a.bytes + b.bytes)
 
--- how many bytes a change deletes
-abbrev pub freed_by : Change → ℕ
-freed_by (TextStep step) = bytes_out step
-freed_by (ContainerStep token coalesce) = 0
+-- Where there was room for the change and for what comes after it, there is room for what comes after it.
+abbrev pub LeavesRoomBehind : Change → Kept → Kept → Type 0
+LeavesRoomBehind (TextStep step) old new = LeavesTextRoom step old new
+LeavesRoomBehind (ContainerStep token coalesce) old new = (rest : DocumentNeed) → HasTextRoom rest old → HasTextRoom rest new
 
--- how many bytes changes delete, in all
-abbrev pub freed_by_all : List Change → ℕ
-freed_by_all [] = 0
-freed_by_all (c ∷ cs) = freed_by c + freed_by_all cs
-
--- the indicator for whose fill there is room after a change: after a step of the text there is none
-abbrev pub fill_behind : Option ℕ → Change → Option ℕ
-fill_behind fill (TextStep step) = None
-fill_behind fill (ContainerStep token coalesce) = fill
-
-abbrev pub fill_behind_all : Option ℕ → List Change → Option ℕ
-fill_behind_all fill [] = fill
-fill_behind_all fill (c ∷ cs) = fill_behind_all (fill_behind fill c) cs
-
--- The other room while `rest` of all changes remains to be made: deleted markers leave their room.
-abbrev pub SpareLeft : List Change → List Change → ChangeRoom → ChangeRoom → Type 0
-SpareLeft all rest old now = record now { fill = fill_behind_all now.fill rest } ≡ record old { markers = now.markers; fill = fill_behind_all old.fill all }
-
--- how many bytes of room are free after a change, with `free` before it: insertions use them, and deletions add theirs
+-- how many bytes are free after a change, with `free` before it: insertions use them, and deletions add theirs
 abbrev pub free_behind : ℕ → Change → ℕ
 free_behind free (TextStep (Insert place bytes)) = free - length bytes
 free_behind free (TextStep (Delete place bytes)) = amount_sum free (length bytes)
 free_behind free (ContainerStep token coalesce) = free
 
--- the room that a change needs beyond the free bytes
-abbrev pub room_beside : LineEndTypes → ℕ → Change → DocumentRoom
+-- what a change needs beyond the free bytes
+abbrev pub room_beside : LineEndTypes → ℕ → Change → DocumentNeed
 room_beside types free c =
-    let need = room_of_change types c in record need { text = need.text - free }
+    let need = need_of_change types c in record need { text = need.text - free }
 
-abbrev pub rooms_beside : LineEndTypes → ℕ → List Change → DocumentRoom
-rooms_beside types free [] = no_room
+abbrev pub rooms_beside : LineEndTypes → ℕ → List Change → DocumentNeed
+rooms_beside types free [] = nothing_needed
 rooms_beside types free (c ∷ cs) = both_rooms (room_beside types free c) (rooms_beside types (free_behind free c) cs)
 
--- the room that changes in turn need; of the text it is the most that the length ever grows beyond the length now
-abbrev pub room_of_changes : LineEndTypes → List Change → DocumentRoom
+-- what changes in turn need; of the text it is the most that the length ever grows beyond the length now
+abbrev pub room_of_changes : LineEndTypes → List Change → DocumentNeed
 room_of_changes types cs = rooms_beside types 0 cs
 
 -- how many notes tell the views that the save point is reached or left: none if it is neither
@@ -133,8 +115,8 @@ notes_of_history views direction h =
 abbrev pub capped : ℕ → ℕ
 capped amount = min amount (2 ^ 64 - 1)
 
-abbrev pub capped_room : DocumentRoom → DocumentRoom
-capped_room need = document_room (capped need.text) (capped need.lines) (capped need.insertions) (capped need.steps) (capped need.bytes)
+abbrev pub capped_room : DocumentNeed → DocumentNeed
+capped_room need = document_need (capped need.text) (capped need.lines) (capped need.insertions) (capped need.steps) (capped need.bytes)
 
 abbrev pub capped_notes : ℕ → ℕ → NoteRoom
 capped_notes notes bytes = note_room (capped notes) (capped bytes)
@@ -169,8 +151,8 @@ save_point_count was_there is_there k views =
 
 -- Undo or redo of a document, with all its changes.
 
--- the room that undo or redo needs in the document
-abbrev pub history_room : Direction → Kept → DocumentRoom
+-- what undo or redo needs of the document
+abbrev pub history_room : Direction → Kept → DocumentNeed
 history_room direction k = room_of_changes k.document.line_end_types (changes_of direction k.document.history)
 
 -- how many notes undo or redo needs
@@ -185,14 +167,6 @@ history_bytes direction k views =
 -- both, with the greatest `usize` in place of a greater number
 abbrev pub history_note_need : Direction → Kept → Entries KeptView → NoteRoom
 history_note_need direction k views = capped_notes (history_notes direction k views) (history_bytes direction k views)
-
--- how many bytes undo or redo deletes
-abbrev pub history_freed : Direction → Kept → ℕ
-history_freed direction k = freed_by_all (changes_of direction k.document.history)
-
--- the indicator for whose fill there is room after undo or redo
-abbrev pub history_fill : Direction → Kept → Option ℕ
-history_fill direction k = fill_behind_all k.spare.fill (changes_of direction k.document.history)
 
 -- where the caret goes by undo or redo, if one of the changes is a step of the text
 abbrev pub history_caret : Direction → Kept → Option ℕ

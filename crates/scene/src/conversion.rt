@@ -2,18 +2,17 @@
 
 ghost use Rattle.std.specs.Prelude.{◌≡◌, ◌≤◌, false, if◌then◌else◌, nat_lt, length, MatchOption};
 ghost use Rattle.ed_model.specs.Session.{text_of};
-ghost use Rattle.document.specs.Kept.{AddsNoRoomBut, TakesRoom, marker_room_in_all};
+ghost use Rattle.document.specs.Memory.{KeepsCapacity};
 ghost use Rattle.document.specs.TextSteps.{IsStepOn, need_on};
 ghost use Rattle.line_ends.specs.Conversion.{completed};
 ghost use Rattle.scene.specs.Scenes.{AreNamed, IsWatched, KeepFoldCapacities};
-ghost use Rattle.scene.specs.RoomLeft.{KeepsSpare};
 ghost use Rattle.scene.specs.Needs.{leaving_notes};
-ghost use Rattle.scene.specs.Conversion.{CanMakeEdit, CanMakeSteps, capped_room, room_of_many, ConversionIsMade, DeletionsAreLeft, DeletionsAreMade, DeletionsKeepRooms, IsConverted, IsFirstMissing, IsFirstUnwanted, NoneMissing, NoneUnwanted, conversion_fill, conversion_freed, conversion_of, conversion_room, deletions_in, has_steps, insertions_in, notes_for_all, notes_for_conversion, notes_for_many, room_for_all, room_for_conversion, unwanted_steps};
+ghost use Rattle.scene.specs.Conversion.{CanMakeEdit, CanMakeSteps, capped_room, room_of_many, ConversionIsMade, DeletionsAreLeft, DeletionsAreMade, IsConverted, IsFirstMissing, IsFirstUnwanted, NoneMissing, NoneUnwanted, RoomsStay, conversion_of, deletions_in, has_steps, insertions_in, notes_for_all, notes_for_conversion, notes_for_many, room_for_all, room_for_conversion, unwanted_steps};
 
 use crate::laws::document_is_small;
 use crate::need::{NoteRoom, SceneNeed, leaving_need, note_need};
 use crate::steps::make_step;
-use document::{Document, DocumentRoom, TextStep};
+use document::{Document, DocumentNeed, TextStep};
 use ed_model::LineEnd;
 use ed_view::View;
 use id_table::IdTable;
@@ -78,7 +77,7 @@ fn take_unwanted(
     ensures scene { DeletionsAreMade to later document.old document.new views.old views.new notes.old notes.new }
     ensures watched { IsWatched document.new.document views.new }
     ensures next { views.new.next ≡ views.old.next }
-    ensures rooms { DeletionsKeepRooms to document.old document.new views.old views.new notes.old notes.new }
+    ensures rooms { RoomsStay document.old document.new views.old views.new notes.old notes.new }
 {
     let mut place = 0;
     'taking: while let Some(found) = unwanted_behind(document, place, to) {
@@ -98,10 +97,7 @@ fn make_all(document: &mut Document, views: &mut IdTable<View>, notes: &mut Note
     ensures scene { ConversionIsMade to document.old document.new views.old views.new notes.old notes.new }
     ensures watched { IsWatched document.new.document views.new }
     ensures next { views.new.next ≡ views.old.next }
-    ensures room_left { TakesRoom document.old.room document.new.room (conversion_room to document.old) }
-    ensures none_made { AddsNoRoomBut (conversion_freed to document.old) document.old document.new }
-    ensures spare { KeepsSpare (conversion_fill to document.old) document.old document.new }
-    ensures markers_in_all { marker_room_in_all document.new ≡ marker_room_in_all document.old }
+    ensures memory { KeepsCapacity document.old document.new }
     ensures fold_capacities { KeepFoldCapacities views.old views.new }
     ensures view_capacity { views.new.capacity ≡ views.old.capacity }
     ensures capacity { notes.new.capacity ≡ notes.old.capacity }
@@ -135,8 +131,7 @@ fn is_several(document: &Document, to: LineEnd) -> bool
 /// missing, and then deletes what is unwanted, each from left to right, one byte a step.
 ///
 /// The views that watch the document and hear a step are notified of it, and all that watch follow it. More than one
-/// step makes a transaction of their own. There must be room for all steps. They use that room, and add only what
-/// deleted bytes and markers leave.
+/// step makes a transaction of their own. There must be room for all steps.
 pub fn convert(
     document: &mut Document,
     views: &mut IdTable<View>,
@@ -147,10 +142,7 @@ pub fn convert(
     ensures scene { IsConverted to document.old document.new views.old views.new notes.old notes.new }
     ensures watched { IsWatched document.new.document views.new }
     ensures next { views.new.next ≡ views.old.next }
-    ensures room_left { TakesRoom document.old.room document.new.room (conversion_room to document.old) }
-    ensures none_made { AddsNoRoomBut (conversion_freed to document.old) document.old document.new }
-    ensures spare { KeepsSpare (conversion_fill to document.old) document.old document.new }
-    ensures markers_in_all { marker_room_in_all document.new ≡ marker_room_in_all document.old }
+    ensures memory { KeepsCapacity document.old document.new }
     ensures fold_capacities { KeepFoldCapacities views.old views.new }
     ensures view_capacity { views.new.capacity ≡ views.old.capacity }
     ensures capacity { notes.new.capacity ≡ notes.old.capacity }
@@ -182,7 +174,7 @@ fn need_of_many(
             notes: notes.notes.saturating_mul(count),
             bytes: notes.bytes.saturating_mul(count),
         },
-        document: DocumentRoom {
+        document: DocumentNeed {
             text: room.text.saturating_mul(count),
             lines: room.lines.saturating_mul(count),
             insertions: room.insertions.saturating_mul(count),
@@ -217,7 +209,7 @@ fn need_of_deletions(document: &Document, views: &IdTable<View>, to: LineEnd) ->
     if count == 0 {
         return SceneNeed {
             notes: NoteRoom::none(),
-            document: DocumentRoom::none(),
+            document: DocumentNeed::none(),
         };
     }
     let deletion = TextStep::Delete { place: 0, count: 1 };

@@ -10,7 +10,7 @@ ghost use Rattle.scene.specs.Needs.{IsCounted, note_room, bytes_for_step, leavin
 use crate::step_notes::{count_of, kind_after, kind_before};
 use crate::steps::leaves_save_point;
 use crate::telling::{count_hearers, count_watchers};
-use document::{Document, DocumentRoom, TextStep};
+use document::{Document, DocumentNeed, TextStep};
 use ed_types::modification::{PERFORMED_USER, START_ACTION};
 use ed_view::View;
 use id_table::IdTable;
@@ -50,7 +50,7 @@ pub struct SceneNeed {
     /// Notes, and the bytes of the texts that they share.
     pub notes: NoteRoom,
     /// Room in the document.
-    pub document: DocumentRoom,
+    pub document: DocumentNeed,
 }
 
 impl SceneNeed {

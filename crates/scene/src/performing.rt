@@ -207,7 +207,6 @@ fn perform_step(
     edits_of_steps();
     moves_are_those_of_steps();
     steps_keep_views_standing();
-    document_is_small(document);
     let hears = tell_before_change(document, views, notes, turn, outline, quiet);
     let old_lines = document.line_count();
     let change = document.make_change(turn.direction, turn.index);

@@ -1,21 +1,20 @@
 //! Makes a step of a document's text, with its notes and the views that follow.
 
-ghost use Rattle.std.specs.Prelude.{◌≡◌, ◌+◌, ◌&&◌, true, false, map, length, None};
+ghost use Rattle.std.specs.Prelude.{◌≡◌, ◌+◌, ◌&&◌, true, false, map, length};
 ghost use Rattle.ed_model.specs.Steps.{step_bytes};
 ghost use Rattle.ed_model.specs.History.{at_save_point};
 ghost use Rattle.ed_model.specs.Notes.{performed_user};
 ghost use Rattle.id_table.specs.Entries.{id_of};
 ghost use Rattle.notify.specs.Gathered.{CanPut, CanShare, is_full};
-ghost use Rattle.document.specs.Kept.{HasRoom, HasTextRoom, TakesRoom, text_part, AddsNoRoomBut, marker_room_in_all};
-ghost use Rattle.document.specs.TextSteps.{bytes_out, IsStepOn, need_on, step_on, FreesDeletedBytes};
+ghost use Rattle.document.specs.Kept.{HasRoom, HasTextRoom};
+ghost use Rattle.document.specs.Memory.{KeepsCapacity};
+ghost use Rattle.document.specs.TextSteps.{IsStepOn, LeavesRoom, LeavesTextRoom, need_on, step_on};
 ghost use Rattle.scene.specs.Scenes.{watchers, AreNamed, IsWatched, KeepFoldCapacities};
 ghost use Rattle.scene.specs.Hearing.{left_note, user_bits as bits_of_user};
-ghost use Rattle.scene.specs.RoomLeft.{KeepsSpare};
 ghost use Rattle.scene.specs.Telling.{CanHold, with_notes};
 ghost use Rattle.scene.specs.StepNotes.{IsSmallStep};
 ghost use Rattle.scene.specs.Steps.{IsHeard, IsMade, count_ahead, heard_bytes, made_bytes, notes_ahead, scene_heard, scene_made, step_hearers};
 
-use crate::laws::document_is_small;
 use crate::moving::follow_change;
 use crate::step_notes::{
     kind_after, kind_before, movement_of, share_bytes, tell_coming, tell_made,
@@ -142,16 +141,13 @@ pub(crate) fn step_heard(
     step: TextStep,
 )
     requires fits { IsStepOn step (length document.old.document.cells) }
-    requires room { HasTextRoom document.old (need_on document.old step) }
+    requires room { HasTextRoom (need_on document.old step) document.old }
     requires watched { IsWatched document.old.document views.old }
     requires notes { let held = notes.old.held + heard_bytes bits step document.old views.old in CanHold notes.old (scene_heard bits is_left step document.old views.old notes.old) held }
     ensures scene { IsHeard bits is_left step.entry document.old views.old notes.old document.new views.new notes.new }
     ensures watched { IsWatched document.new.document views.new }
-    ensures room_left { TakesRoom document.old.room document.new.room (text_part (need_on document.old step.entry)) }
-    ensures text_freed { FreesDeletedBytes step.entry document.old document.new }
-    ensures none_made { AddsNoRoomBut (bytes_out (step_on document.old step.entry)) document.old document.new }
-    ensures spare { KeepsSpare None document.old document.new }
-    ensures markers_in_all { marker_room_in_all document.new ≡ marker_room_in_all document.old }
+    ensures room { LeavesTextRoom (step_on document.old step.entry) document.old document.new }
+    ensures memory { KeepsCapacity document.old document.new }
     ensures capacity { notes.new.capacity ≡ notes.old.capacity }
     ensures held { notes.new.held ≡ notes.old.held + heard_bytes bits step.entry document.old views.old }
     ensures ids { map id_of views.new.entries ≡ map id_of views.old.entries }
@@ -162,7 +158,6 @@ pub(crate) fn step_heard(
     edits_of_steps();
     moves_are_those_of_steps();
     steps_keep_views_standing();
-    document_is_small(document);
     let hears = tell_before(document, views, notes, bits, is_left, step);
     let old_lines = document.line_count();
     let change = document.step(step);
@@ -209,16 +204,13 @@ pub fn make_step(
     step: TextStep,
 )
     requires fits { IsStepOn step (length document.old.document.cells) }
-    requires room { HasRoom document.old (need_on document.old step) }
+    requires room { HasRoom (need_on document.old step) document.old }
     requires watched { IsWatched document.old.document views.old }
     requires notes { let held = notes.old.held + made_bytes later step document.old views.old in CanHold notes.old (scene_made later step document.old views.old notes.old) held }
     ensures scene { IsMade later step.entry document.old views.old notes.old document.new views.new notes.new }
     ensures watched { IsWatched document.new.document views.new }
-    ensures room_left { TakesRoom document.old.room document.new.room (need_on document.old step.entry) }
-    ensures text_freed { FreesDeletedBytes step.entry document.old document.new }
-    ensures none_made { AddsNoRoomBut (bytes_out (step_on document.old step.entry)) document.old document.new }
-    ensures spare { KeepsSpare None document.old document.new }
-    ensures markers_in_all { marker_room_in_all document.new ≡ marker_room_in_all document.old }
+    ensures room { LeavesRoom (step_on document.old step.entry) document.old document.new }
+    ensures memory { KeepsCapacity document.old document.new }
     ensures capacity { notes.new.capacity ≡ notes.old.capacity }
     ensures held { notes.new.held ≡ notes.old.held + made_bytes later step.entry document.old views.old }
     ensures ids { map id_of views.new.entries ≡ map id_of views.old.entries }

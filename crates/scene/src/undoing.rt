@@ -4,20 +4,19 @@ ghost use Rattle.std.specs.Prelude.{◌≡◌, ◌+◌, ◌<◌, ◌-◌, ◌&&�
 ghost use Rattle.ed_model.specs.History.{Change};
 ghost use Rattle.id_table.specs.Entries.{id_of};
 ghost use Rattle.notify.specs.Gathered.{CanPut, CanShare, is_full};
-ghost use Rattle.document.specs.Kept.{HasTextRoom, TakesRoom, AddsNoRoomBut, marker_room_in_all};
+ghost use Rattle.document.specs.Kept.{HasTextRoom};
+ghost use Rattle.document.specs.Memory.{KeepsCapacity};
 ghost use Rattle.document.specs.Undoing.{changes_of, outline_of, save_point_told};
 ghost use Rattle.scene.specs.Scenes.{watchers, AreNamed, IsWatched, KeepFoldCapacities};
 ghost use Rattle.scene.specs.Hearing.{masks_of};
-ghost use Rattle.scene.specs.RoomLeft.{KeepsSpare};
-ghost use Rattle.scene.specs.Undoing.{free_behind, save_point_notes, capped_room, place_by, IsNoteNeed, history_bytes, history_caret, history_fill, history_freed, history_note_need, history_notes, history_room, none_hears, save_point_count};
+ghost use Rattle.scene.specs.Undoing.{free_behind, save_point_notes, capped_room, place_by, IsNoteNeed, history_bytes, history_caret, history_note_need, history_notes, history_room, none_hears, save_point_count};
 ghost use Rattle.scene.specs.Turns.{turn_of, CanMakeOutlined};
 ghost use Rattle.scene.specs.Performed.{CanPerformAll, AreAllPerformed, HistoryFits, HistoryIsPerformed, IsSavePointTold};
 
-use crate::laws::document_is_small;
 use crate::need::{NoteRoom, SceneNeed, told_need};
 use crate::performing::{Turn, kinds_of, kinds_of_all, perform_change};
 use crate::telling::{Audience, NoteText, count_hearers, survey, tell};
-use document::{ChangeOutline, Direction, Document, DocumentRoom};
+use document::{ChangeOutline, Direction, Document, DocumentNeed};
 use ed_model::positions_after_a_step;
 use ed_types::notification::{SAVE_POINT_LEFT, SAVE_POINT_REACHED};
 use ed_view::View;
@@ -58,7 +57,6 @@ fn caret_by(document: &Document, outline: ChangeOutline, before: Option<usize>) 
     requires can { CanMakeOutlined outline document.now }
     ensures { result ≡ place_by outline before }
 {
-    document_is_small(document);
     match outline {
         ChangeOutline::Insert { place, count } => Some(place + count),
         ChangeOutline::Delete { place, .. } => Some(place),
@@ -149,17 +147,14 @@ pub fn perform_history(
     direction: Direction,
 ) -> Option<usize>
     requires steps { HistoryFits direction document.old }
-    requires room { HasTextRoom document.old (history_room direction document.old) }
+    requires room { HasTextRoom (history_room direction document.old) document.old }
     requires watched { IsWatched document.old.document views.old }
     requires notes { CanPut (history_notes direction document.old views.old) notes.old }
     requires texts { CanShare (history_bytes direction document.old views.old) notes.old }
     ensures scene { HistoryIsPerformed direction document.old views.old notes.old document.new views.new notes.new }
     ensures caret { result ≡ history_caret direction document.old }
     ensures watched { IsWatched document.new.document views.new }
-    ensures room_left { TakesRoom document.old.room document.new.room (history_room direction document.old) }
-    ensures none_made { AddsNoRoomBut (history_freed direction document.old) document.old document.new }
-    ensures spare { KeepsSpare (history_fill direction document.old) document.old document.new }
-    ensures markers_in_all { marker_room_in_all document.new ≡ marker_room_in_all document.old }
+    ensures memory { KeepsCapacity document.old document.new }
     ensures capacity { notes.new.capacity ≡ notes.old.capacity }
     ensures held { notes.new.held ≡ notes.old.held + history_bytes direction document.old views.old }
     ensures ids { map id_of views.new.entries ≡ map id_of views.old.entries }
@@ -216,8 +211,7 @@ fn change_note_need(
     heard_change_need(document, views, direction, outline)
 }
 
-// Returns how many bytes of room are free after a change, with `free` before it: insertions use them, and deletions add
-// theirs.
+// Returns how many bytes are free after a change, with `free` before it: insertions use them, and deletions add theirs.
 fn free_behind(free: usize, change: ChangeOutline) -> usize
     ensures { (c : Change) → change ≡ outline_of c → result ≡ free_behind free c }
 {
@@ -228,11 +222,11 @@ fn free_behind(free: usize, change: ChangeOutline) -> usize
     }
 }
 
-// Returns what is needed if `free` bytes of room are free.
-fn beside(free: usize, need: DocumentRoom) -> DocumentRoom
+// Returns what is needed if `free` bytes are free.
+fn beside(free: usize, need: DocumentNeed) -> DocumentNeed
     ensures { result ≡ record need { text = need.text - free } }
 {
-    DocumentRoom {
+    DocumentNeed {
         text: need.text.saturating_sub(free),
         ..need
     }
@@ -265,11 +259,11 @@ fn need_of_one(document: &Document, views: &IdTable<View>, direction: Direction)
     };
     SceneNeed {
         notes: notes.plus(told),
-        document: DocumentRoom::none().plus(room),
+        document: DocumentNeed::none().plus(room),
     }
 }
 
-/// Returns what undo or redo needs at most. Deleted bytes become room for later insertions.
+/// Returns what undo or redo needs at most. Deleted bytes are there for later insertions.
 #[inline(always)]
 pub fn history_need(document: &Document, views: &IdTable<View>, direction: Direction) -> SceneNeed
     requires named { AreNamed views.now.entries }
@@ -286,7 +280,7 @@ pub fn history_need(document: &Document, views: &IdTable<View>, direction: Direc
             notes: save_point_need(document, direction, watched.count),
             bytes: 0,
         },
-        document: DocumentRoom::none(),
+        document: DocumentNeed::none(),
     };
     let mut free = 0;
     for index in 0..count {

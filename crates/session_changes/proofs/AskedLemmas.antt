@@ -17,7 +17,7 @@ module _ (s : SessionState) (document view : ℕ) (r : Request) (kept : IsKept s
   pub kept_document : IsKeptAs document_of id_of_document (value_at s.documents.entries document) r.document
   kept_document = kept_as document_of id_of_document s.documents.entries document r.document kept.documents document_found
 
-  -- the id has a document, and what holds of the request's document, whatever its room, holds of it
+  -- the id has a document, and what holds of the request's document, whatever its capacity, holds of it
   pub of_document : (P : Kept → Type 0) → ((k : Kept) → k.document ≡ r.document → P k) → IsSomeAnd (value_at s.documents.entries document) P
   of_document P h = subst (λ o. IsSomeAnd o P) (sym kept_document.there) (h kept_document.value kept_document.is)
 

@@ -1,9 +1,9 @@
 -- A view is moved from one document to another.
-use Rattle.session_changes.proofs.Names.{◌≡◌, ◌≢◌, ℕ, ◌+◌, ◌<◌, ◌==◌, Bool, true, false, cond, List, [], ◌∷◌, ◌++◌, map, refl, ap, sym, ◌∙◌, subst, arith, Option, Some, None, option_map, nat_lt, not, if◌then◌else◌, AllByRecursion, eqb-true, eqb-false, lt-ltb, cond_both, length-append, Document, references, living, left_by, Rise, attached_last, Entry, Entries, id_of, value_of, value_at, with_value_at, without_id, with_attached_view, Kept, left_over_of, let_go, IsChangedAlike, LeavesTheLiving, documents_in, DocumentsAreNamed, CanMove, with_last, id_of_document, still_named, IsNamedDocument, named_in, named_out, id_at}
+use Rattle.session_changes.proofs.Names.{◌≡◌, ◌≢◌, ℕ, ◌+◌, ◌<◌, ◌==◌, Bool, true, false, cond, List, [], ◌∷◌, ◌++◌, map, filter, length, refl, ap, sym, ◌∙◌, subst, arith, Option, Some, None, IsSomeAnd, option_map, nat_lt, not, if◌then◌else◌, AllByRecursion, eqb-true, eqb-false, lt-ltb, cond_both, length-append, length-filter_both, Document, references, living, left_by, without, Rise, attached_last, Entry, Entries, id_of, value_of, value_at, with_value_at, without_id, Kept, HasViewRoom, left_over_of, let_go, IsChangedAlike, LeavesTheLiving, documents_in, DocumentsAreNamed, CanMove, with_last, id_of_document, still_named, IsNamedDocument, named_in, named_out, id_at}
 use Rattle.id_table.specs.Entries.{Rise as IdsRise}
 use Rattle.document_table.specs.Leaving.{documents_in as entries_in}
 
--- The documents of a table without their room.
+-- The documents of a table without their capacity.
 
 abbrev pub seen : List (Entry Kept) → List Document
 seen entries = map (λ (e : Entry Kept). e.value.document) entries
@@ -73,6 +73,9 @@ still_named_left id change stays old left all is = named_out left (subst (AllByR
 
 -- The view is attached behind the others, and then detached from its old document.
 
+abbrev pub with_view_last : ℕ → Document → Document
+with_view_last view d = record d { views = d.views ++ view ∷ [] }
+
 one_more : (d : Document) (view : ℕ) (views : List ℕ) → 0 < references (record d { views = views ++ view ∷ [] })
 one_more d view views = omega (arith, length-append views (view ∷ []))
 
@@ -84,7 +87,7 @@ module _ (from view to : ℕ) where
   ids_stay [] = refl
   ids_stay (d ∷ ds) = go (d.id == to) (ids_stay ds)
     where
-      go : (b : Bool) → ids_of (with_last to view ds) ≡ ids_of ds → (cond b (with_attached_view view d) d).id ∷ ids_of (with_last to view ds) ≡ d.id ∷ ids_of ds
+      go : (b : Bool) → ids_of (with_last to view ds) ≡ ids_of ds → (cond b (with_view_last view d) d).id ∷ ids_of (with_last to view ds) ≡ d.id ∷ ids_of ds
       go true rest = ap (λ ids. d.id ∷ ids) rest
       go false rest = ap (λ ids. d.id ∷ ids) rest
 
@@ -92,7 +95,7 @@ module _ (from view to : ℕ) where
   all_referenced [] all = tt
   all_referenced (d ∷ ds) all = (go (d.id == to) refl, all_referenced ds all.1)
     where
-      go : (b : Bool) → (d.id == to) ≡ b → 0 < references (cond b (with_attached_view view d) d)
+      go : (b : Bool) → (d.id == to) ≡ b → 0 < references (cond b (with_view_last view d) d)
       go true t = one_more d view d.views
       go false t = all.0 (λ is. eqb-false d.id to t is)
 
@@ -100,8 +103,8 @@ module _ (from view to : ℕ) where
   all_alike other [] all = tt
   all_alike other (d ∷ ds) all = (go (d.id == to) refl, all_alike other ds all.1)
     where
-      go : (b : Bool) → (d.id == to) ≡ b → ChangesAlike from (left_by view) (after_giving view to) (cond b (with_attached_view view d) d)
-      go true t = (λ is. absurd (other (sym is ∙ eqb-true d.id to t)), λ _. ap (λ b. cond b (with_attached_view view d) (left_by view (with_attached_view view d))) t)
+      go : (b : Bool) → (d.id == to) ≡ b → ChangesAlike from (left_by view) (after_giving view to) (cond b (with_view_last view d) d)
+      go true t = (λ is. absurd (other (sym is ∙ eqb-true d.id to t)), λ _. ap (λ b. cond b (with_view_last view d) (left_by view (with_view_last view d))) t)
       go false t = (λ is. ap (λ b. cond b d (left_by view d)) t, λ elsewhere. ap (λ b. cond b d (left_by view d)) t ∙ all.0 elsewhere)
 
   each_so : from ≢ to → (ds : List Document) → AllByRecursion (λ (d : Document). d.id ≢ from → left_by view d ≡ d) ds → map (after_giving view to) (with_last to view ds) ≡ map (attached_last view to) ds
@@ -110,10 +113,10 @@ module _ (from view to : ℕ) where
       let first = go (d.id == to) refl in let rest = each_so other ds all.1 in
       ap (λ x. x ∷ map (after_giving view to) (with_last to view ds)) first ∙ ap (λ xs. attached_last view to d ∷ xs) rest
     where
-      go : (b : Bool) → (d.id == to) ≡ b → after_giving view to (if d.id == to then with_attached_view view d else d) ≡ attached_last view to d
+      go : (b : Bool) → (d.id == to) ≡ b → after_giving view to (if d.id == to then with_view_last view d else d) ≡ attached_last view to d
       go true t =
           let stays : left_by view d ≡ d = all.0 (λ is. other (sym is ∙ eqb-true d.id to t)) in
-          rw t (ap (λ b. cond b (with_attached_view view d) (left_by view (with_attached_view view d))) t ∙ ap (with_attached_view view) (sym stays))
+          rw t (ap (λ b. cond b (with_view_last view d) (left_by view (with_view_last view d))) t ∙ ap (with_view_last view) (sym stays))
       go false t = rw t (ap (λ b. cond b d (left_by view d)) t)
 
   pub passed_on : LeavesTheLiving → (old put left : Entries Kept) → from ≢ to → CanMove old from view to → documents_in put ≡ with_last to view (documents_in old) → DocumentsAreNamed put.entries → put.next ≡ old.next
@@ -128,6 +131,15 @@ module _ (from view to : ℕ) where
       ∙ ap (λ ds'. living (map (after_giving view to) ds')) is ∙ ap living (each_so other ds can.elsewhere)
 
 -- The view is moved to the end of its document's list.
+
+-- a document that has room for a view has room for one once a view was detached from it
+pub room_behind : (view : ℕ) (o : Option Kept) (old new : Kept) → o ≡ Some old → new ≡ record old { document = left_by view old.document } → IsSomeAnd o HasViewRoom → HasViewRoom new
+room_behind view o old new at is place =
+    let room : length old.document.views < old.capacity.views = subst (λ o. IsSomeAnd o HasViewRoom) at place in
+    let parts : length (filter (λ k. k == view) old.document.views) + length (without view old.document.views) ≡ length old.document.views =
+    length-filter_both (λ k. k == view) (λ k. not (k == view)) (λ _. refl) old.document.views in
+    let left : length (without view old.document.views) < old.capacity.views = omega (arith, room, parts) in
+    subst HasViewRoom (sym is) left
 
 module _ (view to : ℕ) where
   abbrev pub moved_last : Document → Document

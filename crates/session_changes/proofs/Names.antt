@@ -2,17 +2,18 @@
 pub use Rattle.std.proofs.Common.{◌≡◌, ℕ, ◌==◌, List, map, length, refl, ap, sym, ◌∙◌, subst, true, Some, None, IsSomeAnd, ◌≢◌, ◌+◌, ◌<◌, Bool, false, cond, [], ◌∷◌, ◌++◌, arith, Option, option_map, ◌-◌, ◌≤◌, ◌^◌, IfSome}
 pub use Rattle.std.proofs.lemmas.Bool.{eqb-true, eqb-false, lt-ltb, cond_both, eq-eqb, ne_eqb}
 pub use Rattle.std.proofs.lemmas.List.{length-append, length-map, map-append}
+pub use Rattle.std.proofs.lemmas.List.Filters.{length-filter_both}
 pub use Rattle.std.proofs.lemmas.Result.{on_ok_weaker}
 pub use Rattle.std.specs.List.{AllByRecursion}
 pub use Rattle.std.specs.Option.{option_copied_mut, option_copied}
-pub use Rattle.std.specs.Prelude.{if◌then◌else◌, nat_lt, not, vec_capacity, IsSome}
+pub use Rattle.std.specs.Prelude.{if◌then◌else◌, filter, nat_lt, not, vec_capacity, IsSome}
 pub use Rattle.document.specs.Changes.{with_attached_view}
-pub use Rattle.document.specs.Kept.{Kept, document_of}
+pub use Rattle.document.specs.Kept.{Kept, HasViewRoom, document_of}
 pub use Rattle.document_table.specs.Leaving.{left_over_of, let_go, IsChangedAlike, LeavesTheLiving, released}
 pub use Rattle.ed_model.specs.Changes.{changed_view, view_change_performed, attached_last, session_changed, held_less, attached, with_attached, with_new_document}
 pub use Rattle.ed_model.specs.PlansFit.{IsFitSessionChange}
 pub use Rattle.ed_model.specs.Requests.{Request}
-pub use Rattle.ed_model.specs.Session.{Document, View, Session, view_at, document_at, lines_in, with_view, references, living, left_by, text_of, is_allowed, is_large, attached_to, new_document}
+pub use Rattle.ed_model.specs.Session.{Document, View, Session, view_at, document_at, lines_in, with_view, references, living, left_by, without, text_of, is_allowed, is_large, attached_to, new_document}
 pub use Rattle.ed_model.specs.SoundLaws.{IsSoundView, StandsOn, Rise, IsSoundDocument, ListsItsViews}
 pub use Rattle.ed_model.specs.declared.plan.ViewChange.{ViewChange}
 pub use Rattle.ed_model.specs.proved.Changes.{changed_view_id}

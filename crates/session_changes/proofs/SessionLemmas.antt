@@ -1,5 +1,5 @@
 -- Whole sessions, and results.
-use Rattle.session_changes.proofs.Names.{◌≡◌, ◌≢◌, ℕ, ◌+◌, ◌-◌, ◌<◌, ◌≤◌, ◌==◌, ◌^◌, Bool, true, false, cond, List, [], ◌∷◌, ◌++◌, map, length, refl, ap, sym, ◌∙◌, subst, arith, Option, Some, None, IfSome, IsSomeAnd, vec_capacity, AllByRecursion, eq-eqb, ne_eqb, length-map, map-append, ViewChange, Session, Document, View, view_at, document_at, text_of, lines_in, references, living, left_by, is_allowed, is_large, attached_to, new_document, with_view, Rise, IsSoundDocument, ListsItsViews, Request, IsFitSessionChange, session_changed, held_less, attached, attached_last, with_attached, with_new_document, rise_added, Kept, document_of, let_go, released, LeavesTheLiving, fold_need, HasFoldRoom, KeptView, HasFewLines, Entry, Entries, entry, value_at, with_value_at, views_of, session_in, documents_in, SessionState, IsKept, DocumentsAreNamed, IsAsked, CanChangeSession, HasFoldRoomAt, IsFoldRoomAtMost, IsRoomAtMostAt, changed_at, DocumentsRise, CanMove, IsReady, AwaitsView, IsHeld, HasPlacesAtMost, ArePlacesAtMost, id_of_document, own_at, holds_at, found_some, kept_as, for_replaced, value_replaced, other_replaced, without_itself, none_listed}
+use Rattle.session_changes.proofs.Names.{◌≡◌, ◌≢◌, ℕ, ◌+◌, ◌-◌, ◌<◌, ◌≤◌, ◌==◌, ◌^◌, Bool, true, false, cond, List, [], ◌∷◌, ◌++◌, map, length, refl, ap, sym, ◌∙◌, subst, arith, Option, Some, None, IfSome, IsSomeAnd, vec_capacity, AllByRecursion, eq-eqb, ne_eqb, length-map, map-append, ViewChange, Session, Document, View, view_at, document_at, text_of, lines_in, references, living, left_by, is_allowed, is_large, attached_to, new_document, with_view, Rise, IsSoundDocument, ListsItsViews, Request, IsFitSessionChange, session_changed, held_less, attached, attached_last, with_attached, with_new_document, rise_added, Kept, HasViewRoom, document_of, let_go, released, LeavesTheLiving, fold_need, HasFoldRoom, KeptView, HasFewLines, Entry, Entries, entry, value_at, with_value_at, views_of, session_in, documents_in, SessionState, IsKept, DocumentsAreNamed, IsAsked, CanChangeSession, HasFoldRoomAt, IsFoldRoomAtMost, IsRoomAtMostAt, changed_at, DocumentsRise, CanMove, IsReady, AwaitsView, IsHeld, HasPlacesAtMost, ArePlacesAtMost, id_of_document, own_at, holds_at, found_some, kept_as, for_replaced, value_replaced, other_replaced, without_itself, none_listed}
 use Rattle.std.specs.Global.{Vec, Box}
 use Rattle.std.proofs.lemmas.Bool.Decides.{nat_tests}
 use Rattle.ed_types.specs.declared.limits.Limits.{Limits}
@@ -157,7 +157,7 @@ though_not to [] all = tt
 though_not to (d ∷ ds) all = (λ _. all.0, though_not to ds all.1)
 
 pub can_attach : (s : SessionState) (document view to : ℕ) (r : Request) → IsKept s → IsAsked (session_in s) document view r → IsFitSessionChange r (change.Attach to)
-    → IfSome (value_at s.documents.entries to) (λ k. 0 < k.spare.views) → CanMove s.documents document view to
+    → IfSome (value_at s.documents.entries to) HasViewRoom → CanMove s.documents document view to
 can_attach s document view to r kept asked fit place =
     let d = fit.0 in
     let at : document_at (session_in s).documents to ≡ Some d = ap (λ (x : Session). document_at x.documents to) (sym asked.session) ∙ fit.1 in
@@ -167,8 +167,7 @@ can_attach s document view to r kept asked fit place =
       rise = kept.sound.document_ids;
       elsewhere = listed_elsewhere (session_in s).views r.view view document (session_in s).documents (view_found s document view r kept asked) (on_document s document view r kept asked) kept.sound.lists;
       referenced = though_not to (session_in s).documents (referenced s.limits (session_in s).documents kept.sound.documents);
-      place = subst (λ o. IsSomeAnd o (λ k. 0 < k.spare.views)) (sym there.there)
-          (of_some (λ k. 0 < k.spare.views) (value_at s.documents.entries to) there.value there.there place);
+      place = subst (λ o. IsSomeAnd o HasViewRoom) (sym there.there) (of_some HasViewRoom (value_at s.documents.entries to) there.value there.there place);
     }
 
 -- the session after the view is attached; `old` may have one document more than the session of the request
@@ -234,7 +233,7 @@ module _ (s : SessionState) (document view : ℕ) (r : Request) (kept : IsKept s
 
   pub can_attach_new : AwaitsView s.documents.next k → CanMove more document view s.documents.next
   can_attach_new awaits =
-      let new : k.document ≡ new_document s.documents.next 0 = awaits.0 in
+      let new : k.document ≡ new_document s.documents.next 0 = ap document_of awaits in
       let is : k.document.id ≡ s.documents.next = ap (λ (d : Document). d.id) new in
       record {
         named = all_named is;
@@ -247,7 +246,7 @@ module _ (s : SessionState) (document view : ℕ) (r : Request) (kept : IsKept s
             (all_added (λ (d : Document). d.id ≢ s.documents.next → 0 < references d) (documents_in s.documents) k.document
             (though_not s.documents.next (session_in s).documents (referenced s.limits (session_in s).documents kept.sound.documents))
             (λ other. absurd (other is)));
-        place = subst (λ o. IsSomeAnd o (λ k. 0 < k.spare.views)) (sym last_at) awaits.1;
+        place = subst (λ o. IsSomeAnd o HasViewRoom) (sym last_at) (let fits : 0 < 1 = omega arith in subst HasViewRoom (sym awaits) fits);
       }
 
   -- it is the model's session with this new document
@@ -259,7 +258,7 @@ module _ (s : SessionState) (document view : ℕ) (r : Request) (kept : IsKept s
 
   pub created_so : (options : ℕ) → IsHeld s.documents.next options k → session_in with_more ≡ session_changed r (change.Create options)
   created_so options held =
-      session_more (let d = new_document s.documents.next options in record d { held_by_callers = 1 }) held.0
+      session_more (let d = new_document s.documents.next options in record d { held_by_callers = 1 }) (ap document_of held)
       ∙ ap (λ (x : Session). with_new_document (let d = new_document x.next_document options in record d { held_by_callers = 1 }) x) (sym asked.session)
 
   pub attached_new_so : (new : SessionState) → AwaitsView s.documents.next k
@@ -268,11 +267,11 @@ module _ (s : SessionState) (document view : ℕ) (r : Request) (kept : IsKept s
       → new.documents.next ≡ more.next → new.views.next ≡ s.views.next → new.clipboard ≡ s.clipboard → new.limits ≡ s.limits
       → session_in new ≡ session_changed r change.AttachNew
   attached_new_so new awaits documents views next_document next_view clipboard limits =
-      let is : k.document.id ≡ s.documents.next = ap (λ (d : Document). d.id) awaits.0 in
+      let is : k.document.id ≡ s.documents.next = ap (λ (k : Kept). k.document.id) awaits in
       attached_so with_more new view s.documents.next r.view k (all_named is) last_at asked.view_id
       (in_its_place s document view r kept asked (attached_to k.document) refl ∙ ap (λ (x : Session). with_view (attached_to k.document r.view) x.views) asked.session)
       documents views next_document next_view clipboard limits
-      ∙ ap (attached s.documents.next r.view) (session_more (new_document s.documents.next 0) awaits.0)
+      ∙ ap (attached s.documents.next r.view) (session_more (new_document s.documents.next 0) (ap document_of awaits))
       ∙ ap (λ (x : Session). attached x.next_document r.view (with_new_document (new_document x.next_document 0) x)) (sym asked.session)
 
 pub attached_old_so : (s new : SessionState) (document view to : ℕ) (r : Request) → IsKept s → IsAsked (session_in s) document view r → (k : Kept) → value_at s.documents.entries to ≡ Some k

@@ -5,7 +5,7 @@ use Rattle.ed_model.specs.Session.{Document, references, left_by, living, attach
 use Rattle.ed_model.specs.Changes.{attached_last, held_less}
 use Rattle.ed_model.specs.SoundLaws.{Rise}
 use Rattle.id_table.specs.Entries.{Entries, value_at}
-use Rattle.document.specs.Kept.{Kept}
+use Rattle.document.specs.Kept.{Kept, HasViewRoom}
 use Rattle.message_requests.specs.Requested.{documents_in, session_in}
 use Rattle.message_requests.specs.declared.state.SessionState.{SessionState}
 use Rattle.session_changes.specs.Folding.{ViewIsChanged}
@@ -22,7 +22,7 @@ pub record CanMove (table : Entries Kept) (from view to : ℕ) : Type 0 where
   pub rise : DocumentsRise table
   pub elsewhere : AllByRecursion (λ (d : Document). d.id ≢ from → left_by view d ≡ d) (documents_in table)
   pub referenced : AllByRecursion (λ (d : Document). d.id ≢ to → 0 < references d) (documents_in table)
-  pub place : IsSomeAnd (value_at table.entries to) (λ k. 0 < k.spare.views)
+  pub place : IsSomeAnd (value_at table.entries to) HasViewRoom
 
 -- the documents, once the one with this id has the view at the end of its list
 abbrev pub with_last : ℕ → ℕ → List Document → List Document

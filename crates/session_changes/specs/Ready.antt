@@ -1,10 +1,10 @@
 -- What is allocated before a session changes, so that the change cannot fail.
-use Rattle.std.specs.Prelude.{◌≡◌, ℕ, ◌<◌, ◌≤◌, nat_lt, max, Bool, true, false, List, [], length, IfSome, vec_capacity}
+use Rattle.std.specs.Prelude.{◌≡◌, ℕ, ◌+◌, ◌≤◌, nat_lt, max, Bool, true, false, List, [], length, IfSome, vec_capacity}
 use Rattle.ed_model.specs.declared.plan.SessionChange.{SessionChange}
 use Rattle.ed_model.specs.declared.plan.SessionChange.TheVariants as change
-use Rattle.ed_model.specs.Session.{new_document}
 use Rattle.id_table.specs.Entries.{Entries, Entry, HasRoom, KeepsCapacity, most_ids, value_at}
-use Rattle.document.specs.Kept.{Kept, no_room}
+use Rattle.document.specs.Kept.{Kept, HasViewRoom, new_kept}
+use Rattle.document.specs.Changes.{with_held_by_callers}
 use Rattle.session_changes.specs.Kept.{OthersStay}
 use Rattle.session_changes.specs.declared.ready.SessionReady.{SessionReady}
 use Rattle.session_changes.specs.declared.ready.SessionReady.TheVariants as ready
@@ -28,17 +28,21 @@ abbrev pub IsNothing : SessionReady → Type 0
 IsNothing ready.Nothing = Unit {0}
 IsNothing other = ⊥
 
--- an empty document with this id, without room for steps, and with room for a view
-abbrev pub AwaitsView : ℕ → Kept → Type 0
-AwaitsView id k = (k.document ≡ new_document id 0) × (0 < k.spare.views) × (k.room ≡ no_room)
+-- the document with this capacity for views
+abbrev pub with_view_capacity : ℕ → Kept → Kept
+with_view_capacity views k = record k { capacity = record k.capacity { views = views } }
 
--- an empty document with this id and these options, without room for steps, and with one reference, which a caller holds
+-- a new document with this id, into which one view fits
+abbrev pub AwaitsView : ℕ → Kept → Type 0
+AwaitsView id k = k ≡ with_view_capacity 1 (new_kept id 0)
+
+-- a new document with this id and these options, and with one reference, which a caller holds
 abbrev pub IsHeld : ℕ → ℕ → Kept → Type 0
-IsHeld id options k = (k.document ≡ (let d = new_document id options in record d { held_by_callers = 1 })) × (k.room ≡ no_room)
+IsHeld id options k = k ≡ with_held_by_callers 1 (new_kept id options)
 
 -- the document with this id, if it exists, has room for a view
 abbrev pub HasPlace : List (Entry Kept) → ℕ → Type 0
-HasPlace entries id = IfSome (value_at entries id) (λ k. 0 < k.spare.views)
+HasPlace entries id = IfSome (value_at entries id) HasViewRoom
 
 -- all that the change needs was allocated
 abbrev pub IsReady : Entries Kept → SessionChange → SessionReady → Type 0
@@ -60,10 +64,11 @@ IsThere entries (change.Create options) = ⊥
 IsThere entries (change.AddReference id) = Unit {0}
 IsThere entries (change.Release id) = Unit {0}
 
--- only the room of a document for views changes, to at most the greatest of its old room, the number of its views, and 1
+-- only the capacity of a document for views changes: to at most what it was, or twice the number of its views, or 1 if it has none
 abbrev pub HasPlacesAtMost : Kept → Kept → Type 0
 HasPlacesAtMost was now =
-    (now ≡ record was { spare = record was.spare { views = now.spare.views } }) × (now.spare.views ≤ max was.spare.views (max 1 (length was.document.views)))
+    (now ≡ with_view_capacity now.capacity.views was)
+    × (now.capacity.views ≤ max was.capacity.views (length was.document.views + max 1 (length was.document.views)))
 
 -- this holds of the document with this id, and no other document changes
 abbrev pub ArePlacesAtMost : List (Entry Kept) → List (Entry Kept) → ℕ → Type 0
@@ -77,7 +82,7 @@ GrowsForOne old new =
     (new ≡ record old { capacity = new.capacity }) × KeepsCapacity old.capacity new.capacity × (new.capacity.ids ≤ most_ids 1 old)
     × (HasRoom 1 old → new ≡ old)
 
--- for an attach, only the room of its document for views changes; for a new document, only the capacity of the table; else nothing
+-- for an attach, only the capacity of its document for views changes; for a new document, only the capacity of the table; else nothing
 abbrev pub IsRoomAtMost : SessionChange → Entries Kept → Entries Kept → Type 0
 IsRoomAtMost (change.Attach id) old new = ArePlacesAtMost old.entries new.entries id × (new.capacity ≡ old.capacity)
 IsRoomAtMost change.AttachNew old new = GrowsForOne old new

@@ -1,7 +1,8 @@
 //! A view is moved from its document to another (SETDOCPOINTER).
 
-ghost use Rattle.std.specs.Prelude.{◌≡◌, ◌≢◌, ◌<◌, ◌^◌, length, IsSomeAnd};
+ghost use Rattle.std.specs.Prelude.{◌≡◌, ◌≢◌, IsSomeAnd};
 ghost use Rattle.ed_model.specs.Session.{attached_to};
+ghost use Rattle.document.specs.Kept.{HasViewRoom};
 ghost use Rattle.ed_view.specs.Kept.{HasFewLines};
 ghost use Rattle.id_table.specs.Entries.{value_at};
 ghost use Rattle.scene.specs.Scenes.{AreNamed, KeepFoldCapacities};
@@ -20,7 +21,7 @@ use message_requests::SessionState;
 fn put_last(documents: &mut DocumentTable, document: u32, view: u32)
     requires named { DocumentsAreNamed documents.old.entries }
     requires rise { DocumentsRise documents.old }
-    requires place { IsSomeAnd (value_at documents.old.entries document) (λ k. 0 < k.spare.views) }
+    requires place { IsSomeAnd (value_at documents.old.entries document) HasViewRoom }
     ensures documents { documents_in documents.new ≡ with_last document view (documents_in documents.old) }
     ensures named { DocumentsAreNamed documents.new.entries }
     ensures next { documents.new.next ≡ documents.old.next }

@@ -119,8 +119,8 @@ fn document_for_caller(
     new_document(alloc, document)
 }
 
-/// Allocates all that a change of the session needs. Gives no room to the views, to the clipboard, or to any document
-/// except one that a view is to be attached to.
+/// Allocates all that a change of the session needs. In the session itself only a capacity may grow: that of the table
+/// for a new document, or that for views of the document that a view is to be attached to.
 ///
 /// # Errors
 ///

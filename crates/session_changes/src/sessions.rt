@@ -143,7 +143,7 @@ fn add_document(
 
 /// Makes a change of the session for a message with this text to `view`, which is attached to `document`. Cannot fail:
 /// `ready` is what `prepare_session_change` allocated for the change. Each view keeps its capacity for hidden and for
-/// contracted lines, and the session keeps its room for more views.
+/// contracted lines, and the session keeps its capacity for views.
 pub fn change_session(
     state: &mut SessionState,
     document: u32,

@@ -6,10 +6,17 @@ use std::process::Abort;
 // In each long test one function owns the cells and lends them to others, which do the rest: owning cells over many
 // calls makes a proof slow.
 
+// Inserts bytes, which may fit in already.
+fn put(rt: &impl Abort, cells: &mut Cells, place: usize, bytes: &[u8]) {
+    assert!(rt; place <= cells.len());
+    cells.reserve(bytes.len()).expect(rt, "memory");
+    cells.insert_reserved(place, bytes);
+}
+
 fn put_text_in(rt: &impl Abort, cells: &mut Cells) {
     cells.reserve(6).expect(rt, "memory");
-    cells.insert_reserved(0, b"held");
-    cells.insert_reserved(3, b"lo");
+    put(rt, cells, 0, b"held");
+    put(rt, cells, 3, b"lo");
     assert_eq!(rt; cells.len(), 6);
     assert_eq!(rt; cells.lend(0, 6), b"hellod".as_slice());
 }
@@ -41,12 +48,11 @@ fn text_and_styles(rt: HostRuntime) {
 
 fn assert_refused(rt: &impl Abort, cells: &mut Cells) {
     cells.reserve(3).expect(rt, "memory");
-    cells.insert_reserved(0, b"ab");
-    let room = cells.room();
+    put(rt, cells, 0, b"ab");
     assert!(rt; cells.reserve(usize::MAX).is_err());
-    assert_eq!(rt; cells.room(), room);
     assert_eq!(rt; cells.len(), 2);
     assert_eq!(rt; cells.lend(0, 2), b"ab".as_slice());
+    assert!(rt; cells.reserve(1).is_ok());
 }
 
 #[test]
@@ -58,7 +64,8 @@ fn a_refused_growth_changes_nothing(rt: HostRuntime) {
 // Appends one byte, and sets its style.
 fn append_styled(rt: &impl Abort, cells: &mut Cells) {
     let len = cells.len();
-    assert!(rt; cells.room() > 0 && cells.keeps_styles());
+    assert!(rt; cells.keeps_styles());
+    cells.reserve(1).expect(rt, "memory");
     cells.insert_reserved(len, b".");
     cells.set_styles(len, &[1]);
 }
@@ -70,8 +77,7 @@ fn assert_moves(rt: &impl Abort, cells: &mut Cells) {
     for _ in 0..1000 {
         append_styled(rt, cells);
     }
-    assert!(rt; cells.room() > 0);
-    cells.insert_reserved(0, b"^");
+    put(rt, cells, 0, b"^");
     let (bytes, styles) = cells.moved();
     assert!(rt; bytes >= bytes_before && bytes - bytes_before >= 2000);
     assert!(rt; styles >= styles_before && styles - styles_before >= 2000);
@@ -88,16 +94,16 @@ fn moves_are_counted(rt: HostRuntime) {
 fn assert_moves_before_the_last(rt: &impl Abort, cells: &mut Cells) {
     cells.keep_styles().expect(rt, "memory");
     cells.reserve(1003).expect(rt, "memory");
-    cells.insert_reserved(0, b"ab");
+    put(rt, cells, 0, b"ab");
+    assert!(rt; cells.len() == 2 && cells.keeps_styles());
     cells.set_styles(0, &[1, 2]);
     let (bytes_before, styles_before) = cells.moved();
     for _ in 0..1000 {
         let len = cells.len();
-        assert!(rt; cells.room() > 0 && len > 0);
-        cells.insert_reserved(len - 1, b".");
+        assert!(rt; len > 0);
+        put(rt, cells, len - 1, b".");
     }
-    assert!(rt; cells.room() > 0);
-    cells.insert_reserved(0, b"^");
+    put(rt, cells, 0, b"^");
     let (bytes, styles) = cells.moved();
     assert!(rt; bytes >= bytes_before && bytes - bytes_before >= 2000);
     assert!(rt; styles >= styles_before && styles - styles_before >= 2000);

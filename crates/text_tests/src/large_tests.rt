@@ -297,6 +297,7 @@ fn fill_all(rt: &impl Abort, indicators: &mut Decorations<u32>) {
 fn insert_in_the_midst(rt: &impl Abort, indicators: &mut Decorations<u32>) {
     for line in 0..MARKED_LINES {
         indicators.reserve(MARKED_LINES - line).expect(rt, "memory");
+        indicators.reserve(1).expect(rt, "memory");
         let length = indicators.length();
         assert!(rt; length == LARGE + line);
         indicators.insert(MARKED_LINE * line + 1, 1);

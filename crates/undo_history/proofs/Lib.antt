@@ -9,3 +9,4 @@ pub mod Reading
 pub mod Joins
 pub mod Latest
 pub mod SavePoint
+pub mod Held

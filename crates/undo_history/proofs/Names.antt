@@ -8,9 +8,9 @@ pub use Rattle.ed_model.specs.Numbers.{is_number}
 pub use Rattle.ed_model.specs.proved.Histories.{sealed_length}
 pub use Rattle.undo_history.specs.Dropping.{without_undone}
 pub use Rattle.undo_history.specs.Joining.{outline, outline_of, outline_if_any, latest_outline, IsLatest, steps_go_on, belongs_after}
-pub use Rattle.undo_history.specs.Kept.{Kept, kept}
+pub use Rattle.undo_history.specs.Kept.{Kept, kept, history_capacity, held_steps, held_bytes}
 pub use Rattle.undo_history.specs.Reading.{changes_in}
-pub use Rattle.undo_history.specs.Records.{Entry, alone, joined, pushed, transactions, entry_in, entries_in, past_of, change_of, bytes_end, last_end, history_of, entry, last_count, joined_count, next_count, begins_or_none, EndsInOrder, BeginsOne, read_parts, IsInOrder, LastIsOpen, changed_at, sealed_record, with_sealed}
+pub use Rattle.undo_history.specs.Records.{Entry, alone, joined, pushed, transactions, entry_in, entries_in, past_of, change_of, bytes_end, last_end, history_of, entry, last_count, joined_count, next_count, begins_or_none, EndsInOrder, HasItsPart, HaveTheirParts, HasItsBytes, BeginsOne, read_parts, IsInOrder, LastIsOpen, changed_at, sealed_record, with_sealed}
 pub use Rattle.undo_history.specs.Steps.{step_of}
 pub use Rattle.undo_history.specs.declared.records.ChangeKind.{ChangeKind}
 pub use Rattle.undo_history.specs.declared.records.ChangeKind.TheVariants.{Text, Container}

@@ -1,5 +1,5 @@
 -- The future dropped, and a change stored behind the past.
-use Rattle.undo_history.proofs.Names.{◌≡◌, ◌≤◌, ◌+◌, ◌-◌, ℕ, zero, suc, List, [], ◌∷◌, ◌++◌, length, take, drop, refl, ap, ap₂, sym, subst, ◌∙◌, arith, reverse, Bool, true, false, append-nil, Option, slice_range, not, if◌then◌else◌, take-take, take_all, drop_at, drop_all, length-append, length-take-le, length-reverse, length-drop, reverse-append, Change, Transaction, with_change, ChangeKind, StepRecord, without_undone, Entry, entry, entry_in, entries_in, change_of, pushed, transactions, history_of, bytes_end, last_end, BeginsOne, EndsInOrder, IsInOrder, LastIsOpen}
+use Rattle.undo_history.proofs.Names.{◌≡◌, ◌≤◌, ◌+◌, ◌-◌, ℕ, zero, suc, List, [], ◌∷◌, ◌++◌, length, take, drop, refl, ap, ap₂, sym, subst, ◌∙◌, arith, reverse, Bool, true, false, append-nil, Option, slice_range, not, if◌then◌else◌, take-take, take_all, drop_at, drop_all, length-append, length-take-le, length-reverse, length-drop, reverse-append, Change, Transaction, with_change, ChangeKind, Text, Container, StepRecord, without_undone, Entry, entry, entry_in, entries_in, change_of, pushed, transactions, history_of, bytes_end, last_end, BeginsOne, EndsInOrder, HasItsPart, HaveTheirParts, HasItsBytes, IsInOrder, LastIsOpen}
 use Rattle.split_vector.specs.Split.{inserted, deleted}
 use Rattle.undo_history.proofs.Parts.{front_of_parts, parts_of_front, ends_of_front, last_of_front, parts_push, parts_of_more, ends_push, last_of_ends}
 use Rattle.undo_history.proofs.Transactions.{transactions_some}
@@ -23,6 +23,11 @@ past_entries past rs bytes h =
     parts_of_front bytes_end entry_in 0 (take past rs) (past_bytes past rs) bytes (ends_of_front bytes_end past 0 rs (length bytes) h)
     ∙ sym (front_of_parts bytes_end entry_in past 0 rs bytes)
 
+parts_of_past : (n from : ℕ) (rs : List StepRecord) → HaveTheirParts from rs → HaveTheirParts from (take n rs)
+parts_of_past zero from rs h = tt
+parts_of_past (suc n) from [] h = tt
+parts_of_past (suc n) from (r ∷ rs) h = (h.0, parts_of_past n r.bytes_end rs h.1)
+
 begins_of_front : (n : ℕ) (es : List Entry) → BeginsOne es → BeginsOne (take n es)
 begins_of_front zero es h = tt
 begins_of_front (suc n) [] h = tt
@@ -37,6 +42,7 @@ dropped_in_order rs bytes past count k h e =
     let nothing : drop past (take past es) ≡ [] = drop_all past (take past es) (omega arith) in
     record {
       ends = subst (λ n. EndsInOrder bytes_end 0 (take past rs) n) left (ends_of_front bytes_end past 0 rs (length bytes) h.ends);
+      parts = parts_of_past past 0 rs h.parts;
       begins = rw same (begins_of_front past es h.begins);
       boundary = rw (same, nothing) tt;
       there = omega (arith, length-take-le past rs h.there);
@@ -84,6 +90,14 @@ stored_ends : (kind : ChangeKind) (joins : Bool) (rs : List StepRecord) (bytes n
 stored_ends kind joins rs bytes new end h e =
     subst (λ n. EndsInOrder bytes_end 0 (rs ++ stored_record kind joins end ∷ []) n) (e ∙ sym (length-append bytes new)) (ends_push bytes_end 0 rs (stored_record kind joins end) (length bytes) h (omega arith))
 
+own_part : (kind : ChangeKind) (new : List ℕ) (from end : ℕ) → HasItsBytes kind new → end ≡ from + length new → HasItsPart kind from end
+own_part (Text kind place) new from end h e = tt
+own_part (Container coalesce token) new from end h e = omega (arith, e, ap length h)
+
+parts_more : (from : ℕ) (rs : List StepRecord) (r : StepRecord) → HaveTheirParts from rs → HasItsPart r.kind (last_end bytes_end from rs) r.bytes_end → HaveTheirParts from (rs ++ r ∷ [])
+parts_more from [] r h p = (p, tt)
+parts_more from (q ∷ rs) r h p = (h.0, parts_more q.bytes_end rs r h.1 p)
+
 -- no entry is left if nothing can be redone
 pub none_left : (es : List Entry) → reverse (transactions (reverse es)) ≡ [] → es ≡ []
 none_left [] h = refl
@@ -123,9 +137,9 @@ stacked es x past e =
     ∙ ap (λ t. pushed x (transactions (reverse t))) (sym (take_all past es (omega arith)))
 
 pub stored_in_order : (kind : ChangeKind) (joins : Bool) (rs : List StepRecord) (bytes new : List ℕ) (past count end : ℕ) → IsInOrder rs bytes past count → past ≡ length rs → end ≡ length bytes + length new →
-    (joins ≡ true → LastIsOpen (transactions (reverse (take past (entries_in rs bytes))))) →
+    HasItsBytes kind new → (joins ≡ true → LastIsOpen (transactions (reverse (take past (entries_in rs bytes))))) →
     IsInOrder (rs ++ stored_record kind joins end ∷ []) (bytes ++ new) (past + 1) (if joins then count else count + 1)
-stored_in_order kind joins rs bytes new past count end h p e open_ =
+stored_in_order kind joins rs bytes new past count end h p e own open_ =
     let es = entries_in rs bytes in
     let x = entry (change_of kind new) (not joins) false in
     let same = stored_entries kind joins rs bytes new end h.ends e in
@@ -134,6 +148,7 @@ stored_in_order kind joins rs bytes new past count end h p e open_ =
     let nothing : drop (past + 1) (es ++ x ∷ []) ≡ [] = drop_all (past + 1) (es ++ x ∷ []) (omega (arith, length-append es (x ∷ []))) in
     record {
       ends = stored_ends kind joins rs bytes new end h.ends e;
+      parts = parts_more 0 rs (stored_record kind joins end) h.parts (own_part kind new (last_end bytes_end 0 rs) end own (omega (arith, e, last_of_ends bytes_end 0 rs (length bytes) h.ends)));
       begins = rw same (begins_by joins (change_of kind new) es h.begins (λ j. subst (λ t. LastIsOpen (transactions (reverse t))) whole (open_ j)));
       boundary = rw (same, nothing) tt;
       there = omega (arith, length-append rs (stored_record kind joins end ∷ []));

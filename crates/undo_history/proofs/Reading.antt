@@ -35,7 +35,7 @@ pub entry_read : (rs : List StepRecord) (bytes : List ℕ) (i : ℕ) (r : StepRe
 entry_read rs bytes i r d h e =
     part_read bytes_end entry_in 0 rs i r d bytes h ∙ ap (λ (q : StepRecord). entry_in q (slice_range bytes (last_end bytes_end 0 (take i rs)) q.bytes_end)) (sym e)
 
-changes_are : (from : ℕ) (rs : List StepRecord) (bytes : List ℕ) → map change_in (read_parts bytes_end entry_in from rs bytes) ≡ read_parts bytes_end reading.change_in from rs bytes
+pub changes_are : (from : ℕ) (rs : List StepRecord) (bytes : List ℕ) → map change_in (read_parts bytes_end entry_in from rs bytes) ≡ read_parts bytes_end reading.change_in from rs bytes
 changes_are from [] bytes = refl
 changes_are from (r ∷ rs) bytes = ap (λ t. change_of r.kind (slice_range bytes from r.bytes_end) ∷ t) (changes_are r.bytes_end rs bytes)
 

@@ -1,5 +1,5 @@
 -- The effect of sealing, and the tests of a history.
-use Rattle.undo_history.proofs.Names.{◌≡◌, ◌≤◌, ◌<◌, ◌+◌, ◌-◌, ℕ, zero, suc, List, [], ◌∷◌, length, take, drop, set, get_or, refl, ap, ap₂, sym, ◌∙◌, arith, reverse, Bool, true, false, Option, nat_lt, slice_range, if◌then◌else◌, length-reverse, length-drop, nat_tests, Transaction, can_redo, seal_first, with_last_sealed, sealed_outside_groups, undone, redone, sealed_length, StepRecord, Entry, entry, entry_in, entries_in, alone, joined, pushed, transactions, history_of, read_parts, bytes_end, changed_at, sealed_record, with_sealed, BeginsOne, EndsInOrder, IsInOrder}
+use Rattle.undo_history.proofs.Names.{◌≡◌, ◌≤◌, ◌<◌, ◌+◌, ◌-◌, ℕ, zero, suc, List, [], ◌∷◌, length, take, drop, set, get_or, refl, ap, ap₂, sym, ◌∙◌, arith, reverse, Bool, true, false, Option, nat_lt, slice_range, if◌then◌else◌, length-reverse, length-drop, nat_tests, Transaction, can_redo, seal_first, with_last_sealed, sealed_outside_groups, undone, redone, sealed_length, StepRecord, Entry, entry, entry_in, entries_in, alone, joined, pushed, transactions, history_of, read_parts, bytes_end, changed_at, sealed_record, with_sealed, BeginsOne, EndsInOrder, HaveTheirParts, IsInOrder}
 use Rattle.undo_history.proofs.Parts.{parts_length}
 use Rattle.undo_history.proofs.Lists.{latest_first}
 use Rattle.undo_history.proofs.Transactions.{transactions_some}
@@ -51,6 +51,11 @@ sealed_ends : (i from : ℕ) (rs : List StepRecord) (n : ℕ) → EndsInOrder by
 sealed_ends i from [] n h = h
 sealed_ends zero from (r ∷ rs) n h = h
 sealed_ends (suc i) from (r ∷ rs) n h = (h.0, sealed_ends i r.bytes_end rs n h.1)
+
+sealed_own : (i from : ℕ) (rs : List StepRecord) → HaveTheirParts from rs → HaveTheirParts from (changed_at sealed_record i rs)
+sealed_own i from [] h = h
+sealed_own zero from (r ∷ rs) h = h
+sealed_own (suc i) from (r ∷ rs) h = (h.0, sealed_own i r.bytes_end rs h.1)
 
 sealed_parts : (i from : ℕ) (rs : List StepRecord) (bytes : List ℕ) →
     read_parts bytes_end entry_in from (changed_at sealed_record i rs) bytes ≡ changed_at sealed_entry i (read_parts bytes_end entry_in from rs bytes)
@@ -111,6 +116,7 @@ sealed_in_order rs bytes (suc i) count h =
     sealed_past i es (first_of rs bytes (omega (arith, h.there))) there in
     record {
       ends = sealed_ends i 0 rs (length bytes) h.ends;
+      parts = sealed_own i 0 rs h.parts;
       begins = rw same (sealed_begins i es h.begins);
       boundary = rw (same, changed_back sealed_entry i es) h.boundary;
       there = omega (arith, changed_length sealed_record i rs, h.there);
@@ -139,6 +145,7 @@ undone_in_order rs bytes past count start h p e =
       counts.0,
       sealed_in_order rs bytes start (count - 1) (record {
         ends = h.ends;
+        parts = h.parts;
         begins = h.begins;
         boundary = rw e (undone_begins es past p there h.begins);
         there = omega (arith, e, h.there);
@@ -161,6 +168,7 @@ redone_in_order rs bytes past count end h p e =
     let there : past < length es = omega (arith, entries_length rs bytes) in
     sealed_in_order rs bytes end (count + 1) (record {
       ends = h.ends;
+      parts = h.parts;
       begins = h.begins;
       boundary = rw e (redone_begins es past there h.boundary);
       there = omega (arith, e, next_within es past (omega (arith, entries_length rs bytes, h.there)), entries_length rs bytes);

@@ -5,3 +5,4 @@ pub mod Records
 pub mod Reading
 pub mod Dropping
 pub mod Joining
+pub mod proved

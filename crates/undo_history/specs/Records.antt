@@ -43,6 +43,16 @@ abbrev pub HasItsBytes : ChangeKind → List ℕ → Type 0
 HasItsBytes (Text kind place) bytes = Unit {0}
 HasItsBytes (Container coalesce token) bytes = bytes ≡ []
 
+-- the part of a container's step is empty
+abbrev pub HasItsPart : ChangeKind → (from end : ℕ) → Type 0
+HasItsPart (Text kind place) from end = Unit {0}
+HasItsPart (Container coalesce token) from end = from ≡ end
+
+-- so for the part of each step, the first beginning at `from`
+abbrev pub HaveTheirParts : ℕ → List StepRecord → Type 0
+HaveTheirParts from [] = Unit {0}
+HaveTheirParts from (r ∷ rs) = HasItsPart r.kind from r.bytes_end × HaveTheirParts r.bytes_end rs
+
 -- a change with its marks
 pub record Entry : Type 0 where
   pub change : Change
@@ -135,6 +145,7 @@ with_sealed (suc i) rs = changed_at sealed_record i rs
 -- past has `count` transactions.
 pub record IsInOrder (rs : List StepRecord) (bytes : List ℕ) (past count : ℕ) : Type 0 where
   pub ends : EndsInOrder bytes_end 0 rs (length bytes)
+  pub parts : HaveTheirParts 0 rs
   pub begins : BeginsOne (entries_in rs bytes)
   pub boundary : BeginsOne (drop past (entries_in rs bytes))
   pub there : past ≤ length rs

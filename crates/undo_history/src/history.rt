@@ -1,16 +1,14 @@
 //! `UndoHistory` and its calls.
 
-ghost use Rattle.std.specs.Prelude.{true, false, [], ◌≡◌, ◌≤◌, ◌<◌, ◌+◌, ◌^◌, ◌==◌, if◌then◌else◌, length};
-ghost use Rattle.std.specs.Prelude.{slice_get, OnOk, OnErr, IsOk};
+ghost use Rattle.std.specs.Prelude.{true, false, [], ◌≡◌, ◌<◌, ◌+◌, ◌^◌, ◌==◌, if◌then◌else◌, length};
+ghost use Rattle.std.specs.Prelude.{slice_get, OnOk, IsOk};
 ghost use Rattle.ed_model.specs.History.{at_save_point, can_undo, can_redo, undone, redone, undo_changes, redo_changes};
 ghost use Rattle.ed_model.specs.History.{begins_transaction, appended, joins, TextStep, with_container_step};
 ghost use Rattle.ed_model.specs.History.{sealed_outside_groups, group_begun, group_ended, saved, emptied, reachable};
 ghost use Rattle.ed_model.specs.History.{inverse_change};
 ghost use Rattle.ed_model.specs.Numbers.{is_number};
-ghost use Rattle.undo_history.specs.Kept.{fresh, holding_nothing, with_collecting, HasRoom, HistoryBecomes};
-ghost use Rattle.undo_history.specs.Kept.{IfSpare, OnlyRoomChanges, RoomAtMost, BlocksAtMost, BlocksGrowBySpare};
-ghost use Rattle.undo_history.specs.Kept.{IfNothingIsDropped, UsesRoom, UsesStepRoom, UsesSpare, UsesStepSpare};
-ghost use Rattle.undo_history.specs.Kept.{UsesSpareAtMost};
+ghost use Rattle.undo_history.specs.Kept.{CapacityAtMost, Fits, HasRoom, KeepsCapacity};
+ghost use Rattle.undo_history.specs.Kept.{fresh, holding_nothing, with_collecting};
 ghost use Rattle.undo_history.specs.Steps.{step_of};
 ghost use Rattle.undo_history.specs.Dropping.{with_past_change, without_future, without_undone};
 ghost use Rattle.undo_history.specs.Records.{change_lent, change_of, HasItsBytes, LastIsOpen};
@@ -43,33 +41,24 @@ pub struct UndoHistory {
     save_point: Option<usize>,
     depth: u64,
     is_collecting: bool,
-    // How many more steps and bytes were reserved. The blocks may hold more.
-    step_room: usize,
-    byte_room: usize,
 }
 
 impl Model for UndoHistory {
-    ghost use Rattle.undo_history.specs.Kept.{Kept};
+    ghost use Rattle.undo_history.specs.Kept.{Kept, kept, history_capacity};
 
     ghost Value = { Kept };
 
-    ghost use Rattle.std.specs.Prelude.{◌≡◌, ◌≤◌, ◌<◌, ◌+◌, ◌^◌, length};
+    ghost use Rattle.std.specs.Prelude.{◌≡◌, ◌+◌, length};
     ghost use Rattle.undo_history.specs.Records.{history_of, entries_in, past_of, IsInOrder};
     ghost use Rattle.undo_history.specs.Joining.{IsLatest};
 
-    ghost view = { λ h. record {
-      history = history_of (entries_in h.steps.items h.bytes.items) h.past h.save_point h.depth h.is_collecting;
-      step_room = h.step_room;
-      byte_room = h.byte_room;
-      taken = (length h.steps.items + h.steps.spare, length h.bytes.items + h.bytes.spare);
-      spare = (h.steps.spare, h.bytes.spare);
-    } };
+    ghost view = { λ h.
+        kept (history_of (entries_in h.steps.items h.bytes.items) h.past h.save_point h.depth h.is_collecting)
+        (history_capacity (length h.steps.items + h.steps.spare) (length h.bytes.items + h.bytes.spare)) };
 
     ghost invariant = { λ h. record {
       in_order : IsInOrder h.steps.items h.bytes.items h.past h.transactions;
       latest : IsLatest (past_of h.steps.items h.bytes.items h.past) h.latest;
-      step_room : h.step_room ≤ h.steps.spare;
-      byte_room : h.byte_room ≤ h.bytes.spare;
       step_gap : h.steps.gap ≡ length h.steps.items;
       byte_gap : h.bytes.gap ≡ length h.bytes.items;
     } };
@@ -90,8 +79,6 @@ impl UndoHistory {
             save_point: Some(0),
             depth: 0,
             is_collecting: true,
-            step_room: 0,
-            byte_room: 0,
         }
     }
 
@@ -151,61 +138,48 @@ impl UndoHistory {
         self.depth
     }
 
-    /// Makes room for `steps` more steps, with `bytes` bytes in all. Frees nothing. A block that is too small grows to
-    /// twice its size, or by what was requested if that is more. A block that is large enough stays as it is; if both
-    /// are, nothing is allocated. A history that does not collect allocates nothing.
+    /// Makes room for `steps` more steps, with `bytes` bytes in all. Allocates nothing if they fit, and frees nothing. A
+    /// block that is too small grows to twice its size, or to what was requested if that is more. A history that does
+    /// not collect allocates nothing.
     ///
     /// # Errors
     ///
-    /// `AllocError` if an allocation fails. Then nothing has changed except `taken` and `spare`.
+    /// `AllocError` if an allocation fails. The history is then unchanged, and its capacity is at least what it was.
     #[inline(always)]
     pub fn reserve(&mut self, steps: usize, bytes: usize) -> Result<(), AllocError>
-        ensures same { self.new.history ≡ self.old.history }
-        ensures ok { OnOk result (HasRoom self.new steps bytes) }
-        ensures room_is_there { HasRoom self.old steps bytes → IsOk result × (self.new ≡ self.old) }
-        ensures memory_is_there { IfSpare self.old steps bytes (IsOk result × OnlyRoomChanges self.old self.new) }
-        ensures room_stays { (self.old.step_room ≤ self.new.step_room) × (self.old.byte_room ≤ self.new.byte_room) }
-        ensures rooms { RoomAtMost steps bytes self.old self.new }
-        ensures at_most { BlocksAtMost steps bytes self.old self.new }
-        ensures steps_stay { steps ≤ self.old.spare.0 → self.new.spare.0 ≡ self.old.spare.0 }
-        ensures bytes_stay { bytes ≤ self.old.spare.1 → self.new.spare.1 ≡ self.old.spare.1 }
-        ensures grown { BlocksGrowBySpare self.old self.new }
-        ensures err { OnErr result (self.new ≡ record self.old { taken = self.new.taken; spare = self.new.spare }) }
+        ensures rest { self.new ≡ record self.old { capacity = self.new.capacity } }
+        ensures ok { OnOk result (HasRoom steps bytes self.new) }
+        ensures room_is_there { HasRoom steps bytes self.old → IsOk result × (self.new ≡ self.old) }
+        ensures capacity { KeepsCapacity self.old.capacity self.new.capacity }
+        ensures at_most { CapacityAtMost steps bytes self.old self.new }
     {
         if !self.is_collecting {
             return Ok(());
         }
         if steps <= self.steps.spare() && bytes <= self.bytes.spare() {
-            self.step_room = self.step_room.max(steps);
-            self.byte_room = self.byte_room.max(bytes);
             return Ok(());
         }
         self.grow(steps, bytes)
     }
 
-    // Allocates memory for `steps` more steps with `bytes` bytes in all, of which there is too little. Out of line,
-    // since it is rare.
+    // The slow path of `reserve`, out of line: a block is too small.
     #[inline(never)]
     fn grow(&mut self, steps: usize, bytes: usize) -> Result<(), AllocError>
-        ensures same { self.new.history ≡ self.old.history }
-        ensures ok { OnOk result (HasRoom self.new steps bytes) }
-        ensures room_stays { (self.old.step_room ≤ self.new.step_room) × (self.old.byte_room ≤ self.new.byte_room) }
-        ensures rooms { RoomAtMost steps bytes self.old self.new }
-        ensures at_most { BlocksAtMost steps bytes self.old self.new }
-        ensures steps_stay { steps ≤ self.old.spare.0 → self.new.spare.0 ≡ self.old.spare.0 }
-        ensures bytes_stay { bytes ≤ self.old.spare.1 → self.new.spare.1 ≡ self.old.spare.1 }
-        ensures grown { BlocksGrowBySpare self.old self.new }
-        ensures err { OnErr result (self.new ≡ record self.old { taken = self.new.taken; spare = self.new.spare }) }
+        ensures rest { self.new ≡ record self.old { capacity = self.new.capacity } }
+        ensures ok { OnOk result (Fits steps bytes self.new) }
+        ensures capacity { KeepsCapacity self.old.capacity self.new.capacity }
+        ensures at_most { CapacityAtMost steps bytes self.old self.new }
     {
-        let Ok(()) = self.steps.reserve(steps) else {
-            return Err(AllocError);
-        };
-        let Ok(()) = self.bytes.reserve(bytes) else {
-            return Err(AllocError);
-        };
-        self.step_room = steps.max(self.step_room);
-        self.byte_room = bytes.max(self.byte_room);
-        Ok(())
+        self.steps.reserve(steps)?;
+        self.bytes.reserve(bytes)
+    }
+
+    /// A law: what the history holds fits in.
+    pub fn fits_in(&self)
+        ensures { Fits 0 0 self.now }
+    {
+        // A use of a field brings the invariant.
+        let _ = &self.steps;
     }
 
     /// Seals the last transaction unless a group is open: no step joins it any more.
@@ -220,15 +194,8 @@ impl UndoHistory {
     /// Appends a container's own step with this token. A step that does not coalesce seals its transaction, unless a
     /// group is open. There must be room for a step without bytes.
     pub fn append_container_reserved(&mut self, token: i64, coalesce: bool)
-        requires { HasRoom self.old 1 0 }
-        ensures history { self.new.history ≡ with_container_step token coalesce self.old.history }
-        ensures taken { self.new.taken ≡ self.old.taken }
-        ensures room { self.old.history.collecting ≡ true → UsesStepRoom self.old self.new }
-        ensures not_collecting { self.old.history.collecting ≡ false → self.new ≡ self.old }
-        ensures steps_left { self.old.step_room ≤ self.new.step_room + 1 }
-        ensures bytes_left { self.old.byte_room ≤ self.new.byte_room }
-        ensures spare { IfNothingIsDropped self.old (UsesStepSpare self.old self.new) }
-        ensures spare_left { (self.old.spare.0 ≤ self.new.spare.0 + 1) × (self.old.spare.1 ≤ self.new.spare.1) }
+        requires { HasRoom 1 0 self.old }
+        ensures { self.new ≡ record self.old { history = with_container_step token coalesce self.old.history } }
     {
         self.append(false, ChangeKind::Container { token, coalesce }, &[]);
         if !coalesce && self.is_collecting {
@@ -263,15 +230,13 @@ impl UndoHistory {
         self.seal_outside_groups();
     }
 
-    /// Forgets all steps, and frees their memory. This state becomes the save point, and no group is open. Room that was
-    /// reserved is gone. Allocates nothing.
+    /// Forgets all steps, and frees all memory. This state becomes the save point, and no group is open. Allocates
+    /// nothing.
     pub fn empty(&mut self)
         ensures { self.new ≡ holding_nothing (emptied self.old.history) }
     {
         self.steps = SplitVector::new(self.alloc);
         self.bytes = SplitVector::new(self.alloc);
-        self.step_room = 0;
-        self.byte_room = 0;
         self.past = 0;
         self.transactions = 0;
         self.latest = None;
@@ -377,16 +342,10 @@ impl UndoHistory {
     // Appends a change, and returns whether it begins a transaction. There must be room for it.
     #[inline(always)]
     fn append(&mut self, later: bool, kind: ChangeKind, bytes: &[u8]) -> bool
-        requires { HasRoom self.old 1 (length bytes.now) }
-        ensures history { self.new.history ≡ appended later (change_of kind bytes.now) self.old.history }
+        requires room { HasRoom 1 (length bytes.now) self.old }
+        requires own { HasItsBytes kind bytes.now }
+        ensures history { self.new ≡ record self.old { history = appended later (change_of kind bytes.now) self.old.history } }
         ensures begins { result ≡ begins_transaction later (change_of kind bytes.now) self.old.history }
-        ensures taken { self.new.taken ≡ self.old.taken }
-        ensures room { self.old.history.collecting ≡ true → UsesRoom (length bytes.now) self.old self.new }
-        ensures not_collecting { self.old.history.collecting ≡ false → self.new ≡ self.old }
-        ensures steps_left { self.old.step_room ≤ self.new.step_room + 1 }
-        ensures bytes_left { self.old.byte_room ≤ self.new.byte_room + length bytes.now }
-        ensures spare { IfNothingIsDropped self.old (UsesSpare (length bytes.now) self.old self.new) }
-        ensures spare_left { UsesSpareAtMost (length bytes.now) self.old self.new }
     {
         if !self.is_collecting {
             return false;
@@ -406,16 +365,9 @@ impl UndoHistory {
         place: usize,
         bytes: &[u8],
     ) -> bool
-        requires { HasRoom self.old 1 (length bytes.now) }
-        ensures history { self.new.history ≡ appended later (TextStep (step_of kind place bytes.now)) self.old.history }
+        requires { HasRoom 1 (length bytes.now) self.old }
+        ensures history { self.new ≡ record self.old { history = appended later (TextStep (step_of kind place bytes.now)) self.old.history } }
         ensures begins { result ≡ begins_transaction later (TextStep (step_of kind place bytes.now)) self.old.history }
-        ensures taken { self.new.taken ≡ self.old.taken }
-        ensures room { self.old.history.collecting ≡ true → UsesRoom (length bytes.now) self.old self.new }
-        ensures not_collecting { self.old.history.collecting ≡ false → self.new ≡ self.old }
-        ensures steps_left { self.old.step_room ≤ self.new.step_room + 1 }
-        ensures bytes_left { self.old.byte_room ≤ self.new.byte_room + length bytes.now }
-        ensures spare { IfNothingIsDropped self.old (UsesSpare (length bytes.now) self.old self.new) }
-        ensures spare_left { UsesSpareAtMost (length bytes.now) self.old self.new }
     {
         if self.steps.len() > self.past {
             return self.append_instead(later, kind, place, bytes);
@@ -427,16 +379,9 @@ impl UndoHistory {
     // appended without a call.
     #[inline(never)]
     fn append_instead(&mut self, later: bool, kind: StepKind, place: usize, bytes: &[u8]) -> bool
-        requires { HasRoom self.old 1 (length bytes.now) }
-        ensures history { self.new.history ≡ appended later (TextStep (step_of kind place bytes.now)) self.old.history }
+        requires { HasRoom 1 (length bytes.now) self.old }
+        ensures history { self.new ≡ record self.old { history = appended later (TextStep (step_of kind place bytes.now)) self.old.history } }
         ensures begins { result ≡ begins_transaction later (TextStep (step_of kind place bytes.now)) self.old.history }
-        ensures taken { self.new.taken ≡ self.old.taken }
-        ensures room { self.old.history.collecting ≡ true → UsesRoom (length bytes.now) self.old self.new }
-        ensures not_collecting { self.old.history.collecting ≡ false → self.new ≡ self.old }
-        ensures steps_left { self.old.step_room ≤ self.new.step_room + 1 }
-        ensures bytes_left { self.old.byte_room ≤ self.new.byte_room + length bytes.now }
-        ensures spare { IfNothingIsDropped self.old (UsesSpare (length bytes.now) self.old self.new) }
-        ensures spare_left { UsesSpareAtMost (length bytes.now) self.old self.new }
     {
         let change = ChangeKind::Text { kind, place };
         self.append(later, change, bytes)
@@ -476,9 +421,7 @@ impl UndoHistory {
     // Drops what was undone, and the save point if only a redo could reach it.
     #[inline(always)]
     fn drop_future(&mut self)
-        ensures dropped { HistoryBecomes (without_future self.old.history) self.old self.new }
-        ensures nothing { self.old.history.future ≡ [] → self.new.spare ≡ self.old.spare }
-        ensures spare_left { (self.old.spare.0 ≤ self.new.spare.0) × (self.old.spare.1 ≤ self.new.spare.1) }
+        ensures { self.new ≡ record self.old { history = without_future self.old.history } }
     {
         self.drop_undone();
         if is_lost(self.transactions, self.save_point) {
@@ -489,9 +432,7 @@ impl UndoHistory {
     // Drops what was undone. There is usually nothing.
     #[inline(always)]
     fn drop_undone(&mut self)
-        ensures dropped { HistoryBecomes (without_undone self.old.history) self.old self.new }
-        ensures nothing { self.old.history.future ≡ [] → self.new.spare ≡ self.old.spare }
-        ensures spare_left { (self.old.spare.0 ≤ self.new.spare.0) × (self.old.spare.1 ≤ self.new.spare.1) }
+        ensures { self.new ≡ record self.old { history = without_undone self.old.history } }
     {
         if self.past < self.steps.len() {
             self.delete_undone();
@@ -501,8 +442,7 @@ impl UndoHistory {
     // The slow path of `drop_undone`, out of line: something was undone.
     #[inline(never)]
     fn delete_undone(&mut self)
-        ensures dropped { HistoryBecomes (without_undone self.old.history) self.old self.new }
-        ensures spare_left { (self.old.spare.0 ≤ self.new.spare.0) × (self.old.spare.1 ≤ self.new.spare.1) }
+        ensures { self.new ≡ record self.old { history = without_undone self.old.history } }
     {
         let kept = bytes_before(all_steps(&self.steps), self.past);
         let steps = self.steps.len();
@@ -516,12 +456,9 @@ impl UndoHistory {
     fn push(&mut self, joined: bool, kind: ChangeKind, bytes: &[u8])
         requires last { self.old.history.future ≡ [] }
         requires begun { joined ≡ true → LastIsOpen self.old.history.past }
-        requires room { (0 < self.old.step_room) × (length bytes.now ≤ self.old.byte_room) }
-        ensures history { self.new.history ≡ with_past_change joined (change_of kind bytes.now) self.old.history }
-        ensures taken { self.new.taken ≡ self.old.taken }
-        ensures steps_left { self.new.step_room + 1 ≡ self.old.step_room }
-        ensures bytes_left { self.new.byte_room + length bytes.now ≡ self.old.byte_room }
-        ensures spare { UsesSpare (length bytes.now) self.old self.new }
+        requires room { Fits 1 (length bytes.now) self.old }
+        requires own { HasItsBytes kind bytes.now }
+        ensures { self.new ≡ record self.old { history = with_past_change joined (change_of kind bytes.now) self.old.history } }
     {
         let stored = end_of(&self.bytes);
         self.bytes.insert_slice_reserved(stored, bytes);
@@ -536,8 +473,6 @@ impl UndoHistory {
         self.past += 1;
         self.transactions = transactions_after(self.transactions, joined);
         self.latest = latest_after(self.latest, joined, kind, bytes.len());
-        self.step_room -= 1;
-        self.byte_room -= bytes.len();
     }
 }
 

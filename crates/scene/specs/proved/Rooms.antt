@@ -1,112 +1,168 @@
--- Room in the document for steps in turn is enough for the first of them, and what that one leaves is enough for the others.
-use Rattle.std.proofs.Common.{◌≡◌, ℕ, ◌+◌, ◌-◌, ◌≤◌, ◌^◌, min, Bool, true, false, List, [], ◌∷◌, length, refl, ap, sym, ◌∙◌, arith, slice_range}
+-- Room in the document for steps in turn is enough for the first of them, and what that one leaves is enough for the others. The same for the
+-- changes of undo or redo.
+use Rattle.std.proofs.Common.{◌≡◌, ℕ, ◌+◌, ◌-◌, ◌≤◌, ◌^◌, min, List, [], ◌∷◌, map, length, refl, ap, ◌∙◌, arith, slice_range}
 use Rattle.ed_model.specs.declared.plan.LineEndTypes.{LineEndTypes}
 use Rattle.ed_model.specs.Steps.{Step, Insert, Delete}
-use Rattle.ed_model.specs.History.{History, Change, TextStep, appended}
+use Rattle.ed_model.specs.History.{Change, TextStep, ContainerStep}
 use Rattle.ed_model.specs.Session.{Document, text_of}
 use Rattle.ed_model.specs.proved.Steps.{length_of_range}
-use Rattle.document.specs.declared.room.DocumentRoom.{DocumentRoom}
+use Rattle.line_index.specs.RoomLaws.{lines_for_insertion, lines_for_deletion}
+use Rattle.document.specs.declared.need.DocumentNeed.{DocumentNeed}
 use Rattle.document.specs.declared.text_step.TextStep.TheVariants as lent
-use Rattle.document.specs.Kept.{Kept, document_room, HasRoom, TakesRoom}
-use Rattle.document.specs.TextSteps.{bytes_out, need_of}
-use Rattle.scene.specs.Undoing.{both_rooms, free_behind}
-use Rattle.scene.specs.Conversion.{room_of_step, room_of_steps, room_of_steps_beside}
+use Rattle.document.specs.Kept.{Kept, DocumentCapacity, HasRoom, HasTextRoom, IsAtLeast, document_need, text_part}
+use Rattle.document.specs.Memory.{KeepsCapacity}
+use Rattle.document.specs.TextSteps.{LeavesRoom, need_of, need_of_step, need_then}
+use Rattle.document.specs.Undoing.{need_of_change}
+use Rattle.document.specs.proved.Room.{less_room, less_text_room}
+use Rattle.scene.specs.Undoing.{LeavesRoomBehind, both_rooms, free_behind, room_of_changes, rooms_beside}
+use Rattle.scene.specs.Conversion.{room_of_steps, room_of_steps_beside}
 
--- rooms are equal if each amount is
-pub same_room : (a b c d e a' b' c' d' e' : ℕ) → a ≡ a' → b ≡ b' → c ≡ c' → d ≡ d' → e ≡ e' → document_room a b c d e ≡ document_room a' b' c' d' e'
+-- needs are equal if each amount is
+pub same_room : (a b c d e a' b' c' d' e' : ℕ) → a ≡ a' → b ≡ b' → c ≡ c' → d ≡ d' → e ≡ e' → document_need a b c d e ≡ document_need a' b' c' d' e'
 same_room a b c d e a' b' c' d' e' p q r s t = cc
 
 pub deletion_needs : (types : LineEndTypes) (d : Document) (start count : ℕ) → start + count ≤ length d.cells
-    → room_of_step types (Delete start (slice_range (text_of d) start (start + count))) ≡ need_of types (lent.Delete start count)
-deletion_needs types d start count h = ap (λ n. room_of_count n) (length_of_range d.cells start count h)
-  where
-    room_of_count : ℕ → DocumentRoom
-    room_of_count n = record { text = 0; lines = 3; insertions = 0; steps = 1; bytes = n }
+    → need_of_step types (Delete start (slice_range (text_of d) start (start + count))) ≡ need_of types (lent.Delete start count)
+deletion_needs types d start count h = ap (λ n. document_need 0 lines_for_deletion 0 1 n) (length_of_range d.cells start count h)
 
-pub appended_collects : (later : Bool) (c : Change) (h : History) → (appended later c h).collecting ≡ h.collecting
-appended_collects later c h = go h.collecting refl
-  where
-    go : (b : Bool) → h.collecting ≡ b → (appended later c h).collecting ≡ b
-    go true e = rw e refl
-    go false e = rw e refl
+-- what keeps the capacity twice keeps it
+pub keeps_both : (a b c : Kept) → KeepsCapacity a b → KeepsCapacity b c → KeepsCapacity a c
+keeps_both a b c first then = then ∙ ap (λ (x : DocumentCapacity). record x { indicators = c.capacity.indicators }) first
 
 -- Each further free byte lowers the need of the text by at most one.
-beside_text : (types : LineEndTypes) (steps : List Step) (free more : ℕ) → free ≤ more
-    → (room_of_steps_beside types free steps).text ≤ (room_of_steps_beside types more steps).text + (more - free)
+beside_text : (types : LineEndTypes) (cs : List Change) (free more : ℕ) → free ≤ more → (rooms_beside types free cs).text ≤ (rooms_beside types more cs).text + (more - free)
 beside_text types [] free more h = omega arith
-beside_text types (Insert p bytes ∷ steps) free more h = put (length bytes) free more h
-    (room_of_steps_beside types (free - length bytes) steps).text (room_of_steps_beside types (more - length bytes) steps).text
-    (beside_text types steps (free - length bytes) (more - length bytes) (less (length bytes) free more h))
+beside_text types (TextStep (Insert p bytes) ∷ cs) free more h = put (length bytes) free more h
+    (rooms_beside types (free - length bytes) cs).text (rooms_beside types (more - length bytes) cs).text
+    (beside_text types cs (free - length bytes) (more - length bytes) (less (length bytes) free more h))
   where
     less : (n free more : ℕ) → free ≤ more → free - n ≤ more - n
     less n free more h = omega arith
 
     put : (n free more : ℕ) → free ≤ more → (x y : ℕ) → x ≤ y + (more - n - (free - n)) → n - free + x ≤ n - more + y + (more - free)
     put n free more h x y e = omega arith
-beside_text types (Delete p bytes ∷ steps) free more h = gone (length bytes) (2 ^ 64 - 1) free more h
-    (room_of_steps_beside types (min (free + length bytes) (2 ^ 64 - 1)) steps).text (room_of_steps_beside types (min (more + length bytes) (2 ^ 64 - 1)) steps).text
-    (beside_text types steps (min (free + length bytes) (2 ^ 64 - 1)) (min (more + length bytes) (2 ^ 64 - 1)) (less (length bytes) (2 ^ 64 - 1) free more h))
+beside_text types (TextStep (Delete p bytes) ∷ cs) free more h = gone (length bytes) (2 ^ 64 - 1) free more h
+    (rooms_beside types (min (free + length bytes) (2 ^ 64 - 1)) cs).text (rooms_beside types (min (more + length bytes) (2 ^ 64 - 1)) cs).text
+    (beside_text types cs (min (free + length bytes) (2 ^ 64 - 1)) (min (more + length bytes) (2 ^ 64 - 1)) (less (length bytes) (2 ^ 64 - 1) free more h))
   where
     less : (n m free more : ℕ) → free ≤ more → min (free + n) m ≤ min (more + n) m
     less n m free more h = omega arith
 
     gone : (n m free more : ℕ) → free ≤ more → (x y : ℕ) → x ≤ y + (min (more + n) m - min (free + n) m) → 0 - free + x ≤ 0 - more + y + (more - free)
     gone n m free more h x y e = omega arith
+beside_text types (ContainerStep token coalesce ∷ cs) free more h = none free more h (rooms_beside types free cs).text (rooms_beside types more cs).text (beside_text types cs free more h)
+  where
+    none : (free more : ℕ) → free ≤ more → (x y : ℕ) → x ≤ y + (more - free) → 0 - free + x ≤ 0 - more + y + (more - free)
+    none free more h x y e = omega arith
 
 -- All other needs stay the same.
-beside_else : (types : LineEndTypes) (steps : List Step) (free more : ℕ)
-    → record (room_of_steps_beside types free steps) { text = 0 } ≡ record (room_of_steps_beside types more steps) { text = 0 }
+beside_else : (types : LineEndTypes) (cs : List Change) (free more : ℕ) → record (rooms_beside types free cs) { text = 0 } ≡ record (rooms_beside types more cs) { text = 0 }
 beside_else types [] free more = refl
-beside_else types (s ∷ steps) free more =
-    let need = room_of_step types s in
-    ap (λ (r : DocumentRoom). record (both_rooms need r) { text = 0 }) (beside_else types steps (free_behind free (TextStep s)) (free_behind more (TextStep s)))
+beside_else types (c ∷ cs) free more =
+    let need = need_of_change types c in
+    ap (λ (r : DocumentNeed). record (both_rooms need r) { text = 0 }) (beside_else types cs (free_behind free c) (free_behind more c))
 
--- The first step leaves at most the room of the bytes that it deletes.
-left_by_first : (step : Step) → free_behind 0 (TextStep step) ≤ bytes_out step
-left_by_first (Insert p bytes) = omega arith
-left_by_first (Delete p bytes) = below (length bytes) (2 ^ 64 - 1)
-  where
-    below : (n m : ℕ) → min (0 + n) m ≤ n
-    below n m = omega arith
+-- The same for steps.
 
-pub first_room : (k : Kept) (types : LineEndTypes) (step : Step) (steps : List Step) → HasRoom k (room_of_steps types (step ∷ steps)) → HasRoom k (room_of_step types step)
+as_changes : (types : LineEndTypes) (steps : List Step) (free : ℕ) → (room_of_steps_beside types free steps).text ≡ (rooms_beside types free (map TextStep steps)).text
+as_changes types [] free = refl
+as_changes types (s ∷ steps) free = ap (λ n. (need_of_step types s).text - free + n) (as_changes types steps (free_behind free (TextStep s)))
+
+steps_text : (types : LineEndTypes) (steps : List Step) (free more : ℕ) → free ≤ more
+    → (room_of_steps_beside types free steps).text ≤ (room_of_steps_beside types more steps).text + (more - free)
+steps_text types steps free more h =
+    let a = as_changes types steps free in
+    let b = as_changes types steps more in
+    let c = beside_text types (map TextStep steps) free more h in
+    omega arith
+
+steps_else : (types : LineEndTypes) (steps : List Step) (free more : ℕ)
+    → record (room_of_steps_beside types free steps) { text = 0 } ≡ record (room_of_steps_beside types more steps) { text = 0 }
+steps_else types [] free more = refl
+steps_else types (s ∷ steps) free more =
+    let need = need_of_step types s in
+    ap (λ (r : DocumentNeed). record (both_rooms need r) { text = 0 }) (steps_else types steps (free_behind free (TextStep s)) (free_behind more (TextStep s)))
+
+-- What the first step needs, and what all after it need, is no more than what all need.
+
+text_put : (n x y : ℕ) → x ≤ y + (0 - n - 0) → n + x ≤ n - 0 + y
+text_put n x y h = omega arith
+
+text_gone : (n m x y : ℕ) → x ≤ y + (min (0 + n) m - 0) → x - n ≤ 0 - 0 + y
+text_gone n m x y h = omega arith
+
+as_much : (n x y : ℕ) → x ≡ y → n + x ≤ n + y
+as_much n x y e = omega arith
+
+no_more : (x y : ℕ) → x ≡ y → x ≤ 0 + y
+no_more x y e = omega arith
+
+at_least_first : (x y : ℕ) → x ≤ x - 0 + y
+at_least_first x y = omega arith
+
+at_least_one : (x y : ℕ) → x ≤ x + y
+at_least_one x y = omega arith
+
+sum_then_rest : (types : LineEndTypes) (step : Step) (rest then : DocumentNeed) → rest.text ≤ then.text + (free_behind 0 (TextStep step) - 0)
+    → record rest { text = 0 } ≡ record then { text = 0 }
+    → IsAtLeast (let need = need_of_step types step in both_rooms (record need { text = need.text - 0 }) then) (need_then types step rest)
+sum_then_rest types (Insert p bytes) rest then few same = record {
+  text = text_put (length bytes) rest.text then.text few;
+  lines = as_much (lines_for_insertion types bytes) rest.lines then.lines (ap (λ (r : DocumentNeed). r.lines) same);
+  insertions = as_much 1 rest.insertions then.insertions (ap (λ (r : DocumentNeed). r.insertions) same);
+  steps = as_much 1 rest.steps then.steps (ap (λ (r : DocumentNeed). r.steps) same);
+  bytes = as_much (length bytes) rest.bytes then.bytes (ap (λ (r : DocumentNeed). r.bytes) same);
+}
+sum_then_rest types (Delete p bytes) rest then few same = record {
+  text = text_gone (length bytes) (2 ^ 64 - 1) rest.text then.text few;
+  lines = as_much lines_for_deletion rest.lines then.lines (ap (λ (r : DocumentNeed). r.lines) same);
+  insertions = no_more rest.insertions then.insertions (ap (λ (r : DocumentNeed). r.insertions) same);
+  steps = as_much 1 rest.steps then.steps (ap (λ (r : DocumentNeed). r.steps) same);
+  bytes = as_much (length bytes) rest.bytes then.bytes (ap (λ (r : DocumentNeed). r.bytes) same);
+}
+
+first_then_rest : (need rest : DocumentNeed) → IsAtLeast (both_rooms (record need { text = need.text - 0 }) rest) need
+first_then_rest need rest = record {
+  text = at_least_first need.text rest.text;
+  lines = at_least_one need.lines rest.lines;
+  insertions = at_least_one need.insertions rest.insertions;
+  steps = at_least_one need.steps rest.steps;
+  bytes = at_least_one need.bytes rest.bytes;
+}
+
+-- Steps.
+
+pub first_room : (k : Kept) (types : LineEndTypes) (step : Step) (steps : List Step) → HasRoom (room_of_steps types (step ∷ steps)) k → HasRoom (need_of_step types step) k
 first_room k types step steps h =
-    let a = room_of_step types step in
-    let b = room_of_steps_beside types (free_behind 0 (TextStep step)) steps in (
-      (most a.text b.text k.room.text h.0.0, less a.lines b.lines k.room.lines h.0.1, less a.insertions b.insertions k.room.insertions h.0.2),
-      λ on. (less a.steps b.steps k.room.steps (h.1 on).0, less a.bytes b.bytes k.room.bytes (h.1 on).1),
-    )
-  where
-    most : (x y z : ℕ) → x - 0 + y ≤ z → x ≤ z
-    most x y z h = omega arith
+    less_room k (need_of_step types step) (room_of_steps types (step ∷ steps))
+    (first_then_rest (need_of_step types step) (room_of_steps_beside types (free_behind 0 (TextStep step)) steps)) h
 
-    less : (x y z : ℕ) → x + y ≤ z → x ≤ z
-    less x y z h = omega arith
-
-pub next_room : (k k' : Kept) (types : LineEndTypes) (step : Step) (steps : List Step) → HasRoom k (room_of_steps types (step ∷ steps)) → TakesRoom k.room k'.room (room_of_step types step)
-    → k.room.text + bytes_out step ≤ k'.room.text + (room_of_step types step).text
-    → k'.document.history.collecting ≡ k.document.history.collecting → HasRoom k' (room_of_steps types steps)
-next_room k k' types step steps h left freed same =
-    let a = room_of_step types step in
+pub next_room : (k k' : Kept) (step : Step) (steps : List Step) → let types = k.document.line_end_types in
+    HasRoom (room_of_steps types (step ∷ steps)) k → LeavesRoom step k k' → HasRoom (room_of_steps types steps) k'
+next_room k k' step steps h leaves =
+    let types = k.document.line_end_types in
+    let rest = room_of_steps types steps in
     let free = free_behind 0 (TextStep step) in
-    let b = room_of_steps_beside types free steps in
-    let c = room_of_steps types steps in
-    let e = beside_else types steps 0 free in (
-      (
-        text a.text b.text c.text free (bytes_out step) k.room.text k'.room.text h.0.0 freed (left_by_first step) (beside_text types steps 0 free (omega arith)),
-        rest a.lines b.lines c.lines k.room.lines k'.room.lines (ap (λ (r : DocumentRoom). r.lines) e) h.0.1 left.lines_left,
-        rest a.insertions b.insertions c.insertions k.room.insertions k'.room.insertions (ap (λ (r : DocumentRoom). r.insertions) e) h.0.2 left.insertions_left,
-      ),
-      λ on. (
-          let was = h.1 (sym same ∙ on) in (
-            rest a.steps b.steps c.steps k.room.steps k'.room.steps (ap (λ (r : DocumentRoom). r.steps) e) was.0 left.steps_left,
-            rest a.bytes b.bytes c.bytes k.room.bytes k'.room.bytes (ap (λ (r : DocumentRoom). r.bytes) e) was.1 left.bytes_left,
-          )
-          ),
-    )
-  where
-    text : (a y x free out z z' : ℕ) → a - 0 + y ≤ z → z + out ≤ z' + a → free ≤ out → x ≤ y + (free - 0) → x ≤ z'
-    text a y x free out z z' h l f g = omega arith
+    leaves rest (less_room k (need_then types step rest) (room_of_steps types (step ∷ steps))
+    (sum_then_rest types step rest (room_of_steps_beside types free steps) (steps_text types steps 0 free (omega arith)) (steps_else types steps 0 free)) h)
 
-    rest : (a y x z z' : ℕ) → x ≡ y → a + y ≤ z → z ≤ z' + a → x ≤ z'
-    rest a y x z z' e h l = omega arith
+-- Changes of undo or redo.
+
+pub first_change : (k : Kept) (types : LineEndTypes) (c : Change) (cs : List Change) → HasTextRoom (room_of_changes types (c ∷ cs)) k → HasTextRoom (need_of_change types c) k
+first_change k types c cs h =
+    less_text_room k (need_of_change types c) (room_of_changes types (c ∷ cs)) (first_then_rest (need_of_change types c) (rooms_beside types (free_behind 0 c) cs)) h
+
+pub next_change : (k k' : Kept) (c : Change) (cs : List Change) → let types = k.document.line_end_types in
+    HasTextRoom (room_of_changes types (c ∷ cs)) k → LeavesRoomBehind c k k' → HasTextRoom (room_of_changes types cs) k'
+next_change k k' (TextStep step) cs h leaves =
+    let types = k.document.line_end_types in
+    let rest = room_of_changes types cs in
+    let free = free_behind 0 (TextStep step) in
+    let all = sum_then_rest types step rest (rooms_beside types free cs) (beside_text types cs 0 free (omega arith)) (beside_else types cs 0 free) in
+    leaves rest (less_text_room k (text_part (need_then types step rest)) (room_of_changes types (TextStep step ∷ cs))
+    (record { text = all.text; lines = all.lines; insertions = all.insertions; steps = omega arith; bytes = omega arith }) h)
+next_change k k' (ContainerStep token coalesce) cs h leaves =
+    let types = k.document.line_end_types in
+    let rest = room_of_changes types cs in
+    leaves rest (less_text_room k rest (room_of_changes types (ContainerStep token coalesce ∷ cs))
+    (record { text = omega arith; lines = omega arith; insertions = omega arith; steps = omega arith; bytes = omega arith }) h)

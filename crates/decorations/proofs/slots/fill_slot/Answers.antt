@@ -1,12 +1,8 @@
 use Rattle.decorations.proofs.Names.{◌≡◌, ◌+◌, ◌≤◌, ℕ, List, length, Option, ap, sym, ◌∙◌, subst, arith, true≢false, filled, changed_range, length_filled, Runs, IsClear, shown, WasFilled}
 use Rattle.run_styles.specs.Runs.{filled as runs_filled}
-use Rattle.decorations.proofs.Values.{room_for_fill, filled_same, shown_full, default_of}
+use Rattle.decorations.proofs.Values.{filled_same, shown_length, default_of}
 use Rattle.decorations.proofs.Changed.{answer_is}
 use Rattle.decorations.proofs.slots.fill_slot.Goals as goal
-
-pub fill-changed-requires-clause-room : goal.fill-changed-requires-clause-room
-fill-changed-requires-clause-room g c =
-    c.taken-runs.ensures.room 0 (room_for_fill c.args.size c.args.slot.now c.args.spare.now c.requires.kept c.requires.spare)
 
 pub returns-then-not-is_clear-clause-filled : goal.returns-then-not-is_clear-clause-filled
 returns-then-not-is_clear-clause-filled g c =
@@ -24,7 +20,7 @@ returns-then-not-is_clear-clause-changed g c =
     let before = shown c.args.size c.args.slot.now in
     let values : c.fill-changed.new.self.values ≡ filled c.args.start c.args.count c.args.value before =
     c.fill-changed.ensures.values ∙ ap (λ vs. runs_filled vs c.args.start c.args.count c.args.value) c.taken-runs.ensures.values ∙ filled_same before c.args.start c.args.count c.args.value in
-    let full : length before ≡ c.args.size = shown_full c.args.size c.args.slot.now c.requires.kept in
+    let full : length before ≡ c.args.size = shown_length c.args.size c.args.slot.now c.requires.kept in
     let inside : c.args.start + c.args.count ≤ length before = omega arith in
     let long : length c.fill-changed.new.self.values ≡ length c.taken-runs.result.values =
     ap length values ∙ length_filled c.args.start c.args.count c.args.value before inside ∙ ap length (sym c.taken-runs.ensures.values) in
@@ -45,7 +41,7 @@ returns-else-not-is_clear-clause-changed g c =
     let before = shown c.args.size c.args.slot.now in
     let values : c.fill-changed.new.self.values ≡ filled c.args.start c.args.count c.args.value before =
     c.fill-changed.ensures.values ∙ ap (λ vs. runs_filled vs c.args.start c.args.count c.args.value) c.taken-runs.ensures.values ∙ filled_same before c.args.start c.args.count c.args.value in
-    let full : length before ≡ c.args.size = shown_full c.args.size c.args.slot.now c.requires.kept in
+    let full : length before ≡ c.args.size = shown_length c.args.size c.args.slot.now c.requires.kept in
     let inside : c.args.start + c.args.count ≤ length before = omega arith in
     let long : length c.fill-changed.new.self.values ≡ length c.taken-runs.result.values =
     ap length values ∙ length_filled c.args.start c.args.count c.args.value before inside ∙ ap length (sym c.taken-runs.ensures.values) in

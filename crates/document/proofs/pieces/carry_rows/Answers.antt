@@ -1,4 +1,5 @@
-use Rattle.document.proofs.Names.{List, length, refl, ap, sym, ◌∙◌, arith, rows_together, LineEdit, after_edits, edits_of}
+use Rattle.document.proofs.Names.{◌+◌, List, length, refl, ap, sym, ◌∙◌, arith, rows_together, LineEdit, after_edits, lines_for_step, edits_of}
+use Rattle.document.specs.proved.Room.{fewer_lines}
 use Rattle.document.proofs.pieces.carry_rows.Goals as goal
 
 pub returns-then-is_quiet : goal.returns-then-is_quiet
@@ -14,12 +15,7 @@ returns-then-is_quiet c =
             rows = carried;
             row_count = ap length carried ∙ c.rows_match_lines.ensures.rows_after_steps rows_together types step text rows;
             next_handle = refl;
-            room_left = omega arith;
-            room_for_lines = omega arith;
-            none_made = omega arith;
-            levels = refl;
-            states = refl;
-            markers = omega arith;
-            markers_in_all = refl;
+            capacity = refl;
+            room = λ count room. fewer_lines count (lines_for_step types step + count) c.args.rows.now (omega arith) room;
           };
     }

@@ -1,4 +1,5 @@
 use Rattle.document.proofs.Names.{◌+◌, ◌<◌, length, ap, sym, subst, ◌∙◌, arith, length-set, KeptRows, with_more_markers}
+use Rattle.line_rows.specs.Kept.{HasRoomForMarkers}
 use Rattle.document.proofs.MarkerNumbers.{from_the_first, next_is_in, next_is_out, none_from_the_end, one_more, none_more, numbers_from}
 use Rattle.document.proofs.row_changes.add_markers.Goals.{then-mask-number-eq1, else-mask-number-eq1}
 use Rattle.document.proofs.row_changes.add_markers.Goals as goal
@@ -35,7 +36,8 @@ adding-preserved c =
                 ∙ one_more c.args.line number (numbers_from c.args.mask (number + 1)) c.adding.rows was.line
                 ∙ ap (λ ns. with_more_markers c.args.line ns c.adding.rows) (sym next) ∙ was.all;
             line = subst (λ n. c.args.line < n) (sym (ap (λ (k : KeptRows). length k.rows) is ∙ length-set c.adding.rows.rows c.args.line _)) was.line;
-            room = omega (arith, was.room, ap length next, ap (λ (k : KeptRows). k.room.markers) is);
+            room = subst (HasRoomForMarkers (length (numbers_from c.args.mask (number + 1)))) (sym w.rows-is)
+                (w.add_reserved.ensures.room (length (numbers_from c.args.mask (number + 1))) (omega (arith, was.room, ap length next)));
             handles = omega (arith, was.handles, ap length next, ap (λ (k : KeptRows). k.next_handle) is);
             within = omega (arith, c.adding-test.true);
           }
@@ -46,7 +48,7 @@ adding-preserved c =
             all = ap (λ (k : KeptRows). with_more_markers c.args.line (numbers_from c.args.mask (number + 1)) k) w.rows-is
                 ∙ ap (λ ns. with_more_markers c.args.line ns c.adding.rows) (sym next) ∙ was.all;
             line = subst (λ (k : KeptRows). c.args.line < length k.rows) (sym w.rows-is) was.line;
-            room = omega (arith, was.room, ap length next, ap (λ (k : KeptRows). k.room.markers) w.rows-is);
+            room = subst (HasRoomForMarkers (length (numbers_from c.args.mask (number + 1)))) (sym w.rows-is) (omega (arith, was.room, ap length next));
             handles = omega (arith, was.handles, ap length next, ap (λ (k : KeptRows). k.next_handle) w.rows-is);
             within = omega (arith, c.adding-test.true);
           }

@@ -1,4 +1,4 @@
-use Rattle.document_changes.proofs.Names.{List, [], refl, sym, ap, ◌∙◌, subst, w64, ◌&&◌, ℤ, cond-true, cond-false, to_z-of_z, Notice, told, blank, save_point_left, changed_document, watchers, AreTold}
+use Rattle.document_changes.proofs.Names.{List, [], refl, sym, ap, ◌∙◌, subst, w64, ◌&&◌, ℤ, cond-true, cond-false, to_z-of_z, Notice, told, blank, save_point_left, Kept, changed_document, watchers, AreTold}
 use Rattle.ed_model.specs.declared.plan.DocumentChange.TheVariants as change
 use Rattle.ed_model.specs.History.{at_save_point}
 use Rattle.document_changes.proofs.Told.{told_nothing}
@@ -9,7 +9,7 @@ pub returns-then-is_left-clause-changed : goal.returns-then-is_left-clause-chang
 returns-then-is_left-clause-changed c = λ text sender.
     let d = c.args.document.now.document in
     let views = watchers d c.args.views.now in
-    let made = c.append_container_reserved.ensures.document
+    let made = ap (λ (k : Kept). k.document) c.append_container_reserved.ensures
     ∙ ap (λ (z : ℤ). changed_document text (change.AppendContainer z c.args.coalesce) d) (to_z-of_z w64 c.args.token c.ranges.token) in
     is_changed text (change.AppendContainer c.args.token c.args.coalesce) sender d _ c.args.views.now c.args.notes.now _ refl c.requires.watched made
     (λ v _. subst (λ (ts : List Notice). AreTold ts c.args.notes.now c.tell_all.new.notes)
@@ -20,7 +20,7 @@ pub returns-else-is_left-clause-changed : goal.returns-else-is_left-clause-chang
 returns-else-is_left-clause-changed c = λ text sender.
     let d = c.args.document.now.document in
     let views = watchers d c.args.views.now in
-    let made = c.append_container_reserved.ensures.document
+    let made = ap (λ (k : Kept). k.document) c.append_container_reserved.ensures
     ∙ ap (λ (z : ℤ). changed_document text (change.AppendContainer z c.args.coalesce) d) (to_z-of_z w64 c.args.token c.ranges.token) in
     is_changed text (change.AppendContainer c.args.token c.args.coalesce) sender d _ c.args.views.now c.args.notes.now _ refl c.requires.watched made
     (λ v _. subst (λ (ts : List Notice). AreTold ts c.args.notes.now c.args.notes.now)

@@ -1,4 +1,4 @@
-use Rattle.document_changes.proofs.Names.{◌<◌, List, [], ◌∷◌, length, refl, sym, subst, arith, Notice, with_new_markers, watchers, AreTold}
+use Rattle.document_changes.proofs.Names.{◌<◌, List, [], ◌∷◌, length, refl, ap, sym, subst, arith, Notice, Kept, with_new_markers, watchers, AreTold}
 use Rattle.ed_model.specs.declared.plan.DocumentChange.TheVariants as change
 use Rattle.document_changes.proofs.Counts.{marker_told, some_added}
 use Rattle.document_changes.proofs.Unmoved.{is_changed}
@@ -7,7 +7,7 @@ use Rattle.document_changes.proofs.marker_changes.add_marker.Goals as goal
 pub returns-clause-changed : goal.returns-clause-changed
 returns-clause-changed c = λ text sender.
     let d = c.args.document.now.document in
-    let made = c.add_marker_reserved.ensures.document in
+    let made = ap (λ (k : Kept). k.document) c.add_marker_reserved.ensures.document in
     let within : c.args.line < length d.rows = subst (λ n. c.args.line < n) (sym c.parts_match_text.ensures.rows) c.requires.line in
     let numbers = c.args.number ∷ [] in
     is_changed text (change.AddMarker c.args.line c.args.number) sender d _ c.args.views.now c.args.notes.now _ refl c.requires.watched made

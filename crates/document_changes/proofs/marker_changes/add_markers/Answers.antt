@@ -1,4 +1,4 @@
-use Rattle.document_changes.proofs.Names.{◌<◌, List, length, refl, sym, subst, arith, Notice, with_new_markers, watchers, AreTold}
+use Rattle.document_changes.proofs.Names.{◌<◌, List, length, refl, ap, sym, subst, arith, Notice, Kept, with_new_markers, watchers, AreTold}
 use Rattle.ed_model.specs.declared.plan.DocumentChange.TheVariants as change
 use Rattle.ed_model.specs.LinePlans.{numbers_in}
 use Rattle.document_changes.proofs.Counts.{marker_told, marker_untold, some_added, none_added}
@@ -9,7 +9,7 @@ use Rattle.document_changes.proofs.marker_changes.add_markers.Goals as goal
 pub returns-then-count_numbers-gt0-clause-changed : goal.returns-then-count_numbers-gt0-clause-changed
 returns-then-count_numbers-gt0-clause-changed c = λ text sender.
     let d = c.args.document.now.document in
-    let made = c.add_markers_reserved.ensures.document in
+    let made = ap (λ (k : Kept). k.document) c.add_markers_reserved.ensures in
     let within : c.args.line < length d.rows = subst (λ n. c.args.line < n) (sym c.parts_match_text.ensures.rows) c.requires.line in
     let numbers = numbers_in c.args.mask in
     let count = c.count_numbers.ensures.count in
@@ -22,7 +22,7 @@ returns-then-count_numbers-gt0-clause-changed c = λ text sender.
 pub returns-else-count_numbers-gt0-clause-changed : goal.returns-else-count_numbers-gt0-clause-changed
 returns-else-count_numbers-gt0-clause-changed c = λ text sender.
     let d = c.args.document.now.document in
-    let made = c.add_markers_reserved.ensures.document in
+    let made = ap (λ (k : Kept). k.document) c.add_markers_reserved.ensures in
     let within : c.args.line < length d.rows = subst (λ n. c.args.line < n) (sym c.parts_match_text.ensures.rows) c.requires.line in
     let numbers = numbers_in c.args.mask in
     let count = c.count_numbers.ensures.count in

@@ -1,4 +1,4 @@
-use Rattle.document_changes.proofs.Names.{List, [], refl, sym, ◌∙◌, subst, Notice, changed_document, not-true, not-false, watchers, AreTold}
+use Rattle.document_changes.proofs.Names.{List, [], refl, ap, sym, ◌∙◌, subst, Notice, Kept, changed_document, not-true, not-false, watchers, AreTold}
 use Rattle.ed_model.specs.declared.plan.DocumentChange.TheVariants as change
 use Rattle.document_changes.proofs.Counts.{marker_told, marker_untold}
 use Rattle.document_changes.proofs.Told.{told_nothing}
@@ -9,7 +9,7 @@ pub returns-then-delete_marker-clause-changed : goal.returns-then-delete_marker-
 returns-then-delete_marker-clause-changed c = λ text sender.
     let d = c.args.document.now.document in
     let what = change.DeleteMarker c.args.line c.args.number in
-    let made = c.delete_marker.ensures.document in
+    let made = ap (λ (k : Kept). k.document) c.delete_marker.ensures.document in
     let went = rw made at (sym c.delete_marker.ensures.went ∙ c.if-delete_marker.true) in
     is_changed text what sender d _ c.args.views.now c.args.notes.now _ refl c.requires.watched made
     (λ v _. rw made (subst (λ (ts : List Notice). AreTold ts c.args.notes.now c.tell_markers.new.notes)
@@ -20,7 +20,7 @@ pub returns-else-delete_marker-clause-changed : goal.returns-else-delete_marker-
 returns-else-delete_marker-clause-changed c = λ text sender.
     let d = c.args.document.now.document in
     let what = change.DeleteMarker c.args.line c.args.number in
-    let made = c.delete_marker.ensures.document in
+    let made = ap (λ (k : Kept). k.document) c.delete_marker.ensures.document in
     let went = rw made at (sym c.delete_marker.ensures.went ∙ c.if-delete_marker.false) in
     is_changed text what sender d _ c.args.views.now c.args.notes.now _ refl c.requires.watched made
     (λ v _. rw made (subst (λ (ts : List Notice). AreTold ts c.args.notes.now c.args.notes.now)

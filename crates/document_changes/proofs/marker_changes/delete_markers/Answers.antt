@@ -1,4 +1,4 @@
-use Rattle.document_changes.proofs.Names.{◌≡◌, List, [], refl, sym, ap, ◌∙◌, subst, ◌==◌, negsuc, cond-true, cond-false, not-true, not-false, Notice, with_text, changed_document, marker_count, heard, change_note, change_marker, watchers, AreTold}
+use Rattle.document_changes.proofs.Names.{◌≡◌, List, [], refl, sym, ap, ◌∙◌, subst, ◌==◌, negsuc, cond-true, cond-false, not-true, not-false, Notice, with_text, Kept, changed_document, marker_count, heard, change_note, change_marker, watchers, AreTold}
 use Rattle.ed_model.specs.declared.plan.DocumentChange.TheVariants as change
 use Rattle.document_changes.proofs.Told.{told_nothing}
 use Rattle.document_changes.proofs.Unmoved.{is_changed}
@@ -10,7 +10,7 @@ returns-then-delete_markers-clause-changed c = λ text sender.
     let what = change.DeleteMarkers c.args.number in
     let new = changed_document [] what d in
     let views = watchers d c.args.views.now in
-    let made = c.delete_markers.ensures.document in
+    let made = ap (λ (k : Kept). k.document) c.delete_markers.ensures.document in
     let went = rw made at (sym c.delete_markers.ensures.went ∙ c.if-delete_markers.true) in
     let n = let m = change_note change_marker in record m { line = negsuc 0 } in
     let is : with_text (record c.change_note-note.result { line = negsuc 0 }) [] ≡ n =
@@ -26,7 +26,7 @@ returns-else-delete_markers-clause-changed c = λ text sender.
     let what = change.DeleteMarkers c.args.number in
     let new = changed_document [] what d in
     let views = watchers d c.args.views.now in
-    let made = c.delete_markers.ensures.document in
+    let made = ap (λ (k : Kept). k.document) c.delete_markers.ensures.document in
     let went = rw made at (sym c.delete_markers.ensures.went ∙ c.if-delete_markers.false) in
     let n = let m = change_note change_marker in record m { line = negsuc 0 } in
     is_changed text what sender d _ c.args.views.now c.args.notes.now _ refl c.requires.watched made

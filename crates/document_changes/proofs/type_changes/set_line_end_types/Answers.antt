@@ -1,12 +1,12 @@
 use Rattle.ed_model.specs.Carry.{regrouped}
-use Rattle.document_changes.proofs.Names.{rows_together, text_of}
+use Rattle.document_changes.proofs.Names.{ap, Kept, rows_together, text_of}
 use Rattle.document_changes.proofs.Told.{told_nothing}
 use Rattle.document_changes.proofs.type_changes.set_line_end_types.Goals as goal
 
 pub returns-clause-changed : goal.returns-clause-changed
 returns-clause-changed c = λ text sender notes.
     let d = c.args.document.now.document in
-    let made = c.set_line_end_types.ensures.document in
+    let made = ap (λ (k : Kept). k.document) c.set_line_end_types.ensures.document in
     record {
       document = made;
       lines = c.regroup.ensures.views;

@@ -1,9 +1,15 @@
-use Rattle.document_edits.proofs.Names.{◌≡◌, ap, sym, ◌∙◌, subst, arith, rules, CanHoldEdit, Document, text_of, Scene, edit_made, edit_made_id, scene_in, room_of_steps}
+use Rattle.document_edits.proofs.Names.{◌≡◌, ap, sym, ◌∙◌, subst, rules, CanHoldEdit, Document, text_of, Kept, Scene, edit_made, edit_made_id, scene_in, room_of_steps}
 use Rattle.ed_model.specs.LineEnds.{conversion_steps}
 use Rattle.scene.specs.declared.need.NoteRoom.{NoteRoom}
+use Rattle.document_edits.proofs.Asked.{capped_fits, no_steps, room_made}
 use Rattle.document_edits.proofs.Stepping.{edit_held}
-use Rattle.document_edits.proofs.Widths.{capped_fits}
 use Rattle.document_edits.proofs.converting.convert_with_room.Goals as goal
+
+pub returns-then-need-eq0-clause-scene : goal.returns-then-need-eq0-clause-scene
+returns-then-need-eq0-clause-scene c =
+    let a = c.args in let d = a.document.now.document in let need = c.conversion_need-need in
+    let none = no_steps d.line_end_types (conversion_steps a.to (text_of d)) need.result.document need.ensures.document c.if-need-eq0.true in
+    sym (ap (λ ss. edit_made ss (scene_in d a.views.now.entries a.notes.now.notes)) none)
 
 pub reserve-requires-2 : goal.reserve-requires-2
 reserve-requires-2 c =
@@ -12,20 +18,15 @@ reserve-requires-2 c =
 
 pub convert-requires : goal.convert-requires
 convert-requires c =
-    let a = c.args in let d = a.document.now.document in
-    let same = c.reserve-2.ensures.same in
-    let need = c.conversion_need-need.result.notes in
-    let is = c.conversion_need-need.ensures.notes in
-    let notes_are = ap (λ (n : NoteRoom). n.notes) is in
-    let bytes_are = ap (λ (n : NoteRoom). n.bytes) is in
+    let a = c.args in let d = a.document.now.document in let need = c.conversion_need-need in
+    let same = ap (λ (k : Kept). k.document) c.reserve-2.ensures.rest in
     let counted = c.is_counted.ensures.counted c.if-not-is_counted.false in
-    let few = counted.notes in
-    let short = counted.note_bytes in
-    let holds = edit_held c.needs_are_enough.ensures (conversion_steps a.to (text_of d)) d a.views.now.entries a.notes.now c.reserve.new.self need.notes need.bytes (search rules) (omega arith) (omega arith) in
+    let holds = edit_held c.needs_are_enough.ensures (conversion_steps a.to (text_of d)) d a.views.now.entries a.notes.now c.reserve.new.self need.result (search rules)
+    (ap (λ (n : NoteRoom). n.notes) need.ensures.notes) (ap (λ (n : NoteRoom). n.bytes) need.ensures.notes) counted in
     record {
       can = record {
         watched = search rules;
-        room = search rules;
+        room = room_made c.reserve-2.new.self d (λ d. room_of_steps d.line_end_types (conversion_steps a.to (text_of d))) need.result same need.ensures.document counted (search rules);
         holds = subst (λ (x : Document). CanHoldEdit (conversion_steps a.to (text_of x)) (scene_in x a.views.now.entries c.reserve.new.self.notes) c.reserve.new.self) (sym same) holds;
       };
     }
@@ -35,7 +36,7 @@ returns-clause-scene c =
     let a = c.args in let d = a.document.now.document in let views = a.views.now.entries in
     let before : c.reserve.new.self.notes ≡ a.notes.now.notes = search rules in
     c.convert.ensures.scene
-    ∙ ap (λ (x : Document). edit_made (conversion_steps a.to (text_of x)) (scene_in x views c.reserve.new.self.notes)) c.reserve-2.ensures.same
+    ∙ ap (λ (k : Kept). edit_made (conversion_steps a.to (text_of k.document)) (scene_in k.document views c.reserve.new.self.notes)) c.reserve-2.ensures.rest
     ∙ ap (λ ns. edit_made (conversion_steps a.to (text_of d)) (scene_in d views ns)) before
 
 pub returns-clause-id : goal.returns-clause-id

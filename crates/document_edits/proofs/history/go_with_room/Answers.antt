@@ -1,7 +1,7 @@
-use Rattle.document_edits.proofs.Names.{◌≡◌, ap, ◌∙◌, rules, Document, Scene, scene_in, bits_of, room_of_changes}
+use Rattle.document_edits.proofs.Names.{◌≡◌, ap, ◌∙◌, rules, Kept, Scene, scene_in, bits_of, room_of_changes}
 use Rattle.document.specs.Undoing.{changes_of, history_behind}
+use Rattle.document_edits.proofs.Asked.{capped_fits, room_made}
 use Rattle.document_edits.proofs.Going.{transaction_keeps_id, none_told}
-use Rattle.document_edits.proofs.Widths.{capped_fits}
 use Rattle.document_edits.proofs.history.go_with_room.Goals as goal
 
 pub reserve-requires-2 : goal.reserve-requires-2
@@ -9,12 +9,19 @@ reserve-requires-2 c =
     let a = c.args in let d = a.document.now.document in
     record { wide = capped_fits d (room_of_changes d.line_end_types (changes_of a.direction d.history)) c.history_need-need.result.document c.history_need-need.ensures.document c.requires.wide }
 
+pub perform_history-place-requires-clause-room : goal.perform_history-place-requires-clause-room
+perform_history-place-requires-clause-room c =
+    let a = c.args in let need = c.history_need-need in
+    let made = room_made c.reserve-2.new.self a.document.now.document (λ d. room_of_changes d.line_end_types (changes_of a.direction d.history)) need.result
+    (ap (λ (k : Kept). k.document) c.reserve-2.ensures.rest) need.ensures.document (search rules) (search rules) in
+    made.0
+
 pub returns-clause-id : goal.returns-clause-id
 returns-clause-id c =
     let a = c.args in let d = c.reserve-2.new.self.document in
     ap (λ (x : Scene). x.document.id) c.perform_history-place.ensures.scene
     ∙ transaction_keeps_id (bits_of a.direction) (changes_of a.direction d.history) (history_behind a.direction d.history) (scene_in d a.views.now.entries c.reserve.new.self.notes)
-    ∙ ap (λ (x : Document). x.id) c.reserve-2.ensures.same
+    ∙ ap (λ (k : Kept). k.document.id) c.reserve-2.ensures.rest
 
 pub returns-clause-unheard : goal.returns-clause-unheard
 returns-clause-unheard c = λ most empty.

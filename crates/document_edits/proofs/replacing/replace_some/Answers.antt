@@ -1,5 +1,10 @@
-use Rattle.document_edits.proofs.Stepping.{first_of_two, second_of_two, second_room, two_made, ends_watched}
+use Rattle.document_edits.proofs.Stepping.{room_of_first, first_of_two, second_of_two, second_room, two_made, ends_watched}
 use Rattle.document_edits.proofs.replacing.replace_some.Goals as goal
+
+pub make_step-requires-clause-room : goal.make_step-requires-clause-room
+make_step-requires-clause-room c =
+    let a = c.args in
+    room_of_first a.start a.count a.bytes.now a.document.now c.seal_outside_groups.new.self a.views.now a.notes.now c.requires.range c.requires.some c.seal_outside_groups.ensures c.requires.room
 
 pub make_step-requires-clause-notes : goal.make_step-requires-clause-notes
 make_step-requires-clause-notes c =
@@ -10,7 +15,7 @@ pub make_step-requires-2-clause-room : goal.make_step-requires-2-clause-room
 make_step-requires-2-clause-room c =
     let a = c.args in let n = c.make_step.new in
     second_room a.start a.count a.bytes.now a.document.now c.seal_outside_groups.new.self a.views.now a.notes.now c.requires.range c.requires.some c.seal_outside_groups.ensures n.document n.views n.notes c.make_step.ensures.scene
-    c.requires.room c.make_step.ensures.room_left c.make_step.ensures.text_freed
+    c.requires.room c.make_step.ensures.room
 
 pub make_step-requires-2-clause-notes : goal.make_step-requires-2-clause-notes
 make_step-requires-2-clause-notes c =

@@ -26,11 +26,11 @@ returns c =
     let e = u.made so text sender no_notes in
     change_made s c.requires.kept a.change a.document sender text old new s.views no_notes no_notes at e.document e.lines
     (λ v own. ap (λ (g : Gathered). g.notes) (e.told v own) ∙ ap (λ x. no_notes.notes ++ change_told v (watchers old.document s.views) old.document x a.change) e.document) refl) in
-    let same = λ (not : c.change_unheard.result ≡ false). same_session s c.requires.kept a.document old new at s.views (ap (λ (k : Kept). k.document) (u.same not)) refl in
+    let same = λ (not : c.change_unheard.result ≡ false). same_session s c.requires.kept a.document old new at s.views (ap (λ (k : Kept). k.document) (u.same not).0) refl in
     record {
       answer = λ so. made_unheard s c.requires.kept a.document a.view a.change s' (made so);
       same = same;
       kept = kept_unheard c.soundness_is_kept.ensures.by_messages s s' a.document a.view a.change c.change_unheard.result c.requires.kept c.requires.sent (λ so. made_for s c.requires.kept a.document a.view a.change s' (made so)) same refl
-          (still_named s c.requires.kept a.document old new at (same_id a.change old.document new.document c.change_unheard.result (λ so. (u.made so [] 0 no_notes).document) (λ not. ap (λ (k : Kept). k.document) (u.same not))))
+          (still_named s c.requires.kept a.document old new at (same_id a.change old.document new.document c.change_unheard.result (λ so. (u.made so [] 0 no_notes).document) (λ not. ap (λ (k : Kept). k.document) (u.same not).0)))
           c.requires.kept.views;
     }

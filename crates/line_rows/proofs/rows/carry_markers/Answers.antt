@@ -7,22 +7,20 @@ loop-edit-preserved c =
     let i = c.loop-edit.edit-index in
     let edit = get_or edits i (Come 0 0) in
     let left = drop (i + 1) edits in
-    let old = c.loop-edit.markers.lines in
+    let old = c.loop-edit.markers in
+    let same = c.carry_one.ensures in
     let inside : i < length edits = omega arith in
     let next : drop i edits ≡ edit ∷ left = drop_more edits i (Come 0 0) inside in
-    let P : List LineEdit → Type 0 = λ es. FitLines (length old) es in
+    let P : List LineEdit → Type 0 = λ es. FitLines (length old.lines) es in
     let fit = subst P next c.loop-edit.invariant.lines in
     let fresh : fresh_lines (drop i edits) ≡ fresh_by edit + fresh_lines left = ap fresh_lines next in
-    let long : length c.carry_one.new.markers.lines ≡ lines_after_edit (length old) edit = ap length c.carry_one.ensures.lines ∙ length_after_edit markers_together old edit fit.0 in
-    let adds = edit_adds (length old) edit in
+    let long : length c.carry_one.new.markers.lines ≡ lines_after_edit (length old.lines) edit = ap (λ (m : MarkedLines). length m.lines) same ∙ length_after_edit markers_together old.lines edit fit.0 in
+    let adds = edit_adds (length old.lines) edit in
     record {
-      markers = ap (after_edits markers_together left) c.carry_one.ensures.lines ∙ ap (λ es. after_edits markers_together es old) (sym next) ∙ c.loop-edit.invariant.markers;
-      rest = c.carry_one.ensures.rest ∙ ap (λ (m : MarkedLines). record m { lines = c.carry_one.new.markers.lines }) c.loop-edit.invariant.rest;
+      markers = ap (λ (m : MarkedLines). record m { lines = after_edits markers_together left m.lines }) same ∙ ap (λ es. record old { lines = after_edits markers_together es old.lines }) (sym next) ∙ c.loop-edit.invariant.markers;
       lines = rw long fit.1;
       fits = omega (arith, c.loop-edit.invariant.fits);
       room = λ some.
-          let same = c.carry_one.ensures.rest in
           let held = c.loop-edit.invariant.room (omega (arith, some, ap (λ (m : MarkedLines). m.capacity) same)) in
           omega (arith, held, long, adds, fresh, ap (λ (m : MarkedLines). m.line_capacity) same);
-      fewer = omega (arith, c.loop-edit.invariant.fewer, c.carry_one.ensures.fewer);
     }

@@ -15,8 +15,8 @@ loop-left-init g c =
       front = cc;
       behind = c.requires.behind;
       length = omega arith;
-      room = omega arith;
-      spare = omega arith;
+      few_starts = omega arith;
+      few_values = omega arith;
       start_cells = refl;
       value_cells = refl;
     }
@@ -56,8 +56,8 @@ loop-left-preserved g c =
       front = c.take_from.ensures.front ∙ c.loop-left.invariant.front;
       behind = c.take_from.ensures.behind c.loop-left.invariant.behind;
       length = omega (arith, c.take_from.ensures.length, c.loop-left.invariant.length, taken);
-      room = omega (arith, c.take_from.ensures.room, c.loop-left.invariant.room);
-      spare = omega (arith, c.take_from.ensures.spare, c.loop-left.invariant.spare);
-      start_cells = c.take_from.ensures.start_cells ∙ c.loop-left.invariant.start_cells;
-      value_cells = c.take_from.ensures.value_cells ∙ c.loop-left.invariant.value_cells;
+      few_starts = omega (arith, c.take_from.ensures.few, c.loop-left.invariant.few_starts);
+      few_values = omega (arith, c.take_from.ensures.few, c.loop-left.invariant.few_values);
+      start_cells = c.take_from.ensures.cells.0 ∙ c.loop-left.invariant.start_cells;
+      value_cells = c.take_from.ensures.cells.1 ∙ c.loop-left.invariant.value_cells;
     }

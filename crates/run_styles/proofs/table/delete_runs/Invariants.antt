@@ -10,11 +10,11 @@ invariant-loop-left g l = record {
   index : l.index ≤ length l.values.items;
   front : take l.index l.values.items ≡ take l.index l.fn.values.items;
   behind : NeighboursDiffer (drop l.index l.values.items);
+  few_starts : length l.starts.starts ≤ length l.fn.starts.starts;
+  few_values : length l.values.items ≤ length l.fn.values.items;
   start_cells : length l.starts.starts + l.starts.room ≡ length l.fn.starts.starts + l.fn.starts.room;
   value_cells : length l.values.items + l.values.spare ≡ length l.fn.values.items + l.fn.values.spare;
   length : l.starts.length + (l.count - l.left) ≡ l.fn.starts.length;
-  room : l.fn.starts.room ≤ l.starts.room;
-  spare : l.fn.values.spare ≤ l.values.spare;
 }
 
 abbrev pub decreases-loop-left : goal.decreases-loop-left

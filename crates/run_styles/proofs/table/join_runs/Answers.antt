@@ -1,4 +1,4 @@
-use Rattle.run_styles.proofs.Names.{◌∙◌, ap, arith, length, remove}
+use Rattle.run_styles.proofs.Names.{◌∙◌, ◌+◌, ◌-◌, ap, arith, length, remove}
 use Rattle.run_styles.proofs.ByIndex.{remove-seam, length-seam}
 use Rattle.run_styles.proofs.table.join_runs.Goals as goal
 
@@ -9,8 +9,18 @@ loop-preserved g c = record {
   room = omega arith;
 }
 
-pub returns-clause-start_cells : goal.returns-clause-start_cells
-returns-clause-start_cells g c =
+pub returns-clause-cells : goal.returns-clause-cells
+returns-clause-cells g c =
     let size = ap length c.loop.invariant.starts in
     let all = length-seam c.args.starts.now.starts c.args.from c.loop.counter (omega arith) (omega arith) in
-    omega (arith, size, all, c.loop.invariant.room)
+    let kept = ap length c.delete.ensures.items in
+    let whole = length-seam c.args.values.now.items c.args.from (c.args.from + (c.args.to - c.args.from)) (omega arith) (omega (arith, c.requires.paired, c.requires.range)) in
+    (omega (arith, size, all, c.loop.invariant.room), omega (arith, kept, whole, c.delete.ensures.spare))
+
+pub returns-clause-few : goal.returns-clause-few
+returns-clause-few g c =
+    let size = ap length c.loop.invariant.starts in
+    let all = length-seam c.args.starts.now.starts c.args.from c.loop.counter (omega arith) (omega arith) in
+    let kept = ap length c.delete.ensures.items in
+    let whole = length-seam c.args.values.now.items c.args.from (c.args.from + (c.args.to - c.args.from)) (omega arith) (omega (arith, c.requires.paired, c.requires.range)) in
+    (omega (arith, size, all), omega (arith, kept, whole))

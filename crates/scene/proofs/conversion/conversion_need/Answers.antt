@@ -1,4 +1,4 @@
-use Rattle.scene.proofs.Names.{[], ap, sym, ◌∙◌, false, missing_from, text_of, DocumentRoom, amount_sum, room_sum, NoteRoom, scene_in, note_room, capped_room, deletions_of, rooms_added}
+use Rattle.scene.proofs.Names.{[], ap, sym, ◌∙◌, false, missing_from, text_of, DocumentNeed, amount_sum, amounts_added, NoteRoom, scene_in, note_room, capped_room, deletions_of, rooms_added}
 use Rattle.scene.proofs.ConversionNeeds.{both_needs, both_notes, conversion_beside}
 use Rattle.scene.proofs.conversion.conversion_need.Goals as goal
 
@@ -18,6 +18,6 @@ returns-clause-document c =
     let deletions = c.need_of_deletions-deletions in
     let puts = missing_from 0 false c.args.to (text_of d) in
     let takes = deletions_of c.args.to (text_of d) in
-    c.plus-3.ensures ∙ ap (λ (r : DocumentRoom). room_sum r deletions.result.document) insertions.ensures.document
-    ∙ ap (λ (r : DocumentRoom). room_sum (capped_room (rooms_added d.line_end_types puts)) r) deletions.ensures.document
+    c.plus-3.ensures ∙ ap (λ (r : DocumentNeed). amounts_added r deletions.result.document) insertions.ensures.document
+    ∙ ap (λ (r : DocumentNeed). amounts_added (capped_room (rooms_added d.line_end_types puts)) r) deletions.ensures.document
     ∙ both_needs d.line_end_types puts takes ∙ ap capped_room (sym (conversion_beside d.line_end_types c.args.to (text_of d)))

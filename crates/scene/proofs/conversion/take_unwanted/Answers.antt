@@ -1,6 +1,13 @@
 use Rattle.scene.proofs.Names.{text_of, edited, unwanted_in, scene_in, first_held}
-use Rattle.scene.proofs.StepsInTurn.{text_after, take_of, take_next, take_made, fewer_takes}
+use Rattle.scene.proofs.StepsInTurn.{text_after, take_of, take_next, take_room, take_made, fewer_takes}
 use Rattle.scene.proofs.conversion.take_unwanted.Goals as goal
+
+pub make_step-requires-clause-room : goal.make_step-requires-clause-room
+make_step-requires-clause-room c =
+    let a = c.args in
+    let p = c.taking in
+    let left = take_next a.to p.place c.in-Some.found p.later a.later a.document.now p.document a.views.now p.views a.notes.now p.notes p.invariant c.in-Some.ensures in
+    take_room a.to p.place c.in-Some.found (unwanted_in a.to (edited (take_of c.in-Some.found p.document) (text_of p.document.document)) c.in-Some.found) p.document c.in-Some.ensures left.can.room
 
 pub make_step-requires-clause-notes : goal.make_step-requires-clause-notes
 make_step-requires-clause-notes c =
@@ -26,5 +33,5 @@ taking-preserved c =
     let n = c.make_step.new in
     let e = c.make_step.ensures in
     take_made a.to p.place c.in-Some.found p.later a.later a.document.now p.document n.document
-    a.views.now p.views n.views a.notes.now p.notes n.notes p.invariant c.in-Some.ensures e.scene e.watched e.room_left e.capacity e.held
-    (record { text_freed = e.text_freed; none_made = e.none_made; spare = e.spare; markers_in_all = e.markers_in_all; fold_capacities = e.fold_capacities; view_capacity = e.view_capacity }) e.next
+    a.views.now p.views n.views a.notes.now p.notes n.notes p.invariant c.in-Some.ensures e.scene e.watched e.room e.held
+    (record { document = e.memory; fold_capacities = e.fold_capacities; view_capacity = e.view_capacity; capacity = e.capacity }) e.next

@@ -1,8 +1,8 @@
-use Rattle.scene.proofs.Names.{◌≡◌, ◌++◌, ◌∙◌, sym, ap, arith, subst, [], append-nil, edits_of, movement_of, growth, TextStep, Document, text_of, lines_in, heard, before_note, after_note, document_after, Rise, length_text, step_edits, watchers, scene_in, IsWatched, bits_of, all_bits, outline_movement, bits_behind, CanTellAfter, IsPerformed}
+use Rattle.scene.proofs.Names.{◌≡◌, ◌+◌, ◌++◌, ◌∙◌, length, sym, ap, arith, subst, [], append-nil, edits_of, movement_of, growth, TextStep, Document, text_of, lines_in, heard, before_note, after_note, document_after, need_of_step, Rise, length_text, step_edits, watchers, scene_in, IsWatched, bits_of, all_bits, outline_movement, bits_behind, CanTellAfter, IsPerformed}
 use Rattle.scene.proofs.Followed.{named_ids}
 use Rattle.scene.proofs.ToldSoFar.{heard_last, last_fit}
 use Rattle.scene.proofs.KindLemmas.{unheard_after}
-use Rattle.scene.proofs.StepScenes.{same_scene, few_for_step, watched_can, stands_can, watched_after, watched_again}
+use Rattle.scene.proofs.StepScenes.{same_scene, short_enough, few_for_step, watched_can, stands_can, watched_after, watched_again}
 use Rattle.scene.proofs.ChangeNotes.{bits_more, performed_few}
 use Rattle.scene.proofs.ChangeSteps.{some_has, step_same, small_fits, small_count, ends_in_text, outline_movement_is}
 use Rattle.scene.proofs.performing.perform_step.Goals as goal
@@ -18,8 +18,8 @@ tell_after_change-requires-clause-can c =
     let tb = c.tell_before_change-hears.ensures s can.at in
     let after = c.make_change-change.ensures.document s can.at in
     let text = length_text d in
-    let small = c.document_is_small.ensures.text in
-    let numbers = small_fits d.line_end_types s (text_of d) c.args.document.now.room.text can.fits can.room.0 (omega arith) in
+    let short = short_enough d (length d.cells + (need_of_step d.line_end_types s).text) can.room.width in
+    let numbers = small_fits d.line_end_types s (text_of d) can.fits (omega arith) in
     let old_lines = c.line_count-old_lines.ensures.count in
     let lines = rw after at c.line_count-lines.ensures.count in
     let changed = c.is_changed-changed.result in
@@ -56,11 +56,11 @@ follow_change-requires-clause-can c =
     let V : c.views.result.now ≡ d.views = c.views.ensures ∙ ap (λ (x : Document). x.views) after in
     let within = ends_in_text s (text_of d) can.fits in
     let text = length_text d in
-    let small = c.document_is_small.ensures.text in
-    let count = small_count d.line_end_types s (text_of d) c.args.document.now.room.text can.fits can.room.0 (omega arith) in
+    let short = short_enough d (length d.cells + (need_of_step d.line_end_types s).text) can.room.width in
+    let count = small_count d.line_end_types s (text_of d) can.fits (omega arith) in
     rw (M, E, V) (watched_can (movement_of s) (step_edits s d) d c.args.views.now can.watched
-    (λ v stands. stands_can s d c.args.document.now.room.text v c.moves_are_those_of_steps.ensures.fit c.edits_of_steps.ensures.few within (omega arith)
-    c.document_is_small.ensures.width (few_for_step d.line_end_types s c.args.document.now.room.text can.room.0) stands))
+    (λ v stands. stands_can s d (need_of_step d.line_end_types s).text v c.moves_are_those_of_steps.ensures.fit c.edits_of_steps.ensures.few within (omega arith)
+    can.room.width (few_for_step d.line_end_types s) stands))
 
 pub returns : goal.returns
 returns c =
@@ -73,8 +73,8 @@ returns c =
     let tb = c.tell_before_change-hears.ensures s can.at in
     let after = c.make_change-change.ensures.document s can.at in
     let text = length_text d in
-    let small = c.document_is_small.ensures.text in
-    let numbers = small_fits d.line_end_types s (text_of d) c.args.document.now.room.text can.fits can.room.0 (omega arith) in
+    let short = short_enough d (length d.cells + (need_of_step d.line_end_types s).text) can.room.width in
+    let numbers = small_fits d.line_end_types s (text_of d) can.fits (omega arith) in
     let old_lines = c.line_count-old_lines.ensures.count in
     let lines = rw after at c.line_count-lines.ensures.count in
     let changed = c.is_changed-changed.result in
@@ -107,15 +107,12 @@ returns c =
       scene = same_scene _ _ _ _ _ _ after views told;
       watched = subst (λ x. IsWatched x c.follow_change.new.views) (sym after)
           (watched_again s d d.history c.args.views.now c.follow_change.new.views c.steps_keep_views_standing.ensures can.watched views c.follow_change.ensures.named c.follow_change.ensures.next);
-      room = c.make_change-change.ensures.room_left s can.at;
-      freed = c.make_change-change.ensures.text_freed s can.at;
+      room = c.make_change-change.ensures.room s can.at;
+      memory = c.make_change-change.ensures.memory.others;
       capacity = ap (λ g. g.capacity) put ∙ tb.capacity;
       held = ap (λ g. g.held) put ∙ tb.held;
       ids = c.follow_change.ensures.ids;
       next = c.follow_change.ensures.next;
       view_capacity = c.follow_change.ensures.view_capacity;
-      none_made = c.make_change-change.ensures.none_made s can.at;
-      spare = c.make_change-change.ensures.spare;
-      markers_in_all = c.make_change-change.ensures.markers_in_all;
       fold_capacities = c.follow_change.ensures.fold_capacities (subst (Rise 0 c.args.views.now.next) (sym (named_ids c.args.views.now.entries can.watched.named)) can.watched.rise);
     })

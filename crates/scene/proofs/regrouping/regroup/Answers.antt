@@ -1,16 +1,14 @@
-use Rattle.scene.proofs.Names.{◌∙◌, sym, subst, length, arith, Rise}
+use Rattle.scene.proofs.Names.{◌∙◌, sym, subst, Rise}
 use Rattle.scene.proofs.Followed.{named_ids}
 use Rattle.scene.proofs.Regrouped.{regrouped_can_all, regrouped_views, regrouped_watched}
-use Rattle.scene.proofs.StepScenes.{narrower}
 use Rattle.scene.proofs.regrouping.regroup.Goals as goal
 
 pub follow-requires-clause-can : goal.follow-requires-clause-can
 follow-requires-clause-can c =
     let d = c.args.document.now.document in
     let laws = c.edits_of_settings.ensures in
-    let small = c.document_is_small.ensures.text in
-    let wide = narrower d (length d.cells) c.args.document.now.room.text c.document_is_small.ensures.width in
-    rw (c.views.ensures, c.requires.edits) (regrouped_can_all d c.args.types c.args.views.now laws.fit laws.few (omega arith) wide c.requires.watched)
+    let small = c.document_is_small.ensures in
+    rw (c.views.ensures, c.requires.edits) (regrouped_can_all d c.args.types c.args.views.now laws.fit laws.few small.text small.width c.requires.watched)
 
 pub returns-clause-views : goal.returns-clause-views
 returns-clause-views c =

@@ -1,8 +1,8 @@
-use Rattle.scene.proofs.Names.{◌≡◌, ◌++◌, ◌∙◌, eqb-true, length, sym, ap, arith, subst, edits_of, movement_of, growth, Document, text_of, lines_in, heard, before_note, after_note, document_after, Rise, step_in, step_edits, watchers, IsWatched, left_note}
+use Rattle.scene.proofs.Names.{◌≡◌, ◌+◌, ◌++◌, ◌∙◌, eqb-true, length, sym, ap, arith, subst, edits_of, movement_of, growth, Document, text_of, lines_in, heard, before_note, after_note, document_after, Rise, step_in, need_of, step_edits, watchers, IsWatched, left_note}
 use Rattle.scene.proofs.Followed.{named_ids}
 use Rattle.scene.proofs.ToldSoFar.{heard_last, last_fit, length_parts}
 use Rattle.scene.proofs.KindLemmas.{can_tell, none_by_notes}
-use Rattle.scene.proofs.StepScenes.{on_text, end_within, small_step, count_is, lines_of_need, same_scene, few_for_lent, watched_can, stands_can, watched_after, watched_again}
+use Rattle.scene.proofs.StepScenes.{on_text, end_within, small_step, count_is, same_scene, short_enough, few_for_lent, watched_can, stands_can, watched_after, watched_again}
 use Rattle.scene.proofs.steps.step_heard.Goals as goal
 
 pub tell_before-hears-requires : goal.tell_before-hears-requires
@@ -15,7 +15,7 @@ tell_before-hears-requires c =
     let r = c.requires.notes.0 in
     record {
       fits = c.requires.fits;
-      small = small_step d.line_end_types c.args.step (length d.cells) c.args.document.now.room.text c.requires.fits c.requires.room.0 c.document_is_small.ensures.text;
+      small = small_step d.line_end_types c.args.step (length d.cells) c.requires.fits (short_enough d (length d.cells + (need_of d.line_end_types c.args.step).text) c.requires.room.width);
       named = c.requires.watched.named;
       notes = omega arith;
       full = λ full.
@@ -52,19 +52,16 @@ follow_change-requires c =
     let M = c.movement_of.ensures (text_of d) on in
     let E : edits_of c.step-change.result ≡ step_edits s d = ap edits_of change in
     let V : c.views.result.now ≡ d.views = c.views.ensures ∙ ap (λ (x : Document). x.views) after in
-    let small = small_step d.line_end_types c.args.step (length d.cells) c.args.document.now.room.text c.requires.fits c.requires.room.0 c.document_is_small.ensures.text in
+    let wide = c.requires.room.width in
+    let short = short_enough d (length d.cells + (need_of d.line_end_types c.args.step).text) wide in
+    let small = small_step d.line_end_types c.args.step (length d.cells) c.requires.fits short in
     let count = count_is c.args.step (text_of d) on in
-    let need = lines_of_need d.line_end_types c.args.step (text_of d) in
-    let bound = rw same at c.line_count-old_lines.ensures.within in
-    let lines = rw same at c.line_count-old_lines.ensures.count in
-    let room = c.requires.room.1 in
-    let cells = c.document_is_small.ensures.text in
     record {
       small = c.step-change.ensures.small;
       named = c.requires.watched.named;
       can = rw (M, E, V) (watched_can (movement_of s) (step_edits s d) d c.args.views.now c.requires.watched
-          (λ v stands. stands_can s d c.args.document.now.room.text v c.moves_are_those_of_steps.ensures.fit c.edits_of_steps.ensures.few (end_within c.args.step (text_of d) on) (omega arith)
-          c.document_is_small.ensures.width (few_for_lent d.line_end_types c.args.step (text_of d) c.args.document.now.room.text c.requires.room.0) stands));
+          (λ v stands. stands_can s d (need_of d.line_end_types c.args.step).text v c.moves_are_those_of_steps.ensures.fit c.edits_of_steps.ensures.few (end_within c.args.step (text_of d) on) (omega arith)
+          wide (few_for_lent d.line_end_types c.args.step (text_of d)) stands));
     }
 
 pub returns-clause-scene : goal.returns-clause-scene
@@ -107,6 +104,9 @@ returns-clause-watched c =
     ∙ watched_after s d c.args.views.now c.requires.watched c.moves_are_those_of_steps.ensures.view (end_within c.args.step (text_of d) on) in
     subst (λ x. IsWatched x c.follow_change.new.views) (sym after)
     (watched_again s d d.history c.args.views.now c.follow_change.new.views c.steps_keep_views_standing.ensures c.requires.watched views c.follow_change.ensures.named c.follow_change.ensures.next)
+
+pub returns-clause-room : goal.returns-clause-room
+returns-clause-room c = rw c.tell_before-hears.ensures.document at c.step-change.ensures.room
 
 pub returns-clause-capacity : goal.returns-clause-capacity
 returns-clause-capacity c = ap (λ g. g.capacity) c.tell_made.ensures.rest ∙ c.tell_before-hears.ensures.capacity

@@ -1,4 +1,4 @@
-use Rattle.session_changes.proofs.Names.{◌≡◌, sym, ap, ◌∙◌, subst, refl, map, IfSome, Document, living, attached_to, session_changed, attached_last, value_at, views_of, documents_in, changed_at, CanMove, IsReady, AwaitsView, IsHeld}
+use Rattle.session_changes.proofs.Names.{◌≡◌, sym, ap, ◌∙◌, subst, refl, map, IfSome, Kept, living, attached_to, session_changed, attached_last, value_at, views_of, documents_in, changed_at, CanMove, IsReady, AwaitsView, IsHeld}
 use Rattle.session_changes.specs.declared.ready.SessionReady.TheVariants as made
 use Rattle.session_changes.proofs.SessionLemmas.{can_attach_new, few_flags, attached_new_so, created_so, all_named, is_creation}
 use Rattle.session_changes.proofs.sessions.add_document.Goals as goal
@@ -42,7 +42,7 @@ returns-in_default c =
           created_so s c.args.document c.args.view r c.requires.kept asked put.new.self c.into_inner.result put.ensures.entries put.ensures.next made_for.options held
           ∙ ap (session_changed r) (sym made_for.is);
       limits = refl;
-      documents = all_named s c.args.document c.args.view can.request c.requires.kept can.asked put.new.self c.into_inner.result put.ensures.entries put.ensures.next (ap (λ (d : Document). d.id) held.0);
+      documents = all_named s c.args.document c.args.view can.request c.requires.kept can.asked put.new.self c.into_inner.result put.ensures.entries put.ensures.next (ap (λ (k : Kept). k.document.id) held);
       views = c.requires.kept.views;
       fold_capacities = refl;
       view_capacity = refl;

@@ -11,4 +11,4 @@ returns-clause-count g c =
 pub returns-clause-each : goal.returns-clause-each
 returns-clause-each g c =
     let d = c.self.inside in
-    rw (← c.self.view_is) (numbered_all (λ values. length values ≡ d.size) (λ k. shown d.size (slot_at d.slots.items k)) (λ k. shown_length d.size _ (slot_at d.slots.items k) (c.self.invariant.kept k)))
+    rw (← c.self.view_is) (numbered_all (λ values. length values ≡ d.size) (λ k. shown d.size (slot_at d.slots.items k)) (λ k. shown_length d.size (slot_at d.slots.items k) (c.self.invariant.kept k)))

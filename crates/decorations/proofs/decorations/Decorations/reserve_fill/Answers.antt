@@ -1,119 +1,82 @@
-use Rattle.decorations.proofs.Names.{◌≡◌, ℕ, ◌+◌, ◌<◌, ◌≤◌, length, max, Some, refl, ap, ◌∙◌, subst, sym, vec_capacity, arith, Decorated, Held, decorated, AreRunsFor, IsEnoughFor, all_shown, held_by, slot_at, for_fill}
-use Rattle.decorations.proofs.Kept.{grown_slots, ready_slots, grown_shown}
-use Rattle.decorations.proofs.Memory.{grown_runs, same_elsewhere, enough_for, one_same, one_unused, unused_stays, held_same}
+use Rattle.decorations.proofs.Names.{refl, ap, ◌∙◌, vec_capacity, Decorated, DecorationCapacity, decorated, all_shown, capacity_by, slot_at}
+use Rattle.decorations.proofs.Kept.{grown_slots, grown_shown}
+use Rattle.decorations.proofs.Memory.{can_fill, slot_fits, room_for_fill, grown_for_fill, fill_same, spare_same, capacity_same}
 use Rattle.decorations.proofs.decorations.Decorations.reserve_fill.Goals as goal
+
+pub returns-in_err-reserve_one-clause-rest : goal.returns-in_err-reserve_one-clause-rest
+returns-in_err-reserve_one-clause-rest g c =
+    let d = c.self.inside in
+    let after = c.reserve_one.new in
+    let now = capacity_by after.slots.items (vec_capacity after.slots) after.spare in
+    ap (λ values. decorated d.size values now) (grown_shown 2 d.size d.slots.items after.slots.items c.in_err-reserve_one.ensures.same)
+    ∙ ap (λ (v : Decorated). decorated v.length v.values now) c.self.view_is
+
+pub returns-in_err-reserve_one-clause-at_most : goal.returns-in_err-reserve_one-clause-at_most
+returns-in_err-reserve_one-clause-at_most g c =
+    let d = c.self.inside in
+    let after = c.reserve_one.new in
+    let was = c.in_err-reserve_one.ensures in
+    rw (← c.self.view_is)
+    (grown_for_fill d.size (vec_capacity d.slots) (vec_capacity after.slots) c.args.indicator d.slots.items after.slots.items d.spare after.spare c.requires was.same was.others
+    was.spare_at_most was.spare_kept was.spare_stays was.capacity was.capacity_kept (λ fits. was.capacity_stays (λ _. fits)))
+
+pub returns-in_err-reserve_one-clause-room_is_there : goal.returns-in_err-reserve_one-clause-room_is_there
+returns-in_err-reserve_one-clause-room_is_there g c =
+    let d = c.self.inside in
+    let i = c.args.indicator in
+    rw (← c.self.view_is)
+    (λ room.
+    let can = can_fill d.size (vec_capacity d.slots) i d.slots.items d.spare c.requires (c.self.invariant.kept i) c.self.invariant.unused room in
+    let refused = c.in_err-reserve_one.ensures.room_is_there (slot_fits d.size (vec_capacity d.slots) i d.slots.items d.spare c.requires room) can in
+    cc)
 
 pub invariant_of-self-2 : goal.invariant_of-self-2
 invariant_of-self-2 g c =
     let d = c.self.inside in
     let after = c.reserve_one.new in
-    let made = c.in-Ok.ensures.ok in
-    ready_slots g.P.Place.GREATEST d.size d.room c.in-Some.runs c.args.indicator d.ready after.slots.items after.spare c.in-Some.ensures.1
-    (grown_slots c.in-Some.runs g.P.Place.GREATEST d.size d.room d.ready d.slots.items after.slots.items d.spare after.spare c.self.invariant c.in-Ok.ensures.same c.in-Ok.ensures.length.0 c.in-Ok.ensures.length.1 c.in-Ok.ensures.unused c.in-Ok.ensures.stays)
-    made.0 made.1
+    let made = c.in_ok-reserve_one.ensures in
+    grown_slots 2 g.P.Place.GREATEST d.size d.slots.items after.slots.items d.spare after.spare c.self.invariant made.same made.length made.unused
 
 pub returns-clause-ok : goal.returns-clause-ok
 returns-clause-ok g c =
     let d = c.self.inside in
+    let i = c.args.indicator in
     let after = c.reserve_one.new in
-    let ready = Some c.args.indicator in
-    let now = held_by after.slots.items (vec_capacity after.slots) after.spare in
-    ap (λ values. decorated d.size values d.room ready now) (grown_shown c.in-Some.runs d.size d.slots.items after.slots.items c.in-Ok.ensures.same)
-    ∙ ap (λ (v : Decorated). decorated v.length v.values v.room ready now) c.self.view_is
+    let made = c.in_ok-reserve_one.ensures in
+    let are = grown_slots 2 g.P.Place.GREATEST d.size d.slots.items after.slots.items d.spare after.spare c.self.invariant made.same made.length made.unused in
+    room_for_fill d.size (vec_capacity after.slots) i after.slots.items after.spare c.requires (are.kept i) made.unused made.ok.0 made.ok.1
 
-pub invariant_of-self : goal.invariant_of-self
-invariant_of-self g c =
+pub returns-clause-room_is_there : goal.returns-clause-room_is_there
+returns-clause-room_is_there g c =
     let d = c.self.inside in
+    let i = c.args.indicator in
     let after = c.reserve_one.new in
-    let was = c.in_default-reserve_one.ensures in
-    grown_slots c.in-Some.runs g.P.Place.GREATEST d.size d.room d.ready d.slots.items after.slots.items d.spare after.spare c.self.invariant was.same was.length.0 was.length.1 was.unused was.stays
-
-pub returns-in_default-reserve_one-clause-err : goal.returns-in_default-reserve_one-clause-err
-returns-in_default-reserve_one-clause-err g c =
-    let d = c.self.inside in
-    let after = c.reserve_one.new in
-    let now = held_by after.slots.items (vec_capacity after.slots) after.spare in
-    ap (λ values. decorated d.size values d.room d.ready now) (grown_shown c.in-Some.runs d.size d.slots.items after.slots.items c.in_default-reserve_one.ensures.same)
-    ∙ ap (λ (v : Decorated). decorated v.length v.values v.room v.ready now) c.self.view_is
-
-pub returns-in_default-reserve_one-clause-runs_at_most : goal.returns-in_default-reserve_one-clause-runs_at_most
-returns-in_default-reserve_one-clause-runs_at_most g c =
-    let d = c.self.inside in
-    let after = c.reserve_one.new in
-    let Q : ℕ → Type 0 = λ n. AreRunsFor n (all_shown d.size d.slots.items) (held_by d.slots.items (vec_capacity d.slots) d.spare) (held_by after.slots.items (vec_capacity after.slots) after.spare) in
+    let made = c.in_ok-reserve_one.ensures in
     rw (← c.self.view_is)
-    (subst Q c.in-Some.ensures.1 (grown_runs d.size c.in-Some.runs (vec_capacity d.slots) (vec_capacity after.slots) d.slots.items after.slots.items d.spare after.spare c.in_default-reserve_one.ensures.same c.in_default-reserve_one.ensures.spare_at_most))
-
-pub returns-in_default-reserve_one-clause-others : goal.returns-in_default-reserve_one-clause-others
-returns-in_default-reserve_one-clause-others g c =
-    let d = c.self.inside in
-    let after = c.reserve_one.new in
-    rw (← c.self.view_is) (same_elsewhere (vec_capacity d.slots) (vec_capacity after.slots) c.args.indicator d.slots.items after.slots.items d.spare after.spare c.in_default-reserve_one.ensures.others)
-
-pub returns-clause-runs_at_most : goal.returns-clause-runs_at_most
-returns-clause-runs_at_most g c =
-    let d = c.self.inside in
-    let after = c.reserve_one.new in
-    let Q : ℕ → Type 0 = λ n. AreRunsFor n (all_shown d.size d.slots.items) (held_by d.slots.items (vec_capacity d.slots) d.spare) (held_by after.slots.items (vec_capacity after.slots) after.spare) in
-    rw (← c.self.view_is)
-    (subst Q c.in-Some.ensures.1 (grown_runs d.size c.in-Some.runs (vec_capacity d.slots) (vec_capacity after.slots) d.slots.items after.slots.items d.spare after.spare c.in-Ok.ensures.same c.in-Ok.ensures.spare_at_most))
-
-pub returns-clause-others : goal.returns-clause-others
-returns-clause-others g c =
-    let d = c.self.inside in
-    let after = c.reserve_one.new in
-    rw (← c.self.view_is) (same_elsewhere (vec_capacity d.slots) (vec_capacity after.slots) c.args.indicator d.slots.items after.slots.items d.spare after.spare c.in-Ok.ensures.others)
-
-pub returns-in_default-reserve_one-clause-unused : goal.returns-in_default-reserve_one-clause-unused
-returns-in_default-reserve_one-clause-unused g c =
-    let d = c.self.inside in
-    rw (← c.self.view_is) (unused_stays d.size c.args.indicator d.slots.items d.spare c.reserve_one.new.spare c.requires c.in_default-reserve_one.ensures.spare_stays)
-
-pub returns-clause-unused : goal.returns-clause-unused
-returns-clause-unused g c =
-    let d = c.self.inside in
-    rw (← c.self.view_is) (unused_stays d.size c.args.indicator d.slots.items d.spare c.reserve_one.new.spare c.requires c.in-Ok.ensures.spare_stays)
-
-pub returns-in_default-reserve_one-clause-memory_is_there : goal.returns-in_default-reserve_one-clause-memory_is_there
-returns-in_default-reserve_one-clause-memory_is_there g c =
-    let d = c.self.inside in
-    let indicator = c.args.indicator in
-    let R : ℕ → Type 0 = λ n. IsEnoughFor n indicator (all_shown d.size d.slots.items) (held_by d.slots.items (vec_capacity d.slots) d.spare) in
-    let some : 0 < c.in-Some.runs = omega (arith, c.in-Some.ensures.1) in
-    rw (← c.self.view_is)
-    (λ fits slot enough.
-    let fits_in : indicator + 1 ≤ vec_capacity d.slots = omega (arith, slot) in
-    let there = enough_for d.size c.in-Some.runs (vec_capacity d.slots) (d.room + for_fill d.ready indicator) indicator d.slots.items d.spare some c.requires (c.self.invariant.kept indicator) (subst R (sym c.in-Some.ensures.1) enough) in
-    let refused = c.in_default-reserve_one.ensures.memory_is_there fits_in there in
-    cc)
-
-pub returns-clause-memory_is_there : goal.returns-clause-memory_is_there
-returns-clause-memory_is_there g c =
-    let d = c.self.inside in
-    let indicator = c.args.indicator in
-    let after = c.reserve_one.new in
-    let made = c.in-Ok.ensures in
-    let R : ℕ → Type 0 = λ n. IsEnoughFor n indicator (all_shown d.size d.slots.items) (held_by d.slots.items (vec_capacity d.slots) d.spare) in
-    let some : 0 < c.in-Some.runs = omega (arith, c.in-Some.ensures.1) in
-    let most : length after.slots.items ≡ max (length d.slots.items) (indicator + 1) = omega (arith, made.length.0, made.slots.0, made.ok.0) in
-    rw (← c.self.view_is)
-    (λ fits slot enough.
-    let fits_in : indicator + 1 ≤ vec_capacity d.slots = omega (arith, slot) in
-    let there = enough_for d.size c.in-Some.runs (vec_capacity d.slots) (d.room + for_fill d.ready indicator) indicator d.slots.items d.spare some c.requires (c.self.invariant.kept indicator) (subst R (sym c.in-Some.ensures.1) enough) in
-    let same = held_same (max (length d.slots.items) (indicator + 1)) (vec_capacity d.slots) (vec_capacity after.slots) d.slots.items after.slots.items d.spare after.spare
-    (one_same c.in-Some.runs indicator d.slots.items after.slots.items d.spare made.same made.others there)
-    (one_unused c.in-Some.runs (slot_at d.slots.items indicator) d.spare after.spare there made.spare_at_most made.spare_stays) most (made.capacity_stays fits_in) in (
+    (λ room.
+    let can = can_fill d.size (vec_capacity d.slots) i d.slots.items d.spare c.requires (c.self.invariant.kept i) c.self.invariant.unused room in
+    let same = capacity_same (vec_capacity d.slots) (vec_capacity after.slots) d.slots.items after.slots.items d.spare after.spare
+    (fill_same i d.slots.items after.slots.items d.spare made.same made.others can)
+    (made.capacity_stays (slot_fits d.size (vec_capacity d.slots) i d.slots.items d.spare c.requires room))
+    (spare_same (slot_at d.slots.items i) d.spare after.spare c.self.invariant.unused can made.spare_at_most made.spare_stays) in (
       refl,
-      ap (λ values. decorated d.size values d.room (Some indicator) (held_by after.slots.items (vec_capacity after.slots) after.spare)) (grown_shown c.in-Some.runs d.size d.slots.items after.slots.items made.same)
-          ∙ ap (λ (now : Held). decorated d.size (all_shown d.size d.slots.items) d.room (Some indicator) now) same,
+      ap (λ values. decorated d.size values (capacity_by after.slots.items (vec_capacity after.slots) after.spare)) (grown_shown 2 d.size d.slots.items after.slots.items made.same)
+          ∙ ap (λ (now : DecorationCapacity). decorated d.size (all_shown d.size d.slots.items) now) same,
     ))
 
-pub returns-in_default-reserve_one-clause-slots_at_most : goal.returns-in_default-reserve_one-clause-slots_at_most
-returns-in_default-reserve_one-clause-slots_at_most g c =
-    let was = c.in_default-reserve_one.ensures in
-    rw (← c.self.view_is) record { slots = was.slots.0; capacity = was.slots.1; there = was.capacity_stays }
+pub returns-clause-rest : goal.returns-clause-rest
+returns-clause-rest g c =
+    let d = c.self.inside in
+    let after = c.reserve_one.new in
+    let now = capacity_by after.slots.items (vec_capacity after.slots) after.spare in
+    ap (λ values. decorated d.size values now) (grown_shown 2 d.size d.slots.items after.slots.items c.in_ok-reserve_one.ensures.same)
+    ∙ ap (λ (v : Decorated). decorated v.length v.values now) c.self.view_is
 
-pub returns-clause-slots_at_most : goal.returns-clause-slots_at_most
-returns-clause-slots_at_most g c =
-    let made = c.in-Ok.ensures in
-    rw (← c.self.view_is) record { slots = made.slots.0; capacity = made.slots.1; there = made.capacity_stays }
+pub returns-clause-at_most : goal.returns-clause-at_most
+returns-clause-at_most g c =
+    let d = c.self.inside in
+    let after = c.reserve_one.new in
+    let was = c.in_ok-reserve_one.ensures in
+    rw (← c.self.view_is)
+    (grown_for_fill d.size (vec_capacity d.slots) (vec_capacity after.slots) c.args.indicator d.slots.items after.slots.items d.spare after.spare c.requires was.same was.others
+    was.spare_at_most was.spare_kept was.spare_stays was.capacity was.capacity_kept (λ fits. was.capacity_stays (λ _. fits)))

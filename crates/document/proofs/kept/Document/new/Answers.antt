@@ -11,7 +11,6 @@ invariant_of-result c =
     (record {
       indexed = c.in_ok-lines.ensures.index.1;
       row_count = ap (λ (k : KeptRows). length k.rows) c.new-rows.ensures ∙ sym (ap length c.in_ok-lines.ensures.index.1.starts);
-      row_room = omega (arith, ap (λ (k : KeptRows). k.room.lines) c.new-rows.ensures);
       indicator_count = refl;
       all_indicators = refl;
       line_width = c.in_ok-lines.ensures.width;

@@ -9,5 +9,5 @@ pub invariant_of-self-2 : goal.invariant_of-self-2
 invariant_of-self-2 c =
     let d = c.self.inside in
     let is = c.set_styles.ensures.cells in
-    parts_restyled d.cells.cells c.set_styles.new.self.cells d.cells.room c.set_styles.new.self.room d.options d.lines d.rows d.indicators c.self.invariant
-    (ap (λ (b : Buffer). bytes_of b.cells) is ∙ bytes_behind_restyled d.end_styled c.args.styles.now d.cells.cells) c.set_styles.ensures.len (ap (λ (b : Buffer). b.room) is)
+    parts_restyled d.cells.cells c.set_styles.new.self.cells d.options d.lines d.rows d.indicators c.self.invariant
+    (ap (λ (b : Buffer). bytes_of b.cells) is ∙ bytes_behind_restyled d.end_styled c.args.styles.now d.cells.cells) c.set_styles.ensures.len

@@ -2,7 +2,7 @@
 use Rattle.std.proofs.Common.{sym, ap}
 use Rattle.document.specs.Kept.{Kept}
 use Rattle.document_table.specs.Leaving.{released}
-use Rattle.document_table.proofs.LeavingLemmas.{nothing_there, still_there, gone, other_with, other_gone, room_with, room_without, same_room}
+use Rattle.document_table.proofs.LeavingLemmas.{nothing_there, still_there, gone, other_with, other_gone, rest_with, rest_without}
 use Rattle.document_table.proofs.table.DocumentTable.release.Goals as goal
 
 pub returns-in_default-clause-documents : goal.returns-in_default-clause-documents
@@ -16,9 +16,9 @@ pub returns-then-not-has_references-clause-others : goal.returns-then-not-has_re
 returns-then-not-has_references-clause-others c other differs =
     rw c.remove.ensures (other_gone c.args.id other c.release.new.self c.args.self.now.entries differs)
 
-pub returns-then-not-has_references-clause-room_stays : goal.returns-then-not-has_references-clause-room_stays
-returns-then-not-has_references-clause-room_stays c =
-    rw c.remove.ensures (room_without c.args.id c.release.new.self c.args.self.now.entries)
+pub returns-then-not-has_references-clause-rest : goal.returns-then-not-has_references-clause-rest
+returns-then-not-has_references-clause-rest c =
+    rw c.remove.ensures (rest_without c.args.id c.release.new.self c.args.self.now.entries)
 
 pub returns-else-not-has_references-clause-documents : goal.returns-else-not-has_references-clause-documents
 returns-else-not-has_references-clause-documents c =
@@ -28,6 +28,6 @@ pub returns-else-not-has_references-clause-others : goal.returns-else-not-has_re
 returns-else-not-has_references-clause-others c other differs =
     other_with c.args.id other c.release.new.self c.args.self.now.entries differs
 
-pub returns-else-not-has_references-clause-room_stays : goal.returns-else-not-has_references-clause-room_stays
-returns-else-not-has_references-clause-room_stays c =
-    room_with c.args.id c.in-Some.document.now c.release.new.self c.args.self.now.entries (sym c.in-Some.ensures.value) (same_room c.in-Some.document.now c.release.new.self _ c.release.ensures)
+pub returns-else-not-has_references-clause-rest : goal.returns-else-not-has_references-clause-rest
+returns-else-not-has_references-clause-rest c =
+    rest_with c.args.id c.in-Some.document.now c.release.new.self _ c.args.self.now.entries (sym c.in-Some.ensures.value) c.release.ensures

@@ -1,4 +1,4 @@
-use Rattle.line_rows.proofs.Names.{sym, ap, subst, ◌∙◌, HeadFrom, after_edits, first_or}
+use Rattle.line_rows.proofs.Names.{ℕ, sym, ap, subst, ◌∙◌, HeadFrom, after_edits, first_or, Valued}
 use Rattle.line_rows.proofs.LeastHeading.{edits_fine}
 use Rattle.line_rows.proofs.fold_levels.FoldLevels.carry.Goals as goal
 
@@ -7,6 +7,6 @@ invariant_of-self c =
     let d = c.self.inside in
     let edits = c.args.edits.now in
     record {
-      base = c.carry.ensures.default ∙ c.self.invariant.base;
-      least = subst (HeadFrom d.least) (sym (c.carry.ensures.values ∙ ap (λ base. after_edits (first_or base) edits d.values.values) c.self.invariant.base)) (edits_fine d.least edits d.values.values c.self.invariant.least);
+      base = ap (λ (v : Valued ℕ). v.default) c.carry.ensures.values ∙ c.self.invariant.base;
+      least = subst (HeadFrom d.least) (sym (ap (λ (v : Valued ℕ). v.values) c.carry.ensures.values ∙ ap (λ base. after_edits (first_or base) edits d.values.values) c.self.invariant.base)) (edits_fine d.least edits d.values.values c.self.invariant.least);
     }

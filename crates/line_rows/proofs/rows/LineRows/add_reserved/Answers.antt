@@ -1,18 +1,18 @@
-use Rattle.line_rows.proofs.Names.{◌≡◌, ℕ, ◌+◌, ◌-◌, ◌++◌, ◌∷◌, [], set, refl, markers_of, new_markers, MarkedLines, KeptRows, ap, ◌∙◌, arith, kept_rows, row_room, row_blocks, rows_of}
-use Rattle.line_rows.proofs.RowReads.{parts_length, with_marker}
+use Rattle.line_rows.proofs.Names.{◌<◌, ◌∙◌, arith, ap, sym, subst, length, AreParts, HasRoomForMarkers, MarkedLines, kept_in}
+use Rattle.line_rows.proofs.RowReads.{added_parts, marker_added, parts_length, parts_count, room_left}
 use Rattle.line_rows.proofs.rows.LineRows.add_reserved.Goals as goal
 
-pub add_reserved-requires-clause-line : goal.add_reserved-requires-clause-line
-add_reserved-requires-clause-line c =
+pub invariant_of-self : goal.invariant_of-self
+invariant_of-self c =
     let d = c.self.inside in
-    omega (arith, parts_length d.markers.lines d.levels.values d.states.values d.markers.next_handle (row_room d.levels.room d.levels.reach d.states.reach d.marker_room) (row_blocks d.levels.stored d.levels.block d.states.stored d.states.block d.states.room d.markers.capacity d.markers.line_capacity) c.args.self.now c.self.invariant.levelled c.self.invariant.stated c.self.view_is)
+    let inside : c.args.line < length d.markers.lines = omega (arith, c.requires.line, parts_length _ _ _ c.self.invariant _ c.self.view_is) in
+    let room = rw (← c.self.view_is) at c.requires.room in
+    subst (λ (m : MarkedLines). AreParts m d.levels d.states) (sym c.add_reserved.ensures.lines)
+    (added_parts _ _ _ c.self.invariant c.args.line c.args.number inside (omega (arith, room, parts_count _ _ _ c.self.invariant _ c.self.view_is, ap (λ v. v.capacity.markers) c.self.view_is)))
 
-pub returns-clause-rows : goal.returns-clause-rows
-returns-clause-rows c =
+pub returns-clause-room : goal.returns-clause-room
+returns-clause-room c = λ count h.
     let d = c.self.inside in
-    let new = c.add_reserved.new.self in
-    let same = c.add_reserved.ensures.lines in
-    let blocks = λ (n k : ℕ). row_blocks d.levels.stored d.levels.block d.states.stored d.states.block d.states.room n k in
-    let less : d.marker_room - 1 + 1 ≡ d.marker_room = omega (arith, c.requires.room, ap (λ (v : KeptRows). v.room.markers) c.self.view_is) in
-    ap (λ (m : MarkedLines). kept_rows (rows_of m.lines d.levels.values d.states.values) m.next_handle (row_room d.levels.room d.levels.reach d.states.reach (d.marker_room - 1)) (blocks m.capacity m.line_capacity)) same
-    ∙ with_marker d.markers.lines (set d.markers.lines c.args.line (markers_of c.args.line d.markers.lines ++ new_markers d.markers.next_handle (c.args.number ∷ []))) d.levels.values d.states.values d.markers.next_handle (d.markers.next_handle + 1) d.levels.room d.levels.reach d.states.reach d.marker_room (d.marker_room - 1) (blocks d.markers.capacity d.markers.line_capacity) c.args.line c.args.number c.args.self.now c.self.invariant.levelled c.self.invariant.stated refl refl less c.self.view_is
+    let inside : c.args.line < length d.markers.lines = omega (arith, c.requires.line, parts_length _ _ _ c.self.invariant _ c.self.view_is) in
+    let same = ap (λ (m : MarkedLines). kept_in m d.levels d.states) c.add_reserved.ensures.lines ∙ marker_added _ _ _ c.self.invariant _ c.self.view_is c.args.line c.args.number in
+    subst (HasRoomForMarkers count) (sym same) (room_left _ _ _ c.self.invariant _ c.self.view_is c.args.line c.args.number count inside h)

@@ -1,42 +1,6 @@
-use Rattle.line_rows.proofs.Names.{◌≡◌, ◌+◌, ◌==◌, List, length, ap, ◌∙◌, arith, marker_count, length-map, list_any, Marker, MarkedLines, row_room, row_blocks, KeptRows}
-use Rattle.line_rows.proofs.RowReads.{rows_count, rows_dropped, found_from}
+use Rattle.line_rows.proofs.Names.{◌==◌, ◌∙◌, Marker, list_any}
+use Rattle.line_rows.proofs.RowReads.{found_from}
 use Rattle.line_rows.proofs.rows.LineRows.delete_handle.Goals as goal
 
-pub invariant_of-self : goal.invariant_of-self
-invariant_of-self c =
-    let d = c.self.inside in
-    let new = c.delete_handle-line.new.self in
-    let is = ap (λ (m : MarkedLines). m.lines) c.delete_handle-line.ensures.lines in
-    let long : length new.lines ≡ length d.markers.lines = ap length is ∙ length-map {A = List Marker} {B = List Marker} d.markers.lines _ in
-    let after = rows_count new.lines d.levels.values d.states.values (long ∙ c.self.invariant.levelled) (long ∙ c.self.invariant.stated) in
-    let before = rows_count d.markers.lines d.levels.values d.states.values c.self.invariant.levelled c.self.invariant.stated in
-    let same = c.delete_handle-line.ensures.lines in
-    record {
-      levelled = long ∙ c.self.invariant.levelled;
-      stated = long ∙ c.self.invariant.stated;
-      base = c.self.invariant.base;
-      zero_state = c.self.invariant.zero_state;
-      for_states = c.self.invariant.for_states;
-      for_lines = λ some. omega (arith, c.self.invariant.for_lines (omega (arith, some, ap (λ (m : MarkedLines). m.capacity) same)), long, ap (λ (m : MarkedLines). m.line_capacity) same);
-      for_markers = omega (arith, c.self.invariant.for_markers, ap (λ (m : MarkedLines). m.capacity) same, c.markers.ensures.markers, c.markers-markers.ensures.markers, c.delete_handle-line.ensures.fewer);
-    }
-
 pub returns-clause-line : goal.returns-clause-line
-returns-clause-line c =
-    let d = c.self.inside in
-    c.delete_handle-line.ensures.line ∙ found_from (λ ms. list_any (λ (m : Marker). m.handle == c.args.handle) ms) d.markers.lines d.levels.values d.states.values d.markers.next_handle (row_room d.levels.room d.levels.reach d.states.reach d.marker_room) (row_blocks d.levels.stored d.levels.block d.states.stored d.states.block d.states.room d.markers.capacity d.markers.line_capacity) c.args.self.now 0 c.self.invariant.levelled c.self.invariant.stated c.self.view_is
-
-pub returns-clause-rows : goal.returns-clause-rows
-returns-clause-rows c =
-    let d = c.self.inside in
-    rows_dropped (λ (m : Marker). m.handle == c.args.handle) d.markers.lines c.delete_handle-line.new.self.lines d.levels.values d.states.values d.markers.next_handle (row_room d.levels.room d.levels.reach d.states.reach d.marker_room) (row_blocks d.levels.stored d.levels.block d.states.stored d.states.block d.states.room d.markers.capacity d.markers.line_capacity) c.args.self.now (ap (λ (m : MarkedLines). m.lines) c.delete_handle-line.ensures.lines) c.self.view_is
-
-pub returns-clause-marker_room : goal.returns-clause-marker_room
-returns-clause-marker_room c =
-    let d = c.self.inside in
-    let new = c.delete_handle-line.new.self in
-    let is = ap (λ (m : MarkedLines). m.lines) c.delete_handle-line.ensures.lines in
-    let long : length new.lines ≡ length d.markers.lines = ap length is ∙ length-map {A = List Marker} {B = List Marker} d.markers.lines _ in
-    let after = rows_count new.lines d.levels.values d.states.values (long ∙ c.self.invariant.levelled) (long ∙ c.self.invariant.stated) in
-    let before = rows_count d.markers.lines d.levels.values d.states.values c.self.invariant.levelled c.self.invariant.stated in
-    omega (arith, after, before, ap (λ (v : KeptRows). v.room.markers + marker_count v.rows) c.self.view_is, c.markers.ensures.markers, c.markers-markers.ensures.markers, c.delete_handle-line.ensures.fewer)
+returns-clause-line c = c.delete_handle.ensures.line ∙ found_from _ _ _ c.self.invariant _ c.self.view_is (λ ms. list_any (λ (m : Marker). m.handle == c.args.handle) ms) 0

@@ -1,8 +1,6 @@
-use Rattle.line_rows.proofs.Names.{◌∙◌, meets, mask_of, row_room, row_blocks}
+use Rattle.line_rows.proofs.Names.{◌∙◌, meets, mask_of}
 use Rattle.line_rows.proofs.RowReads.{found_up_to}
 use Rattle.line_rows.proofs.rows.LineRows.previous.Goals as goal
 
 pub returns : goal.returns
-returns c =
-    let d = c.self.inside in
-    c.previous.ensures ∙ found_up_to (λ ms. meets (mask_of ms) c.args.mask) d.markers.lines d.levels.values d.states.values d.markers.next_handle (row_room d.levels.room d.levels.reach d.states.reach d.marker_room) (row_blocks d.levels.stored d.levels.block d.states.stored d.states.block d.states.room d.markers.capacity d.markers.line_capacity) c.args.self.now c.args.from c.self.invariant.levelled c.self.invariant.stated c.self.view_is
+returns c = c.previous.ensures ∙ found_up_to _ _ _ c.self.invariant _ c.self.view_is (λ ms. meets (mask_of ms) c.args.mask) c.args.from

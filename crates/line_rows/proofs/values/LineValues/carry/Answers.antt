@@ -1,4 +1,6 @@
-use Rattle.line_rows.proofs.Names.{◌≡◌, ◌+◌, ◌<◌, ◌∷◌, List, length, drop, get_or, sym, ap, ◌∙◌, subst, arith, drop_more, LineEdit, Come, after_edit, after_edits, FitLines, lines_after_edit, fresh_by, fresh_lines, first_or, stored_after, length_after_edit, edit_adds}
+use Rattle.line_rows.proofs.Names.{◌≡◌, ◌+◌, ◌<◌, ◌∷◌, [], List, length, drop, drop_all, get_or, sym, ap, ◌∙◌, subst, arith, drop_more, LineEdit, Come, FitLines, lines_after_edit, fresh_by, fresh_lines, first_or, values_after, length_after_edit, edit_adds}
+use Rattle.line_rows.specs.Values.{HasRoomForLines}
+use Rattle.line_rows.proofs.Carried.{room_after, room_after_edit}
 use Rattle.line_rows.proofs.values.LineValues.carry.Goals as goal
 
 pub loop-edit-preserved : goal.loop-edit-preserved
@@ -14,21 +16,18 @@ loop-edit-preserved g c =
     let fit = subst P next c.loop-edit.invariant.lines in
     let fresh : fresh_lines (drop i edits) ≡ fresh_by edit + fresh_lines left = ap fresh_lines next in
     let long : length c.carry_one.new.self.values ≡ lines_after_edit (length old.values) edit =
-    ap length c.carry_one.ensures.values ∙ length_after_edit (first_or old.default) old.values edit fit.0 in
-    let adds = edit_adds (length old.values) edit in
-    let room = c.carry_one.ensures.room in
-    let before = c.loop-edit.invariant.room in
+    ap (λ v. length v.values) c.carry_one.ensures ∙ length_after_edit (first_or old.default) old.values edit fit.0 in
     record {
-      values =
-          ap (after_edits (first_or c.args.self.now.default) left) (c.carry_one.ensures.values ∙ ap (λ d. after_edit (first_or d) old.values edit) c.loop-edit.invariant.default)
-          ∙ ap (λ es. after_edits (first_or c.args.self.now.default) es old.values) (sym next)
-          ∙ c.loop-edit.invariant.values;
-      default = c.carry_one.ensures.default ∙ c.loop-edit.invariant.default;
+      values = ap (values_after left) c.carry_one.ensures ∙ ap (λ es. values_after es old) (sym next) ∙ c.loop-edit.invariant.values;
       lines = rw long fit.1;
-      fits = omega (arith, c.loop-edit.invariant.fits);
-      room = omega arith;
-      enough = omega (arith, c.loop-edit.invariant.enough);
-      reach = c.carry_one.ensures.reach ∙ c.loop-edit.invariant.reach;
-      stored = ap (stored_after left) c.carry_one.ensures.stored ∙ ap (λ es. stored_after es old.stored) (sym next) ∙ c.loop-edit.invariant.stored;
-      block = c.carry_one.ensures.block ∙ c.loop-edit.invariant.block;
+      fits = omega (arith, c.loop-edit.invariant.fits, edit_adds (length old.values) edit);
+      room = subst (HasRoomForLines (fresh_lines left)) (sym c.carry_one.ensures) (room_after_edit edit old.stored old.capacity (fresh_lines left) (λ was. omega (arith, c.loop-edit.invariant.room was, fresh)));
     }
+
+pub returns-clause-room : goal.returns-clause-room
+returns-clause-room g c = λ count h.
+    let old = c.args.self.now in
+    let edits = c.args.edits.now in
+    let done : drop c.loop-edit.edit-index edits ≡ [] = drop_all c.loop-edit.edit-index edits (omega arith) in
+    let same = ap (λ es. values_after es c.loop-edit.self) (sym done) ∙ c.loop-edit.invariant.values in
+    subst (HasRoomForLines count) (sym same) (room_after edits old.stored old.capacity count h)

@@ -35,12 +35,15 @@ returns-clause-changed g c =
     rw (← c.self.view_is, c.overwrite.ensures.list)
     (changed_is (expansion c.self.inside.starts.starts c.self.inside.values.items c.self.inside.starts.length) c.args.place c.args.count c.in-Some.low c.in-Some.high c.args.value c.in-Some.ensures.some)
 
-pub returns-clause-memory : goal.returns-clause-memory
-returns-clause-memory g c =
+pub overwrite-requires-clause-room : goal.overwrite-requires-clause-room
+overwrite-requires-clause-room g c =
+    let there = count_runs g.met.V.Eq.laws c.self.invariant.exact c.self.inside.starts.starts c.self.inside.values.items c.self.inside.starts.length c.self.invariant.table c.self.invariant.differ in
+    let room = rw (← c.self.view_is) at c.requires.room in
+    (omega (arith, there, room), omega (arith, there, room, c.self.invariant.table.paired))
+
+pub returns-clause-runs : goal.returns-clause-runs
+returns-clause-runs g c =
     let ensured = c.overwrite.ensures in
     let was = count_runs g.met.V.Eq.laws c.self.invariant.exact c.self.inside.starts.starts c.self.inside.values.items c.self.inside.starts.length c.self.invariant.table c.self.invariant.differ in
     let now = count_runs g.met.V.Eq.laws c.self.invariant.exact c.overwrite.new.starts.starts c.overwrite.new.values.items c.overwrite.new.starts.length ensured.table ensured.differ in
-    rw (← c.self.view_is) record {
-      starts = omega (arith, was, now, ensured.start_cells);
-      values = omega (arith, was, now, c.self.invariant.table.paired, ensured.table.paired, ensured.value_cells);
-    }
+    rw (← c.self.view_is) (omega (arith, was, now, ensured.few))

@@ -23,8 +23,6 @@ invariant_of-self g c =
       table = rw (c.insert_text.ensures.starts, c.insert_text.ensures.length) stands.table;
       differ = c.self.invariant.differ;
       exact = c.self.invariant.exact;
-      for_starts = omega (arith, c.insert_text.ensures.room, c.self.invariant.for_starts);
-      for_values = c.self.invariant.for_values;
     }
 
 pub fill-requires-clause-within : goal.fill-requires-clause-within
@@ -46,15 +44,25 @@ returns-clause-values g c =
     ∙ rw (← c.self.view_is, c.insert_text.ensures.starts, c.insert_text.ensures.length, stands.list)
     (filled-inserted (expansion c.self.inside.starts.starts c.self.inside.values.items c.self.inside.starts.length) c.args.place c.args.count (get_or c.self.inside.values.items c.run_at-run.result c.args.value) c.args.value within)
 
-pub returns-clause-memory : goal.returns-clause-memory
-returns-clause-memory g c =
+pub fill-requires-clause-room : goal.fill-requires-clause-room
+fill-requires-clause-room g c =
     let old = c.self.inside in
     let own = get_or_default old.values.items c.run_at-run.result (get_or old.values.items c.run_at-run.result c.args.value) c.args.value (omega (arith, c.run_at-run.ensures.within, c.self.invariant.table.paired)) in
     let stands = grow_stands old.starts.starts old.values.items old.starts.length c.run_at-run.result c.args.place c.args.count (get_or old.values.items c.run_at-run.result c.args.value) c.self.invariant.table c.run_at-run.ensures.within (omega (arith, c.if-count-eq0.false)) c.run_at-run.ensures.from c.run_at-run.ensures.to own in
     let table : IsTable c.insert_text.new.self.starts old.values.items c.insert_text.new.self.length = rw (c.insert_text.ensures.starts, c.insert_text.ensures.length) stands.table in
     let was = count_runs g.met.V.Eq.laws c.self.invariant.exact old.starts.starts old.values.items old.starts.length c.self.invariant.table c.self.invariant.differ in
     let between = count_runs g.met.V.Eq.laws c.self.invariant.exact c.insert_text.new.self.starts old.values.items c.insert_text.new.self.length table c.self.invariant.differ in
-    rw (← c.self.view_is) record {
-      starts = omega (arith, was, between, c.fill.ensures.memory.starts, c.insert_text.ensures.room, c.self.invariant.table.paired, table.paired);
-      values = omega (arith, was, between, c.fill.ensures.memory.values, c.self.invariant.table.paired, table.paired);
-    }
+    let room = rw (← c.self.view_is) at c.requires.room in (
+      omega (arith, was, between, room, c.insert_text.ensures.room, c.self.invariant.table.paired, table.paired),
+      omega (arith, was, between, room, c.self.invariant.table.paired, table.paired),
+    )
+
+pub returns-clause-runs : goal.returns-clause-runs
+returns-clause-runs g c =
+    let old = c.self.inside in
+    let own = get_or_default old.values.items c.run_at-run.result (get_or old.values.items c.run_at-run.result c.args.value) c.args.value (omega (arith, c.run_at-run.ensures.within, c.self.invariant.table.paired)) in
+    let stands = grow_stands old.starts.starts old.values.items old.starts.length c.run_at-run.result c.args.place c.args.count (get_or old.values.items c.run_at-run.result c.args.value) c.self.invariant.table c.run_at-run.ensures.within (omega (arith, c.if-count-eq0.false)) c.run_at-run.ensures.from c.run_at-run.ensures.to own in
+    let table : IsTable c.insert_text.new.self.starts old.values.items c.insert_text.new.self.length = rw (c.insert_text.ensures.starts, c.insert_text.ensures.length) stands.table in
+    let was = count_runs g.met.V.Eq.laws c.self.invariant.exact old.starts.starts old.values.items old.starts.length c.self.invariant.table c.self.invariant.differ in
+    let between = count_runs g.met.V.Eq.laws c.self.invariant.exact c.insert_text.new.self.starts old.values.items c.insert_text.new.self.length table c.self.invariant.differ in
+    rw (← c.self.view_is) (omega (arith, was, between, c.fill.ensures.runs, c.self.invariant.table.paired, table.paired))

@@ -1,4 +1,4 @@
-use Rattle.undo_history.proofs.Names.{ℕ, ◌≡◌, ◌≤◌, ◌+◌, ◌-◌, ◌∙◌, ap, ap₂, arith, length, take, length-take-le, Kept, kept, History, without_undone, entries_in, past_of, history_of}
+use Rattle.undo_history.proofs.Names.{◌≡◌, ◌≤◌, ◌+◌, ◌-◌, ◌∙◌, ap, ap₂, arith, length, take, length-take-le, Kept, kept, history_capacity, History, without_undone, entries_in, past_of, history_of}
 use Rattle.undo_history.proofs.Pushing.{past_bytes, past_bytes_there, deleted_behind, dropped_in_order, dropped_view}
 use Rattle.undo_history.proofs.history.UndoHistory.delete_undone.Goals as goal
 
@@ -32,14 +32,12 @@ invariant_of-self c =
     record {
       in_order = rw (steps_are, bytes_are) order;
       latest = rw (steps_are, bytes_are, past_stays) c.self.invariant.latest;
-      step_room = omega (arith, c.delete.ensures.spare, c.self.invariant.step_room);
-      byte_room = omega (arith, c.delete-2.ensures.spare, c.self.invariant.byte_room);
       step_gap = grind (arith, c.delete.ensures.gap, c.len-steps.ensures.len, c.self.invariant.step_gap, ap length steps_are, length-take-le i.past rs c.self.invariant.in_order.there);
       byte_gap = grind (arith, c.delete-2.ensures.gap, c.len-bytes.ensures.len, c.self.invariant.byte_gap, ap length bytes_are, length-take-le k bytes within);
     }
 
-pub returns-clause-dropped : goal.returns-clause-dropped
-returns-clause-dropped c =
+pub returns : goal.returns
+returns c =
     let i = c.self.inside in
     let rs = i.steps.items in
     let bytes = i.bytes.items in
@@ -57,6 +55,4 @@ returns-clause-dropped c =
     omega (arith, ap length steps_are, length-take-le i.past rs c.self.invariant.in_order.there, c.delete.ensures.spare, c.len-steps.ensures.len) in
     let bytes_taken : length c.delete-2.new.self.items + c.delete-2.new.self.spare ≡ length bytes + i.bytes.spare =
     omega (arith, ap length bytes_are, length-take-le k bytes within, c.delete-2.ensures.spare, c.len-bytes.ensures.len) in
-    let spare : ℕ × ℕ = (c.delete.new.self.spare, c.delete-2.new.self.spare) in
-    ap₂ (λ h t. kept h i.step_room i.byte_room t spare) view (ap₂ (λ a b. (a, b)) steps_taken bytes_taken)
-    ∙ ap (λ (k : Kept). kept (without_undone k.history) k.step_room k.byte_room k.taken spare) c.self.view_is
+    ap₂ kept view (ap₂ history_capacity steps_taken bytes_taken) ∙ ap (λ (k : Kept). kept (without_undone k.history) k.capacity) c.self.view_is

@@ -1,4 +1,4 @@
-use Rattle.undo_history.proofs.Names.{◌≡◌, ◌+◌, ◌≤◌, ◌<◌, ◌∙◌, ap, ap₂, arith, length, drop, redone, Kept, kept, entries_in, history_of, next_count}
+use Rattle.undo_history.proofs.Names.{◌≡◌, ◌+◌, ◌≤◌, ◌<◌, ◌∙◌, ap, ap₂, arith, length, drop, redone, Kept, kept, history_capacity, entries_in, history_of, next_count}
 use Rattle.undo_history.proofs.Latest.{latest_sealed}
 use Rattle.undo_history.proofs.Reading.{redo_within}
 use Rattle.undo_history.proofs.Pushing.{count_within}
@@ -43,8 +43,6 @@ invariant_of-self c =
     record {
       in_order = rw c.seal.ensures.items (redone_in_order rs bytes i.past i.transactions end c.self.invariant.in_order more (ap (λ n. i.past + n) count));
       latest = rw c.seal.ensures.items (latest_sealed rs bytes end i.latest (omega (arith, count, within, entries_length rs bytes)));
-      step_room = omega (arith, c.seal.ensures.spare, c.self.invariant.step_room);
-      byte_room = c.self.invariant.byte_room;
       step_gap = omega (arith, c.seal.ensures.gap, c.self.invariant.step_gap, ap length c.seal.ensures.items, with_sealed_length end rs);
       byte_gap = c.self.invariant.byte_gap;
     }
@@ -63,7 +61,5 @@ returns c =
     ap (λ a. history_of (entries_in a bytes) end i.save_point i.depth i.is_collecting) c.seal.ensures.items
     ∙ redone_view rs bytes i.past i.transactions end i.depth i.save_point i.is_collecting c.self.invariant.in_order more (ap (λ n. i.past + n) count) in
     let taken : length c.seal.new.steps.items + c.seal.new.steps.spare ≡ length rs + i.steps.spare = omega (arith, ap length c.seal.ensures.items, with_sealed_length end rs, c.seal.ensures.spare) in
-    let spare : c.seal.new.steps.spare ≡ i.steps.spare = c.seal.ensures.spare in
-    ap₂ (λ h n. kept h i.step_room i.byte_room (n, length bytes + i.bytes.spare) (c.seal.new.steps.spare, i.bytes.spare)) view taken
-    ∙ ap (λ n. kept (redone (history_of (entries_in rs bytes) i.past i.save_point i.depth i.is_collecting)) i.step_room i.byte_room (length rs + i.steps.spare, length bytes + i.bytes.spare) (n, i.bytes.spare)) spare
-    ∙ ap (λ (k : Kept). kept (redone k.history) k.step_room k.byte_room k.taken k.spare) c.self.view_is
+    ap₂ (λ h n. kept h (history_capacity n (length bytes + i.bytes.spare))) view taken
+    ∙ ap (λ (k : Kept). kept (redone k.history) k.capacity) c.self.view_is

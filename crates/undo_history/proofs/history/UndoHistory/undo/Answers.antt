@@ -1,4 +1,4 @@
-use Rattle.undo_history.proofs.Names.{◌≡◌, ◌+◌, ◌-◌, ◌∙◌, ap, ap₂, arith, length, take, reverse, undone, Kept, kept, entries_in, history_of, last_count}
+use Rattle.undo_history.proofs.Names.{◌≡◌, ◌+◌, ◌-◌, ◌∙◌, ap, ap₂, arith, length, take, reverse, undone, Kept, kept, history_capacity, entries_in, history_of, last_count}
 use Rattle.undo_history.proofs.Latest.{latest_sealed}
 use Rattle.undo_history.proofs.Reading.{undo_within}
 use Rattle.undo_history.proofs.Sealing.{entries_length, undone_in_order, undone_view, with_sealed_length}
@@ -35,8 +35,6 @@ invariant_of-self c =
     record {
       in_order = rw c.seal.ensures.items order.1;
       latest = rw c.seal.ensures.items (latest_sealed rs bytes start i.latest (omega (arith, c.self.invariant.in_order.there)));
-      step_room = omega (arith, c.seal.ensures.spare, c.self.invariant.step_room);
-      byte_room = c.self.invariant.byte_room;
       step_gap = omega (arith, c.seal.ensures.gap, c.self.invariant.step_gap, ap length c.seal.ensures.items, with_sealed_length start rs);
       byte_gap = c.self.invariant.byte_gap;
     }
@@ -53,7 +51,5 @@ returns c =
     ap (λ a. history_of (entries_in a bytes) start i.save_point i.depth i.is_collecting) c.seal.ensures.items
     ∙ undone_view rs bytes i.past i.transactions start i.depth i.save_point i.is_collecting c.self.invariant.in_order (omega arith) (ap (λ n. i.past - n) count) in
     let taken : length c.seal.new.steps.items + c.seal.new.steps.spare ≡ length rs + i.steps.spare = omega (arith, ap length c.seal.ensures.items, with_sealed_length start rs, c.seal.ensures.spare) in
-    let spare : c.seal.new.steps.spare ≡ i.steps.spare = c.seal.ensures.spare in
-    ap₂ (λ h n. kept h i.step_room i.byte_room (n, length bytes + i.bytes.spare) (c.seal.new.steps.spare, i.bytes.spare)) view taken
-    ∙ ap (λ n. kept (undone (history_of (entries_in rs bytes) i.past i.save_point i.depth i.is_collecting)) i.step_room i.byte_room (length rs + i.steps.spare, length bytes + i.bytes.spare) (n, i.bytes.spare)) spare
-    ∙ ap (λ (k : Kept). kept (undone k.history) k.step_room k.byte_room k.taken k.spare) c.self.view_is
+    ap₂ (λ h n. kept h (history_capacity n (length bytes + i.bytes.spare))) view taken
+    ∙ ap (λ (k : Kept). kept (undone k.history) k.capacity) c.self.view_is

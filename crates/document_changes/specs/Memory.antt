@@ -1,0 +1,62 @@
+-- The memory of a change: what is reserved for it, and what the change leaves of it.
+use Rattle.std.specs.Prelude.{◌≡◌, ◌≤◌, ℕ, length}
+use Rattle.ed_model.specs.declared.plan.DocumentChange.{DocumentChange}
+use Rattle.ed_model.specs.declared.plan.DocumentChange.TheVariants as change
+use Rattle.ed_model.specs.LinePlans.{numbers_in}
+use Rattle.cell_buffer.specs.Buffer.{most_held}
+use Rattle.decorations.specs.Decorated.{IsCapacityForFill}
+use Rattle.line_index.specs.Edits.{fresh_lines}
+use Rattle.line_rows.specs.Kept.{RowCapacity, most_for_level, most_for_markers, most_for_state}
+use Rattle.undo_history.specs.Kept as history
+use Rattle.document.specs.Changes.{line_type_edits, with_collecting, with_forgotten_history}
+use Rattle.document.specs.Kept.{Kept, decorated_in, history_in, rows_in}
+use Rattle.document.specs.Memory.{ChangesLineCapacity, ChangesRowCapacity, GrowsForLines, KeepsAllButStyles, KeepsMemoryFilling, RowsGrowTo}
+
+-- only the capacity for what belongs to lines may be another, which grows to this at most
+abbrev pub ReservesRows : RowCapacity → Kept → Kept → Type 0
+ReservesRows most old new = ChangesRowCapacity old new × RowsGrowTo most old new
+
+-- the same for one more marker
+abbrev pub ReservesMarker : Kept → Kept → Type 0
+ReservesMarker old new = ReservesRows (most_for_markers 1 (rows_in old)) old new
+
+-- only the capacity of the history may be another, which grows for one step without bytes at most
+pub record ReservesStep (old new : Kept) : Type 0 where
+  pub rest : new ≡ record old { capacity = record old.capacity { history = new.capacity.history } }
+  pub kept : history.KeepsCapacity old.capacity.history new.capacity.history
+  pub at_most : history.CapacityAtMost 1 0 (history_in old) (history_in new)
+
+-- only whether styles are stored, and the capacity for them, may be another
+abbrev pub ReservesStyles : Kept → Kept → Type 0
+ReservesStyles old new = KeepsAllButStyles old new × (new.capacity.cells.1 ≤ most_held old.capacity.cells.1 old.capacity.cells.0)
+
+-- only the capacity for indicators may be another, which grows for a fill of this one at most
+abbrev pub ReservesFill : ℕ → Kept → Kept → Type 0
+ReservesFill indicator old new =
+    (new ≡ record old { capacity = record old.capacity { indicators = new.capacity.indicators } })
+    × IsCapacityForFill indicator (decorated_in old) new.capacity.indicators
+
+-- At most what the change needs was reserved, and nothing else is another.
+abbrev pub ReservesFor : DocumentChange → Kept → Kept → Type 0
+ReservesFor (change.SetLineEndTypes to) old new = ChangesLineCapacity old new × GrowsForLines (fresh_lines (line_type_edits to old.document)) old new
+ReservesFor (change.AppendContainer token coalesce) old new = ReservesStep old new
+ReservesFor (change.AddMarker line number) old new = ReservesMarker old new
+ReservesFor (change.AddMarkers line mask) old new = ReservesRows (most_for_markers (length (numbers_in mask)) (rows_in old)) old new
+ReservesFor (change.SetLevel line level) old new = ReservesRows (most_for_level line (rows_in old)) old new
+ReservesFor (change.SetState line state) old new = ReservesRows (most_for_state line (rows_in old)) old new
+ReservesFor (change.StyleRun count style) old new = ReservesStyles old new
+ReservesFor (change.StyleBytes count) old new = ReservesStyles old new
+ReservesFor (change.FillIndicator indicator start count value) old new = ReservesFill indicator old new
+ReservesFor other old new = new ≡ old
+
+-- the document with the memory of another
+abbrev pub with_memory_of : Kept → Kept → Kept
+with_memory_of other k = record k { stored = record k.stored { styles = other.stored.styles }; capacity = other.capacity }
+
+-- Each capacity stays, but a history that is forgotten holds no memory, and the fill of an indicator may drop its runs, or give it the
+-- spare ones.
+abbrev pub KeepsCapacity : DocumentChange → Kept → Kept → Type 0
+KeepsCapacity change.ForgetHistory old new = new.capacity ≡ (with_forgotten_history old).capacity
+KeepsCapacity (change.CollectUndo on) old new = new.capacity ≡ (with_collecting on old).capacity
+KeepsCapacity (change.FillIndicator indicator start count value) old new = KeepsMemoryFilling indicator old new
+KeepsCapacity other old new = new.capacity ≡ old.capacity
