@@ -401,6 +401,19 @@ fresh_upto next line count h = elim (cases_eq count 0) [ inl z ↦ rw (eq-eqb co
 fresh_some : (next line count : ℕ) → 0 < count → fresh_at next line count ≤ line - next
 fresh_some next line count h = rw (ne_eqb count 0 (λ e. omega arith)) (omega arith)
 
+-- how many fresh lines are inserted up to the new line of a step's end, and at the places one byte and two behind it
+pub record FreshLines (c : LineChange) : Type 0 where
+  pub at : ℕ
+  pub one_behind : ℕ
+  pub two_behind : ℕ
+  pub all : fresh_lines (settling c.before c.old_lines c.new_lines) ≡ at + one_behind + two_behind
+  pub at_few : at + c.before ≤ c.new_lines.at + 1
+  pub one_few : one_behind + c.new_lines.at ≤ c.new_lines.one_behind
+  pub two_few : two_behind + c.new_lines.one_behind ≤ c.new_lines.two_behind
+  pub at_moves : c.before ≤ c.old_lines.at → at ≤ c.new_lines.at - c.before
+  pub one_moves : c.old_lines.at < c.old_lines.one_behind → one_behind ≤ 0
+  pub two_moves : c.old_lines.one_behind < c.old_lines.two_behind → two_behind ≤ 0
+
 module _ (c : LineChange) (lines news : ℕ) (a : AreAbout c lines news) where
   abbrev fresh_in_all : ℕ
   fresh_in_all = fresh_at c.before (n0 c lines news a) (come_at c lines news a) + fresh_at (n0 c lines news a + 1) (n1 c lines news a) (come_one c lines news a) + fresh_at (n1 c lines news a + 1) (n2 c lines news a) (come_two c lines news a)
@@ -430,26 +443,28 @@ module _ (c : LineChange) (lines news : ℕ) (a : AreAbout c lines news) where
   pub settling_fits : FitLines lines (settling c.before c.old_lines c.new_lines)
   settling_fits = settling_all.fit
 
-  -- fresh lines are inserted up to the last line of the step
-  pub settling_few : fresh_lines (settling c.before c.old_lines c.new_lines) + c.before ≤ c.new_lines.two_behind + 1
-  settling_few =
-      omega (
-        arith,
-        a,
-        settling_all.few,
-        fresh_upto c.before (n0 c lines news a) (come_at c lines news a) a.before_new,
-        fresh_upto (n0 c lines news a + 1) (n1 c lines news a) (come_one c lines news a) (omega (arith, a)),
-        fresh_upto (n1 c lines news a + 1) (n2 c lines news a) (come_two c lines news a) (omega (arith, a)),
-      )
-
-  -- the first of them is not fresh if no line starts before the step
-  pub settling_fewer : c.before ≡ 0 → fresh_lines (settling c.before c.old_lines c.new_lines) ≤ c.new_lines.two_behind
-  settling_fewer e =
-      omega (
-        arith,
-        a,
-        settling_all.few,
-        fresh_some c.before (n0 c lines news a) (come_at c lines news a) (omega arith),
-        fresh_upto (n0 c lines news a + 1) (n1 c lines news a) (come_one c lines news a) (omega (arith, a)),
-        fresh_upto (n1 c lines news a + 1) (n2 c lines news a) (come_two c lines news a) (omega (arith, a)),
-      )
+  -- the new line of a place is fresh only if a line starts there, and no old one moves to it
+  pub settling_fresh : FreshLines c
+  settling_fresh =
+      let l = lasts c lines news a in
+      let up_at = fresh_upto c.before (n0 c lines news a) (come_at c lines news a) a.before_new in
+      let up_one = fresh_upto (n0 c lines news a + 1) (n1 c lines news a) (come_one c lines news a) (omega (arith, a)) in
+      let up_two = fresh_upto (n1 c lines news a + 1) (n2 c lines news a) (come_two c lines news a) (omega (arith, a)) in
+      record {
+        at = fresh_at c.before (n0 c lines news a) (come_at c lines news a);
+        one_behind = fresh_at (n0 c lines news a + 1) (n1 c lines news a) (come_one c lines news a);
+        two_behind = fresh_at (n1 c lines news a + 1) (n2 c lines news a) (come_two c lines news a);
+        all = omega (arith, settling_all.few);
+        at_few = omega (arith, up_at, a);
+        one_few = omega (arith, up_one, a);
+        two_few = omega (arith, up_two, a);
+        at_moves = λ h. omega (arith, a, fresh_some c.before (n0 c lines news a) (come_at c lines news a) (omega (arith, l, a)), up_at);
+        one_moves = λ h. elim (cases_lt c.old_lines.at (first c lines news a)) [
+          | inl more ↦ omega (arith, a, up_one, l.one more)
+          | inr none ↦ omega (arith, a, fresh_some (n0 c lines news a + 1) (n1 c lines news a) (come_one c lines news a) (omega (arith, l, a)))
+        ];
+        two_moves = λ h. elim (cases_lt c.old_lines.one_behind (next c lines news a)) [
+          | inl more ↦ omega (arith, a, up_two, l.next_two more)
+          | inr none ↦ omega (arith, a, fresh_some (n1 c lines news a + 1) (n2 c lines news a) (come_two c lines news a) (omega (arith, l, a)))
+        ];
+      }

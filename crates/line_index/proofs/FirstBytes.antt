@@ -29,13 +29,13 @@ alike types text other (suc q) front here =
     refl
 
 -- the same lines start before the end of the first bytes
-same_in_front : (types : LineEndTypes) (bytes : List ℕ) (n : ℕ) → n ≤ length bytes → starts_within types (take n bytes) 0 n ≡ starts_within types bytes 0 n
+pub same_in_front : (types : LineEndTypes) (bytes : List ℕ) (n : ℕ) → n ≤ length bytes → starts_within types (take n bytes) 0 n ≡ starts_within types bytes 0 n
 same_in_front types bytes n l =
     filter_range_agree (is_line_start types bytes) (is_line_start types (take n bytes)) 0 (n - 0)
     (λ k a b. sym (alike types (take n bytes) bytes k (λ some byte i h. stands_at_first byte bytes n i (omega arith)) (stands_at_first 10 bytes n k (omega arith))))
 
 -- if a line starts between two places, there is such a line
-some_within : (types : LineEndTypes) (text : List ℕ) (from to k : ℕ) → from ≤ k → k < to → is_line_start types text k ≡ true → 1 ≤ length (starts_within types text from to)
+pub some_within : (types : LineEndTypes) (text : List ℕ) (from to k : ℕ) → from ≤ k → k < to → is_line_start types text k ≡ true → 1 ≤ length (starts_within types text from to)
 some_within types text from to k a b here =
     omega (
       arith,
@@ -46,13 +46,13 @@ some_within types text from to k a b here =
       length-append (starts_within types text k (k + 1)) (starts_within types text (k + 1) to),
     )
 
-behind_line_feed : (types : LineEndTypes) (text : List ℕ) (p : ℕ) → stands 10 text p ≡ true → is_line_start types text (p + 1) ≡ true
+pub behind_line_feed : (types : LineEndTypes) (text : List ℕ) (p : ℕ) → stands 10 text p ≡ true → is_line_start types text (p + 1) ≡ true
 behind_line_feed types text p e =
     let one : p + 1 - 1 ≡ p = omega arith in
     let some : (p + 1 == 0) ≡ false = ne_eqb (p + 1) 0 (λ z. omega arith) in
     rw (some, one, e) refl
 
-stands_inside : (byte : ℕ) (text : List ℕ) (p : ℕ) → stands byte text p ≡ true → p < length text
+pub stands_inside : (byte : ℕ) (text : List ℕ) (p : ℕ) → stands byte text p ≡ true → p < length text
 stands_inside byte text p e =
     elim (cases_lt p (length text)) [
       | inl inside ↦ inside

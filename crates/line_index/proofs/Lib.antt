@@ -20,3 +20,5 @@ pub mod StepCarries
 pub mod StepLists
 pub mod TextBytes
 pub mod TouchedStarts
+pub mod JoinedTexts
+pub mod FreshLines

@@ -1,8 +1,8 @@
 -- Each old line moves to the new line of its start, moved by the step.
-use Rattle.line_index.proofs.Names.{◌≡◌, ℕ, ◌+◌, ◌-◌, ◌<◌, ◌≤◌, min, max, List, ◌++◌, length, get_or, take, drop, map, refl, sym, ap, ◌∙◌, inl, inr, arith, length-append, length-drop, cases_lt, lt-ltb, le-ltb, length-take-le, length-map, get_or-take, get_or-drop, get_or-map, get_or-append-add, get_or-append, LineEndTypes, line_starts, line_of, Insert, Delete, moved_back, count_before, Climbs_from_rises, count_is, increasing_at, line_starts_rise, line_of_start, line_of_monotone, line_of_lt, line_from_start, some_line, index, starts_within, LineChange, MovesLines, change_about, moved_on, near_lines, fresh_lines, settling}
-use Rattle.line_index.proofs.Abouts.{AreAbout, chosen, settling_few, settling_fewer}
+use Rattle.line_index.proofs.Names.{◌≡◌, ℕ, ◌+◌, ◌-◌, ◌<◌, ◌≤◌, min, max, List, ◌++◌, length, get_or, take, drop, map, refl, sym, ap, ◌∙◌, inl, inr, arith, length-append, length-drop, cases_lt, lt-ltb, le-ltb, length-take-le, length-map, get_or-take, get_or-drop, get_or-map, get_or-append-add, get_or-append, LineEndTypes, line_starts, line_of, Insert, Delete, moved_back, count_before, Climbs_from_rises, count_is, increasing_at, line_starts_rise, line_of_start, line_of_monotone, line_of_lt, line_from_start, some_line, index, starts_within, LineChange, MovesLines, change_about, moved_on}
+use Rattle.line_index.proofs.Abouts.{AreAbout, chosen}
 use Rattle.line_index.proofs.StartLists.{starts_lie}
-use Rattle.line_index.proofs.StepLists.{Insertion, Deletion, at_most, behind, lines_before_some, none_below_zero, first_line_is, found_in, found_out, longer, shorter, range}
+use Rattle.line_index.proofs.StepLists.{Insertion, Deletion, at_most, behind, lines_before_some, none_below_zero, found_in, found_out, longer, shorter, range}
 
 -- a place among what was deleted, or at its end, moves to the place of the deletion
 fallen : (place count s : ℕ) → place ≤ s → s ≤ place + count → moved_back place count s ≡ place
@@ -175,20 +175,6 @@ module _ (types : LineEndTypes) (old new : List ℕ) (p e e' i j from to : ℕ) 
         others = omega (arith, new_size, front_lines, within);
       }
 
-  -- as many lines as were found are behind those that stay
-  pub found_lines : line_of news (e' + 2) + 1 ≡ i + length (starts_within types new from to)
-  found_lines = omega (arith, front_lines, front_kept, length-append (take i olds) (starts_within types new from to))
-
-  -- at most as many fresh lines are inserted as starts were found
-  pub few_fresh : (end : ℕ) → (p ≡ 0 → i ≡ 1) → fresh_lines (settling (count_before p olds) (near_lines olds e) (near_lines news e')) ≤ length (starts_within types new from to)
-  few_fresh end first =
-      elim (cases_lt 0 p) [
-        | inl some ↦ omega (arith, found_lines, before_some some, settling_few (change_about p e e' olds news end) (length olds) (length news) (lines_about_step end))
-        | inr none ↦
-            let z : p ≡ 0 = omega arith in
-            omega (arith, found_lines, first z, settling_fewer (change_about p e e' olds news end) (length olds) (length news) (lines_about_step end) (before_none z))
-      ]
-
 -- after an insertion
 module _ (types : LineEndTypes) (place count end room : ℕ) (text starts : List ℕ) (w : Insertion place count text (index types starts end room)) where
   pub moves_in_old : (end' : ℕ) → MovesLines (moved_on place count) (line_starts types w.old) (line_starts types text) (change_about place place (place + count) (line_starts types w.old) (line_starts types text) end')
@@ -222,22 +208,6 @@ module _ (types : LineEndTypes) (place count end room : ℕ) (text starts : List
       (rw (le-ltb (place + 1) place (omega arith)) (omega arith))
       (rw (le-ltb (place + 2) place (omega arith)) (omega arith))
       (λ s h. (rw (le-ltb s place (omega arith)) refl, omega arith)) end'
-
-  pub fresh_in : (end' : ℕ) → fresh_lines (settling (count_before place (line_starts types w.old)) (near_lines (line_starts types w.old) place) (near_lines (line_starts types text) (place + count))) ≤ length (starts_within types text (max place 1) (min (place + count + 3) (length text + 1)))
-  fresh_in end' =
-      let i : ℕ = line_of (line_starts types w.old) (place - 1) + 1 in
-      let j : ℕ = line_of (line_starts types w.old) (place + 2) + 1 in
-      let size = longer types place count end room text starts w in
-      let low : max place 1 ≤ min (place + count + 3) (length text + 1) = omega (arith, w.within, w.index.length) in
-      let found = found_in types place count end room text starts w i j (max place 1) (min (place + count + 3) (length text + 1)) (rw w.index.starts refl) (rw w.index.starts refl) refl refl in
-      few_fresh types w.old text place place (place + count) i j (max place 1) (min (place + count + 3) (length text + 1)) (λ s. s + count) (moved_on place count) (omega arith) (omega arith)
-      refl refl (λ z. rw z (none_below_zero (line_starts types w.old))) (λ h. lines_before_some types (Insert place w.bytes) w.old i refl h) low (omega arith)
-      (rw w.index.starts at found)
-      (λ s h. rw (lt-ltb s place h) refl)
-      (λ s h l. rw (le-ltb s place h) (omega arith))
-      (rw (le-ltb (place + 1) place (omega arith)) (omega arith))
-      (rw (le-ltb (place + 2) place (omega arith)) (omega arith))
-      (λ s h. (rw (le-ltb s place (omega arith)) refl, omega arith)) end' (λ z. omega (arith, first_line_is types w.old place z))
 
   pub moves_in : (news : List ℕ) (end' : ℕ) (change : LineChange) → news ≡ line_starts types text → change ≡ change_about place place (place + count) starts news end' → MovesLines (moved_on place count) starts news change
   moves_in news end' change e f = rw (f, e, w.index.starts) (moves_in_old end')
@@ -275,22 +245,6 @@ module _ (types : LineEndTypes) (place count end room : ℕ) (text starts : List
       (rw (le-ltb (place + count + 1) place (omega arith), le-ltb (place + count + 1) (place + count) (omega arith)) (omega arith))
       (rw (le-ltb (place + count + 2) place (omega arith), le-ltb (place + count + 2) (place + count) (omega arith)) (omega arith))
       (λ s h. (rw (le-ltb s place (omega arith), le-ltb s (place + count) (omega arith)) refl, omega arith)) end'
-
-  pub fresh_out : (end' : ℕ) → fresh_lines (settling (count_before place (line_starts types w.old)) (near_lines (line_starts types w.old) (place + count)) (near_lines (line_starts types text) place)) ≤ length (starts_within types text (max place 1) (min (place + 3) (length text + 1)))
-  fresh_out end' =
-      let i : ℕ = line_of (line_starts types w.old) (place - 1) + 1 in
-      let j : ℕ = line_of (line_starts types w.old) (place + count + 2) + 1 in
-      let size = shorter types place count end room text starts w in
-      let low : max place 1 ≤ min (place + 3) (length text + 1) = omega (arith, w.within, w.index.length) in
-      let found = found_out types place count end room text starts w i j (max place 1) (min (place + 3) (length text + 1)) (rw w.index.starts refl) (rw w.index.starts refl) refl refl in
-      few_fresh types w.old text place (place + count) place i j (max place 1) (min (place + 3) (length text + 1)) (λ s. s - count) (moved_back place count) (omega arith) (omega arith)
-      refl refl (λ z. rw z (none_below_zero (line_starts types w.old))) (λ h. lines_before_some types (Delete place w.bytes) w.old i refl h) low (omega arith)
-      (rw w.index.starts at found)
-      (λ s h. rw (lt-ltb s place h) refl)
-      (λ s h l. fallen place count s h l)
-      (rw (le-ltb (place + count + 1) place (omega arith), le-ltb (place + count + 1) (place + count) (omega arith)) (omega arith))
-      (rw (le-ltb (place + count + 2) place (omega arith), le-ltb (place + count + 2) (place + count) (omega arith)) (omega arith))
-      (λ s h. (rw (le-ltb s place (omega arith), le-ltb s (place + count) (omega arith)) refl, omega arith)) end' (λ z. omega (arith, first_line_is types w.old place z))
 
   pub moves_out : (news : List ℕ) (end' : ℕ) (change : LineChange) → news ≡ line_starts types text → change ≡ change_about place (place + count) place starts news end' → MovesLines (moved_back place count) starts news change
   moves_out news end' change e f = rw (f, e, w.index.starts) (moves_out_old end')

@@ -1,10 +1,11 @@
 -- The edits of a step carry rows as the step does.
-use Rattle.line_index.proofs.Names.{◌≡◌, ℕ, suc, ◌+◌, ◌<◌, ◌≤◌, ◌==◌, Bool, true, false, cond, List, [], ◌∷◌, length, map, get_or, refl, ap, ◌∙◌, arith, ne_eqb, range_with_len, LineEndTypes, line_starts, line_of, line_count, Step, Insert, Delete, edited, moved_start, carried, carried_unless_empty, carried_by, JoinsRows, end_of, LineChange, MovesLines, line_after, after_edits, FitLines, fresh_lines, LineEdit, lines_for_step, index, settling, edits_of, change_of, EditsFitLines, EditsBringFewLines}
+use Rattle.line_index.proofs.Names.{◌≡◌, ℕ, suc, ◌+◌, ◌<◌, ◌≤◌, ◌==◌, Bool, true, false, cond, List, [], ◌∷◌, ◌++◌, length, take, drop, map, get_or, refl, ap, ◌∙◌, arith, subst, append_assoc, length-drop, length-take-le, take-append-drop, ne_eqb, range_with_len, LineEndTypes, line_starts, line_of, line_count, Step, Insert, Delete, edited, moved_start, carried, carried_unless_empty, carried_by, JoinsRows, end_of, LineChange, MovesLines, line_after, after_edits, FitLines, fresh_lines, LineEdit, lines_for_step, index, settling, edits_of, change_of, EditsFitLines, EditsBringFewLines}
+use Rattle.std.proofs.lemmas.List.{drop-drop}
 use Rattle.line_index.specs.declared.edit.LineEdit.TheVariants.{Restart}
 use Rattle.line_index.proofs.Abouts.{AreAbout, settling_carries, settling_fits}
 use Rattle.line_index.proofs.Keyed.{by_keys, carried_by_keys}
-use Rattle.line_index.proofs.MovedLines.{moves_in_old, moves_out_old, about_in, about_out, fresh_in, fresh_out}
-use Rattle.line_index.proofs.RoomLemmas.{few_found_in, few_found_out}
+use Rattle.line_index.proofs.MovedLines.{moves_in_old, moves_out_old, about_in, about_out}
+use Rattle.line_index.proofs.FreshLines.{FewFreshIn, FewFreshOut, few_fresh_in, few_fresh_out}
 use Rattle.line_index.proofs.StepLists.{Insertion, Deletion}
 
 -- what is known of a step's change
@@ -77,12 +78,21 @@ step_edits_fit types step text h =
 
 few_settled : (types : LineEndTypes) (step : Step) (text : List ℕ) → end_of step ≤ length text → let c : LineChange = change_of types step text in fresh_lines (settling c.before c.old_lines c.new_lines) ≤ lines_for_step types step
 few_settled types (Insert p bytes) text h =
-    let new : List ℕ = edited (Insert p bytes) text in
-    omega (arith, fresh_in types p (length bytes) (length text) 0 new (line_starts types text) (insertion_was types p bytes text h) (length new), few_found_in types p bytes text h)
+    subst (λ t. FewFreshIn types p bytes t (take p text ++ bytes ++ drop p text)) (take-append-drop p text)
+    (few_fresh_in types p (take p text) bytes (drop p text) (length-take-le p text h))
+    (length (edited (Insert p bytes) text)) (line_count types text) (line_count types (edited (Insert p bytes) text)) (step_moves types (Insert p bytes) text h).about
 few_settled types (Delete p bytes) text h =
-    let new : List ℕ = edited (Delete p bytes) text in
     let none : p + 0 ≡ p = omega arith in
-    rw none (omega (arith, fresh_out types p (length bytes) (length text) 0 new (line_starts types text) (deletion_was types p bytes text h) (length new), few_found_out types p new))
+    let front : List ℕ = take p text in
+    let old : List ℕ = take (length bytes) (drop p text) in
+    let behind : List ℕ = drop (p + length bytes) text in
+    let rest : old ++ behind ≡ drop p text = rw (← (drop-drop (length bytes) p text)) (take-append-drop (length bytes) (drop p text)) in
+    let whole : (front ++ old) ++ behind ≡ text = append_assoc front old behind ∙ rw rest (take-append-drop p text) in
+    let size : length old ≡ length bytes = length-take-le (length bytes) (drop p text) (omega (arith, length-drop p text)) in
+    let few : FewFreshOut types p (length bytes) text (front ++ behind) =
+    subst (λ n. FewFreshOut types p n text (front ++ behind)) size
+    (subst (λ t. FewFreshOut types p (length old) t (front ++ behind)) whole (few_fresh_out types p front old behind (length-take-le p text (omega arith)))) in
+    rw none (few (length (edited (Delete p bytes) text)) (line_count types text) (line_count types (edited (Delete p bytes) text)) (rw none at (step_moves types (Delete p bytes) text h).about))
 
 some_for_step : (types : LineEndTypes) (step : Step) → 1 ≤ lines_for_step types step
 some_for_step types (Insert p bytes) = omega arith

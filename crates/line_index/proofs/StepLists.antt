@@ -135,7 +135,7 @@ pub lines_before_some : (types : LineEndTypes) (step : Step) (text : List ℕ) (
 lines_before_some types step text i a h =
     omega (arith, first_line_about_is types step text, some_before (place_of step) (line_starts types text) (some_line types text) (first_line_start types text) h)
 
-pub first_line_is : (types : LineEndTypes) (text : List ℕ) (p : ℕ) → p ≡ 0 → line_of (line_starts types text) (p - 1) ≡ 0
+first_line_is : (types : LineEndTypes) (text : List ℕ) (p : ℕ) → p ≡ 0 → line_of (line_starts types text) (p - 1) ≡ 0
 first_line_is types text p e =
     let z : p - 1 ≡ 0 = omega arith in
     rw z (sym (first_line_about_is types (Insert 0 []) text) ∙ ap (λ n. n - 1) (none_below_zero (line_starts types text)))

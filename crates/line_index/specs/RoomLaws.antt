@@ -4,13 +4,15 @@ use Rattle.ed_model.specs.declared.plan.LineEndTypes.{LineEndTypes}
 use Rattle.ed_model.specs.Lines.{line_count}
 use Rattle.ed_model.specs.Steps.{Step, Insert, Delete, edited}
 
--- an insertion: as many lines as the bytes have on their own and five, since line ends may form on either side
+-- An insertion: as many lines as the bytes have on their own and one. A line end of Unicode may form on either side of
+-- them, and their first line is the rest of one that is there. If they split a CR LF, that is one line end more, but then
+-- none of Unicode forms.
 abbrev pub lines_for_insertion : LineEndTypes → List ℕ → ℕ
-lines_for_insertion types bytes = line_count types bytes + 5
+lines_for_insertion types bytes = line_count types bytes + 1
 
--- a deletion: three, since a line end may form of the bytes that it brings together
+-- a deletion: one, since a line end of Unicode may form of the bytes that it brings together
 abbrev pub lines_for_deletion : ℕ
-lines_for_deletion = 3
+lines_for_deletion = 1
 
 abbrev pub lines_for_step : LineEndTypes → Step → ℕ
 lines_for_step types (Insert place bytes) = lines_for_insertion types bytes

@@ -21,8 +21,8 @@ const BLOCKS: usize = 64;
 // How many bytes a row has.
 const ROW: usize = BLOCKS * BLOCK;
 
-// The length of the longest line end in bytes: it can make a line start up to so many places behind a byte.
-const LONGEST_END: usize = 3;
+// How many line ends can form of bytes that a step brings together at a place: one, of Unicode.
+const FORMED: usize = 1;
 
 // Returns how many lines end with the byte, 1 or 0, if line ends of Unicode do not count. It has no branch, so that
 // many bytes are tested at once.
@@ -168,22 +168,22 @@ pub fn lines_in(types: LineEndTypes, bytes: &[u8]) -> usize
     lines + count_starts(types, bytes, behind + 1, bytes.len() + 1)
 }
 
-/// Returns for how many lines an insertion of the bytes requires room: as many as they have on their own and five. Line
-/// ends may form at the front of the bytes and behind them, and each place that depends on bytes of both sides may
-/// become a line start. The first line of the bytes is one of these.
+/// Returns for how many lines an insertion of the bytes requires room: as many as they have on their own and one. A line
+/// end of Unicode may form at the front of the bytes and behind them, and their first line is the rest of one that is
+/// there.
 pub fn lines_for_insertion(types: LineEndTypes, bytes: &[u8]) -> usize
     ensures lines { result ≡ lines_for_insertion types bytes.now }
-    ensures within { result ≤ length bytes.now + 6 }
+    ensures within { result ≤ length bytes.now + 2 }
 {
-    lines_in(types, bytes) + 2 * LONGEST_END - 1
+    lines_in(types, bytes) + 2 * FORMED - 1
 }
 
-/// Returns for how many lines a deletion requires room: three, since a line end may form of the bytes that it brings
-/// together.
+/// Returns for how many lines a deletion requires room: one, since a line end of Unicode may form of the bytes that it
+/// brings together.
 pub const fn lines_for_deletion() -> usize
     ensures { result ≡ lines_for_deletion }
 {
-    LONGEST_END
+    FORMED
 }
 
 /// No step adds more lines than that, and the first bytes of a text have no more lines than all of it.
