@@ -1,5 +1,7 @@
--- The mask of the indicators at a place, bit by bit.
-use Rattle.decorations.proofs.Names.{◌≡◌, ℕ, zero, suc, ◌+◌, ◌*◌, ◌^◌, ◌<◌, ◌≤◌, ◌==◌, not, Bool, true, false, cond, List, [], ◌∷◌, ◌++◌, map, filter, sum, refl, ap, sym, ◌∙◌, ◌%◌, arith, zero-add, eq-eqb, pos, range_with_len, map-append, filter-append, cond_both, ne_eqb, at_place, indicators, values_of, mask_of, range-append}
+-- The mask of the indicators at a place, slot by slot.
+use Rattle.decorations.proofs.Names.{◌≡◌, ℕ, zero, suc, ◌+◌, ◌-◌, ◌*◌, ◌^◌, ◌<◌, ◌≤◌, ◌==◌, not, Bool, true, false, cond, List, [], ◌∷◌, ◌++◌, length, map, filter, sum, Option, None, refl, ap, sym, ◌∙◌, ◌%◌, arith, zero-add, append-nil, eq-eqb, pos, range_with_len, map-append, filter-append, get_or_past, cond_both, ne_eqb, at_place, indicators, values_of, mask_of, range-append, filter_range_none, Runs, slot_at, shown, all_shown, IsKept}
+use Rattle.decorations.proofs.Shown.{shown_at, zero_past, zero_unused}
+use Rattle.decorations.proofs.Values.{shown_length}
 use Rattle.std.proofs.lemmas.List.Sums.{sum_by-append}
 use Rattle.std.proofs.lemmas.Nat.{pow-add, one_shl}
 use Rattle.std.proofs.Math.Pow.{pow_mono}
@@ -16,9 +18,39 @@ pub mask_none : (values : List (List ℕ)) (place : ℕ) → mask_below 0 values
 unfolding mask_below
 mask_none values place = refl
 
-pub mask_all : (n : ℕ) (values : List (List ℕ)) (place : ℕ) → n ≡ 32 → mask_below n values place ≡ mask_of values place
+-- the other indicators are 0 at the place
+mask_rest : (n : ℕ) (values : List (List ℕ)) (place : ℕ) → n ≤ 32 → ((k : ℕ) → n ≤ k → k < 32 → is_on values place k ≡ false) → mask_below n values place ≡ mask_of values place
 unfolding mask_below indicators
-mask_all n values place e = ap (λ m. sum (map (λ k. 2 ^ k) (filter (is_on values place) (range_with_len 0 m)))) e
+mask_rest n values place h off =
+    let whole : 32 ≡ n + (32 - n) = omega (arith, h) in
+    let p : ℕ → Bool = is_on values place in
+    sym
+    (ap (λ m. sum (map (λ k. 2 ^ k) (filter p (range_with_len 0 m)))) whole
+    ∙ rw (range-append 0 n (32 - n), zero-add n, filter-append p, filter_range_none p n (32 - n) (λ k l m. off k l (omega arith)), append-nil (filter p (range_with_len 0 n))) refl)
+
+zero_off : (values : List (List ℕ)) (place k : ℕ) → 0 ≡ at_place (values_of values k) (pos place) → is_on values place k ≡ false
+zero_off values place k e = ap not (ap (λ v. v == 0) (sym e) ∙ eq-eqb 0 0 refl)
+
+-- the value in a slot is that of its indicator
+pub slot_value : (size place k value : ℕ) (slots : List (Option (Runs ℕ))) (slot : Option (Runs ℕ)) → k < 32 → slot_at slots k ≡ slot → value ≡ at_place (shown size slot) (pos place) →
+    value ≡ at_place (values_of (all_shown size slots) k) (pos place)
+slot_value size place k value slots slot h e v = v ∙ sym (ap (λ (vs : List ℕ). at_place vs (pos place)) (shown_at size slots k h ∙ ap (shown size) e))
+
+-- past the last slot
+pub mask_slots : (size place : ℕ) (slots : List (Option (Runs ℕ))) → length slots ≤ 32 → mask_below (length slots) (all_shown size slots) place ≡ mask_of (all_shown size slots) place
+mask_slots size place slots few =
+    mask_rest (length slots) (all_shown size slots) place few
+    (λ k past h. zero_off (all_shown size slots) place k (slot_value size place k 0 slots None h (get_or_past slots k None past) (zero_unused size place)))
+
+-- past the end of the text
+pub mask_past : (size place : ℕ) (slots : List (Option (Runs ℕ))) → size ≤ place → ((k : ℕ) → IsKept size (slot_at slots k)) → 0 ≡ mask_of (all_shown size slots) place
+mask_past size place slots past kept =
+    sym (mask_none (all_shown size slots) place)
+    ∙ mask_rest 0 (all_shown size slots) place (omega arith)
+    (λ k l h.
+    let slot = slot_at slots k in
+    let long : length (shown size slot) ≡ size = shown_length size slot (kept k) in
+    zero_off (all_shown size slots) place k (slot_value size place k 0 slots slot h refl (zero_past (shown size slot) place (omega arith))))
 
 sum_append : (xs ys : List ℕ) → sum (xs ++ ys) ≡ sum xs + sum ys
 sum_append xs ys = sum_by-append (λ x. x) xs ys

@@ -1,5 +1,5 @@
 -- The effect of a step on the values of one indicator, whether it has runs or is 0 everywhere.
-use Rattle.decorations.proofs.Names.{◌≡◌, ℕ, ◌+◌, ◌-◌, ◌≤◌, ◌==◌, nat_eq, ◌||◌, Bool, true, false, if◌then◌else◌, List, ◌++◌, length, take, drop, replicate, get_or, Option, Some, None, is_some, IfSome, true≢false, refl, sym, ap, ◌∙◌, subst, arith, inl, inr, take-append-drop, append_assoc, cond_both, cases_lt, length-append, length-take, length-drop, length-replicate, take-replicate, drop-replicate, replicate-append-replicate, get_or-replicate, get_or_past, get_or_append_left, get_or-append-add, ext_get_or, All-append, All-replicate, inserted_value, indicator_after, filled, Insert, Delete, Runs, inserted, deleted, IsClear, shown, AreKept, IsKept, TookIn, InBoth, GaveAway}
+use Rattle.decorations.proofs.Names.{◌≡◌, ℕ, ◌+◌, ◌-◌, ◌<◌, ◌≤◌, ◌==◌, nat_eq, ◌||◌, Bool, true, false, if◌then◌else◌, List, ◌++◌, length, take, drop, replicate, get_or, Option, Some, None, is_some, IfSome, true≢false, refl, sym, ap, ◌∙◌, subst, arith, inl, inr, take-append-drop, append_assoc, cond_both, cases_lt, length-append, length-take, length-drop, length-replicate, take-replicate, drop-replicate, replicate-append-replicate, get_or-replicate, get_or_past, get_or_append_left, get_or-append-add, ext_get_or, All-append, All-replicate, inserted_value, indicator_after, filled, Insert, Delete, Runs, inserted, deleted, IsClear, shown, AreKept, IsKept, TookIn, InBoth, GaveAway}
 use Rattle.std.specs.Bool.{IsTrue}
 use Rattle.run_styles.specs.Runs.{filled as runs_filled, inserted_value as runs_value}
 
@@ -86,6 +86,11 @@ gave_shown size place count bytes (Some old) (Some new) h e kept gave = rw (gave
 pub shown_length : (size : ℕ) (slot : Option (Runs ℕ)) → IsKept size slot → length (shown size slot) ≡ size
 shown_length size None kept = length-replicate {A = ℕ} size 0
 shown_length size (Some runs) kept = kept.sized
+
+-- a place of the text is a place of the runs
+pub kept_place : (size place : ℕ) (slot : Option (Runs ℕ)) → place < size → IsKept size slot → IfSome slot (λ (runs : Runs ℕ). place < length runs.values)
+kept_place size place None h kept = tt
+kept_place size place (Some runs) h kept = omega (arith, kept.sized)
 
 -- so the indicator is used exactly if it has runs
 pub tells_used : (size : ℕ) (slot : Option (Runs ℕ)) (values : List ℕ) (b : Bool) → IsKept size slot → b ≡ is_some slot → values ≡ shown size slot → (IsTrue b → IsClear values → ⊥) × ((IsClear values → ⊥) → IsTrue b)

@@ -7,15 +7,12 @@ ghost use Rattle.ed_model.specs.TextPlans.{at_place};
 ghost use Rattle.decorations.specs.Decorated.{decorated, filled_range, mask_of, no_capacity, run_about, values_of, HasRoomForFill, HasRoomForInsertions, IsCapacityForFill, IsCapacityForRuns, IsFilled, IsUsed, KeepsRuns, WereFilledFrom};
 
 use crate::slots::{
-    Slot, add_slots, delete_from_all, fill_slot, insert_into_all, reserve_one, reserve_runs,
-    runs_in,
+    Slot, add_slots, delete_from_all, fill_slot, insert_into_all, mask_in, reserve_one,
+    reserve_runs, runs_in,
 };
 use partitioning::Place;
 use std::alloc::{AllocError, Global};
 use std::marker::Model;
-
-/// The number of indicators.
-pub const INDICATORS: usize = 32;
 
 /// The values of all indicators at each place of a text, in bytes from 0.
 ///
@@ -98,17 +95,11 @@ impl<P: Place> Decorations<P> {
     }
 
     /// Returns the indicators that are not 0 at a place, bit `k` for indicator `k`, and 0 past the end of the text
-    /// (`SCI_INDICATORALLONFOR`).
+    /// (`SCI_INDICATORALLONFOR`). Looks only at the indicators in use.
     pub fn mask_at(&self, place: usize) -> u32
         ensures { result ≡ mask_of self.now.values place }
     {
-        let mut mask = 0u32;
-        for indicator in 0..INDICATORS {
-            if self.value(indicator, place) != 0 {
-                mask += 1 << indicator;
-            }
-        }
-        mask
+        mask_in(&self.slots, self.size, place)
     }
 
     /// Makes room for `insertions` insertions, and for a fill besides, of each indicator that is not 0 everywhere. If

@@ -7,4 +7,4 @@
 mod decorations;
 mod slots;
 
-pub use decorations::{Decorations, INDICATORS};
+pub use decorations::Decorations;

@@ -1,10 +1,12 @@
-//! The effect of a step on the runs of all indicators in use. A slot without runs stands for an indicator that is 0
-//! everywhere.
-ghost use Rattle.std.specs.Prelude.{◌≡◌, ◌≤◌, ◌<◌, ◌+◌, ◌≢◌, ◌*◌, ℕ, length, max, nat_eq, Some, None, IfSome, MatchOption, OnOk, IsOk, vec_len, vec_capacity};
+//! The runs of all indicators in use, and the effect of a step on them. A slot without runs stands for an indicator
+//! that is 0 everywhere.
+ghost use Rattle.std.specs.Prelude.{◌≡◌, ◌≤◌, ◌<◌, ◌+◌, ◌≢◌, ◌*◌, ℕ, length, max, nat_eq, pos, Some, None, IfSome, MatchOption, OnOk, IsOk, vec_len, vec_capacity};
 ghost use Rattle.ed_model.specs.Indicators.{filled, changed_range};
+ghost use Rattle.ed_model.specs.TextPlans.{at_place};
 ghost use Rattle.std.specs.Option.{is_some, option_copied};
 ghost use Rattle.run_styles.specs.Runs.{HasRoom, IsCapacityFor, KeepsCapacity};
-ghost use Rattle.decorations.specs.Slots.{slot_at, slot_capacity, source_capacity, shown, AreKept, AreSpare, CanFill, CanTakeIn, EachSlot, GaveAway, HaveGrown, InBoth, InEach, TookIn, WasFilled};
+ghost use Rattle.decorations.specs.Decorated.{mask_of};
+ghost use Rattle.decorations.specs.Slots.{all_shown, slot_at, slot_capacity, source_capacity, shown, AreKept, AreSpare, CanFill, CanTakeIn, EachSlot, GaveAway, HaveGrown, InBoth, InEach, IsKept, TookIn, WasFilled};
 
 use partitioning::Place;
 use run_styles::RunStyles;
@@ -22,6 +24,37 @@ pub(crate) fn runs_in<P: Place>(
     ensures some { is_some result ≡ is_some (slot_at slots.now.items indicator) }
 {
     slots.get(indicator)?.as_ref()
+}
+
+/// Returns the value of a slot's indicator at a place of the text.
+#[inline(always)]
+fn value_in<P: Place>(slot: &Slot<P>, place: usize) -> u32
+    requires { IfSome slot.now (λ runs. place < length runs.values) }
+    ensures { (size : ℕ) → result ≡ at_place (shown size slot.now) (pos place) }
+{
+    match slot {
+        Some(runs) => runs.value_at(place),
+        None => 0,
+    }
+}
+
+/// Returns the indicators that are not 0 at a place of a text of `size` bytes, bit `k` for indicator `k`, and 0 past its
+/// end. Looks only at those in use.
+pub(crate) fn mask_in<P: Place>(slots: &[Slot<P>], size: usize, place: usize) -> u32
+    requires few { length slots.now ≤ 32 }
+    requires kept { (k : ℕ) → IsKept size (slot_at slots.now k) }
+    ensures { result ≡ mask_of (all_shown size slots.now) place }
+{
+    if place >= size {
+        return 0;
+    }
+    let mut mask = 0u32;
+    for (indicator, slot) in slots.iter().enumerate() {
+        if value_in(slot, place) != 0 {
+            mask += 1 << indicator;
+        }
+    }
+    mask
 }
 
 /// Adds empty slots up to `count`, if there are fewer. They fit in.
