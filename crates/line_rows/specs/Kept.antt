@@ -66,7 +66,7 @@ abbrev pub IsAtMost : RowCapacity → RowCapacity → Type 0
 IsAtMost c most = (c.levels ≤ most.levels) × (c.states ≤ most.states) × (c.markers ≤ most.markers) × (c.marker_lines ≤ most.marker_lines)
 
 -- for how much there is memory at most after room was made: for `count` more lines, for the level of a line, for its state,
--- and for `count` more markers
+-- and for `count` more markers. Room for one level or state is made with that of all lines.
 abbrev pub most_for_lines : ℕ → KeptRows → RowCapacity
 most_for_lines count r = record r.capacity {
   levels = most_held r.capacity.levels (wanted_if r.stored_levels (r.stored_levels + count));
@@ -75,10 +75,10 @@ most_for_lines count r = record r.capacity {
 }
 
 abbrev pub most_for_level : ℕ → KeptRows → RowCapacity
-most_for_level line r = record r.capacity { levels = most_held r.capacity.levels (line + 1) }
+most_for_level line r = record r.capacity { levels = most_held r.capacity.levels (max (line + 1) (length r.rows)) }
 
 abbrev pub most_for_state : ℕ → KeptRows → RowCapacity
-most_for_state line r = record r.capacity { states = most_held r.capacity.states (line + 1) }
+most_for_state line r = record r.capacity { states = most_held r.capacity.states (max (line + 1) (length r.rows)) }
 
 abbrev pub most_for_markers : ℕ → KeptRows → RowCapacity
 most_for_markers count r = record r.capacity {

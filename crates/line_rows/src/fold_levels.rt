@@ -1,5 +1,5 @@
 //! `FoldLevels`: the fold level of each line, and a bound for the numbers of all headers.
-ghost use Rattle.std.specs.Prelude.{◌≡◌, ℕ, ◌≤◌, ◌<◌, ◌+◌, ◌^◌, ◌∷◌, [], length, slice_index_or, OnOk, OnErr, IsOk};
+ghost use Rattle.std.specs.Prelude.{◌≡◌, ℕ, ◌≤◌, ◌<◌, ◌+◌, ◌^◌, ◌∷◌, [], length, max, slice_index_or, OnOk, OnErr, IsOk};
 ghost use Rattle.ed_model.specs.Rows.{base_level};
 ghost use Rattle.line_index.specs.Edits.{FitLines, fresh_lines};
 ghost use Rattle.line_rows.specs.Values.{valued, HasRoomForLines, HasRoomForValue, most_held, wanted_if, with_value, values_after};
@@ -101,7 +101,8 @@ impl FoldLevels {
         ensures ok { OnOk result (HasRoomForValue line self.new) }
         ensures room_is_there { HasRoomForValue line self.old → IsOk result × (self.new ≡ self.old) }
         ensures capacity { self.old.capacity ≤ self.new.capacity }
-        ensures at_most { self.new.capacity ≤ most_held self.old.capacity (line + 1) }
+        ensures each_line { OnOk result (self.old.capacity ≤ line → length self.old.values ≤ self.new.capacity) }
+        ensures at_most { self.new.capacity ≤ most_held self.old.capacity (max (line + 1) (length self.old.values)) }
         ensures err { OnErr result (self.new ≡ self.old) }
     {
         self.values.reserve_value(line)

@@ -115,16 +115,19 @@ impl LineRows {
     }
 
     /// Makes room for the level of a line. Allocates nothing if it fits in, with those of the lines before it. Otherwise
-    /// there is memory for these levels then, or for twice as many as before if that is more.
+    /// there is memory for the levels of all lines then, or for twice as many as before if that is more. So levels that are
+    /// set line after line take one allocation.
     ///
     /// # Errors
     ///
     /// `AllocError` if the allocation fails. Nothing has changed then.
+    #[tactic(auto, using(crate::proofs::RowReads::parts_length))]
     pub fn reserve_level(&mut self, line: usize) -> Result<(), AllocError>
         ensures rest { self.new ≡ record self.old { capacity = self.new.capacity } }
         ensures ok { OnOk result (HasRoomForLevel line self.new) }
         ensures room_is_there { HasRoomForLevel line self.old → IsOk result × (self.new ≡ self.old) }
         ensures capacity { IsAtMost self.old.capacity self.new.capacity }
+        ensures each_line { OnOk result (self.old.capacity.levels ≤ line → length self.old.rows ≤ self.new.capacity.levels) }
         ensures at_most { IsAtMost self.new.capacity (most_for_level line self.old) }
         ensures err { OnErr result (self.new ≡ self.old) }
     {
@@ -132,16 +135,19 @@ impl LineRows {
     }
 
     /// Makes room for the state of a line. Allocates nothing if it fits in, with those of the lines before it. Otherwise
-    /// there is memory for these states then, or for twice as many as before if that is more.
+    /// there is memory for the states of all lines then, or for twice as many as before if that is more. So states that are
+    /// set line after line take one allocation.
     ///
     /// # Errors
     ///
     /// `AllocError` if the allocation fails. Nothing has changed then.
+    #[tactic(auto, using(crate::proofs::RowReads::parts_length))]
     pub fn reserve_state(&mut self, line: usize) -> Result<(), AllocError>
         ensures rest { self.new ≡ record self.old { capacity = self.new.capacity } }
         ensures ok { OnOk result (HasRoomForState line self.new) }
         ensures room_is_there { HasRoomForState line self.old → IsOk result × (self.new ≡ self.old) }
         ensures capacity { IsAtMost self.old.capacity self.new.capacity }
+        ensures each_line { OnOk result (self.old.capacity.states ≤ line → length self.old.rows ≤ self.new.capacity.states) }
         ensures at_most { IsAtMost self.new.capacity (most_for_state line self.old) }
         ensures err { OnErr result (self.new ≡ self.old) }
     {

@@ -1,5 +1,5 @@
 //! `LineValues`: a value for each line, such as a fold level or a line state.
-ghost use Rattle.std.specs.Prelude.{◌≡◌, ℕ, ◌≤◌, ◌<◌, ◌+◌, ◌^◌, ◌∷◌, [], length, slice_set, slice_index_or, OnOk, OnErr, IsOk};
+ghost use Rattle.std.specs.Prelude.{◌≡◌, ℕ, ◌≤◌, ◌<◌, ◌+◌, ◌^◌, ◌∷◌, [], length, max, slice_set, slice_index_or, OnOk, OnErr, IsOk};
 ghost use Rattle.line_index.specs.Edits.{FitsLines, FitLines, fresh_by, fresh_lines};
 ghost use Rattle.line_index.specs.declared.edit.LineEdit.TheVariants.{Come, Join};
 ghost use Rattle.line_rows.specs.Values.{valued, padded, AreInHalves, capacity_of, GainsLines, LosesLines, FitsLinesLeft, HasRoomForLines, HasRoomForValue, most_held, wanted_if, with_value, stored_after_edit, values_after};
@@ -169,7 +169,8 @@ impl<T: Copy> LineValues<T> {
     }
 
     /// Makes room for the value of a line, and for those of the lines before it. Allocates nothing if they fit in.
-    /// Otherwise there is memory for these values then, or for twice as many as before if that is more.
+    /// Otherwise there is memory for the values of all lines then, or for twice as many as before if that is more. So
+    /// values that are set line after line take one allocation.
     ///
     /// # Errors
     ///
@@ -179,11 +180,18 @@ impl<T: Copy> LineValues<T> {
         ensures ok { OnOk result (HasRoomForValue line self.new) }
         ensures room_is_there { HasRoomForValue line self.old → IsOk result × (self.new ≡ self.old) }
         ensures capacity { self.old.capacity ≤ self.new.capacity }
-        ensures at_most { self.new.capacity ≤ most_held self.old.capacity (line + 1) }
+        ensures each_line { OnOk result (self.old.capacity ≤ line → length self.old.values ≤ self.new.capacity) }
+        ensures at_most { self.new.capacity ≤ most_held self.old.capacity (max (line + 1) (length self.old.values)) }
         ensures err { OnErr result (self.new ≡ self.old) }
     {
-        let missing = line.saturating_add(1).saturating_sub(self.stored.len());
-        reserve_more(&mut self.stored, missing)
+        let stored = self.stored.len();
+        if line < stored + self.stored.spare() {
+            return Ok(());
+        }
+        reserve_more(
+            &mut self.stored,
+            line.saturating_add(1).max(self.lines) - stored,
+        )
     }
 
     /// Sets the value of a line. There must be room for it.
