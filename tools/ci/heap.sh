@@ -118,9 +118,10 @@ bound() {
         rows_line_by_line) echo $((131072 * (4 + 4 + 12 + 4) + 40000)) ;;
         # the same of 100,000 lines, for which room was made at once
         rows_at_once) echo $((100000 * (4 + 4 + 12 + 4) + 40000)) ;;
-        # 200,000 runs in room for 262,144: a start of 4 bytes, or of 8, and a value of 4, and the old block of the last that grew
-        indicators_of_small_places) echo $((262144 * (4 + 4) + 131072 * 4 + 40000)) ;;
-        indicators_of_large_places) echo $((262144 * (8 + 4) + 131072 * 4 + 40000)) ;;
+        # 200,000 runs in room for 393,216, which is 3, doubled again and again: a start of 4 bytes, or of 8, and a value of 4, and the old block of the
+        # last that grew
+        indicators_of_small_places) echo $((393216 * (4 + 4) + 196608 * 4 + 40000)) ;;
+        indicators_of_large_places) echo $((393216 * (8 + 4) + 196608 * 8 + 40000)) ;;
         # room for 100,003 runs of one indicator, a start and a value of 4 bytes each
         insertions_about_an_indicator) echo $((100003 * (4 + 4) + 40000)) ;;
         # room for 131,072 commands of 56 bytes, 100,000 texts of 24 and the listing
@@ -129,10 +130,10 @@ bound() {
         many_outcomes_are_printed) echo $((1048576 + 40000)) ;;
         # a piece of 1 MiB, 8 MiB of bytes and as many of styles, and the 16 MiB that are handed out in a block that did not grow
         styled_text_of_a_large_size) echo $((1048576 + 2 * 8388608 + 16777216 + 40000)) ;;
-        # 1,024 views of 336 bytes, of each 16 in the order of ids, 4 in its document's list and four blocks of 24, and 3,072 notes of 112
-        many_views_hear_one_document) echo $((1024 * (336 + 16 + 4 + 4 * 24) + 3072 * 112 + 40000)) ;;
-        # room for 1,024 documents of 840 bytes beside that for 512, with as many views of 336, and of both 16 in the order of ids and seven blocks of 24
-        many_views_have_documents_of_their_own) echo $((1024 * 840 + 512 * (840 + 336 + 2 * 16 + 7 * 24) + 40000)) ;;
+        # 1,024 views of 368 bytes, of each 16 in the order of ids, 4 in its document's list and four blocks of 24, and 3,072 notes of 112
+        many_views_hear_one_document) echo $((1024 * (368 + 16 + 4 + 4 * 24) + 3072 * 112 + 40000)) ;;
+        # room for 1,024 documents of 840 bytes beside that for 512, with as many views of 368, and of both 16 in the order of ids and seven blocks of 24
+        many_views_have_documents_of_their_own) echo $((1024 * 840 + 512 * (840 + 368 + 2 * 16 + 7 * 24) + 40000)) ;;
         *) echo 0 ;;
     esac
 }
