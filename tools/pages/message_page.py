@@ -3,7 +3,7 @@
 An entry is an anchor, the message's line, its rule, and what Scintilla does otherwise, if anything, with an empty line between each two:
 
     <a id="sci_getlinevisible"></a>
-    **`SCI_GETLINEVISIBLE(line line) → bool`** 2228, Q N A, [example](../examples/messages/hidden_lines.sci)
+    **`SCI_GETLINEVISIBLE(line line) → bool`** 2228, Q N, [example](../examples/messages/hidden_lines.sci)
 
     Returns whether line `line` is visible; false if there is no such line.
 
@@ -21,7 +21,7 @@ PAGE = "docs/MESSAGES.md"
 ANCHOR = re.compile(r'<a id="sci_([a-z]+)"></a>')
 LINE = re.compile(
     r"\*\*`SCI_(?P<name>[A-Z]+)(?:\((?P<parameters>[^()]+)\))?(?: → (?P<answer>[a-z, ]+))?`\*\* (?P<number>\d{4})"
-    r"(?:, (?P<marks>[QNER](?: [NERA])*))?, \[example\]\(\.\./examples/messages/(?P<example>\w+)\.sci\)"
+    r"(?:, (?P<marks>[QNER](?: [NER])*))?, \[example\]\(\.\./examples/messages/(?P<example>\w+)\.sci\)"
 )
 PARAMETER = re.compile(r"(position|line|int|bool|document|const char)(?: | \*)([a-z]+[A-Za-z]*)")
 TEXT = "const char"
@@ -37,7 +37,6 @@ class Entry:
     name: str  # in capitals, without SCI_
     number: int
     marks: str  # those of the definitions, as "Q N"
-    is_numeric_query: bool  # the mark A
     parameters: dict  # the type and the name in each place: "w", "l" or "T"
     answer: str  # the type of the value, "position, text" with a text, or nothing
     example: str  # the name of a script
@@ -88,7 +87,7 @@ def entry(at, head, rule, beside):
         fail(at, f"no line of a message: {line or anchor}")
     if ANCHOR.fullmatch(anchor)[1] != spelled["name"].lower():
         fail(at, f"the anchor of {spelled['name']} is that of another message")
-    answer, marks = spelled["answer"] or "", (spelled["marks"] or "").split()
+    answer, marks = spelled["answer"] or "", spelled["marks"] or ""
     if answer not in ANSWERS:
         fail(at, f"no answer of a message: {answer}")
     found = parameters(at, spelled["parameters"])
@@ -97,8 +96,7 @@ def entry(at, head, rule, beside):
         fail(at, f"{spelled['name']} has no parameter {', '.join(sorted(unknown))}")
     if not rule.endswith("."):
         fail(at, f"the rule of {spelled['name']} is no sentence")
-    return Entry(spelled["name"], int(spelled["number"]), " ".join(mark for mark in marks if mark != "A"), "A" in marks, found, answer,
-                 spelled["example"], rule, beside)
+    return Entry(spelled["name"], int(spelled["number"]), marks, found, answer, spelled["example"], rule, beside)
 
 
 def entries():

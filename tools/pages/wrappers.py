@@ -1,7 +1,6 @@
 #!/usr/bin/env python3
 """Writes the methods of all messages, the constants, Rust's declarations of the calls and the version into the wrappers for C++, Rust and Python,
-what tests of the library for C go through (the questions, and what is drawn of each message beside Scintilla, by drawn.py), and the list of numeric queries
-into the definitions (message_plans).
+and what tests of the library for C go through (the questions, and what is drawn of each message beside Scintilla, by drawn.py).
 
 A message's name and number come from the definitions (crates/ed_types), its arguments, its answer and its rule from its entry in docs/MESSAGES.md.
 Run it at the top of the repository after a message, an entry or a constant has changed. With --check it writes nothing, and fails where a wrapper is not
@@ -28,7 +27,6 @@ PYTHON = "bindings/python/src/hongpilas/_messages.py"
 PYTHON_CONSTANTS = "bindings/python/src/hongpilas/constants.py"
 QUESTIONS = "tests/model/questions.h"
 BESIDE = "tests/beside/messages.c"
-ASKING = "crates/message_plans/specs/Asking.antt"
 # How each language spells a refusal, a flag, and that a call is refused.
 SPELLED = {
     "C++": (lambda name: f"`Refusal::{name}`", "false", "Refused with"),
@@ -66,7 +64,6 @@ class Message:
     answers: str  # "nothing", "number", "flag" or "text"
     rule: str  # as the page has it
     takes_length: bool  # whether w is the length of the text, which no method takes
-    is_numeric_query: bool
 
     @property
     def snake(self):
@@ -98,8 +95,7 @@ def message(entry, name):
     flags = {place for place, (kind, _) in taken.items() if kind == FLAG}
     documents = {place for place, kind in ((VALUE, entry.answer), *((place, kind) for place, (kind, _) in taken.items())) if kind == DOCUMENT}
     marks = entry.marks.split()
-    return Message(name, entry.name, entry.number, "Q" not in marks, "E" in marks, arguments, flags, documents, answer(entry), entry.rule, takes_length,
-                   entry.is_numeric_query)
+    return Message(name, entry.name, entry.number, "Q" not in marks, "E" in marks, arguments, flags, documents, answer(entry), entry.rule, takes_length)
 
 
 def messages():
@@ -469,16 +465,6 @@ def versions():
         yield path, re.sub(rf"^{before}[\d.]+{after}", line % version, header.read(path), flags=re.M)
 
 
-def definitions(found):
-    """The definitions of the numeric queries, with those that docs/MESSAGES.md marks A, by their numbers."""
-    named = [it for it in found if it.is_numeric_query]
-    unfit = [it.spelled for it in named if it.changes or it.answers == "text"]
-    if unfit:
-        sys.exit(f"docs/MESSAGES.md marks as numeric queries what changes something or returns a text: {', '.join(unfit)}")
-    kinds = "".join(f"kinds.{it.name.replace('EOL', 'Eol')} ∷ " for it in named)
-    yield ASKING, re.sub(r"^questions = .*$", f"questions = {kinds}[]", header.read(ASKING), flags=re.M)
-
-
 def faults():
     """Where a hand-written part is not that of the crates: refusals without a place in a wrapper."""
     named = re.findall(r"^    (\w+) = (\d+),", header.read("crates/ed_types/src/refusal.rt"), re.M)
@@ -496,7 +482,7 @@ def main():
         return
     found = messages()
     wrong = []
-    for path, new in [*((path, written(path, texts)) for path, texts in files(found)), *versions(), *definitions(found)]:
+    for path, new in [*((path, written(path, texts)) for path, texts in files(found)), *versions()]:
         # What is as it should be is left alone, or `make` would prove the crate with the definitions again.
         if header.read(path) == new:
             continue

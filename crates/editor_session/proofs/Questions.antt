@@ -1,11 +1,11 @@
--- Plain questions, and what the table answers to them.
+-- Numeric queries, and what the table answers to them.
 use Rattle.editor_session.proofs.Names.{◌≡◌, ℕ, ℤ, pos, negsuc, ◌==◌, ◌&&◌, Bool, true, false, cond, List, [], ◌∷◌, refl, ap, subst, ◌∙◌, Option, Some, None, Ok, Err, IfSome, AllByRecursion, eqb-true, Kind, Message, number_of, kind_of, kind_among, marks_of, EachKindIsFound, Request, Planned, answer, answer_number, Session, View, Document, view_at, document_at, quiet, IsSound, IsSoundRequest, table, record_note, table_from_view, table_from_kind, table_from_document, answered, request, plan_of, questions, question_of, is_question, value_planned, value_asked, id_of_view, own_at, with_text, value_from_document, value_from_view, value_from_kind, value_to}
 use Rattle.ed_types.specs.declared.kind.Kind.TheVariants as kinds
 use Rattle.ed_model.specs.declared.plan.Plan.TheVariants as plan
 use Rattle.ed_model.specs.FoldingPlans.{line_shown_at}
 use Rattle.ed_model.specs.TextPlans.{end_of_line_at, start_of_line_at}
 
--- A plain question is not recorded, and its plan is that of the same message with another text.
+-- A plain message is not recorded, and its plan is that of the same message with another text.
 pub record IsPlain (kind : Kind) : Type 0 where
   pub unrecorded : (marks_of kind).r ≡ false
   pub any_text : (r : Request) (text : List ℕ) → plan_of kind (record r { message = record r.message { text = text } }) ≡ plan_of kind r
@@ -27,7 +27,7 @@ start_is_plain = plain refl (λ r text. ap answer (by_sign (start_of_line_at (re
 shown_is_plain : IsPlain kinds.DocLineFromVisible
 shown_is_plain = plain refl (λ r text. ap answer_number (by_sign (line_shown_at (record r { message = record r.message { text = text } })) (line_shown_at r) (λ n. refl) (λ n. refl) r.message.w))
 
--- Each plain question is plain: these by their lemmas, and all others because their plans compute without the text.
+-- Each numeric query is plain: no query is recorded, and these have the same plan by their lemmas, all others because their plans compute without the text.
 all_plain : AllByRecursion IsPlain questions
 all_plain = assumption (end_is_plain, start_is_plain, shown_is_plain)
 
@@ -53,7 +53,7 @@ pub unheard : (records recorded : Bool) → recorded ≡ false → (records && r
 unheard true recorded e = e
 unheard false recorded e = refl
 
--- the table's answer to a plain question, with whatever text
+-- the table's answer to a numeric query, with whatever text
 plain_reply : EachKindIsFound → (s : Session) (view : ℕ) (m : Message) (value : ℤ) → value_to s view m ≡ Some value → (text : List ℕ) → table s view (record m { text = text }) ≡ Ok (s, quiet value)
 plain_reply law s view m value is text = from_kind (question_of m.number) refl is
   where
@@ -75,7 +75,7 @@ plain_reply law s view m value is text = from_kind (question_of m.number) refl i
     from_kind None asked e = absurd (cc)
     from_kind (Some kind) asked e = from_view kind (view_at s.views view) asked e
 
--- what is answered as a plain question is the table's answer
+-- what is answered as a numeric query is the table's answer
 pub answers_as_the_table : EachKindIsFound → (s : Session) (view : ℕ) (m : Message) (o : Option ℤ) → o ≡ value_to s view m → IfSome o (λ value. (text : List ℕ) → table s view (with_text m text) ≡ Ok (s, quiet value))
 answers_as_the_table law s view m None e = tt
 answers_as_the_table law s view m (Some value) e = λ text. plain_reply law s view m value (let t : value_to s view m ≡ Some value = cc in t) text
@@ -85,7 +85,7 @@ pub answer_as_sent : (s : Session) (view : ℕ) (m : Message) (o : Option ℤ) �
 answer_as_sent s view m None h = tt
 answer_as_sent s view m (Some value) h = h m.text
 
--- What a plain question comes to, by what is found of it.
+-- What a numeric query comes to, by what is found of it.
 
 pub no_question : (s : Session) (id : ℕ) (m : Message) → question_of m.number ≡ None → value_to s id m ≡ None
 no_question s id m none = ap (value_from_kind s id m) none

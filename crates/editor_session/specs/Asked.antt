@@ -1,4 +1,4 @@
--- Plain questions and text questions to a view of a session.
+-- Numeric queries and text queries to a view of a session.
 use Rattle.std.specs.Prelude.{ℕ, ℤ, ◌+◌, [], Option, Some, None, slice_range}
 use Rattle.ed_types.specs.declared.kind.Kind.{Kind}
 use Rattle.ed_types.specs.declared.message.Message.{Message}
@@ -21,7 +21,7 @@ abbrev pub value_from_kind : Session → ℕ → Message → Option Kind → Opt
 value_from_kind s view m None = None
 value_from_kind s view m (Some kind) = value_from_view s kind m (view_at s.views view)
 
--- the value of a plain question to a view; none for all other messages, where the view or its document is not there, and where the question is refused
+-- the value of a numeric query to a view; none for all other messages, where the view or its document is not there, and where the query is refused
 abbrev pub value_to : Session → ℕ → Message → Option ℤ
 value_to s view m = value_from_kind s view m (question_of m.number)
 

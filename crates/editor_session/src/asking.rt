@@ -1,4 +1,4 @@
-//! Plain questions to a session, which are answered before any plan is made.
+//! Numeric queries to a session, which are answered without a plan.
 
 ghost use Rattle.std.specs.Prelude.{◌≡◌, Some};
 ghost use Rattle.message_plans.specs.Asking.{question_of};
@@ -12,7 +12,7 @@ use ed_types::{Kind, kinds_and_numbers};
 use message_plans::{Way, value_of, way_of};
 use message_requests::{SentMessage, SessionState};
 
-/// Returns the value of this plain question to `view`, or `None` if the table refuses it.
+/// Returns the value of this numeric query to `view`, or `None` if the table refuses it.
 #[inline(always)]
 pub(crate) fn ask_as(
     state: &SessionState,
@@ -34,7 +34,7 @@ pub(crate) fn ask_as(
     value_of(kind, &request)
 }
 
-/// Returns the value of a plain question to `view`. Returns `None` for all other messages and for what the table
+/// Returns the value of a numeric query to `view`. Returns `None` for all other messages and for what the table
 /// refuses; such a message has to be sent. Allocates nothing.
 #[inline(always)]
 pub(crate) fn ask(state: &SessionState, view: u32, message: &SentMessage) -> Option<i64>

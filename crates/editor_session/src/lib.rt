@@ -5,7 +5,7 @@
 //! then it is performed. If the view records the message, the note of that comes first. These messages take a shorter
 //! way:
 //!
-//! - A plain question or a text question is answered without a plan.
+//! - A numeric query or a text query is answered without a plan.
 //! - A frequent change of a document (SETSTYLING, MARKERADD, SETFOLDLEVEL) is made as soon as it is found: with notes
 //!   if the view that it is sent to listens for such changes, and without if no view listens. If only other views
 //!   listen, or the message is refused or changes nothing, it is planned.

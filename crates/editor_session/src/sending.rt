@@ -83,7 +83,7 @@ fn answer_into_by_plan(
     }
 }
 
-/// Answers a message to `view` that needs no notes: a plain question; a frequent change, UNDO or REDO if no view
+/// Answers a message to `view` that needs no notes: a numeric query; a frequent change, UNDO or REDO if no view
 /// listens; a target message if the view does not record. Returns the value. `None`, with nothing changed, for all
 /// other messages, and if the message is refused or an allocation fails.
 #[inline(always)]
@@ -110,7 +110,7 @@ fn answer_without_notes(
 }
 
 /// Answers a message to `view`. Replaces `reply` by the message's reply, and returns the value. Out of line, so that
-/// plain questions do not pay for its stack frame.
+/// numeric queries do not pay for its stack frame.
 ///
 /// # Errors
 ///

@@ -197,7 +197,7 @@ impl Session {
     }
 
     /// Sends any message as `send_lent` does, but replaces `reply` by its reply, and returns the value. If neither reply has a text or
-    /// notes, only the value is written. It tries first whether the message is a plain question; a text question is planned: use `read`
+    /// notes, only the value is written. It tries first whether the message is a numeric query; a text query is planned: use `read`
     /// for these.
     ///
     /// # Errors
@@ -221,16 +221,15 @@ impl Session {
         answer_into(self.alloc, &mut self.state, view, &message, reply)
     }
 
-    /// Asks a view a plain question, such as GETLENGTH or GETCHARAT: one of the messages that are answered by a number of the document or
-    /// of the view (`questions` of the definitions; `docs/MESSAGES.md` names them), and that do not change the session. `send` would
-    /// answer the same value, with whatever text. `None` for all other messages, and for what is refused: `send` says why. Allocates
-    /// nothing.
+    /// Asks a view a numeric query: each query that is answered by a number (`questions` of the definitions; marked Q in
+    /// `docs/MESSAGES.md`). It does not change the session. `send` would answer the same value, with whatever text. `None` for all other
+    /// messages, and for what is refused: `send` says why. Allocates nothing.
     #[inline(always)]
     pub fn ask(&self, view: u32, number: u32, w: i64, l: i64) -> Option<i64>
         ensures value { result ≡ value_to self.now view (message_with number w l []) }
         ensures answer { IfSome result (λ value. (text : List ℕ) → table self.now view (message_with number w l text) ≡ Ok (self.now, quiet value)) }
     {
-        // No plain question reads a text.
+        // No numeric query reads a text.
         let message = SentMessage {
             number,
             w,

@@ -20,7 +20,7 @@ use editor_session::Session;
 pub struct Held {
     /// The session.
     pub session: Session,
-    /// The value of the last reply. It is a field of its own, so that a plain question writes nothing else.
+    /// The value of the last reply. It is a field of its own, so that a numeric query writes nothing else.
     pub value: i64,
     /// The last reply's text if it was read without a plan, and otherwise empty.
     pub read: ReadText,
@@ -70,7 +70,7 @@ impl Held {
         self.give_reply_back();
     }
 
-    /// Sends a message, and stores its reply. A plain question is asked, and a text question is read.
+    /// Sends a message, and stores its reply. A numeric query is asked, and a text query is read.
     pub(crate) fn send(
         &mut self,
         view: u32,

@@ -1,4 +1,4 @@
--- How a session answers a message: the lists of questions and of frequent messages, seen from one table of numbers.
+-- How a session answers a message: the queries and the frequent messages, seen from one table of numbers.
 use Rattle.std.specs.Prelude.{◌≡◌, ℕ, Option, Some, None}
 use Rattle.ed_types.specs.declared.kind.Kind.{Kind}
 use Rattle.message_plans.specs.declared.way.Way.{Way}
@@ -6,12 +6,12 @@ use Rattle.message_plans.specs.declared.way.Way.TheVariants as way
 use Rattle.message_plans.specs.Asking.{question_of, text_question_of}
 use Rattle.message_plans.specs.Frequent.{frequent_change_of, transaction_of, target_message_of}
 
--- the plain question that is answered this way, if one is
+-- the numeric query that is answered this way, if one is
 abbrev pub question_in : Way → Option Kind
 question_in (way.Question kind) = Some kind
 question_in other = None
 
--- the text question that is
+-- the text query that is
 abbrev pub text_question_in : Way → Option Kind
 text_question_in (way.TextQuestion kind) = Some kind
 text_question_in other = None

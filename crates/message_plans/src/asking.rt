@@ -1,5 +1,5 @@
-//! Plain questions, which are answered by a number of the document or of the view, and text questions, which are answered by bytes of the
-//! document. Both are answered without a plan.
+//! Numeric queries, which are answered by a number, and text queries, which are answered by bytes of the document. Both are answered without
+//! a plan.
 
 ghost use Rattle.std.specs.Prelude.{◌≡◌};
 ghost use Rattle.message_plans.specs.Asking.{handed_asked, value_asked};
@@ -7,10 +7,10 @@ ghost use Rattle.message_plans.specs.Asking.{handed_asked, value_asked};
 use ed_types::Kind;
 use message_requests::Request;
 use message_requests::answers::HandedOut;
-use state_plans::{folding_plans, line_plans, style_plans, undo_plans};
+use state_plans::{folding_plans, line_plans, session_plans, style_plans, undo_plans};
 use text_plans::{selection_plans, target_plans, texts};
 
-/// Returns the value that the plan of a plain question answers. `None` for all other messages, and if the question is refused.
+/// Returns the value that the plan of a numeric query answers. `None` for all other messages, and if the query is refused.
 #[inline(always)]
 #[tactic(auto, using(crate::proofs::Plain::planned_so, crate::proofs::Plain::planned_if))]
 pub fn value_of(kind: Kind, r: &Request) -> Option<i64>
@@ -23,7 +23,10 @@ pub fn value_of(kind: Kind, r: &Request) -> Option<i64>
         Kind::GetAnchor => Some(selection_plans::get_anchor(r)),
         Kind::GetStyleAt => Some(style_plans::get_style_at(r)),
         Kind::CanRedo => Some(undo_plans::get_can_redo(r)),
+        Kind::MarkerLineFromHandle => Some(line_plans::marker_line_from_handle(r)),
+        Kind::GetUndoCollection => Some(undo_plans::get_undo_collection(r)),
         Kind::GetEndStyled => Some(style_plans::get_end_styled(r)),
+        Kind::GetEolMode => Some(line_plans::get_eol_mode(r)),
         Kind::MarkerGet => Some(line_plans::marker_get(r)),
         Kind::MarkerNext => Some(line_plans::marker_next(r)),
         Kind::MarkerPrevious => Some(line_plans::marker_previous(r)),
@@ -36,28 +39,42 @@ pub fn value_of(kind: Kind, r: &Request) -> Option<i64>
         Kind::GetModify => Some(undo_plans::get_modify(r)),
         Kind::LineFromPosition => Some(texts::line_from_position(r)),
         Kind::PositionFromLine => Some(texts::position_from_line(r)),
+        Kind::CanPaste => Some(selection_plans::can_paste(r)),
         Kind::CanUndo => Some(undo_plans::get_can_undo(r)),
         Kind::GetTargetStart => Some(target_plans::get_target_start(r)),
         Kind::GetTargetEnd => Some(target_plans::get_target_end(r)),
+        Kind::GetSearchFlags => Some(target_plans::get_search_flags(r)),
         Kind::VisibleFromDocLine => Some(folding_plans::visible_from_doc_line(r)),
         Kind::DocLineFromVisible => Some(folding_plans::doc_line_from_visible(r)),
         Kind::GetFoldLevel => Some(folding_plans::get_fold_level(r)),
+        Kind::GetLastChild => folding_plans::get_last_child(r),
         Kind::GetFoldParent => Some(folding_plans::get_fold_parent(r)),
         Kind::GetLineVisible => Some(folding_plans::get_line_visible(r)),
         Kind::GetFoldExpanded => Some(folding_plans::get_fold_expanded(r)),
+        Kind::GetAllLinesVisible => Some(folding_plans::get_all_lines_visible(r)),
         Kind::LineLength => Some(texts::line_length(r)),
+        Kind::GetDocPointer => Some(session_plans::get_doc_pointer(r)),
+        Kind::GetModEventMask => Some(session_plans::get_mod_event_mask(r)),
+        Kind::GetDocumentOptions => Some(session_plans::get_document_options(r)),
         Kind::PositionBefore => Some(texts::position_before(r)),
         Kind::PositionAfter => Some(texts::position_after(r)),
+        Kind::GetPasteConvertEndings => Some(selection_plans::get_paste_convert_endings(r)),
+        Kind::GetIndicatorCurrent => Some(style_plans::get_indicator_current(r)),
+        Kind::GetIndicatorValue => Some(style_plans::get_indicator_value(r)),
+        Kind::IndicatorAllOnFor => Some(style_plans::indicator_all_on_for(r)),
         Kind::IndicatorValueAt => style_plans::indicator_value_at(r),
         Kind::IndicatorStart => style_plans::indicator_start(r),
         Kind::IndicatorEnd => style_plans::indicator_end(r),
         Kind::GetSelectionEmpty => Some(selection_plans::get_selection_empty(r)),
+        Kind::GetLineEndTypesAllowed | Kind::GetLineEndTypesActive => Some(
+            session_plans::get_line_end_types(r),
+        ),
         _ => None,
     }
 }
 
-/// Returns what the plan of a text question hands out: its value, and a range of the text in bytes. `None` for all other messages, and if
-/// the question is refused or hands out nothing, as GETLINE does for a line that does not exist.
+/// Returns what the plan of a text query hands out: its value, and a range of the text in bytes. `None` for all other messages, and if
+/// the query is refused or hands out nothing, as GETLINE does for a line that does not exist.
 #[tactic(auto, using(crate::proofs::Plain::handed_so, crate::proofs::Plain::handed_if, crate::proofs::Plain::handed_if_any))]
 pub fn handed_of(kind: Kind, r: &Request) -> Option<HandedOut>
     ensures { result ≡ handed_asked kind r.now }

@@ -5,9 +5,9 @@ use ed_types::Kind;
 /// How a session answers a message: on one of the fast paths, or by its plan.
 #[derive(Clone, Copy, Debug)]
 pub enum Way {
-    /// A plain question, which is answered by a number.
+    /// A numeric query, which is answered by a number.
     Question(Kind),
-    /// A text question, which is answered by bytes of the document.
+    /// A text query, which is answered by bytes of the document.
     TextQuestion(Kind),
     /// A frequent change of a document: SETSTYLING, MARKERADD or SETFOLDLEVEL.
     FrequentChange(Kind),

@@ -2,7 +2,7 @@
 
 ghost use Rattle.std.specs.Prelude.{◌≡◌, ◌<◌, ◌^◌, IfSome};
 ghost use Rattle.ed_model.specs.Numbers.{flag};
-ghost use Rattle.ed_model.specs.Requests.{answer, answer_number, change_document, change_session, change_view, with_argument};
+ghost use Rattle.ed_model.specs.Requests.{answer, change_document, change_session, change_view, with_argument};
 ghost use Rattle.ed_model.specs.LinePlans.{line_or_none};
 ghost use Rattle.ed_model.specs.TextPlans.{hand_out as hand_out_plan};
 ghost use Rattle.message_requests.specs.HandingOut.{handed_out, handed_or_zero};
@@ -26,14 +26,6 @@ pub fn answer(value: i64) -> Planned
     ensures { result ≡ answer value }
 {
     Ok(Plan::Answer { value })
-}
-
-/// Like `answer`, for an unsigned number.
-pub fn answer_number(number: usize) -> Planned
-    requires { number < 2 ^ 63 }
-    ensures { result ≡ answer_number number }
-{
-    answer(number as i64)
 }
 
 /// Like `answer`, for a value that may be missing.
@@ -66,13 +58,6 @@ pub fn flag(on: bool) -> i64
     ensures { result ≡ flag on }
 {
     i64::from(on)
-}
-
-/// Like `answer`, for a flag: the value is 1 if it is on, 0 if it is off.
-pub fn answer_flag(on: bool) -> Planned
-    ensures { result ≡ answer (flag on) }
-{
-    answer(flag(on))
 }
 
 /// Returns the bytes from `start` up to `past`, with their number as the value. There are none if `past` is before

@@ -1,16 +1,14 @@
 //! Plans of the messages on folding and visibility.
 
 ghost use Rattle.std.specs.Prelude.{◌≡◌, ◌≤◌, ◌<◌, ◌^◌, IfSome};
-ghost use Rattle.ed_model.specs.Requests.{answer, line_total};
+ghost use Rattle.ed_model.specs.Requests.{answer, line_total, with_argument};
 ghost use Rattle.ed_model.specs.FoldingPlans.{doc_line_from_visible, ensure_visible, fold_at, fold_by, fold_line, get_all_lines_visible, get_fold_expanded, get_fold_level, get_fold_parent, get_last_child, get_line_visible, hide_lines, line_shown_at, past_line, set_fold_expanded, set_fold_level, show_lines, toggle_fold, visible_from_doc_line};
 
 use contraction::folds::{fold_header, fold_parent, last_child_at};
 use ed_model::{DocumentChange, Planned, ViewChange};
 use ed_types::{Refusal, fold_level};
 use message_requests::Request;
-use message_requests::answers::{
-    answer, answer_flag, answer_number, change_document, change_view, flag, line_or_none,
-};
+use message_requests::answers::{answer, change_document, change_view, flag, line_or_none};
 use message_requests::arguments::{clamped, is_on, line_among, some_or_all, within};
 
 // The actions of FOLDLINE on a header: `SC_FOLDACTION_CONTRACT`, and `SC_FOLDACTION_TOGGLE`. Any other action expands
@@ -38,17 +36,16 @@ pub fn set_fold_level(r: &Request) -> Planned
 
 /// GETLASTCHILD: returns the last line of the block below line `w`. The block ends before the next line whose level
 /// number is at most that of `l`, or of the line's own level if `l` is -1; without such a line it ends with the text.
-pub fn get_last_child(r: &Request) -> Planned
-    ensures { result ≡ get_last_child r.now }
+/// Returns `None` if `l` is no level, which is refused.
+pub fn get_last_child(r: &Request) -> Option<i64>
+    ensures { with_argument result answer ≡ get_last_child r.now }
 {
-    let Some(level) = some_or_all(i32::MAX as u32, r.message.l) else {
-        return Err(Refusal::BadArgument);
-    };
+    let level = some_or_all(i32::MAX as u32, r.message.l)?;
     let Some(line) = line_among(r.line_total(), r.message.w) else {
-        return answer(-1);
+        return Some(-1);
     };
     let level = level.unwrap_or(r.document.rows().level(line));
-    answer_number(last_child_at(&r.levels(), line, level & fold_level::NUMBER))
+    Some(last_child_at(&r.levels(), line, level & fold_level::NUMBER) as i64)
 }
 
 /// GETFOLDPARENT: returns the nearest header before line `w` with a smaller level number.
@@ -219,10 +216,10 @@ pub fn get_line_visible(r: &Request) -> i64
 }
 
 /// GETALLLINESVISIBLE: returns whether no line is hidden.
-pub fn get_all_lines_visible(r: &Request) -> Planned
-    ensures { result ≡ get_all_lines_visible r.now }
+pub fn get_all_lines_visible(r: &Request) -> i64
+    ensures { answer result ≡ get_all_lines_visible r.now }
 {
-    answer_flag(r.lines().is_all_visible())
+    flag(r.lines().is_all_visible())
 }
 
 /// GETFOLDEXPANDED: returns whether line `w` counts as expanded.

@@ -8,7 +8,7 @@ use document::count_numbers;
 use ed_model::{DocumentChange, LineEnd, Plan, Planned};
 use ed_types::Refusal;
 use message_requests::Request;
-use message_requests::answers::{answer, answer_number, change_document, line_or_none};
+use message_requests::answers::{answer, change_document, line_or_none};
 use message_requests::arguments::{at_least_zero, line_among, low_bits, some_or_all, within};
 use message_requests::edits::conversion_plan;
 
@@ -37,10 +37,10 @@ fn line_end_kind(mode: usize) -> LineEnd
 }
 
 /// GETEOLMODE: returns the line end that typing inserts.
-pub fn get_eol_mode(r: &Request) -> Planned
-    ensures { result ≡ get_eol_mode r.now }
+pub fn get_eol_mode(r: &Request) -> i64
+    ensures { answer result ≡ get_eol_mode r.now }
 {
-    answer_number(line_end_number(r.document.typed_line_end()))
+    line_end_number(r.document.typed_line_end()) as i64
 }
 
 /// SETEOLMODE: sets the line end that typing inserts.
@@ -191,10 +191,10 @@ fn line_of_handle(r: &Request) -> Option<usize>
 }
 
 /// MARKERLINEFROMHANDLE: returns the line of the marker with handle `w`.
-pub fn marker_line_from_handle(r: &Request) -> Planned
-    ensures { result ≡ marker_line_from_handle r.now }
+pub fn marker_line_from_handle(r: &Request) -> i64
+    ensures { answer result ≡ marker_line_from_handle r.now }
 {
-    answer(line_or_none(line_of_handle(r)))
+    line_or_none(line_of_handle(r))
 }
 
 /// MARKERDELETEHANDLE: deletes the marker with handle `w`.

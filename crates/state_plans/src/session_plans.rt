@@ -2,26 +2,24 @@
 
 ghost use Rattle.std.specs.Prelude.{◌≡◌, IfOk, IfErr};
 ghost use Rattle.ed_model.specs.declared.plan.ViewChange.TheVariants.{SetRecording};
-ghost use Rattle.ed_model.specs.Requests.{change_view};
+ghost use Rattle.ed_model.specs.Requests.{answer, change_view};
 ghost use Rattle.ed_model.specs.SessionPlans.{add_ref_document, create_document, document_options, get_doc_pointer, get_document_options, get_line_end_types, get_mod_event_mask, has_document_ids, release_document, set_doc_pointer, set_line_end_types_allowed, set_mod_event_mask, types_number};
 ghost use Rattle.state_plans.specs.Referring.{IsReferredTo, IsRefusedReference};
 
 use ed_model::{DocumentChange, LineEndTypes, Plan, Planned, SessionChange, ViewChange};
 use ed_types::{Refusal, document_option, modification};
 use message_requests::Request;
-use message_requests::answers::{
-    answer, answer_number, change_document, change_session, change_view,
-};
+use message_requests::answers::{answer, change_document, change_session, change_view};
 use message_requests::arguments::within;
 
 // All options that a document may have.
 const OPTIONS: u32 = document_option::STYLES_NONE | document_option::TEXT_LARGE;
 
 /// GETDOCPOINTER: returns the id of the view's document.
-pub fn get_doc_pointer(r: &Request) -> Planned
-    ensures { result ≡ get_doc_pointer r.now }
+pub fn get_doc_pointer(r: &Request) -> i64
+    ensures { answer result ≡ get_doc_pointer r.now }
 {
-    answer(i64::from(r.view.document()))
+    i64::from(r.view.document())
 }
 
 /// Returns whether one more document can be made.
@@ -128,10 +126,10 @@ pub fn release_document(r: &Request) -> Planned
 }
 
 /// GETDOCUMENTOPTIONS: returns the options with which the document was made.
-pub fn get_document_options(r: &Request) -> Planned
-    ensures { result ≡ get_document_options r.now }
+pub fn get_document_options(r: &Request) -> i64
+    ensures { answer result ≡ get_document_options r.now }
 {
-    answer(i64::from(r.document.options()))
+    i64::from(r.document.options())
 }
 
 /// Returns the number for which line ends count.
@@ -163,10 +161,10 @@ pub fn set_line_end_types_allowed(r: &Request) -> Planned
 }
 
 /// GETLINEENDTYPESALLOWED and GETLINEENDTYPESACTIVE: returns which line ends count in the document.
-pub fn get_line_end_types(r: &Request) -> Planned
-    ensures { result ≡ get_line_end_types r.now }
+pub fn get_line_end_types(r: &Request) -> i64
+    ensures { answer result ≡ get_line_end_types r.now }
 {
-    answer_number(types_number(r.document.line_end_types()))
+    types_number(r.document.line_end_types()) as i64
 }
 
 /// SETMODEVENTMASK: sets which kinds of change the view hears.
@@ -180,10 +178,10 @@ pub fn set_mod_event_mask(r: &Request) -> Planned
 }
 
 /// GETMODEVENTMASK: returns which kinds of change the view hears.
-pub fn get_mod_event_mask(r: &Request) -> Planned
-    ensures { result ≡ get_mod_event_mask r.now }
+pub fn get_mod_event_mask(r: &Request) -> i64
+    ensures { answer result ≡ get_mod_event_mask r.now }
 {
-    answer(i64::from(r.view.mask()))
+    i64::from(r.view.mask())
 }
 
 /// STARTRECORD and STOPRECORD: sets whether the view records the messages that it is sent.

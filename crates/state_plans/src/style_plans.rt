@@ -7,7 +7,7 @@ ghost use Rattle.ed_model.specs.TextPlans.{at_place};
 
 use ed_model::{DocumentChange, Plan, Planned, ViewChange};
 use ed_types::Refusal;
-use message_requests::answers::{answer, change_document, change_view};
+use message_requests::answers::{change_document, change_view};
 use message_requests::arguments::within;
 use message_requests::{Request, past_argument};
 
@@ -131,10 +131,10 @@ pub fn set_indicator_current(r: &Request) -> Planned
 }
 
 /// GETINDICATORCURRENT: returns the indicator that the view fills.
-pub fn get_indicator_current(r: &Request) -> Planned
-    ensures { result ≡ get_indicator_current r.now }
+pub fn get_indicator_current(r: &Request) -> i64
+    ensures { answer result ≡ get_indicator_current r.now }
 {
-    answer(i64::from(r.view.indicator()))
+    i64::from(r.view.indicator())
 }
 
 /// SETINDICATORVALUE: sets the value with which the view fills to `w`, or to 1 if `w` is 0.
@@ -150,10 +150,10 @@ pub fn set_indicator_value(r: &Request) -> Planned
 }
 
 /// GETINDICATORVALUE: returns the value with which the view fills.
-pub fn get_indicator_value(r: &Request) -> Planned
-    ensures { result ≡ get_indicator_value r.now }
+pub fn get_indicator_value(r: &Request) -> i64
+    ensures { answer result ≡ get_indicator_value r.now }
 {
-    answer(i64::from(r.view.indicator_value()))
+    i64::from(r.view.indicator_value())
 }
 
 /// Sets the view's indicator to this value on the `l` bytes from `w` on.
@@ -191,14 +191,14 @@ pub fn indicator_clear_range(r: &Request) -> Planned
 
 /// INDICATORALLONFOR: returns a mask with bit `k` for each indicator `k` that is not 0 at place `w`.
 #[tactic(auto, using(crate::proofs::Runs::none_outside, crate::proofs::Runs::all_on))]
-pub fn indicator_all_on_for(r: &Request) -> Planned
-    ensures { result ≡ indicator_all_on_for r.now }
+pub fn indicator_all_on_for(r: &Request) -> i64
+    ensures { answer result ≡ indicator_all_on_for r.now }
 {
     if r.message.w < 0 {
-        return answer(0);
+        return 0;
     }
     let place = r.message.w as usize;
-    answer(i64::from(r.document.indicators().mask_at(place)))
+    i64::from(r.document.indicators().mask_at(place))
 }
 
 /// Returns the value of an indicator at a place, or 0 if the place is outside the text.

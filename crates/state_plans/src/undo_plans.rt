@@ -8,7 +8,7 @@ ghost use Rattle.state_plans.specs.Acting.{act_if};
 use ed_model::{DocumentChange, Plan, Planned, undo_and_redo_are_never_too_long};
 use ed_types::Refusal;
 use message_requests::Request;
-use message_requests::answers::{answer, answer_flag, change_document, flag};
+use message_requests::answers::{answer, change_document, flag};
 use message_requests::arguments::{is_on, within};
 
 /// SETUNDOCOLLECTION: sets whether the history collects steps. To turn collecting on while it is on changes nothing.
@@ -23,10 +23,10 @@ pub fn set_undo_collection(r: &Request) -> Planned
 }
 
 /// GETUNDOCOLLECTION: returns whether the history collects steps.
-pub fn get_undo_collection(r: &Request) -> Planned
-    ensures { result ≡ get_undo_collection r.now }
+pub fn get_undo_collection(r: &Request) -> i64
+    ensures { answer result ≡ get_undo_collection r.now }
 {
-    answer_flag(r.document.history().is_collecting())
+    flag(r.document.history().is_collecting())
 }
 
 /// Plans undo or redo, if there is something to perform. In a read-only document it is only an attempt.

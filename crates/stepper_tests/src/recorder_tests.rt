@@ -66,7 +66,7 @@ fn perform(rt: &impl Abort, run: &mut Run, command: &Command) {
     assert!(rt; !matches!(&outcome, Outcome::Refused(_)));
 }
 
-/// Asserts the value of a plain question to view 1 without arguments.
+/// Asserts the value of a numeric query to view 1 without arguments.
 fn assert_answered(rt: &impl Abort, session: &Session, kind: Kind, value: i64) {
     assert_eq!(rt; session.ask(1, kind.number(), 0, 0), Some(value));
 }

@@ -11,7 +11,7 @@ use ed_model::{Follow, Planned, SessionChange, Source, ViewChange};
 use ed_types::Refusal;
 use line_ends::converted_len;
 use message_requests::answers::{
-    HandedOut, answer, answer_flag, bytes_between, change_session, change_view, flag,
+    HandedOut, answer, bytes_between, change_session, change_view, flag,
 };
 use message_requests::arguments::{clamped, is_on, within};
 use message_requests::edits::{Replacement, edit_plan, replace_and_go, replace_plan};
@@ -167,10 +167,10 @@ pub fn replace_sel(r: &Request) -> Planned
 }
 
 /// CANPASTE: returns whether the document can be edited.
-pub fn can_paste(r: &Request) -> Planned
-    ensures { result ≡ can_paste r.now }
+pub fn can_paste(r: &Request) -> i64
+    ensures { answer result ≡ can_paste r.now }
 {
-    answer_flag(!r.document.is_read_only())
+    flag(!r.document.is_read_only())
 }
 
 /// CUT: copies a selection that is not empty to the clipboard, and deletes it.
@@ -280,8 +280,8 @@ pub fn set_paste_convert_endings(r: &Request) -> Planned
 }
 
 /// GETPASTECONVERTENDINGS: returns whether pasted text gets the document's line ends.
-pub fn get_paste_convert_endings(r: &Request) -> Planned
-    ensures { result ≡ get_paste_convert_endings r.now }
+pub fn get_paste_convert_endings(r: &Request) -> i64
+    ensures { answer result ≡ get_paste_convert_endings r.now }
 {
-    answer_flag(r.view.converts_pastes())
+    flag(r.view.converts_pastes())
 }

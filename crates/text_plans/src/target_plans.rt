@@ -147,10 +147,10 @@ pub fn search_in_target(r: &Request) -> Planned
 }
 
 /// GETSEARCHFLAGS: returns how the target is searched.
-pub fn get_search_flags(r: &Request) -> Planned
-    ensures { result ≡ get_search_flags r.now }
+pub fn get_search_flags(r: &Request) -> i64
+    ensures { answer result ≡ get_search_flags r.now }
 {
-    answer(i64::from(r.view.search_flags()))
+    i64::from(r.view.search_flags())
 }
 
 /// Returns how many bytes of a text of `size` bytes replace the target: all of them for -1.

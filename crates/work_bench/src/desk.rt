@@ -110,7 +110,7 @@ impl Desk {
         self.digest.bytes(bytes);
     }
 
-    /// Asks a plain question, and returns its value: -1 if it has none.
+    /// Asks a numeric query, and returns its value: -1 if it has none.
     pub fn ask(&mut self, view: u32, kind: Kind, w: i64, l: i64) -> i64 {
         let value = self.session.ask(view, kind.number(), w, l).unwrap_or(-1);
         self.digest.integer(value);

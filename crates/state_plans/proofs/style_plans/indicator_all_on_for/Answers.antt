@@ -12,4 +12,4 @@ returns c =
     let mask : c.mask_at.result ≡ mask_of r.document.indicators (nat_abs r.message.w) =
     c.mask_at.ensures ∙ ap (λ w. mask_of lists (nat_abs w)) same ∙ ap (λ lists. mask_of lists (nat_abs r.message.w)) values in
     let value : to_z w64 (of_z w64 c.from.result) ≡ pos c.mask_at.result = search rules in
-    c.answer-2.ensures ∙ ap answer value ∙ all_on r (nat_abs r.message.w) c.mask_at.result mask place
+    ap answer value ∙ all_on r (nat_abs r.message.w) c.mask_at.result mask place
