@@ -4,7 +4,7 @@ pub use Rattle.std.proofs.lemmas.Bool.{eqb-true, eqb-false}
 pub use Rattle.std.proofs.lemmas.List.{nil_from_length}
 pub use Rattle.document.specs.Changes.{with_history}
 pub use Rattle.document.specs.Kept.{amount_sum, amounts_added, nothing_needed, Kept, HasRoom, FitsWidth, IsAtLeast, bound_of}
-pub use Rattle.document.specs.TextSteps.{LeavesRoom, step_in, step_on, need_of, need_of_step}
+pub use Rattle.document.specs.TextSteps.{LeavesRoom, need_of, need_of_step, step_on}
 pub use Rattle.document.specs.declared.need.DocumentNeed.{DocumentNeed}
 pub use Rattle.document.specs.proved.Room.{less_room, seal_room}
 pub use Rattle.ed_model.specs.History.{TextStep, History, Change, ContainerStep, sealed_outside_groups}
@@ -17,7 +17,7 @@ pub use Rattle.notify.specs.Gathered.{Gathered, NoteCapacity, CanPut, no_notes, 
 pub use Rattle.scene.specs.Conversion.{room_of_steps, free_behind}
 pub use Rattle.scene.specs.Needs.{IsCounted, notes_of_step, bytes_of_step, leaving_count, notes_for, bytes_needed, held_behind, CanHoldSteps, CanHoldEdit, NeedsAreEnough}
 pub use Rattle.scene.specs.Telling.{CanHold}
-pub use Rattle.scene.specs.Scenes.{scene_in, IsWatched}
+pub use Rattle.scene.specs.Scenes.{scene_in, kept_scene}
 pub use Rattle.scene.specs.Undoing.{capped, capped_room, bits_of, room_of_changes}
 pub use Rattle.scene.specs.declared.need.SceneNeed.{SceneNeed}
 pub use Rattle.scene.specs.proved.Enough.{first_held, next_held}

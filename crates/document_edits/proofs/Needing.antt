@@ -1,5 +1,5 @@
 -- What one step needs, and two, is what an edit with these steps needs.
-use Rattle.document_edits.proofs.Names.{◌≡◌, ℕ, ap, ◌∙◌, List, [], ◌∷◌, length, ◌+◌, arith, ◌≤◌, ◌-◌, ◌^◌, min, watching, Scene, Step, Delete, TextStep, amount_sum, amounts_added, nothing_needed, DocumentNeed, need_of_step, capped, capped_room, room_of_steps, free_behind, notes_of_step, bytes_of_step, leaving_count, same_room, SceneNeed, scene_need, need_sum, edit_need}
+use Rattle.document_edits.proofs.Names.{◌≡◌, ℕ, List, [], ◌∷◌, length, ◌+◌, arith, ◌≤◌, ◌-◌, ◌^◌, min, watching, Scene, Step, Delete, TextStep, amount_sum, amounts_added, nothing_needed, DocumentNeed, need_of_step, capped, capped_room, room_of_steps, free_behind, notes_of_step, bytes_of_step, leaving_count, same_room, SceneNeed, scene_need, need_sum, edit_need}
 use Rattle.ed_model.specs.declared.plan.LineEndTypes.{LineEndTypes}
 
 -- A step alone, with what it needs of the document.
@@ -28,22 +28,17 @@ one_room types step =
     more : (a : ℕ) → amount_sum a 0 ≡ capped (a + 0)
     more a = omega arith
 
-one_summed : (scene : Scene) (step : Step) → let left = leaving_count (watching scene.views scene.document) scene.document.history in
-    need_sum (alone scene step (need_of_step scene.document.line_end_types step)) (of_leaving left) ≡ edit_need (step ∷ []) scene
-one_summed scene step =
+pub one_summed : (scene : Scene) (step : Step) (room : DocumentNeed) → room ≡ need_of_step scene.document.line_end_types step → let left = leaving_count (watching scene.views scene.document) scene.document.history in
+    need_sum (alone scene step room) (of_leaving left) ≡ edit_need (step ∷ []) scene
+one_summed scene step room is =
     let views = watching scene.views scene.document in
-    same_need _ _ _ _ _ _ (notes (notes_of_step views step) (leaving_count views scene.document.history)) (bytes (bytes_of_step views step)) (one_room scene.document.line_end_types step)
+    rw is (same_need _ _ _ _ _ _ (notes (notes_of_step views step) (leaving_count views scene.document.history)) (bytes (bytes_of_step views step)) (one_room scene.document.line_end_types step))
   where
     notes : (a left : ℕ) → amount_sum a left ≡ capped (left + (a + 0))
     notes a left = omega arith
 
     bytes : (a : ℕ) → amount_sum a 0 ≡ capped (a + 0)
     bytes a = omega arith
-
-pub one_step : (scene : Scene) (step : Step) (leaving : ℕ) (need first extra : SceneNeed) → leaving ≡ leaving_count (watching scene.views scene.document) scene.document.history
-    → first ≡ alone scene step (need_of_step scene.document.line_end_types step) → extra ≡ of_leaving leaving → need ≡ need_sum first extra → need ≡ edit_need (step ∷ []) scene
-one_step scene step leaving need first extra left f e sum =
-    sum ∙ ap (λ n. need_sum n extra) f ∙ ap (λ n. need_sum (alone scene step (need_of_step scene.document.line_end_types step)) n) (e ∙ ap of_leaving left) ∙ one_summed scene step
 
 -- Two steps: a deletion, and an insertion beside what it frees.
 
@@ -66,26 +61,16 @@ two_rooms types gone come count e =
     more : (a b : ℕ) → amount_sum (amount_sum a 0) b ≡ capped (a + (b + 0))
     more a b = omega arith
 
-two_summed : (scene : Scene) (gone come : Step) (count : ℕ) → free_behind 0 (TextStep gone) ≡ count
-    → let types = scene.document.line_end_types in let left = leaving_count (watching scene.views scene.document) scene.document.history in
-    need_sum (need_sum (alone scene gone (need_of_step types gone)) (of_leaving left)) (alone scene come (less_text count (need_of_step types come))) ≡ edit_need (gone ∷ come ∷ []) scene
-two_summed scene gone come count frees =
+pub two_summed : (scene : Scene) (gone come : Step) (count : ℕ) (room : DocumentNeed) → let types = scene.document.line_end_types in room ≡ need_of_step types gone → free_behind 0 (TextStep gone) ≡ count
+    → let left = leaving_count (watching scene.views scene.document) scene.document.history in
+    need_sum (need_sum (alone scene gone room) (of_leaving left)) (alone scene come (less_text count (need_of_step types come))) ≡ edit_need (gone ∷ come ∷ []) scene
+two_summed scene gone come count room is frees =
     let views = watching scene.views scene.document in
-    same_need _ _ _ _ _ _ (notes (notes_of_step views gone) (leaving_count views scene.document.history) (notes_of_step views come)) (bytes (bytes_of_step views gone) (bytes_of_step views come))
-    (two_rooms scene.document.line_end_types gone come count frees)
+    rw is (same_need _ _ _ _ _ _ (notes (notes_of_step views gone) (leaving_count views scene.document.history) (notes_of_step views come)) (bytes (bytes_of_step views gone) (bytes_of_step views come))
+    (two_rooms scene.document.line_end_types gone come count frees))
   where
     notes : (a left b : ℕ) → amount_sum (amount_sum a left) b ≡ capped (left + (a + (b + 0)))
     notes a left b = omega arith
 
     bytes : (a b : ℕ) → amount_sum (amount_sum a 0) b ≡ capped (a + (b + 0))
     bytes a b = omega arith
-
-pub two_steps : (scene : Scene) (gone come : Step) (count leaving : ℕ) (need first extra both second beside : SceneNeed) → let types = scene.document.line_end_types in free_behind 0 (TextStep gone) ≡ count
-    → leaving ≡ leaving_count (watching scene.views scene.document) scene.document.history
-    → first ≡ alone scene gone (need_of_step types gone) → extra ≡ of_leaving leaving → both ≡ need_sum first extra
-    → second ≡ alone scene come (need_of_step types come) → beside ≡ record second { document = less_text count second.document } → need ≡ need_sum both beside → need ≡ edit_need (gone ∷ come ∷ []) scene
-two_steps scene gone come count leaving need first extra both second beside frees left f e b s n sum =
-    let one = alone scene gone (need_of_step scene.document.line_end_types gone) in
-    let put : both ≡ need_sum one (of_leaving (leaving_count (watching scene.views scene.document) scene.document.history)) = b ∙ ap (λ v. need_sum v extra) f ∙ ap (λ v. need_sum one v) (e ∙ ap of_leaving left) in
-    let less = n ∙ ap (λ (v : SceneNeed). record v { document = less_text count v.document }) s in
-    sum ∙ ap (λ v. need_sum v beside) put ∙ ap (λ v. need_sum (need_sum one (of_leaving (leaving_count (watching scene.views scene.document) scene.document.history))) v) less ∙ two_summed scene gone come count frees

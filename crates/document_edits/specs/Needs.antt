@@ -4,15 +4,14 @@ use Rattle.ed_model.specs.Steps.{Step}
 use Rattle.ed_model.specs.Performing.{Scene}
 use Rattle.ed_model.specs.Session.{text_of}
 use Rattle.id_table.specs.Entries.{Entries}
-use Rattle.notify.specs.Gathered.{Gathered}
 use Rattle.document.specs.declared.text_step.TextStep.{TextStep}
 use Rattle.document.specs.declared.need.DocumentNeed.{DocumentNeed}
 use Rattle.document.specs.Kept.{Kept, HasRoom, nothing_needed, amount_sum, amounts_added}
 use Rattle.document.specs.TextSteps.{step_in, need_of}
 use Rattle.ed_view.specs.Kept.{KeptView}
 use Rattle.scene.specs.Conversion.{room_of_steps}
-use Rattle.scene.specs.Needs.{note_room, notes_for, bytes_needed, notes_of_step, bytes_of_step, CanHoldEdit}
-use Rattle.scene.specs.Scenes.{kept_scene, watchers}
+use Rattle.scene.specs.Needs.{note_room, notes_for, bytes_needed, notes_of_step, bytes_of_step}
+use Rattle.scene.specs.Scenes.{watchers}
 use Rattle.scene.specs.Undoing.{capped, capped_room}
 use Rattle.scene.specs.declared.need.SceneNeed.{SceneNeed}
 
@@ -39,7 +38,3 @@ edit_need steps scene =
 -- the document has room for the steps
 abbrev pub StepsFit : List Step → Kept → Type 0
 StepsFit steps k = HasRoom (room_of_steps k.document.line_end_types steps) k
-
--- the list of notes can hold all notes after an edit with these steps, and their texts
-abbrev pub NotesFit : List Step → Kept → Entries KeptView → Gathered → Type 0
-NotesFit steps k views notes = CanHoldEdit steps (kept_scene k views notes) notes

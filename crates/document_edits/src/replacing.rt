@@ -1,9 +1,10 @@
 //! Replaces bytes of a document by others.
 
 ghost use Rattle.std.specs.Prelude.{◌≡◌, ◌≤◌, ◌<◌, ◌+◌, [], length, OnOk, OnErr, IsOk};
-ghost use Rattle.scene.specs.Scenes.{IsWatched};
+ghost use Rattle.scene.specs.Needs.{CanHoldEdit};
+ghost use Rattle.scene.specs.Scenes.{IsWatched, kept_scene};
 ghost use Rattle.document_edits.specs.Edits.{replacement_in, MakesEdit};
-ghost use Rattle.document_edits.specs.Needs.{StepsFit, NotesFit};
+ghost use Rattle.document_edits.specs.Needs.{StepsFit};
 ghost use Rattle.document_edits.specs.Widths.{StepsFitWidth};
 
 use crate::need::replacement_need;
@@ -28,7 +29,7 @@ fn replace_some(
     requires range { start + count ≤ length document.old.document.cells }
     requires watched { IsWatched document.old.document views.old }
     requires room { StepsFit (replacement_in start count bytes.now document.old) document.old }
-    requires notes { NotesFit (replacement_in start count bytes.now document.old) document.old views.old notes.old }
+    requires notes { CanHoldEdit (replacement_in start count bytes.now document.old) (kept_scene document.old views.old notes.old) notes.old }
     ensures scene { let steps = replacement_in start count bytes.now document.old in
         MakesEdit steps document.old views.old notes.old document.new views.new notes.new }
     ensures watched { IsWatched document.new.document views.new }
@@ -61,7 +62,7 @@ fn replace_bytes(
     requires range { start + count ≤ length document.old.document.cells }
     requires watched { IsWatched document.old.document views.old }
     requires room { StepsFit (replacement_in start count bytes.now document.old) document.old }
-    requires notes { NotesFit (replacement_in start count bytes.now document.old) document.old views.old notes.old }
+    requires notes { CanHoldEdit (replacement_in start count bytes.now document.old) (kept_scene document.old views.old notes.old) notes.old }
     ensures scene { let steps = replacement_in start count bytes.now document.old in
         MakesEdit steps document.old views.old notes.old document.new views.new notes.new }
     ensures watched { IsWatched document.new.document views.new }

@@ -1,9 +1,10 @@
 -- The notes of the changes that undo or redo performs are at most as many as the need says.
-use Rattle.scene.proofs.Names.{◌≡◌, ℕ, zero, suc, ◌+◌, ◌*◌, ◌≤◌, Bool, true, false, cond, List, [], ◌∷◌, ◌++◌, length, refl, ap, ◌∙◌, subst, arith, length-append, ℤ, filter_map, bit_or, nat_lt, slice_get, Some, length-map, Notice, meets, growth, Step, Insert, Delete, step_bytes, Change, TextStep, ContainerStep, heard, before_note, after_note, View, view_at, watching, lines_in, Scene, document_after, view_after, last_bits, container_note, change_performed, Direction, hearers, before_kind, after_kind, bits_of, all_bits, every_kind, performed_kinds, container_kinds, notes_of_change, bytes_of_change, notes_of_changes, bytes_of_changes}
+use Rattle.scene.proofs.Names.{◌≡◌, ℕ, zero, suc, ◌+◌, ◌*◌, ◌≤◌, Bool, true, false, cond, List, [], ◌∷◌, ◌++◌, length, refl, ap, ◌∙◌, subst, arith, length-append, ℤ, filter_map, bit_or, nat_lt, slice_get, Some, length-map, meets, growth, Step, Insert, Delete, step_bytes, Change, TextStep, ContainerStep, heard, before_note, after_note, View, view_at, watching, lines_in, Scene, document_after, view_after, last_bits, container_note, change_performed, Direction, hearers, bits_of, all_bits, every_kind, performed_kinds, container_kinds, notes_of_change, bytes_of_change, notes_of_changes, bytes_of_changes}
 use Rattle.ed_model.specs.Notes as notes
 use Rattle.document.specs.declared.undoing.Direction.TheVariants.{Undo, Redo}
-use Rattle.scene.proofs.KindLemmas.{meets_left, meets_right, meets_more, after_more, heard_few, hearers_more, before_kind_is, after_kind_is}
+use Rattle.scene.proofs.KindLemmas.{meets_left, meets_more, before_few, after_few, heard_few, hearers_more}
 use Rattle.scene.proofs.NeedLemmas.{hear_same, watch_after}
+use Rattle.scene.proofs.ToldSoFar.{length_parts}
 
 -- The bits of the note after a change are among all bits.
 
@@ -13,17 +14,10 @@ bits_after direction several last changed = bit_or (bit_or (bits_of direction) (
 pub bits_more : (direction : Direction) (several last changed : Bool) (m : ℕ) → meets m (bits_after direction several last changed) ≡ true
     → meets m (all_bits (bits_of direction)) ≡ true
 bits_more Undo true true true m h = h
-bits_more Undo true true false m h = meets_left m 0x1A0 0x11A0 h
-bits_more Undo true false changed m h = meets_left m 0xA0 0x11A0 h
 bits_more Undo false true true m h = meets_left m 0x1120 0x11A0 h
-bits_more Undo false true false m h = meets_left m 0x120 0x11A0 h
-bits_more Undo false false changed m h = meets_left m 0x20 0x11A0 h
 bits_more Redo true true true m h = h
-bits_more Redo true true false m h = meets_left m 0x1C0 0x11C0 h
-bits_more Redo true false changed m h = meets_left m 0xC0 0x11C0 h
 bits_more Redo false true true m h = meets_left m 0x1140 0x11C0 h
-bits_more Redo false true false m h = meets_left m 0x140 0x11C0 h
-bits_more Redo false false changed m h = meets_left m 0x40 0x11C0 h
+bits_more direction several last changed m h = meets_left m (bits_after direction several last changed) (all_bits (bits_of direction)) h
 
 -- The kinds of a step are among all kinds.
 every_more : (direction : Direction) (s : Step) (m : ℕ) → meets m (performed_kinds (bits_of direction) s) ≡ true → meets m (every_kind (bits_of direction)) ≡ true
@@ -48,26 +42,12 @@ none_of_all direction (ContainerStep token coalesce ∷ cs) views none =
     let rest = none_of_all direction cs views none in
     omega arith
 
--- A note has at most as many hearers as its change.
-
-pub before_few : (who : ℕ) (s : Step) (views : List View) → length (heard views (before_note who s)) ≤ hearers (performed_kinds who s) views
-before_few who s views =
-    heard_few (before_note who s) (performed_kinds who s) views (λ m h. meets_left m (before_kind who s) (after_kind (all_bits who) s) (rw (before_kind_is who s) at h))
-
-after_few : (who bits : ℕ) (lines : ℤ) (s : Step) (views : List View) → ((m : ℕ) → meets m bits ≡ true → meets m (all_bits who) ≡ true)
-    → length (heard views (after_note bits lines s)) ≤ hearers (performed_kinds who s) views
-after_few who bits lines s views more =
-    heard_few (after_note bits lines s) (performed_kinds who s) views
-    (λ m h. meets_right m (after_kind (all_bits who) s) (before_kind who s) (after_more bits (all_bits who) s m (more m) (rw (after_kind_is bits lines s) at h)))
-
+-- the same of the note of a container's step
 pub container_few : (who bits : ℕ) (token : ℤ) (views : List View) → ((m : ℕ) → meets m bits ≡ true → meets m (all_bits who) ≡ true)
     → length (heard views (container_note bits token)) ≤ hearers (container_kinds who) views
 container_few who bits token views more = heard_few (container_note bits token) (container_kinds who) views (λ m h. meets_more m notes.container bits (all_bits who) (more m) h)
 
 -- At most this many notes are appended for a change.
-
-three_parts : (a b c : List Notice) → length (a ++ b ++ [] ++ c) ≡ length a + (length b + length c)
-three_parts a b c = simp length-append (omega arith)
 
 pub performed_few : (direction : Direction) (several last changed : Bool) (c : Change) (scene : Scene)
     → length (change_performed (bits_of direction) (notes.bit_if several notes.multi_step) last changed c scene).notes
@@ -77,9 +57,9 @@ performed_few direction several last changed (TextStep s) scene =
     let bits = bits_after direction several last changed in
     let W = watching scene.views scene.document in
     let lines = growth (lines_in scene.document) (lines_in (document_after s scene.document)) in
-    let all = three_parts scene.notes (heard W (before_note who s)) (heard W (after_note bits lines s)) in
-    let b = before_few who s W in
-    let a = after_few who bits lines s W (bits_more direction several last changed) in
+    let all = length_parts scene.notes (heard W (before_note who s)) [] (heard W (after_note bits lines s)) in
+    let b = before_few who (all_bits who) s W in
+    let a = after_few who (all_bits who) bits lines s W (bits_more direction several last changed) in
     omega arith
 performed_few direction several last changed (ContainerStep token coalesce) scene =
     let who = bits_of direction in

@@ -1,6 +1,7 @@
 -- Kinds of notes, and the views that hear them.
 use Rattle.scene.proofs.Names.{◌≡◌, ℕ, ◌+◌, ◌<◌, ◌≤◌, Bool, true, false, cond, List, [], ◌∷◌, length, refl, ap, sym, ◌∙◌, subst, arith, ◌==◌, ◌||◌, not, filter, bit_and, bit_or, ℤ, eqb-true, eq-eqb, Notice, Note, meets, Step, Insert, Delete, step_bytes, told, heard, before_note, after_note, insert_text, delete_text, step_in, IsStepOn, Gathered, CanPut, View, Hearers, NoteText, audience_of, with_note_text, hearers, masks_from, masks_of, before_kind, after_kind, step_kinds, CanTellMade}
 use Rattle.std.specs.Int.Bits.{and_zero_l}
+use Rattle.std.proofs.lemmas.List.{nil_from_length}
 use Rattle.std.proofs.lemmas.Nat.{and_assoc, and_comm, and_or_self, and_or_apart, or_comm}
 use Rattle.document.specs.declared.text_step.TextStep.{TextStep}
 use Rattle.scene.proofs.ToldSoFar.{length_told}
@@ -14,10 +15,7 @@ pub meets_right : (m a b : ℕ) → meets m a ≡ true → meets m (bit_or b a) 
 meets_right m a b h = go (bit_and m (bit_or b a) == 0) refl
   where
     go : (c : Bool) → (bit_and m (bit_or b a) == 0) ≡ c → not c ≡ true
-    go true t =
-        let none : bit_and m a ≡ 0 = and_none m a b (eqb-true (bit_and m (bit_or b a)) 0 t) in
-        let same : (bit_and m a == 0) ≡ true = eq-eqb (bit_and m a) 0 none in
-        absurd (let wrong = sym (ap not same) ∙ h in cc)
+    go true t = absurd (let wrong = sym (ap not (eq-eqb (bit_and m a) 0 (and_none m a b (eqb-true (bit_and m (bit_or b a)) 0 t)))) ∙ h in cc)
     go false t = refl
 
 pub meets_left : (m a b : ℕ) → meets m a ≡ true → meets m (bit_or a b) ≡ true
@@ -38,19 +36,22 @@ meets_either m a b c left right h = go (bit_and m b == 0) refl
 pub meets_more : (m a b c : ℕ) → (meets m b ≡ true → meets m c ≡ true) → meets m (bit_or a b) ≡ true → meets m (bit_or a c) ≡ true
 meets_more m a b c more = meets_either m a b (bit_or a c) (meets_left m a c) (λ h. meets_right m c a (more h))
 
+-- an element counted in the first list is counted in one of the other two
+counted_either : {X : Type 0} (both x y : Bool) (v : X) (together first second : List X) → (both ≡ true → (x || y) ≡ true) → length together ≤ length first + length second
+    → length (cond both (v ∷ together) together) ≤ length (cond x (v ∷ first) first) + length (cond y (v ∷ second) second)
+counted_either true false false v together first second h le = absurd (let wrong : false ≡ true = h refl in cc)
+counted_either true true true v together first second h le = omega arith
+counted_either false true true v together first second h le = omega arith
+counted_either false false true v together first second h le = omega arith
+counted_either _ _ _ v together first second h le = omega arith
+
 -- more kinds have at least as many hearers
 pub hearers_more : (a b : ℕ) (views : List View) → ((m : ℕ) → meets m a ≡ true → meets m b ≡ true) → hearers a views ≤ hearers b views
 hearers_more a b [] h = omega arith
-hearers_more a b (v ∷ vs) h = go (meets v.mask a) refl (hearers_more a b vs h)
-  where
-    go : (c : Bool) → meets v.mask a ≡ c → hearers a vs ≤ hearers b vs
-        → length (cond c (v ∷ filter (λ (v : View). meets v.mask a) vs) (filter (λ (v : View). meets v.mask a) vs)) ≤ hearers b (v ∷ vs)
-    go true t le = let more : meets v.mask b ≡ true = h v.mask t in rw more (omega arith)
-    go false t le = either (meets v.mask b)
-      where
-        either : (c : Bool) → hearers a vs ≤ length (cond c (v ∷ filter (λ (v : View). meets v.mask b) vs) (filter (λ (v : View). meets v.mask b) vs))
-        either true = omega arith
-        either false = le
+hearers_more a b (v ∷ vs) h =
+    let rest = hearers_more a b vs h in
+    let le = counted_either (meets v.mask a) (meets v.mask b) false v (filter (λ (v : View). meets v.mask a) vs) (filter (λ (v : View). meets v.mask b) vs) [] (λ t. let e = h v.mask t in rw e refl) (omega arith) in
+    omega arith
 
 -- a note has at most as many hearers as kinds that it is among
 pub heard_few : (n : Notice) (kinds : ℕ) (views : List View) → ((m : ℕ) → meets m n.kind ≡ true → meets m kinds ≡ true) → length (heard views n) ≤ hearers kinds views
@@ -70,19 +71,6 @@ told_as_heard views note t shared n kind text =
     ap (λ k. told (filter (λ (v : View). meets v.mask k) views) (with_note_text t note shared)) kind
     ∙ empty_or_some (filter (λ (v : View). meets v.mask n.kind) views) (λ vs. told vs (with_note_text t note shared) ≡ told vs n) refl
     (λ some. ap (told (filter (λ (v : View). meets v.mask n.kind) views)) (text some))
-
--- an optional element in front makes a list longer by one at most
-in_or_not : {X : Type 0} (b : Bool) (x : X) (xs : List X) → (length xs ≤ length (cond b (x ∷ xs) xs)) × (length (cond b (x ∷ xs) xs) ≤ length xs + 1)
-in_or_not true x xs = (omega arith, omega arith)
-in_or_not false x xs = (omega arith, omega arith)
-
--- an element counted in the first list is counted in one of the other two
-counted_either : {X : Type 0} (both x y : Bool) (v : X) (together first second : List X) → (both ≡ true → (x || y) ≡ true) → length together ≤ length first + length second
-    → length (cond both (v ∷ together) together) ≤ length (cond x (v ∷ first) first) + length (cond y (v ∷ second) second)
-counted_either both true y v together first second h le = let most = in_or_not both v together in let least = in_or_not y v second in omega arith
-counted_either both false true v together first second h le = let most = in_or_not both v together in omega arith
-counted_either false false false v together first second h le = le
-counted_either true false false v together first second h le = absurd (let wrong : false ≡ true = h refl in cc)
 
 -- a view that hears two kinds together hears one of them
 meets_one : (m a b : ℕ) → meets m (bit_or a b) ≡ true → (meets m a || meets m b) ≡ true
@@ -127,20 +115,24 @@ pub after_more : (bits all : ℕ) (s : Step) (m : ℕ) → (meets m bits ≡ tru
 after_more bits all (Insert p bytes) m more h = meets_more m insert_text bits all more h
 after_more bits all (Delete p bytes) m more h = meets_more m delete_text bits all more h
 
--- If no view hears one of the kinds, none hears a note of these kinds.
-unheard : (views : List View) (n : Notice) (kinds : ℕ) → ((m : ℕ) → meets m n.kind ≡ true → meets m kinds ≡ true) → hearers kinds views ≡ 0 → heard views n ≡ []
-unheard views n kinds more none =
-    empty_or_some (filter (λ (v : View). meets v.mask n.kind) views) (λ vs. told vs n ≡ []) refl (λ some. absurd (omega (arith, hearers_more n.kind kinds views more)))
+-- A note of a step has at most as many hearers as the step, and none if no view hears the step.
+
+pub before_few : (before all : ℕ) (s : Step) (views : List View) → length (heard views (before_note before s)) ≤ hearers (step_kinds before all s) views
+before_few before all s views =
+    heard_few (before_note before s) (step_kinds before all s) views (λ m h. meets_left m (before_kind before s) (after_kind all s) (rw (before_kind_is before s) at h))
+
+pub after_few : (before all bits : ℕ) (lines : ℤ) (s : Step) (views : List View) → ((m : ℕ) → meets m bits ≡ true → meets m all ≡ true)
+    → length (heard views (after_note bits lines s)) ≤ hearers (step_kinds before all s) views
+after_few before all bits lines s views more =
+    heard_few (after_note bits lines s) (step_kinds before all s) views
+    (λ m h. meets_right m (after_kind all s) (before_kind before s) (after_more bits all s m (more m) (rw (after_kind_is bits lines s) at h)))
 
 pub unheard_before : (views : List View) (s : Step) (before after : ℕ) → hearers (step_kinds before after s) views ≡ 0 → heard views (before_note before s) ≡ []
-unheard_before views s before after none =
-    unheard views (before_note before s) (step_kinds before after s) (λ m h. meets_left m (before_kind before s) (after_kind after s) (rw (before_kind_is before s) at h)) none
+unheard_before views s before after none = nil_from_length (heard views (before_note before s)) (let few = before_few before after s views in omega arith)
 
 pub unheard_after : (views : List View) (s : Step) (before all after : ℕ) (lines : ℤ) → ((m : ℕ) → meets m after ≡ true → meets m all ≡ true)
     → hearers (step_kinds before all s) views ≡ 0 → heard views (after_note after lines s) ≡ []
-unheard_after views s before all after lines more none =
-    unheard views (after_note after lines s) (step_kinds before all s)
-    (λ m h. meets_right m (after_kind all s) (before_kind before s) (after_more after all s m (more m) (rw (after_kind_is after lines s) at h))) none
+unheard_after views s before all after lines more none = nil_from_length (heard views (after_note after lines s)) (let few = after_few before all after lines s views more in omega arith)
 
 -- If no note is appended before a step and none after it, no view hears the step.
 pub none_by_notes : (views : List View) (s : Step) (before after : ℕ) (lines : ℤ) → length (heard views (before_note before s)) ≡ 0

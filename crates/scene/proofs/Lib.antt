@@ -1,6 +1,7 @@
 pub mod Names
 pub mod Pending
 pub mod ToldSoFar
+pub mod Staying
 pub mod Followed
 pub mod Watching
 pub mod KindLemmas

@@ -1,61 +1,35 @@
 -- The notes of steps are at most as many as the need says.
-use Rattle.scene.proofs.Names.{◌≡◌, ℕ, suc, ◌+◌, ◌<◌, ◌≤◌, Bool, true, false, cond, List, [], ◌∷◌, map, length, refl, ap, ◌∙◌, arith, ◌==◌, ◌&&◌, not, nat_lt, ℤ, Option, Some, None, filter, filter_map, option_map, cons_option, ltb-true, lt-ltb, meets, growth, is_number, Step, Insert, Delete, step_bytes, History, Change, Transaction, TextStep, at_save_point, appended, begins_transaction, joins, joins_last, with_change, reachable, sealed_outside_groups, with_last_sealed, told, heard, before_note, after_note, performed_user, View, Document, view_at, watching, lines_in, Scene, document_after, moved_view, view_after, leaving, step_made, view_after_id, hearers, before_kind, after_kind, step_kinds, user_bits, bytes_shared, user_kinds, leaving_count, notes_of_steps, bytes_of_steps, notes_needed, bytes_needed, held_behind, held_after, NeedsAreEnough, steps_made, sealed_scene}
+use Rattle.scene.proofs.Names.{◌≡◌, ℕ, suc, ap₂, cond_both, mapped_found, ◌+◌, ◌<◌, ◌≤◌, Bool, true, false, cond, List, [], ◌∷◌, map, length, refl, ap, ◌∙◌, arith, ◌==◌, ◌&&◌, not, nat_lt, Option, Some, None, filter, filter_map, option_map, cons_option, ltb-true, lt-ltb, meets, growth, is_number, Step, step_bytes, History, Change, Transaction, TextStep, at_save_point, appended, begins_transaction, joins, joins_last, with_change, reachable, sealed_outside_groups, with_last_sealed, told, heard, before_note, after_note, performed_user, View, Document, view_at, watching, lines_in, Scene, document_after, moved_view, view_after, leaving, step_made, view_after_id, hearers, before_kind, after_kind, step_kinds, user_bits, bytes_shared, user_kinds, leaving_count, notes_of_steps, bytes_of_steps, notes_needed, bytes_needed, held_behind, held_after, NeedsAreEnough, steps_made, sealed_scene}
 use Rattle.ed_model.specs.Notes as notes
 use Rattle.ed_model.specs.proved.Histories.{lower_save_point, other_save_point, sealed_length}
 use Rattle.scene.proofs.ToldSoFar.{length_told, length_parts}
-use Rattle.scene.proofs.KindLemmas.{meets_left, meets_right, heard_few, hearers_more, before_kind_is, after_kind_is}
+use Rattle.scene.proofs.KindLemmas.{meets_left, meets_more, after_more, before_few, after_few, hearers_more}
 
 -- The kinds of a step are among `user_kinds`, whether it begins a transaction or not.
 
+user_more : (begins : Bool) (m : ℕ) → meets m (user_bits begins) ≡ true → meets m (user_bits true) ≡ true
+user_more true m h = h
+user_more false m h = meets_left m 0x10 0x2000 h
+
 made_more : (begins : Bool) (s : Step) (m : ℕ) → meets m (step_kinds performed_user (user_bits begins) s) ≡ true → meets m (user_kinds s) ≡ true
-made_more true s m h = h
-made_more false (Insert p bytes) m h = meets_left m 0x411 0x2000 h
-made_more false (Delete p bytes) m h = meets_left m 0x812 0x2000 h
-
-made_before : (s : Step) (m : ℕ) → meets m (before_kind performed_user s) ≡ true → meets m (user_kinds s) ≡ true
-made_before s m h = meets_left m (before_kind performed_user s) (after_kind (user_bits true) s) h
-
-made_after : (begins : Bool) (s : Step) (m : ℕ) → meets m (after_kind (user_bits begins) s) ≡ true → meets m (user_kinds s) ≡ true
-made_after begins s m h = made_more begins s m (meets_right m (after_kind (user_bits begins) s) (before_kind performed_user s) h)
-
-before_few : (s : Step) (views : List View) → length (heard views (before_note performed_user s)) ≤ hearers (user_kinds s) views
-before_few s views = heard_few (before_note performed_user s) (user_kinds s) views (λ m h. made_before s m (rw (before_kind_is performed_user s) at h))
-
-after_few : (begins : Bool) (lines : ℤ) (s : Step) (views : List View) → length (heard views (after_note (user_bits begins) lines s)) ≤ hearers (user_kinds s) views
-after_few begins lines s views = heard_few (after_note (user_bits begins) lines s) (user_kinds s) views (λ m h. made_after begins s m (rw (after_kind_is (user_bits begins) lines s) at h))
+made_more begins s m =
+    meets_more m (before_kind performed_user s) (after_kind (user_bits begins) s) (after_kind (user_bits true) s) (after_more (user_bits begins) (user_bits true) s m (user_more begins m))
 
 -- The views that watch after a step are those that watched before, with the same masks.
-
-after_mask : (s : Step) (d : Document) (v : View) (b : Bool) → (cond b (moved_view s d v) v).mask ≡ v.mask
-after_mask s d v true = refl
-after_mask s d v false = refl
-
-found_after : (s : Step) (d : Document) (vs : List View) (id : ℕ) → view_at (map (view_after s d) vs) id ≡ option_map (view_after s d) (view_at vs id)
-found_after s d [] id = refl
-found_after s d (v ∷ vs) id =
-    let same : (view_after s d v).id ≡ v.id = view_after_id s d v in
-    rw same (go (v.id == id) (found_after s d vs id))
-  where
-    go : (b : Bool) → view_at (map (view_after s d) vs) id ≡ option_map (view_after s d) (view_at vs id)
-        → cond b (Some (view_after s d v)) (view_at (map (view_after s d) vs) id) ≡ option_map (view_after s d) (cond b (Some v) (view_at vs id))
-    go true rest = refl
-    go false rest = rest
-
-cons_after : (f : View → View) (o : Option View) (vs : List View) → cons_option (option_map f o) (map f vs) ≡ map f (cons_option o vs)
-cons_after f None vs = refl
-cons_after f (Some v) vs = refl
 
 pub watch_after : (s : Step) (d : Document) (vs : List View) (ids : List ℕ) → filter_map (view_at (map (view_after s d) vs)) ids ≡ map (view_after s d) (filter_map (view_at vs) ids)
 watch_after s d vs [] = refl
 watch_after s d vs (id ∷ ids) =
-    ap (λ o. cons_option o (filter_map (view_at (map (view_after s d) vs)) ids)) (found_after s d vs id)
-    ∙ ap (cons_option (option_map (view_after s d) (view_at vs id))) (watch_after s d vs ids)
-    ∙ cons_after (view_after s d) (view_at vs id) (filter_map (view_at vs) ids)
+    ap₂ cons_option (mapped_found (λ (v : View). v.id) (view_after s d) (view_after_id s d) vs id) (watch_after s d vs ids) ∙ go (view_at vs id)
+  where
+    go : (o : Option View) → cons_option (option_map (view_after s d) o) (map (view_after s d) (filter_map (view_at vs) ids)) ≡ map (view_after s d) (cons_option o (filter_map (view_at vs) ids))
+    go None = refl
+    go (Some v) = refl
 
 hear_after : (k : ℕ) (s : Step) (d : Document) (vs : List View) → hearers k (map (view_after s d) vs) ≡ hearers k vs
 hear_after k s d [] = refl
 hear_after k s d (v ∷ vs) =
-    let same : (view_after s d v).mask ≡ v.mask = after_mask s d v (v.document == d.id) in
+    let same = cond_both (v.document == d.id) (moved_view s d v) v (λ (u : View). u.mask ≡ v.mask) (λ _. refl) (λ _. refl) in
     rw same (go (meets v.mask k) (hear_after k s d vs))
   where
     go : (b : Bool) → hearers k (map (view_after s d) vs) ≡ hearers k vs
@@ -97,12 +71,9 @@ left_past later c h (t ∷ ts) e = go (joins_last later c h (t ∷ ts)) refl
     go false j = lower_save_point (length (t ∷ ts)) (suc (length (t ∷ ts))) h.save_point (omega arith)
 
 none_left : (later : Bool) (c : Change) (h : History) (views : List View) → leaving_count views (appended later c h) ≡ 0
-none_left later c h views = go h.collecting refl
-  where
-    go : (b : Bool) → h.collecting ≡ b
-        → leaving_count views (cond b (record h { past = with_change (joins later c h) c h.past; future = []; save_point = reachable (length h.past) h.save_point }) h) ≡ 0
-    go true e = let a = left_past later c h h.past refl in rw (e, a) refl
-    go false e = rw e refl
+none_left later c h views =
+    cond_both h.collecting (record h { past = with_change (joins later c h) c h.past; future = []; save_point = reachable (length h.past) h.save_point }) h (λ g. leaving_count views g ≡ 0)
+    (λ e. let a = left_past later c h h.past refl in rw (e, a) refl) (λ e. rw e refl)
 
 leaving_length : (views : List View) (h : History) → length (leaving views h) ≡ leaving_count views h
 leaving_length views h = go (h.collecting && at_save_point h)
@@ -122,8 +93,8 @@ step_notes later step steps scene =
     let begins = begins_transaction later (TextStep step) h in
     let lines = growth (lines_in d) (lines_in (document_after step d)) in
     let all = length_parts scene.notes (heard W (before_note performed_user step)) (leaving W h) (heard W (after_note (user_bits begins) lines step)) in
-    let b = before_few step W in
-    let a = after_few begins lines step W in
+    let b = before_few performed_user (user_bits true) step W in
+    let a = after_few performed_user (user_bits true) (user_bits begins) lines step W (user_more begins) in
     let l = leaving_length W h in
     let none = none_left later (TextStep step) h (watching (step_made later step scene).views (step_made later step scene).document) in
     let same = notes_same step d scene.views steps in
@@ -161,11 +132,7 @@ steps_bytes later (step ∷ steps) scene held =
 -- Sealing a transaction does not change the need.
 
 sealed_leaves : (h : History) (views : List View) → leaving_count views (sealed_outside_groups h) ≡ leaving_count views h
-sealed_leaves h views = go (h.depth == 0)
-  where
-    go : (b : Bool) → leaving_count views (cond b (with_last_sealed h) h) ≡ leaving_count views h
-    go true = let l = sealed_length h.past in rw l refl
-    go false = refl
+sealed_leaves h views = cond_both (h.depth == 0) (with_last_sealed h) h (λ g. leaving_count views g ≡ leaving_count views h) (λ _. let l = sealed_length h.past in rw l refl) (λ _. refl)
 
 pub needs_enough : NeedsAreEnough
 needs_enough [] scene held = (omega arith, omega arith)

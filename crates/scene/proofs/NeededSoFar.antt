@@ -1,5 +1,5 @@
 -- What the changes so far need in undo or redo, and what the remaining ones need.
-use Rattle.scene.proofs.Names.{◌≡◌, ℕ, ◌+◌, ◌^◌, ◌<◌, List, [], ◌∷◌, length, ap, ◌∙◌, subst, arith, slice_get, Some, get_or_from_slice_get, LineEndTypes, Change, View, DocumentNeed, need_of_change, nothing_needed, amount_sum, amounts_added, NoteRoom, note_room, notes_of_change, bytes_of_change, notes_of_changes, bytes_of_changes, free_behind, room_beside, room_of_changes, rooms_beside, capped, capped_notes, same_room}
+use Rattle.scene.proofs.Names.{◌≡◌, ℕ, ◌+◌, ◌^◌, ◌<◌, List, [], ◌∷◌, length, ap, ap₂, arith, slice_get, Some, get_or_from_slice_get, LineEndTypes, Change, View, DocumentNeed, need_of_change, nothing_needed, amount_sum, amounts_added, NoteRoom, note_room, notes_of_change, bytes_of_change, notes_of_changes, bytes_of_changes, free_behind, room_beside, room_of_changes, rooms_beside, capped, capped_notes, same_room}
 use Rattle.scene.specs.declared.need.SceneNeed.{SceneNeed}
 use Rattle.scene.specs.Undoing.{capped_room}
 
@@ -25,13 +25,11 @@ pub record IsNeededSoFar (views : List View) (who : ℕ) (types : LineEndTypes) 
 abbrev pub history_need : NoteRoom → DocumentNeed → SceneNeed
 history_need notes document = record { notes = notes; document = document }
 
-pub needed_next : (views : List View) (who : ℕ) (types : LineEndTypes) (told free : ℕ) (c : Change) (rest after all : List Change) (need : SceneNeed)
-    → IsNeededSoFar views who types told free rest all need → rest ≡ c ∷ after
-    → IsNeededSoFar views who types told (free_behind free c) after all (history_need
+pub needed_next : (views : List View) (who : ℕ) (types : LineEndTypes) (told free : ℕ) (c : Change) (after all : List Change) (need : SceneNeed)
+    → IsNeededSoFar views who types told free (c ∷ after) all need → IsNeededSoFar views who types told (free_behind free c) after all (history_need
     (note_room (amount_sum need.notes.notes (notes_of_change views who c)) (amount_sum need.notes.bytes (bytes_of_change views who c)))
     (amounts_added need.document (room_beside types free c)))
-needed_next views who types told free c rest after all need so e =
-    let so = subst (λ cs. IsNeededSoFar views who types told free cs all need) e so in
+needed_next views who types told free c after all need so =
     let room = room_beside types free c in
     let left = rooms_beside types (free_behind free c) after in
     let whole = room_of_changes types all in
@@ -45,21 +43,15 @@ needed_next views who types told free c rest after all need so e =
       bytes = sum_next need.document.bytes room.bytes left.bytes whole.bytes so.bytes;
     }
 
-pub needed_notes : (views : List View) (who : ℕ) (types : LineEndTypes) (told free : ℕ) (rest all : List Change) (need : SceneNeed)
-    → IsNeededSoFar views who types told free rest all need → rest ≡ [] → need.notes ≡ capped_notes (notes_of_changes views who all + told) (bytes_of_changes views who all)
-needed_notes views who types told free rest all need so e =
-    let so = subst (λ cs. IsNeededSoFar views who types told free cs all need) e so in
-    let a = sum_all need.notes.notes (notes_of_changes views who all + told) so.notes in
-    let b = sum_all need.notes.bytes (bytes_of_changes views who all) so.texts in
-    ap (λ n. note_room n need.notes.bytes) a ∙ ap (λ n. note_room (capped (notes_of_changes views who all + told)) n) b
+module _ (views : List View) (who : ℕ) (types : LineEndTypes) (told free : ℕ) (all : List Change) (need : SceneNeed) (so : IsNeededSoFar views who types told free [] all need) where
+  pub needed_notes : need.notes ≡ capped_notes (notes_of_changes views who all + told) (bytes_of_changes views who all)
+  needed_notes = ap₂ note_room (sum_all need.notes.notes (notes_of_changes views who all + told) so.notes) (sum_all need.notes.bytes (bytes_of_changes views who all) so.texts)
 
-pub needed_room : (views : List View) (who : ℕ) (types : LineEndTypes) (told free : ℕ) (rest all : List Change) (need : SceneNeed)
-    → IsNeededSoFar views who types told free rest all need → rest ≡ [] → need.document ≡ capped_room (room_of_changes types all)
-needed_room views who types told free rest all need so e =
-    let so = subst (λ cs. IsNeededSoFar views who types told free cs all need) e so in
-    let whole = room_of_changes types all in
-    same_room _ _ _ _ _ _ _ _ _ _ (sum_all need.document.text whole.text so.text) (sum_all need.document.lines whole.lines so.lines)
-    (sum_all need.document.insertions whole.insertions so.insertions) (sum_all need.document.steps whole.steps so.steps) (sum_all need.document.bytes whole.bytes so.bytes)
+  pub needed_room : need.document ≡ capped_room (room_of_changes types all)
+  needed_room =
+      let whole = room_of_changes types all in
+      same_room _ _ _ _ _ _ _ _ _ _ (sum_all need.document.text whole.text so.text) (sum_all need.document.lines whole.lines so.lines)
+      (sum_all need.document.insertions whole.insertions so.insertions) (sum_all need.document.steps whole.steps so.steps) (sum_all need.document.bytes whole.bytes so.bytes)
 
 -- The need of one change is that of all.
 
@@ -75,7 +67,7 @@ notes_of_one views who told cs c need e is =
     let b : need.bytes ≡ bytes_of_change views who c = ap (λ (r : NoteRoom). r.bytes) is in
     let notes : amount_sum need.notes told ≡ capped (notes_of_changes views who (c ∷ []) + told) = omega arith in
     let shared : amount_sum need.bytes 0 ≡ capped (bytes_of_changes views who (c ∷ [])) = omega arith in
-    rw e (ap (λ x. note_room x (amount_sum need.bytes 0)) notes ∙ ap (λ x. note_room (capped (notes_of_changes views who (c ∷ []) + told)) x) shared)
+    rw e (ap₂ note_room notes shared)
 
 pub room_of_one : (types : LineEndTypes) (cs : List Change) (c : Change) (need : DocumentNeed) → cs ≡ c ∷ [] → need ≡ need_of_change types c
     → amounts_added nothing_needed need ≡ capped_room (room_of_changes types cs)

@@ -1,32 +1,29 @@
 -- The changes of undo or redo that were performed, and those that are still to be performed.
-use Rattle.scene.proofs.Names.{◌≡◌, ℕ, ◌+◌, ◌-◌, ◌<◌, Bool, true, false, List, [], ◌∷◌, map, length, drop, get_or, refl, ap, sym, ◌∙◌, subst, arith, inl, inr, ◌==◌, ◌&&◌, ◌||◌, bit_and, not, nat_lt, slice_get, Some, length-drop, and_parts, eq-eqb, ne_eqb, eqb-true, or_cases, slice_get-get_or, bit_if, multi_step, told, blank, save_point_reached, save_point_left, CellsFollowBytes, Change, TextStep, ContainerStep, Document, View, text_of, watching, AreStepsOf, text_steps, Scene, is_last, change_performed, changes_performed, save_point_change, Entries, id_of, Gathered, NoteCapacity, CanPut, is_full, KeptView, Direction, Kept, HasTextRoom, KeepsCapacity, changes_of, save_point_told, scene_in, watchers, KeepFoldCapacities, IsWatched, hearers, masks_of, bits_of, every_kind, notes_of_changes, notes_of_change, bytes_of_changes, room_of_changes, save_point_notes, several_bits, CanPerform, IsPerformed, first_change, keeps_both, next_change}
+use Rattle.scene.proofs.Names.{◌≡◌, ℕ, ◌+◌, ◌-◌, ◌<◌, Bool, true, false, List, [], ◌∷◌, length, drop, get_or, refl, ap, sym, ◌∙◌, subst, arith, inl, inr, ◌==◌, ◌&&◌, ◌||◌, bit_and, nat_lt, slice_get, Some, length-drop, and_parts, eq-eqb, ne_eqb, eqb-true, or_cases, slice_get-get_or, bit_if, multi_step, told, CellsFollowBytes, Change, TextStep, ContainerStep, Document, text_of, watching, AreStepsOf, text_steps, Scene, is_last, change_performed, changes_performed, Entries, Gathered, NoteCapacity, CanPut, is_full, KeptView, Direction, Kept, HasTextRoom, changes_of, save_point_told, kept_scene, watchers, IsWatched, RoomsStay, hearers, masks_of, bits_of, every_kind, notes_of_changes, notes_of_change, bytes_of_changes, history_bytes, room_of_changes, save_point_notes, several_bits, CanPerform, IsPerformed, first_change, next_change}
 use Rattle.scene.specs.declared.performing.Turn.{Turn}
 use Rattle.scene.specs.Performed.{CanPerformAll, AreAllPerformed}
 use Rattle.scene.proofs.KindLemmas.{none_by_masks}
 use Rattle.scene.proofs.ChangeNotes.{HearAlike, hear_alike_still, notes_alike, bytes_alike, none_of_all, performed_few, still_none}
-use Rattle.scene.proofs.ChangeSteps.{next_fits, steps_left}
+use Rattle.scene.proofs.ChangeSteps.{drop_some, next_fits, steps_left}
+use Rattle.scene.proofs.Staying.{stay_both, views_same}
+
+-- the bit that the transaction has several changes
+abbrev pub several_of : Direction → Kept → ℕ
+several_of direction k = bit_if (nat_lt 1 (length (changes_of direction k.document.history))) multi_step
 
 pub record IsPerformedSoFar (direction : Direction) (rest : List Change) (changed : Bool) (old : Kept) (views : Entries KeptView) (gathered : Gathered)
     (now : Kept) (views' : Entries KeptView) (gathered' : Gathered) : Type 0 where
-  pub scene : changes_performed (bits_of direction) (bit_if (nat_lt 1 (length (changes_of direction old.document.history))) multi_step) changed rest
-      (scene_in now.document views'.entries gathered'.notes)
-      ≡ changes_performed (bits_of direction) (bit_if (nat_lt 1 (length (changes_of direction old.document.history))) multi_step) false
-      (changes_of direction old.document.history) (scene_in old.document views.entries gathered.notes)
+  pub scene : changes_performed (bits_of direction) (several_of direction old) changed rest (kept_scene now views' gathered')
+      ≡ changes_performed (bits_of direction) (several_of direction old) false (changes_of direction old.document.history) (kept_scene old views gathered)
   pub watched : IsWatched now.document views'
   pub history : now.document.history ≡ old.document.history
   pub steps : AreStepsOf (text_of now.document) (text_steps rest)
   pub room : HasTextRoom (room_of_changes now.document.line_end_types rest) now
-  pub memory : KeepsCapacity old now
+  pub rooms : RoomsStay old now views views' gathered gathered'
   pub notes : CanPut (notes_of_changes (watchers now.document views') (bits_of direction) rest
       + save_point_notes (save_point_told direction old.document.history) (length (watchers now.document views'))) gathered'
   pub hear : (k : ℕ) → hearers k (watchers now.document views') ≡ hearers k (watchers old.document views)
-  pub capacity : gathered'.capacity ≡ gathered.capacity
-  pub held : gathered'.held + bytes_of_changes (watchers now.document views') (bits_of direction) rest
-      ≡ gathered.held + bytes_of_changes (watchers old.document views) (bits_of direction) (changes_of direction old.document.history)
-  pub ids : map id_of views'.entries ≡ map id_of views.entries
-  pub next : views'.next ≡ views.next
-  pub view_capacity : views'.capacity ≡ views.capacity
-  pub fold_capacities : KeepFoldCapacities views views'
+  pub held : gathered'.held + bytes_of_changes (watchers now.document views') (bits_of direction) rest ≡ gathered.held + history_bytes direction old views
 
 pub performed_none : (direction : Direction) (old : Kept) (views : Entries KeptView) (gathered : Gathered) → CanPerformAll direction old views gathered
     → IsPerformedSoFar direction (changes_of direction old.document.history) false old views gathered old views gathered
@@ -36,15 +33,10 @@ performed_none direction old views gathered can = record {
   history = refl;
   steps = can.steps;
   room = can.room;
-  memory = refl;
+  rooms = record { memory = refl; capacity = refl; table = views_same };
   notes = can.notes;
   hear = λ k. refl;
-  capacity = refl;
   held = refl;
-  ids = refl;
-  next = refl;
-  view_capacity = refl;
-  fold_capacities = refl;
 }
 
 -- if it is known that no view hears any change, the changes need no notes
@@ -85,19 +77,19 @@ last_is cs i h = go (drop (i + 1) cs) (length-drop (i + 1) cs)
     go [] e = eq-eqb (i + 1) (length cs) (omega arith)
     go (c ∷ rest) e = ne_eqb (i + 1) (length cs) (λ same. omega arith)
 
-module _ (turn : Turn) (c : Change) (rest after : List Change) (changed : Bool) (old now : Kept) (views views' : Entries KeptView) (gathered gathered' : Gathered)
-    (so : IsPerformedSoFar turn.direction rest changed old views gathered now views' gathered') (e : rest ≡ c ∷ after) where
+module _ (turn : Turn) (c : Change) (after : List Change) (changed : Bool) (old now : Kept) (views views' : Entries KeptView) (gathered gathered' : Gathered)
+    (so : IsPerformedSoFar turn.direction (c ∷ after) changed old views gathered now views' gathered') where
   pub next_can : CanPerformAll turn.direction old views gathered → slice_get (changes_of turn.direction old.document.history) turn.index ≡ Some c
       → CanPerform turn now views' gathered' c
   next_can can at =
-      let notes = subst (λ cs. CanPut (notes_of_changes (watchers now.document views') (bits_of turn.direction) cs + save_point_notes (save_point_told turn.direction old.document.history) (length (watchers now.document views'))) gathered') e so.notes in
-      let texts = sym (ap (λ cs. gathered'.held + bytes_of_changes (watchers now.document views') (bits_of turn.direction) cs) e) ∙ so.held in
+      let notes = so.notes in
+      let texts = so.held in
       let there = can.texts in
-      let fit = ap (λ (c : NoteCapacity). c.bytes) so.capacity in
+      let fit = ap (λ (c : NoteCapacity). c.bytes) so.rooms.capacity in
       record {
         at = subst (λ h. slice_get (changes_of turn.direction h) turn.index ≡ Some c) (sym so.history) at;
-        fits = next_fits c after (text_of now.document) (subst (λ cs. AreStepsOf (text_of now.document) (text_steps cs)) e so.steps);
-        room = first_change now now.document.line_end_types c after (subst (λ cs. HasTextRoom (room_of_changes now.document.line_end_types cs) now) e so.room);
+        fits = next_fits c after (text_of now.document) so.steps;
+        room = first_change now now.document.line_end_types c after so.room;
         watched = so.watched;
         notes = omega arith;
         texts = omega arith;
@@ -106,49 +98,40 @@ module _ (turn : Turn) (c : Change) (rest after : List Change) (changed : Bool) 
   module _ (changed' : Bool) (new : Kept) (views'' : Entries KeptView) (gathered'' : Gathered) (law : CellsFollowBytes) (several : turn.several ≡ nat_lt 1 (length (changes_of turn.direction old.document.history))) (last : turn.last ≡ is_last after)
       (p : IsPerformed turn changed changed' now views' gathered' new views'' gathered'' c) where
     abbrev before : Scene
-    before = scene_in now.document views'.entries gathered'.notes
+    before = kept_scene now views' gathered'
 
-    abbrev performed : Scene
-    performed = change_performed (bits_of turn.direction) (several_bits turn) turn.last changed' c before
-
-    history_still : (c : Change) (who bits : ℕ) (last changed : Bool) (scene : Scene) → (change_performed who bits last changed c scene).document.history ≡ scene.document.history
-    history_still (TextStep s) who bits last changed scene = refl
-    history_still (ContainerStep token coalesce) who bits last changed scene = refl
-
-    types_still : (c : Change) (who bits : ℕ) (last changed : Bool) (scene : Scene)
-        → (change_performed who bits last changed c scene).document.line_end_types ≡ scene.document.line_end_types
-    types_still (TextStep s) who bits last changed scene = refl
-    types_still (ContainerStep token coalesce) who bits last changed scene = refl
+    -- a change keeps the history and the kind of line ends
+    kept_by : (c : Change) (who bits : ℕ) (last changed : Bool) (scene : Scene) → let d = (change_performed who bits last changed c scene).document in
+        (d.history ≡ scene.document.history) × (d.line_end_types ≡ scene.document.line_end_types)
+    kept_by (TextStep s) who bits last changed scene = (refl, refl)
+    kept_by (ContainerStep token coalesce) who bits last changed scene = (refl, refl)
 
     alike : HearAlike (watchers new.document views'') (watchers now.document views')
     alike = subst (λ (s : Scene). HearAlike (watching s.views s.document) (watchers now.document views')) (sym p.scene)
         (hear_alike_still (bits_of turn.direction) (several_bits turn) turn.last changed' c before)
 
-    scene_next : changes_performed (bits_of turn.direction) (bit_if (nat_lt 1 (length (changes_of turn.direction old.document.history))) multi_step) changed' after
-        (scene_in new.document views''.entries gathered''.notes)
-        ≡ changes_performed (bits_of turn.direction) (bit_if (nat_lt 1 (length (changes_of turn.direction old.document.history))) multi_step) changed rest before
+    scene_next : changes_performed (bits_of turn.direction) (several_of turn.direction old) changed' after (kept_scene new views'' gathered'')
+        ≡ changes_performed (bits_of turn.direction) (several_of turn.direction old) changed (c ∷ after) before
     scene_next =
         let who = bits_of turn.direction in
-        let bits = bit_if (nat_lt 1 (length (changes_of turn.direction old.document.history))) multi_step in
+        let bits = several_of turn.direction old in
         ap (changes_performed who bits changed' after) p.scene
         ∙ ap (λ b. changes_performed who bits changed' after (change_performed who (bit_if b multi_step) turn.last changed' c before)) several
         ∙ ap (λ b. changes_performed who bits changed' after (change_performed who bits b changed' c before)) last
         ∙ ap (λ b. changes_performed who bits b after (change_performed who bits (is_last after) b c before)) p.lines
-        ∙ ap (λ cs. changes_performed who bits changed cs before) (sym e)
 
     pub performed_next : IsPerformedSoFar turn.direction after changed' old views gathered new views'' gathered''
     performed_next =
         let who = bits_of turn.direction in
-        let all = changes_of turn.direction old.document.history in
         let W = watchers now.document views' in
-        let types = now.document.line_end_types in
-        let document : new.document ≡ performed.document = ap (λ (s : Scene). s.document) p.scene in
-        let put : length gathered''.notes ≡ length performed.notes = ap (λ (s : Scene). length s.notes) p.scene in
+        let document = ap (λ (s : Scene). s.document) p.scene in
+        let kept = kept_by c who (several_bits turn) turn.last changed' before in
+        let put : length gathered''.notes ≡ length (change_performed who (several_bits turn) turn.last changed' c before).notes = ap (λ (s : Scene). length s.notes) p.scene in
         let few = performed_few turn.direction turn.several turn.last changed' c before in
         let told = save_point_told turn.direction old.document.history in
-        let notes = subst (λ cs. CanPut (notes_of_changes W who cs + save_point_notes told (length W)) gathered') e so.notes in
-        let texts = sym (ap (λ cs. gathered'.held + bytes_of_changes W who cs) e) ∙ so.held in
-        let fit = ap (λ (c : NoteCapacity). c.notes) p.capacity in
+        let notes = so.notes in
+        let texts = so.held in
+        let fit = ap (λ (c : NoteCapacity). c.notes) p.rooms.capacity in
         let held = p.held in
         let same_notes = notes_alike who after (watchers new.document views'') W alike in
         let same_bytes = bytes_alike who after (watchers new.document views'') W alike in
@@ -156,52 +139,27 @@ module _ (turn : Turn) (c : Change) (rest after : List Change) (changed : Bool) 
         record {
           scene = scene_next ∙ so.scene;
           watched = p.watched;
-          history = ap (λ (d : Document). d.history) document ∙ history_still c who (several_bits turn) turn.last changed' before ∙ so.history;
-          steps = subst (λ (d : Document). AreStepsOf (text_of d) (text_steps after)) (sym document)
-              (steps_left law who (several_bits turn) turn.last changed' c after before (subst (λ cs. AreStepsOf (text_of now.document) (text_steps cs)) e so.steps));
-          room = subst (λ t. HasTextRoom (room_of_changes t after) new)
-              (sym (ap (λ (d : Document). d.line_end_types) document ∙ types_still c who (several_bits turn) turn.last changed' before))
-              (next_change now new c after (subst (λ cs. HasTextRoom (room_of_changes types cs) now) e so.room) p.room);
-          memory = keeps_both old now new so.memory p.memory;
+          history = ap (λ (d : Document). d.history) document ∙ kept.0 ∙ so.history;
+          steps = subst (λ (d : Document). AreStepsOf (text_of d) (text_steps after)) (sym document) (steps_left law who (several_bits turn) turn.last changed' c after before so.steps);
+          room = subst (λ t. HasTextRoom (room_of_changes t after) new) (sym (ap (λ (d : Document). d.line_end_types) document ∙ kept.1)) (next_change now new c after so.room p.room);
+          rooms = stay_both so.rooms p.rooms;
           notes = omega arith;
           hear = λ k. alike.hear k ∙ so.hear k;
-          capacity = p.capacity ∙ so.capacity;
           held = omega arith;
-          ids = p.ids ∙ so.ids;
-          next = p.next ∙ so.next;
-          view_capacity = p.view_capacity ∙ so.view_capacity;
-          fold_capacities = p.fold_capacities ∙ so.fold_capacities;
         }
 
-pub performed_all : (direction : Direction) (rest : List Change) (changed : Bool) (old now : Kept) (views views' : Entries KeptView) (gathered gathered' : Gathered)
-    → IsPerformedSoFar direction rest changed old views gathered now views' gathered' → rest ≡ [] → AreAllPerformed direction old views gathered now views' gathered'
-performed_all direction rest changed old now views views' gathered gathered' so e =
-    let who = bits_of direction in
-    let all = changes_of direction old.document.history in
-    let bits = bit_if (nat_lt 1 (length all)) multi_step in
-    let notes = subst (λ cs. CanPut (notes_of_changes (watchers now.document views') who cs + save_point_notes (save_point_told direction old.document.history) (length (watchers now.document views'))) gathered') e so.notes in
-    let texts = sym (ap (λ cs. gathered'.held + bytes_of_changes (watchers now.document views') who cs) e) ∙ so.held in
-    record {
-      scene = ap (λ cs. changes_performed who bits changed cs (scene_in now.document views'.entries gathered'.notes)) (sym e) ∙ so.scene;
-      history = so.history;
-      watched = so.watched;
-      memory = so.memory;
-      left = omega arith;
-      capacity = so.capacity;
-      held = omega arith;
-      ids = so.ids;
-      next = so.next;
-      view_capacity = so.view_capacity;
-      fold_capacities = so.fold_capacities;
-    }
+-- the change whose turn it is, from the changes that are left
+pub can_at : (turn : Turn) (changed : Bool) (old now : Kept) (views views' : Entries KeptView) (gathered gathered' : Gathered) → let all = changes_of turn.direction old.document.history in
+    IsPerformedSoFar turn.direction (drop turn.index all) changed old views gathered now views' gathered' → CanPerformAll turn.direction old views gathered → turn.index < length all
+    → (c : Change) × CanPerform turn now views' gathered' c × (slice_get all turn.index ≡ Some c)
+can_at turn changed old now views views' gathered gathered' so can within =
+    let all = changes_of turn.direction old.document.history in
+    let next = there all turn.index within in
+    (next.0, next_can turn next.0 (drop (turn.index + 1) all) changed old now views views' gathered gathered' (rw (drop_some all turn.index next.0 next.1) at so) can next.1, next.1)
 
--- The history after the changes, and the save point.
-
--- the save point was reached or left, and the notes say which
-pub reached : (views : List View) (is : Bool) → is ≡ true → save_point_change views (not is) is ≡ told views (blank save_point_reached)
-reached views true h = refl
-reached views false h = absurd (cc)
-
-pub left : (views : List View) (is : Bool) → is ≡ false → save_point_change views (not is) is ≡ told views (blank save_point_left)
-left views false h = refl
-left views true h = absurd (cc)
+pub performed_all : (direction : Direction) (changed : Bool) (old now : Kept) (views views' : Entries KeptView) (gathered gathered' : Gathered)
+    → IsPerformedSoFar direction [] changed old views gathered now views' gathered' → AreAllPerformed direction old views gathered now views' gathered'
+performed_all direction changed old now views views' gathered gathered' so =
+    let notes = so.notes in
+    let texts = so.held in
+    record { scene = so.scene; history = so.history; watched = so.watched; rooms = so.rooms; left = omega arith; held = omega arith }

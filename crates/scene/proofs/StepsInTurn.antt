@@ -1,43 +1,29 @@
 -- Steps in turn, from the room that was reserved for all of them.
-use Rattle.scene.proofs.Names.{zero, suc, ◌≡◌, ℕ, ◌+◌, ◌<◌, ◌≤◌, Bool, true, false, List, [], ◌∷◌, ◌++◌, length, take, drop, refl, ap, sym, ◌∙◌, subst, arith, slice_range, length-take, length-drop, LineEnd, Step, Insert, Delete, edited, after_steps, conversion_steps, unwanted_from, Document, text_of, Scene, step_made, steps_made, bytes_of_edited_cells, length_of_range, length_text, Kept, HasRoom, LeavesRoom, need_of, Entries, KeptView, Gathered, IsNextMissing, IsNextUnwanted, completed, missing_in, unwanted_in, scene_in, IsWatched, held_behind, next_held, deletion_needs, first_room, keeps_both, next_room, AreLeft, RoomsStay, deletions_of, room_of_steps}
-use Rattle.std.proofs.lemmas.List.{length-append}
+use Rattle.scene.proofs.Names.{zero, suc, ◌≡◌, ℕ, ◌+◌, ◌-◌, ◌≤◌, Bool, true, false, List, [], ◌∷◌, ◌++◌, length, refl, ap, sym, ◌∙◌, subst, arith, slice_range, length-append, LineEnd, Step, Insert, Delete, edited, after_steps, conversion_steps, unwanted_from, Document, text_of, Scene, step_made, steps_made, bytes_of_edited_cells, length_of_range, length_text, Kept, HasRoom, LeavesRoom, need_of, Entries, KeptView, Gathered, IsNextMissing, IsNextUnwanted, completed, missing_in, unwanted_in, kept_scene, IsWatched, held_behind, next_held, deletion_needs, first_room, next_room, AreLeft, RoomsStay, deletions_of, room_of_steps}
+use Rattle.ed_model.specs.proved.Steps.{length-inserted, length-deleted_within}
 use Rattle.document.specs.declared.text_step.TextStep.TheVariants as lent
+use Rattle.scene.proofs.Staying.{stay_both}
 
 -- The text after a step.
 
 pub text_after : (later : Bool) (s : Step) (scene after : Scene) → after ≡ step_made later s scene → text_of after.document ≡ edited s (text_of scene.document)
 text_after later s scene after e = ap (λ (x : Scene). text_of x.document) e ∙ bytes_of_edited_cells s scene.document.cells
 
--- steps that allocate nothing, and then others that allocate nothing
-pub stay_both : (k0 k k' : Kept) (v0 v v' : Entries KeptView) (n0 n n' : Gathered) → RoomsStay k0 k v0 v n0 n → RoomsStay k k' v v' n n' → RoomsStay k0 k' v0 v' n0 n'
-stay_both k0 k k' v0 v v' n0 n n' so then = record {
-  document = keeps_both k0 k k' so.document then.document;
-  fold_capacities = then.fold_capacities ∙ so.fold_capacities;
-  view_capacity = then.view_capacity ∙ so.view_capacity;
-  capacity = then.capacity ∙ so.capacity;
-}
-
 -- One of the steps is made.
 pub made_left :
     (s : Step) (rest steps : List Step) (later was : Bool) (k0 k k' : Kept) (v0 v v' : Entries KeptView) (n0 n n' : Gathered)
-    → AreLeft (s ∷ rest) later steps was k0 k v0 v n0 n
-    → scene_in k'.document v'.entries n'.notes ≡ step_made later s (scene_in k.document v.entries n.notes)
-    → IsWatched k'.document v' → LeavesRoom s k k' → n'.held ≡ held_behind later s (scene_in k.document v.entries n.notes) n.held
-    → RoomsStay k k' v v' n n' → v'.next ≡ v.next → AreLeft rest true steps was k0 k' v0 v' n0 n'
-made_left s rest steps later was k0 k k' v0 v v' n0 n n' left made watched leaves held stay next =
-    let scene = scene_in k.document v.entries n.notes in
-    let after = scene_in k'.document v'.entries n'.notes in
-    let types : k'.document.line_end_types ≡ k.document.line_end_types = ap (λ (x : Scene). x.document.line_end_types) made in
-    record {
-      scene = ap (steps_made true rest) made ∙ left.scene;
-      can = record {
-        watched = watched;
-        room = subst (λ t. HasRoom (room_of_steps t rest) k') (sym types) (next_room k k' s rest left.can.room leaves);
-        holds = next_held later s rest scene after n n' left.can.holds made stay.capacity held;
-      };
-      next = next ∙ left.next;
-      rooms = stay_both k0 k k' v0 v v' n0 n n' left.rooms stay;
-    }
+    → AreLeft (s ∷ rest) later steps was k0 k v0 v n0 n → kept_scene k' v' n' ≡ step_made later s (kept_scene k v n)
+    → IsWatched k'.document v' → LeavesRoom s k k' → n'.held ≡ held_behind later s (kept_scene k v n) n.held → RoomsStay k k' v v' n n'
+    → AreLeft rest true steps was k0 k' v0 v' n0 n'
+made_left s rest steps later was k0 k k' v0 v v' n0 n n' left made watched leaves held stay = record {
+  scene = ap (steps_made true rest) made ∙ left.scene;
+  can = record {
+    watched = watched;
+    room = subst (λ t. HasRoom (room_of_steps t rest) k') (sym (ap (λ (x : Scene). x.document.line_end_types) made)) (next_room k k' s rest left.can.room leaves);
+    holds = next_held later s rest (kept_scene k v n) (kept_scene k' v' n') n n' left.can.holds made stay.capacity held;
+  };
+  rooms = stay_both left.rooms stay;
+}
 
 -- The insertions of a conversion.
 
@@ -54,43 +40,24 @@ put_of place byte = Insert place (byte ∷ [])
 abbrev pub puts_behind : LineEnd → ℕ → ℕ → Kept → Kept → List Step
 puts_behind to place byte k0 k = missing_in to (edited (put_of place byte) (text_of k.document)) (place + 1) ++ deletions_of to (text_of k0.document)
 
-pub put_next : (to : LineEnd) (start place byte : ℕ) (later : Bool) (k0 k : Kept) (v0 v : Entries KeptView) (n0 n : Gathered) → PutsLeft to start later k0 k v0 v n0 n
-    → IsNextMissing to (text_of k.document) start place byte
-    → AreLeft (put_of place byte ∷ puts_behind to place byte k0 k) later (conversion_steps to (text_of k0.document)) false k0 k v0 v n0 n
-put_next to start place byte later k0 k v0 v n0 n so next =
-    subst (λ l. AreLeft (l ++ deletions_of to (text_of k0.document)) later (conversion_steps to (text_of k0.document)) false k0 k v0 v n0 n) next.steps so.left
-
 -- after the next insertion is made, the others remain
 pub put_made :
     (to : LineEnd) (start place byte : ℕ) (later : Bool) (k0 k k' : Kept) (v0 v v' : Entries KeptView) (n0 n n' : Gathered)
     → PutsLeft to start later k0 k v0 v n0 n → IsNextMissing to (text_of k.document) start place byte
-    → scene_in k'.document v'.entries n'.notes ≡ step_made later (put_of place byte) (scene_in k.document v.entries n.notes)
-    → IsWatched k'.document v' → LeavesRoom (put_of place byte) k k' → n'.held ≡ held_behind later (put_of place byte) (scene_in k.document v.entries n.notes) n.held
-    → RoomsStay k k' v v' n n' → v'.next ≡ v.next → PutsLeft to (place + 1) true k0 k' v0 v' n0 n'
-put_made to start place byte later k0 k k' v0 v v' n0 n n' so next made watched leaves held stay same =
+    → kept_scene k' v' n' ≡ step_made later (put_of place byte) (kept_scene k v n) → IsWatched k'.document v' → LeavesRoom (put_of place byte) k k'
+    → n'.held ≡ held_behind later (put_of place byte) (kept_scene k v n) n.held → RoomsStay k k' v v' n n' → PutsLeft to (place + 1) true k0 k' v0 v' n0 n'
+put_made to start place byte later k0 k k' v0 v v' n0 n n' so next made watched leaves held stay =
     let s = put_of place byte in
-    let text : text_of k'.document ≡ edited s (text_of k.document) = text_after later s (scene_in k.document v.entries n.notes) (scene_in k'.document v'.entries n'.notes) made in
+    let text = text_after later s (kept_scene k v n) (kept_scene k' v' n') made in
     let left = made_left s (puts_behind to place byte k0 k) (conversion_steps to (text_of k0.document)) later false k0 k k' v0 v v' n0 n n'
-    (put_next to start place byte later k0 k v0 v n0 n so next) made watched leaves held stay same in
-    let done : after_steps (missing_in to (edited s (text_of k.document)) (place + 1)) (edited s (text_of k.document)) ≡ completed to (text_of k0.document) =
-    sym (ap (λ l. after_steps l (text_of k.document)) next.steps) ∙ so.text in
-    let size : length (text_of k'.document) ≡ length (text_of k.document) + 1 = ap length text ∙ one_longer place byte (text_of k.document) in
+    (rw next.steps at so.left) made watched leaves held stay in
+    let size = ap length text ∙ length-inserted place (byte ∷ []) (text_of k.document) in
     let w = next.within in
     record {
       within = omega (arith, size, length_text k'.document);
       left = subst (λ t. AreLeft (missing_in to t (place + 1) ++ deletions_of to (text_of k0.document)) true (conversion_steps to (text_of k0.document)) false k0 k' v0 v' n0 n') (sym text) left;
-      text = subst (λ t. after_steps (missing_in to t (place + 1)) t ≡ completed to (text_of k0.document)) (sym text) done;
+      text = subst (λ t. after_steps (missing_in to t (place + 1)) t ≡ completed to (text_of k0.document)) (sym text) (sym (ap (λ l. after_steps l (text_of k.document)) next.steps) ∙ so.text);
     }
-  where
-    one_longer : (p b : ℕ) (t : List ℕ) → length (take p t ++ (b ∷ []) ++ drop p t) ≡ length t + 1
-    one_longer p b t = simp (length-append, length-take, length-drop) (omega arith)
-
--- each insertion makes fewer remain
-pub fewer_puts : (to : LineEnd) (start place byte : ℕ) (text text' : List ℕ) → IsNextMissing to text start place byte → text' ≡ edited (put_of place byte) text
-    → length (missing_in to text' (place + 1)) < length (missing_in to text start)
-fewer_puts to start place byte text text' next e =
-    let n = ap length next.steps in
-    subst (λ t. length (missing_in to t (place + 1)) < length (missing_in to text start)) (sym e) (omega arith)
 
 -- The deletions.
 
@@ -100,12 +67,6 @@ pub record TakesLeft (to : LineEnd) (place : ℕ) (later was : Bool) (k0 k : Kep
 
 abbrev pub take_of : ℕ → Kept → Step
 take_of place k = Delete place (slice_range (text_of k.document) place (place + 1))
-
-pub take_next : (to : LineEnd) (start place : ℕ) (later was : Bool) (k0 k : Kept) (v0 v : Entries KeptView) (n0 n : Gathered) → TakesLeft to start later was k0 k v0 v n0 n
-    → IsNextUnwanted to (text_of k.document) start place
-    → AreLeft (take_of place k ∷ unwanted_in to (edited (take_of place k) (text_of k.document)) place) later (unwanted_from 0 false to (text_of k0.document)) was k0 k v0 v n0 n
-take_next to start place later was k0 k v0 v n0 n so next =
-    subst (λ l. AreLeft l later (unwanted_from 0 false to (text_of k0.document)) was k0 k v0 v n0 n) next.steps so.left
 
 pub take_within : (to : LineEnd) (start place : ℕ) (k : Kept) → IsNextUnwanted to (text_of k.document) start place → place + 1 ≤ length k.document.cells
 take_within to start place k next = let w = next.within in omega (arith, length_text k.document)
@@ -120,31 +81,21 @@ take_room to start place rest k next room =
 pub take_made :
     (to : LineEnd) (start place : ℕ) (later was : Bool) (k0 k k' : Kept) (v0 v v' : Entries KeptView) (n0 n n' : Gathered)
     → TakesLeft to start later was k0 k v0 v n0 n → IsNextUnwanted to (text_of k.document) start place
-    → scene_in k'.document v'.entries n'.notes ≡ step_made later (take_of place k) (scene_in k.document v.entries n.notes)
-    → IsWatched k'.document v' → LeavesRoom (take_of place k) k k' → n'.held ≡ held_behind later (take_of place k) (scene_in k.document v.entries n.notes) n.held
-    → RoomsStay k k' v v' n n' → v'.next ≡ v.next → TakesLeft to place true was k0 k' v0 v' n0 n'
-take_made to start place later was k0 k k' v0 v v' n0 n n' so next made watched leaves held stay same =
+    → kept_scene k' v' n' ≡ step_made later (take_of place k) (kept_scene k v n) → IsWatched k'.document v' → LeavesRoom (take_of place k) k k'
+    → n'.held ≡ held_behind later (take_of place k) (kept_scene k v n) n.held → RoomsStay k k' v v' n n' → TakesLeft to place true was k0 k' v0 v' n0 n'
+take_made to start place later was k0 k k' v0 v v' n0 n n' so next made watched leaves held stay =
     let s = take_of place k in
-    let text : text_of k'.document ≡ edited s (text_of k.document) = text_after later s (scene_in k.document v.entries n.notes) (scene_in k'.document v'.entries n'.notes) made in
+    let text = text_after later s (kept_scene k v n) (kept_scene k' v' n') made in
     let left = made_left s (unwanted_in to (edited s (text_of k.document)) place) (unwanted_from 0 false to (text_of k0.document)) later was k0 k k' v0 v v' n0 n n'
-    (take_next to start place later was k0 k v0 v n0 n so next) made watched leaves held stay same in
+    (rw next.steps at so.left) made watched leaves held stay in
+    let bytes = slice_range (text_of k.document) place (place + 1) in
+    let one : length bytes ≡ 1 = length_of_range k.document.cells place 1 (take_within to start place k next) in
     let w = next.within in
-    let one : length (slice_range (text_of k.document) place (place + 1)) ≡ 1 = length_of_range k.document.cells place 1 (take_within to start place k next) in
-    let size : length (text_of k'.document) + 1 ≡ length (text_of k.document) =
-    ap (λ t. length t + 1) text ∙ one_shorter place (length (slice_range (text_of k.document) place (place + 1))) (text_of k.document) one w in
+    let size = ap length text ∙ length-deleted_within place bytes (text_of k.document) (omega arith) in
     record {
       within = omega (arith, size, length_text k'.document);
       left = subst (λ t. AreLeft (unwanted_in to t place) true (unwanted_from 0 false to (text_of k0.document)) was k0 k' v0 v' n0 n') (sym text) left;
     }
-  where
-    one_shorter : (p n : ℕ) (t : List ℕ) → n ≡ 1 → p < length t → length (take p t ++ drop (p + n) t) + 1 ≡ length t
-    one_shorter p n t e h = simp (length-append, length-take, length-drop) (omega arith)
-
-pub fewer_takes : (to : LineEnd) (start place : ℕ) (k : Kept) (text' : List ℕ) → IsNextUnwanted to (text_of k.document) start place → text' ≡ edited (take_of place k) (text_of k.document)
-    → length (unwanted_in to text' place) < length (unwanted_in to (text_of k.document) start)
-fewer_takes to start place k text' next e =
-    let n = ap length next.steps in
-    subst (λ t. length (unwanted_in to t place) < length (unwanted_in to (text_of k.document) start)) (sym e) (omega arith)
 
 -- a text with an unwanted byte is not empty
 pub some_cells : (d : Document) (first second : List ℕ) (count : ℕ) → first ++ second ≡ text_of d → (count ≡ 0 → ⊥) → count ≤ length first + length second → 0 + 1 ≤ length d.cells

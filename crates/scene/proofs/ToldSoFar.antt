@@ -9,22 +9,16 @@ pub told_none : (note : Notice) (whole : List View) (old : Gathered) → IsToldS
 told_none note whole old = record { notes = refl; others = refl }
 
 -- the next view is notified
-pub told_one : (note x : Notice) (whole rest next : List View) (v : View) (old now new : Gathered) → IsToldSoFar note whole rest old now → rest ≡ v ∷ next
+pub told_one : (note x : Notice) (whole next : List View) (v : View) (old now new : Gathered) → IsToldSoFar note whole (v ∷ next) old now
     → x ≡ record note { view = v.id } → new ≡ record now { notes = now.notes ++ x ∷ [] } → IsToldSoFar note whole next old new
-told_one note x whole rest next v old now new so e same put =
+told_one note x whole next v old now new so same put =
     rw put (record {
-      notes = append_assoc now.notes (x ∷ []) (told next note) ∙ ap (λ y. now.notes ++ y ∷ told next note) same ∙ ap (λ r. now.notes ++ told r note) (sym e) ∙ so.notes;
+      notes = append_assoc now.notes (x ∷ []) (told next note) ∙ ap (λ y. now.notes ++ y ∷ told next note) same ∙ so.notes;
       others = ap (λ (g : Gathered). record g { notes = now.notes ++ x ∷ [] }) so.others;
     })
 
--- the next view is not in the audience
-pub told_same : (note : Notice) (whole rest next : List View) (old now new : Gathered) → IsToldSoFar note whole rest old now → rest ≡ next → new ≡ now
-    → IsToldSoFar note whole next old new
-told_same note whole rest next old now new so e same = rw same (subst (λ r. IsToldSoFar note whole r old now) e so)
-
-pub told_all : (note : Notice) (whole rest : List View) (old now : Gathered) → IsToldSoFar note whole rest old now → rest ≡ [] → now ≡ with_notes (told whole note) old
-told_all note whole rest old now so e =
-    so.others ∙ ap (λ ns. record old { notes = ns }) (sym (append-nil now.notes) ∙ ap (λ r. now.notes ++ told r note) (sym e) ∙ so.notes)
+pub told_all : (note : Notice) (whole : List View) (old now : Gathered) → IsToldSoFar note whole [] old now → now ≡ with_notes (told whole note) old
+told_all note whole old now so = so.others ∙ ap (λ ns. record old { notes = ns }) (sym (append-nil now.notes) ∙ so.notes)
 
 -- if no more notes fit in, no view is in the audience
 pub told_nobody : (note : Notice) (whole : List View) (old : Gathered) → is_full old ≡ true → CanPut (length whole) old → old ≡ with_notes (told whole note) old
@@ -35,16 +29,13 @@ pub length_told : (views : List View) (n : Notice) → length (told views n) ≡
 length_told views n = length-map views (λ (v : View). record n { view = v.id })
 
 -- the next note fits in
-pub room_for_one : (note : Notice) (whole rest next : List View) (v : View) (old now : Gathered) → IsToldSoFar note whole rest old now → rest ≡ v ∷ next
-    → CanPut (length whole) old → CanPut 1 now
-room_for_one note whole rest next v old now so e room =
-    let p = ap length e in
-    let l : length rest ≡ length next + 1 = omega arith in
+pub room_for_one : (note : Notice) (whole next : List View) (v : View) (old now : Gathered) → IsToldSoFar note whole (v ∷ next) old now → CanPut (length whole) old → CanPut 1 now
+room_for_one note whole next v old now so room =
     let n = ap length so.notes in
     let same = ap (λ (g : Gathered). g.capacity.notes) so.others in
-    let a = length-append now.notes (told rest note) in
+    let a = length-append now.notes (told (v ∷ next) note) in
     let b = length-append old.notes (told whole note) in
-    let c = length_told rest note in
+    let c = length_told (v ∷ next) note in
     let d = length_told whole note in
     omega arith
 
@@ -55,11 +46,6 @@ note_for_text Empty note made id id' shared shared' h e f = subst (λ i. with_te
 note_for_text Shared note made id id' shared shared' h e f =
     subst (λ i. with_text made shared ≡ record (with_text note shared') { view = i }) e
     (subst (λ s. with_text made shared ≡ record (with_text note s) { view = id }) f (h shared))
-
--- the notes appended are those of the model
-pub told_as : (views : List View) (note : Note) (n : Notice) (old new : Gathered) → with_text note [] ≡ n
-    → new ≡ with_notes (told views (with_text note [])) old → new ≡ with_notes (told views n) old
-told_as views note n old new e put = subst (λ m. new ≡ with_notes (told views m) old) e put
 
 -- Notes of one step, one list after the other.
 

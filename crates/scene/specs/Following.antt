@@ -1,21 +1,25 @@
 -- Views that follow a step of their document.
-use Rattle.std.specs.Prelude.{◌≡◌, ℕ, ◌+◌, ◌^◌, ◌<◌, List, [], ◌∷◌, length, Option, Some, None}
+use Rattle.std.specs.Prelude.{◌≡◌, ℕ, ◌+◌, ◌==◌, ◌^◌, ◌<◌, if◌then◌else◌, List, [], ◌∷◌, length, map}
+use Rattle.std.specs.List.{AllByRecursion}
 use Rattle.line_index.specs.declared.edit.LineEdit.{LineEdit}
 use Rattle.line_index.specs.Edits.{FitLines, fresh_lines}
 use Rattle.selection.specs.declared.movements.Movement.{Movement}
 use Rattle.selection.specs.Positions.{count_of}
-use Rattle.ed_model.specs.Session.{View, view_at, with_view}
+use Rattle.ed_model.specs.Session.{View}
+use Rattle.id_table.specs.Entries.{Entries}
 use Rattle.ed_view.specs.Flags.{AreFewLines}
+use Rattle.ed_view.specs.Kept.{KeptView}
 use Rattle.ed_view.specs.Moving.{view_moved}
+use Rattle.scene.specs.Scenes.{views_in, AreNamed, IdsRise, ViewsStay}
 
-abbrev pub with_followed : Movement → List LineEdit → Option View → List View → List View
-with_followed movement edits None views = views
-with_followed movement edits (Some v) views = with_view (view_moved movement edits v) views
+-- the view once the view with this id followed
+abbrev pub followed_at : Movement → List LineEdit → ℕ → View → View
+followed_at movement edits id v = if v.id == id then view_moved movement edits v else v
 
--- the views after those with the ids followed, one after the other
-abbrev pub followed_at : Movement → List LineEdit → List ℕ → List View → List View
-followed_at movement edits [] views = views
-followed_at movement edits (id ∷ ids) views = followed_at movement edits ids (with_followed movement edits (view_at views id) views)
+-- the view once those with the ids followed, one after the other
+abbrev pub followed : Movement → List LineEdit → List ℕ → View → View
+followed movement edits [] v = v
+followed movement edits (id ∷ ids) v = followed movement edits ids (followed_at movement edits id v)
 
 -- the positions of the view stay small enough, and the edits are in range for its lines
 pub record CanFollow (movement : Movement) (edits : List LineEdit) (v : View) : Type 0 where
@@ -26,9 +30,20 @@ pub record CanFollow (movement : Movement) (edits : List LineEdit) (v : View) : 
   pub lines : FitLines (length v.flags) edits
   pub few : AreFewLines v.large (length v.flags + fresh_lines edits)
 
--- the same for each of the views with the ids, when its turn comes
-abbrev pub CanFollowInTurn : Movement → List LineEdit → List ℕ → List View → Type 0
-CanFollowInTurn movement edits [] views = Unit {0}
-CanFollowInTurn movement edits (id ∷ ids) views =
-    ((v : View) → view_at views id ≡ Some v → CanFollow movement edits v)
-    × CanFollowInTurn movement edits ids (with_followed movement edits (view_at views id) views)
+-- the view can follow each time that its id comes
+abbrev pub CanFollowInTurn : Movement → List LineEdit → List ℕ → View → Type 0
+CanFollowInTurn movement edits [] v = Unit {0}
+CanFollowInTurn movement edits (id ∷ ids) v =
+    (v.id ≡ id → CanFollow movement edits v) × CanFollowInTurn movement edits ids (followed_at movement edits id v)
+
+-- each view is stored under its own id, the ids rise, and each view can follow in its turn
+pub record CanAllFollow (movement : Movement) (edits : List LineEdit) (order : List ℕ) (table : Entries KeptView) : Type 0 where
+  pub named : AreNamed table.entries
+  pub rise : IdsRise table
+  pub can : AllByRecursion (CanFollowInTurn movement edits order) (views_in table)
+
+-- the views followed in this order of their ids
+pub record HaveFollowed (movement : Movement) (edits : List LineEdit) (order : List ℕ) (old new : Entries KeptView) : Type 0 where
+  pub views : views_in new ≡ map (followed movement edits order) (views_in old)
+  pub named : AreNamed new.entries
+  pub stay : ViewsStay old new

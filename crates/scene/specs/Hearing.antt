@@ -1,5 +1,5 @@
 -- The views that are notified, and the texts of their notes.
-use Rattle.std.specs.Prelude.{ℕ, nat_lt, if◌then◌else◌, Bool, true, false, List, [], ◌∷◌, length, filter, bit_or}
+use Rattle.std.specs.Prelude.{ℕ, nat_lt, if◌then◌else◌, Bool, true, List, [], ◌∷◌, length, filter, bit_or}
 use Rattle.ed_types.specs.Notices.{Notice}
 use Rattle.ed_types.specs.declared.reply.Note.{Note}
 use Rattle.ed_types.specs.Heard.{with_text}
@@ -66,5 +66,4 @@ bytes_shared kinds views count = if nat_lt 0 (hearers kinds views) then count el
 
 -- the notes that the save point is left, if it is
 abbrev pub left_note : Bool → List View → List Notice
-left_note true views = notes.told views (notes.blank notes.save_point_left)
-left_note false views = []
+left_note is_left views = if is_left then notes.told views (notes.blank notes.save_point_left) else []

@@ -1,7 +1,6 @@
 pub mod Scenes
 pub mod Hearing
 pub mod Following
-pub mod Regrouping
 pub mod Telling
 pub mod StepNotes
 pub mod Steps

@@ -10,6 +10,7 @@ use Rattle.ed_view.specs.Flags.{FoldCapacities}
 use Rattle.ed_view.specs.Kept.{KeptView, capacities}
 use Rattle.notify.specs.Gathered.{Gathered}
 use Rattle.document.specs.Kept.{Kept}
+use Rattle.document.specs.Memory.{KeepsCapacity}
 
 abbrev pub views_of : List (Entry KeptView) → List View
 views_of entries = map (λ (e : Entry KeptView). e.value.view) entries
@@ -36,6 +37,19 @@ capacities_at e = capacities e.value
 -- each view keeps its capacity for hidden and contracted lines
 abbrev pub KeepFoldCapacities : Entries KeptView → Entries KeptView → Type 0
 KeepFoldCapacities old new = map capacities_at new.entries ≡ map capacities_at old.entries
+
+-- no view came or went, and the table of views keeps its capacity and those of its views
+pub record ViewsStay (old new : Entries KeptView) : Type 0 where
+  pub ids : map id_of new.entries ≡ map id_of old.entries
+  pub next : new.next ≡ old.next
+  pub view_capacity : new.capacity ≡ old.capacity
+  pub fold_capacities : KeepFoldCapacities old new
+
+-- The document and the notes keep their capacity, too: nothing was allocated.
+pub record RoomsStay (old new : Kept) (views views' : Entries KeptView) (notes notes' : Gathered) : Type 0 where
+  pub memory : KeepsCapacity old new
+  pub capacity : notes'.capacity ≡ notes.capacity
+  pub table : ViewsStay views views'
 
 -- the ids of the views rise, and are below the next one
 abbrev pub IdsRise : Entries KeptView → Type 0

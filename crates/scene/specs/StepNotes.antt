@@ -45,18 +45,6 @@ abbrev pub IsRangeNote : ℕ → ℕ → ℕ → Note → Type 0
 IsRangeNote kind place count note =
     (text : List ℕ) → let n = range_note kind place count in with_text note text ≡ record n { text = text }
 
--- with its text, the note is the model's before the step, on any text that the step fits
-abbrev pub IsNoteBefore : ℕ → TextStep → Note → Type 0
-IsNoteBefore bits step note =
-    (text : List ℕ) → IsStepOn step (length text)
-    → with_text note (text_before (step_in step text)) ≡ before_note bits (step_in step text)
-
--- with its text, the note is the model's after the step, on any text that the step fits
-abbrev pub IsNoteAfter : ℕ → ℤ → TextStep → Note → Type 0
-IsNoteAfter bits lines step note =
-    (text : List ℕ) → IsStepOn step (length text)
-    → with_text note (step_bytes (step_in step text)) ≡ after_note bits lines (step_in step text)
-
 -- the notes before a step of the document: one for each view that watches and hears it
 abbrev pub notes_before : ℕ → TextStep → Kept → Entries KeptView → List Notice
 notes_before bits step k views = heard (watchers k.document views) (before_note bits (step_on k step))

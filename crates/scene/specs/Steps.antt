@@ -1,6 +1,5 @@
 -- A step of a document, with its notes and the views that follow: who hears it, and the scene after it.
-use Rattle.std.specs.Prelude.{◌≡◌, ℕ, ◌+◌, Bool, List, ◌++◌, length}
-use Rattle.ed_types.specs.Notices.{Notice}
+use Rattle.std.specs.Prelude.{ℕ, Bool, length}
 use Rattle.ed_model.specs.Steps.{step_bytes}
 use Rattle.ed_model.specs.Performing.{Scene, step_heard, step_made}
 use Rattle.id_table.specs.Entries.{Entries}
@@ -12,7 +11,6 @@ use Rattle.document.specs.TextSteps.{step_on}
 use Rattle.scene.specs.declared.steps.StepBits.{StepBits}
 use Rattle.scene.specs.Scenes.{kept_scene, watchers}
 use Rattle.scene.specs.Hearing.{hearers, step_kinds, made_kinds, bytes_shared, left_note}
-use Rattle.scene.specs.StepNotes.{notes_before}
 
 -- how many views that watch hear the step, whose notes have these bits
 abbrev pub step_hearers : StepBits → TextStep → Kept → Entries KeptView → ℕ
@@ -31,16 +29,6 @@ made_bytes later step k views =
     bytes_shared (made_kinds later (step_on k step) k.document.history) (watchers k.document views)
     (length (step_bytes (step_on k step)))
 
--- earlier notes, then the notes before the step, and then those that the save point is left, if it `is_left`
-abbrev pub notes_ahead : StepBits → Bool → TextStep → Kept → Entries KeptView → List Notice → List Notice
-notes_ahead bits is_left step k views earlier =
-    earlier ++ notes_before bits.before step k views ++ left_note is_left (watchers k.document views)
-
--- how many notes these are, without the earlier ones
-abbrev pub count_ahead : StepBits → Bool → TextStep → Kept → Entries KeptView → ℕ
-count_ahead bits is_left step k views =
-    length (notes_before bits.before step k views) + length (left_note is_left (watchers k.document views))
-
 -- the scene after the step, whose notes have these bits; in between, if the save point `is_left`, all views that watch
 -- are told so
 abbrev pub scene_heard : StepBits → Bool → TextStep → Kept → Entries KeptView → Gathered → Scene
@@ -51,11 +39,3 @@ scene_heard bits is_left step k views g =
 -- the scene after a step that a message makes
 abbrev pub scene_made : Bool → TextStep → Kept → Entries KeptView → Gathered → Scene
 scene_made later step k views g = step_made later (step_on k step) (kept_scene k views g)
-
--- the new scene is the old one after the step, whose notes have these bits
-abbrev pub IsHeard : StepBits → Bool → TextStep → Kept → Entries KeptView → Gathered → Kept → Entries KeptView → Gathered → Type 0
-IsHeard bits is_left step k views g k' views' g' = kept_scene k' views' g' ≡ scene_heard bits is_left step k views g
-
--- the new scene is the old one after the step that a message makes
-abbrev pub IsMade : Bool → TextStep → Kept → Entries KeptView → Gathered → Kept → Entries KeptView → Gathered → Type 0
-IsMade later step k views g k' views' g' = kept_scene k' views' g' ≡ scene_made later step k views g

@@ -1,8 +1,8 @@
 -- Undo and redo: the bits of their notes, and what they need.
-use Rattle.std.specs.Prelude.{◌≡◌, ℕ, ◌+◌, ◌-◌, ◌*◌, ◌^◌, ◌==◌, if◌then◌else◌, min, Bool, true, List, [], ◌∷◌, length, reverse, bit_or, bit_and, Option, Some, None}
+use Rattle.std.specs.Prelude.{◌≡◌, ℕ, ◌+◌, ◌-◌, ◌*◌, ◌^◌, if◌then◌else◌, min, Bool, true, List, [], ◌∷◌, length, reverse, bit_or, Option, Some, None}
 use Rattle.ed_model.specs.declared.plan.LineEndTypes.{LineEndTypes}
 use Rattle.ed_model.specs.Steps.{Step, Insert, Delete, step_bytes}
-use Rattle.ed_model.specs.History.{History, Change, TextStep, ContainerStep, latest_text_step}
+use Rattle.ed_model.specs.History.{Change, TextStep, ContainerStep, latest_text_step}
 use Rattle.ed_model.specs.Session.{View}
 use Rattle.ed_model.specs.Notes as notes
 use Rattle.ed_model.specs.Performing.{last_bits, place_behind}
@@ -17,10 +17,10 @@ use Rattle.id_table.specs.Entries.{Entries}
 use Rattle.ed_view.specs.Kept.{KeptView}
 use Rattle.document.specs.Kept.{Kept, HasTextRoom, document_need, nothing_needed, amount_sum}
 use Rattle.document.specs.TextSteps.{LeavesTextRoom}
-use Rattle.document.specs.Undoing.{changes_of, is_other, need_of_change, outline_of, save_point_told}
+use Rattle.document.specs.Undoing.{changes_of, need_of_change, outline_of, save_point_told}
 use Rattle.scene.specs.declared.need.NoteRoom.{NoteRoom}
 use Rattle.scene.specs.Scenes.{watchers}
-use Rattle.scene.specs.Hearing.{step_kinds, hearers, masks_of, bytes_shared}
+use Rattle.scene.specs.Hearing.{step_kinds, hearers, bytes_shared}
 use Rattle.scene.specs.Needs.{note_room}
 
 -- the bit for undo or redo
@@ -106,11 +106,6 @@ room_of_changes types cs = rooms_beside types 0 cs
 abbrev pub save_point_notes : Bool → ℕ → ℕ
 save_point_notes told count = if told then count else 0
 
--- all notes of undo or redo
-abbrev pub notes_of_history : List View → Direction → History → ℕ
-notes_of_history views direction h =
-    notes_of_changes views (bits_of direction) (changes_of direction h) + save_point_notes (save_point_told direction h) (length views)
-
 -- an amount, or the greatest `usize` if it is more
 abbrev pub capped : ℕ → ℕ
 capped amount = min amount (2 ^ 64 - 1)
@@ -132,10 +127,6 @@ place_by (outline.Insert place count) before = Some (place + count)
 place_by (outline.Delete place count) before = Some place
 place_by (outline.Container token) before = before
 
--- whether no view that watches hears any kind of note that undo or redo may have
-abbrev pub none_hears : Direction → Kept → Entries KeptView → Bool
-none_hears direction k views = bit_and (masks_of (watchers k.document views)) (every_kind (bits_of direction)) == 0
-
 -- the room is what the notes of each change with this outline need
 abbrev pub IsNoteNeed : Direction → ChangeOutline → Kept → Entries KeptView → NoteRoom → Type 0
 IsNoteNeed direction shape k views room =
@@ -143,11 +134,6 @@ IsNoteNeed direction shape k views room =
     → room
     ≡ note_room (notes_of_change (watchers k.document views) (bits_of direction) change)
     (bytes_of_change (watchers k.document views) (bits_of direction) change)
-
--- how many notes tell the views that watch that the save point is reached or left: none if it is neither
-abbrev pub save_point_count : Bool → Bool → Kept → Entries KeptView → ℕ
-save_point_count was_there is_there k views =
-    save_point_notes (is_other was_there is_there) (length (watchers k.document views))
 
 -- Undo or redo of a document, with all its changes.
 
@@ -157,7 +143,9 @@ history_room direction k = room_of_changes k.document.line_end_types (changes_of
 
 -- how many notes undo or redo needs
 abbrev pub history_notes : Direction → Kept → Entries KeptView → ℕ
-history_notes direction k views = notes_of_history (watchers k.document views) direction k.document.history
+history_notes direction k views =
+    notes_of_changes (watchers k.document views) (bits_of direction) (changes_of direction k.document.history)
+    + save_point_notes (save_point_told direction k.document.history) (length (watchers k.document views))
 
 -- how many bytes are shared for these notes
 abbrev pub history_bytes : Direction → Kept → Entries KeptView → ℕ

@@ -1,13 +1,15 @@
 //! Converts the line ends of a document's text to one kind, by a step for each byte inserted or deleted.
 
-ghost use Rattle.std.specs.Prelude.{◌≡◌, ◌≤◌, false, if◌then◌else◌, nat_lt, length, MatchOption};
+ghost use Rattle.std.specs.Prelude.{◌≡◌, ◌≤◌, ◌*◌, [], false, if◌then◌else◌, nat_lt, length, MatchOption};
+ghost use Rattle.ed_model.specs.LineEnds.{missing_from, unwanted_from};
 ghost use Rattle.ed_model.specs.Session.{text_of};
-ghost use Rattle.document.specs.Memory.{KeepsCapacity};
+ghost use Rattle.ed_model.specs.Performing.{edit_made, steps_made};
+ghost use Rattle.document.specs.Kept.{HasRoom};
 ghost use Rattle.document.specs.TextSteps.{IsStepOn, need_on};
-ghost use Rattle.line_ends.specs.Conversion.{completed};
-ghost use Rattle.scene.specs.Scenes.{AreNamed, IsWatched, KeepFoldCapacities};
-ghost use Rattle.scene.specs.Needs.{leaving_notes};
-ghost use Rattle.scene.specs.Conversion.{CanMakeEdit, CanMakeSteps, capped_room, room_of_many, ConversionIsMade, DeletionsAreLeft, DeletionsAreMade, IsConverted, IsFirstMissing, IsFirstUnwanted, NoneMissing, NoneUnwanted, RoomsStay, conversion_of, deletions_in, has_steps, insertions_in, notes_for_all, notes_for_conversion, notes_for_many, room_for_all, room_for_conversion, unwanted_steps};
+ghost use Rattle.line_ends.specs.Conversion.{IsNextMissing, IsNextUnwanted, completed, missing_in, unwanted_in};
+ghost use Rattle.scene.specs.Scenes.{AreNamed, IsWatched, RoomsStay, kept_scene, scene_in};
+ghost use Rattle.scene.specs.Needs.{CanHoldEdit, bytes_for_step, bytes_needed, leaving_notes, notes_for, notes_for_step};
+ghost use Rattle.scene.specs.Conversion.{AreLeft, CanMakeSteps, capped_notes, capped_room, conversion_of, deletions_of, notes_for_all, room_of_many, room_of_steps, rooms_added};
 
 use crate::laws::document_is_small;
 use crate::need::{NoteRoom, SceneNeed, leaving_need, note_need};
@@ -24,7 +26,7 @@ use notify::NoteList;
 // Returns the place and the value of the first missing byte at `from` or behind it.
 fn missing_behind(document: &Document, from: usize, to: LineEnd) -> Option<(usize, u8)>
     requires { from ≤ length document.now.document.cells }
-    ensures { MatchOption result (NoneMissing to document.now from) (IsFirstMissing to document.now from) }
+    ensures { MatchOption result (missing_in to (text_of document.now.document) from ≡ []) (λ found. IsNextMissing to (text_of document.now.document) from found.0 found.1) }
 {
     let (first, second) = document.halves();
     next_missing(first, second, from, to)
@@ -33,7 +35,7 @@ fn missing_behind(document: &Document, from: usize, to: LineEnd) -> Option<(usiz
 // Returns the place of the first unwanted byte at `from` or behind it.
 fn unwanted_behind(document: &Document, from: usize, to: LineEnd) -> Option<usize>
     requires { from ≤ length document.now.document.cells }
-    ensures { MatchOption result (NoneUnwanted to document.now from) (IsFirstUnwanted to document.now from) }
+    ensures { MatchOption result (unwanted_in to (text_of document.now.document) from ≡ []) (λ place. IsNextUnwanted to (text_of document.now.document) from place) }
 {
     let (first, second) = document.halves();
     next_unwanted(first, second, from, to)
@@ -47,7 +49,7 @@ fn put_missing(
     to: LineEnd,
 ) -> bool
     requires { CanMakeSteps false (conversion_of to document.old) document.old views.old notes.old }
-    ensures left { DeletionsAreLeft to result document.old document.new views.old views.new notes.old notes.new }
+    ensures left { AreLeft (deletions_of to (text_of document.old.document)) result (conversion_of to document.old) false document.old document.new views.old views.new notes.old notes.new }
     ensures text { text_of document.new.document ≡ completed to (text_of document.old.document) }
 {
     let mut later = false;
@@ -73,10 +75,9 @@ fn take_unwanted(
     to: LineEnd,
     mut later: bool,
 )
-    requires { CanMakeSteps later (unwanted_steps to document.old) document.old views.old notes.old }
-    ensures scene { DeletionsAreMade to later document.old document.new views.old views.new notes.old notes.new }
+    requires { CanMakeSteps later (unwanted_from 0 false to (text_of document.old.document)) document.old views.old notes.old }
+    ensures scene { kept_scene document.new views.new notes.new ≡ steps_made later (unwanted_from 0 false to (text_of document.old.document)) (kept_scene document.old views.old notes.old) }
     ensures watched { IsWatched document.new.document views.new }
-    ensures next { views.new.next ≡ views.old.next }
     ensures rooms { RoomsStay document.old document.new views.old views.new notes.old notes.new }
 {
     let mut place = 0;
@@ -94,13 +95,9 @@ fn take_unwanted(
 // Makes all steps, one after the other.
 fn make_all(document: &mut Document, views: &mut IdTable<View>, notes: &mut NoteList, to: LineEnd)
     requires { CanMakeSteps false (conversion_of to document.old) document.old views.old notes.old }
-    ensures scene { ConversionIsMade to document.old document.new views.old views.new notes.old notes.new }
+    ensures scene { kept_scene document.new views.new notes.new ≡ steps_made false (conversion_of to document.old) (kept_scene document.old views.old notes.old) }
     ensures watched { IsWatched document.new.document views.new }
-    ensures next { views.new.next ≡ views.old.next }
-    ensures memory { KeepsCapacity document.old document.new }
-    ensures fold_capacities { KeepFoldCapacities views.old views.new }
-    ensures view_capacity { views.new.capacity ≡ views.old.capacity }
-    ensures capacity { notes.new.capacity ≡ notes.old.capacity }
+    ensures rooms { RoomsStay document.old document.new views.old views.new notes.old notes.new }
 {
     let later = put_missing(document, views, notes, to);
     take_unwanted(document, views, notes, to, later);
@@ -109,7 +106,7 @@ fn make_all(document: &mut Document, views: &mut IdTable<View>, notes: &mut Note
 // Returns how many notes say that the save point is left by the first of the steps: none if there is no step.
 fn notes_of_leaving(document: &Document, views: &IdTable<View>, to: LineEnd) -> usize
     requires named { AreNamed views.now.entries }
-    ensures { result ≡ (if has_steps to document.now then leaving_notes document.now views.now else 0) }
+    ensures { result ≡ (if nat_lt 0 (length (conversion_of to document.now)) then leaving_notes document.now views.now else 0) }
 {
     let (first, second) = document.halves();
     if has_conversion(first, second, to) {
@@ -138,14 +135,12 @@ pub fn convert(
     notes: &mut NoteList,
     to: LineEnd,
 )
-    requires can { CanMakeEdit (conversion_of to document.old) document.old views.old notes.old }
-    ensures scene { IsConverted to document.old document.new views.old views.new notes.old notes.new }
+    requires watched { IsWatched document.old.document views.old }
+    requires room { HasRoom (room_of_steps document.old.document.line_end_types (conversion_of to document.old)) document.old }
+    requires holds { CanHoldEdit (conversion_of to document.old) (kept_scene document.old views.old notes.old) notes.old }
+    ensures scene { kept_scene document.new views.new notes.new ≡ edit_made (conversion_of to document.old) (kept_scene document.old views.old notes.old) }
     ensures watched { IsWatched document.new.document views.new }
-    ensures next { views.new.next ≡ views.old.next }
-    ensures memory { KeepsCapacity document.old document.new }
-    ensures fold_capacities { KeepFoldCapacities views.old views.new }
-    ensures view_capacity { views.new.capacity ≡ views.old.capacity }
-    ensures capacity { notes.new.capacity ≡ notes.old.capacity }
+    ensures rooms { RoomsStay document.old document.new views.old views.new notes.old notes.new }
 {
     if !is_several(document, to) {
         return make_all(document, views, notes, to);
@@ -164,7 +159,7 @@ fn need_of_many(
 ) -> SceneNeed
     requires fits { IsStepOn step (length document.now.document.cells) }
     requires named { AreNamed views.now.entries }
-    ensures notes { result.notes ≡ notes_for_many count step.entry document.now views.now }
+    ensures notes { result.notes ≡ capped_notes (notes_for_step step.entry document.now views.now * count) (bytes_for_step step.entry document.now views.now * count) }
     ensures document { result.document ≡ capped_room (room_of_many count (need_on document.now step.entry)) }
 {
     let notes = note_need(document, views, step);
@@ -187,8 +182,8 @@ fn need_of_many(
 // Returns what the insertions need.
 fn need_of_insertions(document: &Document, views: &IdTable<View>, to: LineEnd) -> SceneNeed
     requires named { AreNamed views.now.entries }
-    ensures notes { result.notes ≡ notes_for_all (insertions_in to document.now) document.now views.now }
-    ensures document { result.document ≡ room_for_all (insertions_in to document.now) document.now }
+    ensures notes { result.notes ≡ notes_for_all (missing_from 0 false to (text_of document.now.document)) document.now views.now }
+    ensures document { result.document ≡ capped_room (rooms_added document.now.document.line_end_types (missing_from 0 false to (text_of document.now.document))) }
 {
     let (first, second) = document.halves();
     let insertion = TextStep::Insert {
@@ -201,8 +196,8 @@ fn need_of_insertions(document: &Document, views: &IdTable<View>, to: LineEnd) -
 // Returns what the deletions need.
 fn need_of_deletions(document: &Document, views: &IdTable<View>, to: LineEnd) -> SceneNeed
     requires named { AreNamed views.now.entries }
-    ensures notes { result.notes ≡ notes_for_all (deletions_in to document.now) document.now views.now }
-    ensures document { result.document ≡ room_for_all (deletions_in to document.now) document.now }
+    ensures notes { result.notes ≡ notes_for_all (deletions_of to (text_of document.now.document)) document.now views.now }
+    ensures document { result.document ≡ capped_room (rooms_added document.now.document.line_end_types (deletions_of to (text_of document.now.document))) }
 {
     let (first, second) = document.halves();
     let count = count_unwanted(first, second, to);
@@ -219,8 +214,9 @@ fn need_of_deletions(document: &Document, views: &IdTable<View>, to: LineEnd) ->
 /// Returns what a conversion to this kind of line end needs: nothing if it has no step.
 pub fn conversion_need(document: &Document, views: &IdTable<View>, to: LineEnd) -> SceneNeed
     requires named { AreNamed views.now.entries }
-    ensures notes { result.notes ≡ notes_for_conversion to document.now views.now }
-    ensures document { result.document ≡ room_for_conversion to document.now }
+    ensures notes { let s = scene_in document.now.document views.now.entries [] in
+        result.notes ≡ capped_notes (notes_for (conversion_of to document.now) s) (bytes_needed s (conversion_of to document.now)) }
+    ensures document { result.document ≡ capped_room (room_of_steps document.now.document.line_end_types (conversion_of to document.now)) }
 {
     let insertions = need_of_insertions(document, views, to);
     let deletions = need_of_deletions(document, views, to);

@@ -1,10 +1,7 @@
 //! The views that watch a document follow a step.
 
-ghost use Rattle.std.specs.Prelude.{◌≡◌, map};
-ghost use Rattle.id_table.specs.Entries.{id_of};
 ghost use Rattle.line_index.specs.StepEdits.{SmallLines, edits_of};
-ghost use Rattle.scene.specs.Scenes.{AreNamed, IdsRise, KeepFoldCapacities, views_in};
-ghost use Rattle.scene.specs.Following.{followed_at, CanFollowInTurn};
+ghost use Rattle.scene.specs.Following.{CanAllFollow, HaveFollowed};
 
 use ed_view::View;
 use id_table::IdTable;
@@ -13,14 +10,8 @@ use selection::Movement;
 
 /// Moves the views with these ids, one after the other, as a step does. `edits` are its changes of the lines.
 pub(crate) fn follow(ids: &[u32], views: &mut IdTable<View>, movement: Movement, edits: &[LineEdit])
-    requires named { AreNamed views.old.entries }
-    requires can { CanFollowInTurn movement edits.now ids.now (views_in views.old) }
-    ensures views { views_in views.new ≡ followed_at movement edits.now ids.now (views_in views.old) }
-    ensures named { AreNamed views.new.entries }
-    ensures next { views.new.next ≡ views.old.next }
-    ensures view_capacity { views.new.capacity ≡ views.old.capacity }
-    ensures ids { map id_of views.new.entries ≡ map id_of views.old.entries }
-    ensures fold_capacities { IdsRise views.old → KeepFoldCapacities views.old views.new }
+    requires { CanAllFollow movement edits.now ids.now views.old }
+    ensures { HaveFollowed movement edits.now ids.now views.old views.new }
 {
     for id in ids {
         if let Some(view) = views.get_mut(*id) {
@@ -34,14 +25,8 @@ pub(crate) fn follow(ids: &[u32], views: &mut IdTable<View>, movement: Movement,
 #[inline(never)]
 fn follow_edits(ids: &[u32], views: &mut IdTable<View>, movement: Movement, change: LineChange)
     requires small { SmallLines change.old_lines × SmallLines change.new_lines }
-    requires named { AreNamed views.old.entries }
-    requires can { CanFollowInTurn movement (edits_of change) ids.now (views_in views.old) }
-    ensures views { views_in views.new ≡ followed_at movement (edits_of change) ids.now (views_in views.old) }
-    ensures named { AreNamed views.new.entries }
-    ensures next { views.new.next ≡ views.old.next }
-    ensures view_capacity { views.new.capacity ≡ views.old.capacity }
-    ensures ids { map id_of views.new.entries ≡ map id_of views.old.entries }
-    ensures fold_capacities { IdsRise views.old → KeepFoldCapacities views.old views.new }
+    requires can { CanAllFollow movement (edits_of change) ids.now views.old }
+    ensures { HaveFollowed movement (edits_of change) ids.now views.old views.new }
 {
     let edits = change.edits();
     follow(ids, views, movement, edits.as_slice());
@@ -57,14 +42,8 @@ pub(crate) fn follow_change(
     change: LineChange,
 )
     requires small { SmallLines change.old_lines × SmallLines change.new_lines }
-    requires named { AreNamed views.old.entries }
-    requires can { CanFollowInTurn movement (edits_of change) ids.now (views_in views.old) }
-    ensures views { views_in views.new ≡ followed_at movement (edits_of change) ids.now (views_in views.old) }
-    ensures named { AreNamed views.new.entries }
-    ensures next { views.new.next ≡ views.old.next }
-    ensures view_capacity { views.new.capacity ≡ views.old.capacity }
-    ensures ids { map id_of views.new.entries ≡ map id_of views.old.entries }
-    ensures fold_capacities { IdsRise views.old → KeepFoldCapacities views.old views.new }
+    requires can { CanAllFollow movement (edits_of change) ids.now views.old }
+    ensures { HaveFollowed movement (edits_of change) ids.now views.old views.new }
 {
     if change.is_quiet() {
         follow(ids, views, movement, &[]);

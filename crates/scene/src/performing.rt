@@ -1,16 +1,21 @@
 //! Performs the changes of undo or redo one by one, with their notes and the views that follow.
 
-ghost use Rattle.std.specs.Prelude.{◌≡◌, ◌<◌, ◌^◌, ◌==◌, not, true, if◌then◌else◌, [], Some};
+ghost use Rattle.std.specs.Prelude.{◌≡◌, ◌<◌, ◌^◌, ◌==◌, not, true, if◌then◌else◌, ℕ, List, [], length, Some, IsSomeAnd};
 ghost use Rattle.ed_types.specs.Heard.{with_text};
 ghost use Rattle.ed_model.specs.Steps.{Step};
+ghost use Rattle.ed_model.specs.InverseLaws.{Fits};
 ghost use Rattle.ed_model.specs.History.{Change, TextStep as Text};
+ghost use Rattle.ed_model.specs.Notes.{heard, after_note};
 ghost use Rattle.ed_model.specs.Numbers.{growth};
 ghost use Rattle.ed_model.specs.Performing.{container_note};
-ghost use Rattle.scene.specs.Scenes.{AreNamed};
 ghost use Rattle.notify.specs.Gathered.{CanPut};
+ghost use Rattle.document.specs.TextSteps.{step_in, IsStepOn};
+ghost use Rattle.document.specs.Undoing.{outline_of};
+ghost use Rattle.scene.specs.Scenes.{AreNamed, watchers};
+ghost use Rattle.scene.specs.Hearing.{hearers};
 ghost use Rattle.scene.specs.Telling.{with_notes};
-ghost use Rattle.scene.specs.Undoing.{bits_of, all_bits as every_bit, every_kind, outline_kinds, outline_movement};
-ghost use Rattle.scene.specs.Turns.{change_at, bits_behind, CanPerform, CanTellHeardStep, CanTellTurn, IsOutlineAt, IsStepAt, IsTurnTold, IsTurnToldBefore, IsUnheard, PerformsStep, PerformsTurn, container_hearers, token_notes};
+ghost use Rattle.scene.specs.Undoing.{bits_of, all_bits as every_bit, every_kind, container_kinds, performed_kinds, outline_kinds, outline_movement};
+ghost use Rattle.scene.specs.Turns.{change_at, bits_behind, CanPerform, CanTellAfter, IsPerformed, IsToldBefore, IsUnheard};
 
 use crate::laws::document_is_small;
 use crate::moving::follow_change;
@@ -104,7 +109,7 @@ fn movement_of_change(outline: ChangeOutline) -> Movement
 #[inline(never)]
 fn step_at(document: &Document, turn: Turn) -> TextStep<'_>
     requires { (step : Step) × (change_at turn document.now.document.history ≡ Some (Text step)) }
-    ensures { IsStepAt turn document.now result }
+    ensures { (step : Step) (text : List ℕ) → change_at turn document.now.document.history ≡ Some (Text step) → Fits step text → (step_in result text ≡ step) × IsStepOn result (length text) }
 {
     match document.change_outline(turn.direction, turn.index) {
         ChangeOutline::Insert { place, .. } => TextStep::Insert {
@@ -120,8 +125,9 @@ fn step_at(document: &Document, turn: Turn) -> TextStep<'_>
 // Its bytes are shared for the note after it.
 #[inline(never)]
 fn tell_heard_change(document: &Document, views: &IdTable<View>, notes: &mut NoteList, turn: Turn)
-    requires { CanTellHeardStep turn document.now views.now notes.old }
-    ensures { IsTurnToldBefore turn document.now views.now true notes.old notes.new }
+    requires { (step : Step) × CanPerform turn document.now views.now notes.old (Text step) × (0 < hearers (performed_kinds (bits_of turn.direction) step) (watchers document.now.document views.now)) }
+    ensures { (step : Step) → change_at turn document.now.document.history ≡ Some (Text step)
+        → IsToldBefore (bits_of turn.direction) (watchers document.now.document views.now) true notes.old notes.new step }
 {
     let who = bit_of(turn.direction);
     let step = step_at(document, turn);
@@ -141,9 +147,10 @@ fn tell_before_change(
     quiet: bool,
 ) -> bool
     requires can { (step : Step) × CanPerform turn document.now views.now notes.old (Text step) }
-    requires outline { IsOutlineAt turn document.now outline }
+    requires outline { IsSomeAnd (change_at turn document.now.document.history) (λ change. outline ≡ outline_of change) }
     requires quiet { quiet ≡ true → IsUnheard turn document.now views.now }
-    ensures { IsTurnToldBefore turn document.now views.now result notes.old notes.new }
+    ensures { (step : Step) → change_at turn document.now.document.history ≡ Some (Text step)
+        → IsToldBefore (bits_of turn.direction) (watchers document.now.document views.now) result notes.old notes.new step }
 {
     if quiet {
         return false;
@@ -170,8 +177,10 @@ fn tell_after_change(
 )
     requires lines { (old_lines < 2 ^ 63) × (lines < 2 ^ 63) }
     requires named { AreNamed views.now.entries }
-    requires can { CanTellTurn turn hears changed (growth old_lines lines) document.now views.now notes.old }
-    ensures { IsTurnTold turn changed (growth old_lines lines) document.now views.now notes.old notes.new }
+    requires can { (step : Step) × (text : List ℕ) × (change_at turn document.now.document.history ≡ Some (Text step))
+        × CanTellAfter hears (bits_behind turn changed) (growth old_lines lines) step text (watchers document.now.document views.now) notes.old }
+    ensures { (step : Step) → change_at turn document.now.document.history ≡ Some (Text step)
+        → notes.new ≡ with_notes (heard (watchers document.now.document views.now) (after_note (bits_behind turn changed) (growth old_lines lines) step)) notes.old }
 {
     if !hears {
         return;
@@ -200,9 +209,10 @@ fn perform_step(
     lines_changed: bool,
 ) -> bool
     requires can { (step : Step) × CanPerform turn document.old views.old notes.old (Text step) }
-    requires outline { IsOutlineAt turn document.old outline }
+    requires outline { IsSomeAnd (change_at turn document.old.document.history) (λ change. outline ≡ outline_of change) }
     requires quiet { quiet ≡ true → IsUnheard turn document.old views.old }
-    ensures { PerformsStep turn lines_changed result document.old views.old notes.old document.new views.new notes.new }
+    ensures { (step : Step) → change_at turn document.old.document.history ≡ Some (Text step)
+        → IsPerformed turn lines_changed result document.old views.old notes.old document.new views.new notes.new (Text step) }
 {
     edits_of_steps();
     moves_are_those_of_steps();
@@ -242,8 +252,8 @@ fn perform_container(
     lines_changed: bool,
 )
     requires named { AreNamed views.now.entries }
-    requires room { CanPut (container_hearers turn document.now views.now) notes.old }
-    ensures { notes.new ≡ with_notes (token_notes turn lines_changed token document.now views.now) notes.old }
+    requires room { CanPut (hearers (container_kinds (bits_of turn.direction)) (watchers document.now.document views.now)) notes.old }
+    ensures { notes.new ≡ with_notes (heard (watchers document.now.document views.now) (container_note (bits_behind turn lines_changed) token)) notes.old }
 {
     let note = note_of_container(bits_after(turn, lines_changed), token);
     tell(
@@ -268,9 +278,10 @@ pub(crate) fn perform_change(
     lines_changed: bool,
 ) -> bool
     requires can { (change : Change) × CanPerform turn document.old views.old notes.old change }
-    requires outline { IsOutlineAt turn document.old outline }
+    requires outline { IsSomeAnd (change_at turn document.old.document.history) (λ change. outline ≡ outline_of change) }
     requires quiet { quiet ≡ true → IsUnheard turn document.old views.old }
-    ensures { PerformsTurn turn lines_changed result document.old views.old notes.old document.new views.new notes.new }
+    ensures { (change : Change) → change_at turn document.old.document.history ≡ Some change
+        → IsPerformed turn lines_changed result document.old views.old notes.old document.new views.new notes.new change }
 {
     if let ChangeOutline::Container { token } = outline {
         perform_container(document, views, notes, turn, token, lines_changed);

@@ -1,9 +1,13 @@
 //! The views that watch a document follow when other line ends count.
 
-ghost use Rattle.std.specs.Prelude.{◌≡◌, map};
+ghost use Rattle.std.specs.Prelude.{◌≡◌, List, map};
+ghost use Rattle.ed_model.specs.declared.plan.DocumentChange.TheVariants.{SetLineEndTypes};
+ghost use Rattle.ed_model.specs.Rows.{Row};
+ghost use Rattle.ed_model.specs.Session.{text_of};
+ghost use Rattle.ed_model.specs.Changes.{changed_lines};
+ghost use Rattle.line_index.specs.Settings.{edits_of_setting};
 ghost use Rattle.id_table.specs.Entries.{id_of};
 ghost use Rattle.scene.specs.Scenes.{IsWatched, KeepFoldCapacities, views_in};
-ghost use Rattle.scene.specs.Regrouping.{IsWatchedWith, regrouped_views, regrouping_edits};
 
 use crate::laws::document_is_small;
 use crate::moving::follow;
@@ -23,9 +27,9 @@ pub fn regroup(
     edits: &[LineEdit],
 )
     requires watched { IsWatched document.now.document views.old }
-    requires edits { edits.now ≡ regrouping_edits types document.now }
-    ensures views { views_in views.new ≡ regrouped_views types document.now (views_in views.old) }
-    ensures watched { IsWatchedWith types document.now views.new }
+    requires edits { edits.now ≡ edits_of_setting document.now.document.line_end_types types (text_of document.now.document) }
+    ensures views { views_in views.new ≡ map (changed_lines (SetLineEndTypes types) document.now.document) (views_in views.old) }
+    ensures watched { (rows : List Row) → IsWatched (record document.now.document { line_end_types = types; rows = rows }) views.new }
     ensures ids { map id_of views.new.entries ≡ map id_of views.old.entries }
     ensures fold_capacities { KeepFoldCapacities views.old views.new }
     ensures next { views.new.next ≡ views.old.next }

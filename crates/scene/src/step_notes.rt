@@ -1,15 +1,17 @@
 //! The notes of a step.
 
-ghost use Rattle.std.specs.Prelude.{◌≡◌, ◌<◌, ◌^◌, true, false, [], List, ℕ, length};
+ghost use Rattle.std.specs.Prelude.{◌≡◌, ◌+◌, ◌<◌, ◌^◌, true, false, [], List, ℕ, length};
+ghost use Rattle.ed_types.specs.Heard.{with_text};
 ghost use Rattle.ed_model.specs.Steps.{step_bytes};
+ghost use Rattle.ed_model.specs.Notes.{before_note as note_before, after_note as note_after};
 ghost use Rattle.ed_model.specs.Numbers.{growth};
 ghost use Rattle.selection.specs.Positions.{movement_of as movement};
 ghost use Rattle.document.specs.TextSteps.{step_in, IsStepOn, step_on};
 ghost use Rattle.notify.specs.Gathered.{CanPut, CanShare};
 ghost use Rattle.scene.specs.Scenes.{AreNamed};
 ghost use Rattle.scene.specs.Hearing.{before_kind, after_kind};
-ghost use Rattle.scene.specs.Telling.{with_notes, with_shared};
-ghost use Rattle.scene.specs.StepNotes.{place_in, count_in, IsSmallStep, note_text_before, CanTellStep, IsNoteAfter, IsNoteBefore, IsRangeNote, IsStepTold, notes_before};
+ghost use Rattle.scene.specs.Telling.{with_notes};
+ghost use Rattle.scene.specs.StepNotes.{place_in, count_in, IsSmallStep, note_text_before, text_before, CanTellStep, IsRangeNote, IsStepTold, notes_before};
 
 use crate::telling::{Audience, NoteText, tell};
 use document::{Document, TextStep};
@@ -89,7 +91,7 @@ fn range_note(kind: u32, place: usize, count: usize) -> Note
 // Returns the note before the step.
 fn before_note(bits: u32, step: TextStep) -> Note
     requires { IsSmallStep step }
-    ensures { IsNoteBefore bits step.entry result }
+    ensures { (text : List ℕ) → IsStepOn step.entry (length text) → with_text result (text_before (step_in step.entry text)) ≡ note_before bits (step_in step.entry text) }
 {
     range_note(kind_before(bits, step), place_of(step), count_of(step))
 }
@@ -108,7 +110,7 @@ fn text_of_before(step: TextStep) -> NoteText
 fn after_note(bits: u32, old_lines: usize, lines: usize, step: TextStep) -> Note
     requires small { IsSmallStep step }
     requires lines { (old_lines < 2 ^ 63) × (lines < 2 ^ 63) }
-    ensures { IsNoteAfter bits (growth old_lines lines) step.entry result }
+    ensures { (text : List ℕ) → IsStepOn step.entry (length text) → with_text result (step_bytes (step_in step.entry text)) ≡ note_after bits (growth old_lines lines) (step_in step.entry text) }
 {
     let mut note = range_note(kind_after(bits, step), place_of(step), count_of(step));
     note.lines = lines as i64 - old_lines as i64;
@@ -120,7 +122,7 @@ pub(crate) fn share_bytes(document: &mut Document, notes: &mut NoteList, step: T
     requires fits { IsStepOn step (length document.old.document.cells) }
     requires room { CanShare (length (step_bytes (step_on document.old step))) notes.old }
     ensures document { document.new ≡ document.old }
-    ensures notes { notes.new ≡ with_shared (step_bytes (step_on document.old step.entry)) notes.old }
+    ensures notes { let bytes = step_bytes (step_on document.old step.entry) in notes.new ≡ record notes.old { shared = bytes; held = notes.old.held + length bytes } }
 {
     match step {
         TextStep::Insert { bytes, .. } => notes.share(bytes, &[]),

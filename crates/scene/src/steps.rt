@@ -1,19 +1,17 @@
 //! Makes a step of a document's text, with its notes and the views that follow.
 
-ghost use Rattle.std.specs.Prelude.{◌≡◌, ◌+◌, ◌&&◌, true, false, map, length};
+ghost use Rattle.std.specs.Prelude.{◌≡◌, ◌+◌, ◌++◌, ◌&&◌, true, false, length};
 ghost use Rattle.ed_model.specs.Steps.{step_bytes};
 ghost use Rattle.ed_model.specs.History.{at_save_point};
 ghost use Rattle.ed_model.specs.Notes.{performed_user};
-ghost use Rattle.id_table.specs.Entries.{id_of};
 ghost use Rattle.notify.specs.Gathered.{CanPut, CanShare, is_full};
 ghost use Rattle.document.specs.Kept.{HasRoom, HasTextRoom};
-ghost use Rattle.document.specs.Memory.{KeepsCapacity};
 ghost use Rattle.document.specs.TextSteps.{IsStepOn, LeavesRoom, LeavesTextRoom, need_on, step_on};
-ghost use Rattle.scene.specs.Scenes.{watchers, AreNamed, IsWatched, KeepFoldCapacities};
+ghost use Rattle.scene.specs.Scenes.{watchers, AreNamed, IsWatched, RoomsStay, kept_scene};
 ghost use Rattle.scene.specs.Hearing.{left_note, user_bits as bits_of_user};
 ghost use Rattle.scene.specs.Telling.{CanHold, with_notes};
-ghost use Rattle.scene.specs.StepNotes.{IsSmallStep};
-ghost use Rattle.scene.specs.Steps.{IsHeard, IsMade, count_ahead, heard_bytes, made_bytes, notes_ahead, scene_heard, scene_made, step_hearers};
+ghost use Rattle.scene.specs.StepNotes.{IsSmallStep, notes_before};
+ghost use Rattle.scene.specs.Steps.{heard_bytes, made_bytes, scene_heard, scene_made, step_hearers};
 
 use crate::moving::follow_change;
 use crate::step_notes::{
@@ -112,11 +110,11 @@ fn tell_before(
     requires fits { IsStepOn step (length document.old.document.cells) }
     requires small { IsSmallStep step }
     requires named { AreNamed views.now.entries }
-    requires notes { CanPut (count_ahead bits is_left step document.old views.now) notes.old }
+    requires notes { CanPut (length (notes_before bits.before step document.old views.now) + length (left_note is_left (watchers document.old.document views.now))) notes.old }
     requires full { is_full notes.old ≡ true → step_hearers bits step document.old views.now ≡ 0 }
     requires texts { CanShare (heard_bytes bits step document.old views.now) notes.old }
     ensures document { document.new ≡ document.old }
-    ensures notes { notes.new.notes ≡ notes_ahead bits is_left step.entry document.old views.now notes.old.notes }
+    ensures notes { notes.new.notes ≡ notes.old.notes ++ notes_before bits.before step.entry document.old views.now ++ left_note is_left (watchers document.old.document views.now) }
     ensures capacity { notes.new.capacity ≡ notes.old.capacity }
     ensures held { notes.new.held ≡ notes.old.held + heard_bytes bits step.entry document.old views.now }
     ensures unheard { result ≡ false → step_hearers bits step.entry document.old views.now ≡ 0 }
@@ -144,16 +142,11 @@ pub(crate) fn step_heard(
     requires room { HasTextRoom (need_on document.old step) document.old }
     requires watched { IsWatched document.old.document views.old }
     requires notes { let held = notes.old.held + heard_bytes bits step document.old views.old in CanHold notes.old (scene_heard bits is_left step document.old views.old notes.old) held }
-    ensures scene { IsHeard bits is_left step.entry document.old views.old notes.old document.new views.new notes.new }
+    ensures scene { kept_scene document.new views.new notes.new ≡ scene_heard bits is_left step.entry document.old views.old notes.old }
     ensures watched { IsWatched document.new.document views.new }
     ensures room { LeavesTextRoom (step_on document.old step.entry) document.old document.new }
-    ensures memory { KeepsCapacity document.old document.new }
-    ensures capacity { notes.new.capacity ≡ notes.old.capacity }
+    ensures rooms { RoomsStay document.old document.new views.old views.new notes.old notes.new }
     ensures held { notes.new.held ≡ notes.old.held + heard_bytes bits step.entry document.old views.old }
-    ensures ids { map id_of views.new.entries ≡ map id_of views.old.entries }
-    ensures fold_capacities { KeepFoldCapacities views.old views.new }
-    ensures next { views.new.next ≡ views.old.next }
-    ensures view_capacity { views.new.capacity ≡ views.old.capacity }
 {
     edits_of_steps();
     moves_are_those_of_steps();
@@ -207,16 +200,11 @@ pub fn make_step(
     requires room { HasRoom (need_on document.old step) document.old }
     requires watched { IsWatched document.old.document views.old }
     requires notes { let held = notes.old.held + made_bytes later step document.old views.old in CanHold notes.old (scene_made later step document.old views.old notes.old) held }
-    ensures scene { IsMade later step.entry document.old views.old notes.old document.new views.new notes.new }
+    ensures scene { kept_scene document.new views.new notes.new ≡ scene_made later step.entry document.old views.old notes.old }
     ensures watched { IsWatched document.new.document views.new }
     ensures room { LeavesRoom (step_on document.old step.entry) document.old document.new }
-    ensures memory { KeepsCapacity document.old document.new }
-    ensures capacity { notes.new.capacity ≡ notes.old.capacity }
+    ensures rooms { RoomsStay document.old document.new views.old views.new notes.old notes.new }
     ensures held { notes.new.held ≡ notes.old.held + made_bytes later step.entry document.old views.old }
-    ensures ids { map id_of views.new.entries ≡ map id_of views.old.entries }
-    ensures fold_capacities { KeepFoldCapacities views.old views.new }
-    ensures next { views.new.next ≡ views.old.next }
-    ensures view_capacity { views.new.capacity ≡ views.old.capacity }
 {
     let is_left = leaves_save_point(document);
     let begins = document.append(later, step);

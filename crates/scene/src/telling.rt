@@ -5,8 +5,8 @@ ghost use Rattle.ed_types.specs.Heard.{with_text};
 ghost use Rattle.ed_model.specs.Notes.{modify_attempt, blank as blank_note, told};
 ghost use Rattle.notify.specs.Gathered.{CanPut, with_note};
 ghost use Rattle.scene.specs.Scenes.{watchers, AreNamed};
-ghost use Rattle.scene.specs.Hearing.{belongs, with_note_text, hearers, masks_of};
-ghost use Rattle.scene.specs.Telling.{watching_audience, with_audience_told, with_notes};
+ghost use Rattle.scene.specs.Hearing.{audience_of, belongs, with_note_text, hearers, masks_of};
+ghost use Rattle.scene.specs.Telling.{with_notes};
 
 use document::Document;
 use ed_types::Note;
@@ -76,8 +76,8 @@ pub fn tell(
     text: NoteText,
 )
     requires named { AreNamed views.now.entries }
-    requires room { CanPut (length (watching_audience audience note.now.kind document.now views.now)) notes.old }
-    ensures { notes.new ≡ with_audience_told audience text note.entry.now document.now views.now notes.old }
+    requires room { CanPut (length (audience_of audience note.now.kind (watchers document.now.document views.now))) notes.old }
+    ensures { notes.new ≡ with_notes (told (audience_of audience note.entry.now.kind (watchers document.now.document views.now)) (with_note_text text note.entry.now notes.old.shared)) notes.old }
 {
     if notes.is_full() {
         return;
@@ -138,7 +138,7 @@ pub(crate) fn survey(document: &Document, views: &IdTable<View>) -> Watched
 // Returns how many of the views that watch the document are in the audience of notes of this kind.
 fn count(document: &Document, views: &IdTable<View>, audience: Audience, kind: u32) -> usize
     requires named { AreNamed views.now.entries }
-    ensures count { result ≡ length (watching_audience audience kind document.now views.now) }
+    ensures count { result ≡ length (audience_of audience kind (watchers document.now.document views.now)) }
     ensures few { result < 2 ^ 63 }
 {
     let mut count = 0;

@@ -1,17 +1,18 @@
 //! Undo and redo: performs a transaction, and computes what that needs.
 
-ghost use Rattle.std.specs.Prelude.{◌≡◌, ◌+◌, ◌<◌, ◌-◌, ◌&&◌, ◌||◌, nat_lt, length, map, not};
+ghost use Rattle.std.specs.Prelude.{◌≡◌, ◌+◌, ◌<◌, ◌-◌, ◌==◌, ◌&&◌, ◌||◌, bit_and, nat_lt, length, not};
 ghost use Rattle.ed_model.specs.History.{Change};
-ghost use Rattle.id_table.specs.Entries.{id_of};
+ghost use Rattle.ed_model.specs.Performing.{save_point_change};
+ghost use Rattle.ed_model.specs.Session.{text_of};
 ghost use Rattle.notify.specs.Gathered.{CanPut, CanShare, is_full};
 ghost use Rattle.document.specs.Kept.{HasTextRoom};
-ghost use Rattle.document.specs.Memory.{KeepsCapacity};
-ghost use Rattle.document.specs.Undoing.{changes_of, outline_of, save_point_told};
-ghost use Rattle.scene.specs.Scenes.{watchers, AreNamed, IsWatched, KeepFoldCapacities};
+ghost use Rattle.document.specs.Undoing.{changes_of, is_other, need_of_change, outline_of, save_point_told};
+ghost use Rattle.scene.specs.Scenes.{watchers, AreNamed, IsWatched, RoomsStay, kept_scene};
 ghost use Rattle.scene.specs.Hearing.{masks_of};
-ghost use Rattle.scene.specs.Undoing.{free_behind, save_point_notes, capped_room, place_by, IsNoteNeed, history_bytes, history_caret, history_note_need, history_notes, history_room, none_hears, save_point_count};
-ghost use Rattle.scene.specs.Turns.{turn_of, CanMakeOutlined};
-ghost use Rattle.scene.specs.Performed.{CanPerformAll, AreAllPerformed, HistoryFits, HistoryIsPerformed, IsSavePointTold};
+ghost use Rattle.scene.specs.Telling.{with_notes};
+ghost use Rattle.scene.specs.Undoing.{bits_of, every_kind, free_behind, save_point_notes, capped_room, place_by, IsNoteNeed, history_bytes, history_caret, history_note_need, history_notes, history_room};
+ghost use Rattle.scene.specs.Turns.{turn_of, ChangeFits};
+ghost use Rattle.scene.specs.Performed.{CanPerformAll, AreAllPerformed, HistoryFits, scene_gone};
 
 use crate::need::{NoteRoom, SceneNeed, told_need};
 use crate::performing::{Turn, kinds_of, kinds_of_all, perform_change};
@@ -46,7 +47,7 @@ fn is_quiet(
     count: usize,
 ) -> bool
     requires named { AreNamed views.now.entries }
-    ensures { result ≡ (is_full notes.now || (nat_lt 1 count && none_hears direction document.now views.now)) }
+    ensures { result ≡ (is_full notes.now || (nat_lt 1 count && (bit_and (masks_of (watchers document.now.document views.now)) (every_kind (bits_of direction)) == 0))) }
 {
     notes.is_full() || (count > 1 && survey(document, views).masks & kinds_of_all(direction) == 0)
 }
@@ -54,7 +55,8 @@ fn is_quiet(
 // Returns where the caret goes by a change of this outline, for which there is room: behind an insertion, or where a
 // deletion was made. A container's step leaves it where the earlier changes put it.
 fn caret_by(document: &Document, outline: ChangeOutline, before: Option<usize>) -> Option<usize>
-    requires can { CanMakeOutlined outline document.now }
+    requires can { (change : Change) × (outline ≡ outline_of change) × ChangeFits change (text_of document.now.document)
+        × HasTextRoom (need_of_change document.now.document.line_end_types change) document.now }
     ensures { result ≡ place_by outline before }
 {
     match outline {
@@ -96,7 +98,7 @@ fn perform_changes(
 fn put_save_point(document: &Document, views: &IdTable<View>, notes: &mut NoteList, is_there: bool)
     requires named { AreNamed views.now.entries }
     requires room { CanPut (length (watchers document.now.document views.now)) notes.old }
-    ensures { IsSavePointTold (not is_there) is_there document.now views.now notes.old notes.new }
+    ensures { notes.new ≡ with_notes (save_point_change (watchers document.now.document views.now) (not is_there) is_there) notes.old }
 {
     let code = if is_there {
         SAVE_POINT_REACHED
@@ -123,8 +125,8 @@ fn tell_save_point(
     is_there: bool,
 )
     requires named { AreNamed views.now.entries }
-    requires room { CanPut (save_point_count was_there is_there document.now views.now) notes.old }
-    ensures { IsSavePointTold was_there is_there document.now views.now notes.old notes.new }
+    requires room { CanPut (save_point_notes (is_other was_there is_there) (length (watchers document.now.document views.now))) notes.old }
+    ensures { notes.new ≡ with_notes (save_point_change (watchers document.now.document views.now) was_there is_there) notes.old }
 {
     if was_there == is_there {
         return;
@@ -151,16 +153,11 @@ pub fn perform_history(
     requires watched { IsWatched document.old.document views.old }
     requires notes { CanPut (history_notes direction document.old views.old) notes.old }
     requires texts { CanShare (history_bytes direction document.old views.old) notes.old }
-    ensures scene { HistoryIsPerformed direction document.old views.old notes.old document.new views.new notes.new }
+    ensures scene { kept_scene document.new views.new notes.new ≡ scene_gone direction views.old notes.old document.old }
     ensures caret { result ≡ history_caret direction document.old }
     ensures watched { IsWatched document.new.document views.new }
-    ensures memory { KeepsCapacity document.old document.new }
-    ensures capacity { notes.new.capacity ≡ notes.old.capacity }
+    ensures rooms { RoomsStay document.old document.new views.old views.new notes.old notes.new }
     ensures held { notes.new.held ≡ notes.old.held + history_bytes direction document.old views.old }
-    ensures ids { map id_of views.new.entries ≡ map id_of views.old.entries }
-    ensures next { views.new.next ≡ views.old.next }
-    ensures view_capacity { views.new.capacity ≡ views.old.capacity }
-    ensures fold_capacities { KeepFoldCapacities views.old views.new }
 {
     let was_there = document.history().is_at_save_point();
     let caret = perform_changes(document, views, notes, direction);

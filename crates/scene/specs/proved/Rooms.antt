@@ -1,6 +1,6 @@
 -- Room in the document for steps in turn is enough for the first of them, and what that one leaves is enough for the others. The same for the
 -- changes of undo or redo.
-use Rattle.std.proofs.Common.{◌≡◌, ℕ, ◌+◌, ◌-◌, ◌≤◌, ◌^◌, min, List, [], ◌∷◌, map, length, refl, ap, ◌∙◌, arith, slice_range}
+use Rattle.std.proofs.Common.{◌≡◌, ℕ, ◌+◌, ◌-◌, ◌≤◌, ◌^◌, min, List, [], ◌∷◌, map, length, refl, ap, arith, slice_range}
 use Rattle.ed_model.specs.declared.plan.LineEndTypes.{LineEndTypes}
 use Rattle.ed_model.specs.Steps.{Step, Insert, Delete}
 use Rattle.ed_model.specs.History.{Change, TextStep, ContainerStep}
@@ -9,8 +9,7 @@ use Rattle.ed_model.specs.proved.Steps.{length_of_range}
 use Rattle.line_index.specs.RoomLaws.{lines_for_insertion, lines_for_deletion}
 use Rattle.document.specs.declared.need.DocumentNeed.{DocumentNeed}
 use Rattle.document.specs.declared.text_step.TextStep.TheVariants as lent
-use Rattle.document.specs.Kept.{Kept, DocumentCapacity, HasRoom, HasTextRoom, IsAtLeast, document_need, text_part}
-use Rattle.document.specs.Memory.{KeepsCapacity}
+use Rattle.document.specs.Kept.{Kept, HasRoom, HasTextRoom, IsAtLeast, document_need, text_part}
 use Rattle.document.specs.TextSteps.{LeavesRoom, need_of, need_of_step, need_then}
 use Rattle.document.specs.Undoing.{need_of_change}
 use Rattle.document.specs.proved.Room.{less_room, less_text_room}
@@ -24,10 +23,6 @@ same_room a b c d e a' b' c' d' e' p q r s t = cc
 pub deletion_needs : (types : LineEndTypes) (d : Document) (start count : ℕ) → start + count ≤ length d.cells
     → need_of_step types (Delete start (slice_range (text_of d) start (start + count))) ≡ need_of types (lent.Delete start count)
 deletion_needs types d start count h = ap (λ n. document_need 0 lines_for_deletion 0 1 n) (length_of_range d.cells start count h)
-
--- what keeps the capacity twice keeps it
-pub keeps_both : (a b c : Kept) → KeepsCapacity a b → KeepsCapacity b c → KeepsCapacity a c
-keeps_both a b c first then = then ∙ ap (λ (x : DocumentCapacity). record x { indicators = c.capacity.indicators }) first
 
 -- Each further free byte lowers the need of the text by at most one.
 beside_text : (types : LineEndTypes) (cs : List Change) (free more : ℕ) → free ≤ more → (rooms_beside types free cs).text ≤ (rooms_beside types more cs).text + (more - free)

@@ -24,11 +24,9 @@ convert-requires c =
     let holds = edit_held c.needs_are_enough.ensures (conversion_steps a.to (text_of d)) d a.views.now.entries a.notes.now c.reserve.new.self need.result (search rules)
     (ap (λ (n : NoteRoom). n.notes) need.ensures.notes) (ap (λ (n : NoteRoom). n.bytes) need.ensures.notes) counted in
     record {
-      can = record {
-        watched = search rules;
-        room = room_made c.reserve-2.new.self d (λ d. room_of_steps d.line_end_types (conversion_steps a.to (text_of d))) need.result same need.ensures.document counted (search rules);
-        holds = subst (λ (x : Document). CanHoldEdit (conversion_steps a.to (text_of x)) (scene_in x a.views.now.entries c.reserve.new.self.notes) c.reserve.new.self) (sym same) holds;
-      };
+      watched = search rules;
+      room = room_made c.reserve-2.new.self d (λ d. room_of_steps d.line_end_types (conversion_steps a.to (text_of d))) need.result same need.ensures.document counted (search rules);
+      holds = subst (λ (x : Document). CanHoldEdit (conversion_steps a.to (text_of x)) (scene_in x a.views.now.entries c.reserve.new.self.notes) c.reserve.new.self) (sym same) holds;
     }
 
 pub returns-clause-scene : goal.returns-clause-scene

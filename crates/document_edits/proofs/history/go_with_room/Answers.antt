@@ -27,4 +27,4 @@ pub returns-clause-unheard : goal.returns-clause-unheard
 returns-clause-unheard c = λ most empty.
     let need = c.history_need-need.result in
     let few : need.notes.notes ≡ 0 = search rules in
-    none_told c.args.notes.now c.reserve.new.self c.perform_history-place.new.notes need.notes.notes need.notes.bytes (search rules) c.fits_in.ensures.notes c.perform_history-place.ensures.capacity few empty
+    none_told c.args.notes.now c.reserve.new.self c.perform_history-place.new.notes need.notes.notes need.notes.bytes (search rules) c.fits_in.ensures.notes c.perform_history-place.ensures.rooms.capacity few empty

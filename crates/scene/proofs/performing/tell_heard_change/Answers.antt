@@ -1,5 +1,5 @@
-use Rattle.scene.proofs.Names.{◌≡◌, length, true, refl, ap, ◌∙◌, arith, subst, nat_lt, lt-ltb, append-nil, TextStep, text_of, watchers, hearers, bits_of, performed_kinds, IsToldBefore}
-use Rattle.scene.proofs.ChangeNotes.{before_few}
+use Rattle.scene.proofs.Names.{◌≡◌, length, true, refl, ap, ◌∙◌, arith, subst, nat_lt, lt-ltb, append-nil, TextStep, text_of, watchers, hearers, bits_of, all_bits, performed_kinds, IsToldBefore}
+use Rattle.scene.proofs.KindLemmas.{before_few}
 use Rattle.scene.proofs.ChangeSteps.{some_has, step_same}
 use Rattle.scene.proofs.performing.tell_heard_change.Goals as goal
 
@@ -27,7 +27,7 @@ tell_coming-requires-clause-room c =
     let W = watchers c.args.document.now.document c.args.views.now in
     let who = bits_of c.args.turn.direction in
     let at = c.step_at-step.ensures s (text_of c.args.document.now.document) can.at can.fits in
-    let few = before_few who s W in
+    let few = before_few who (all_bits who) s W in
     let r = can.notes in
     let n = ap (λ g. length g.notes) c.share.ensures in
     let m = ap (λ g. g.capacity.notes) c.share.ensures in
@@ -42,7 +42,7 @@ returns c =
     let at = c.step_at-step.ensures s (text_of c.args.document.now.document) can.at can.fits in
     let B = some_has _ _ (TextStep s) can.at c.change_bytes.ensures.bytes in
     let some : nat_lt 0 (hearers (performed_kinds who s) W) ≡ true = lt-ltb 0 _ c.requires.2 in
-    let few = before_few who s W in
+    let few = before_few who (all_bits who) s W in
     let put = rw (at.0, c.bit_of-who.ensures, c.share.ensures) at c.tell_coming.ensures in
     let texts = rw some at can.texts in
     let r = can.notes in

@@ -1,6 +1,5 @@
-use Rattle.scene.proofs.Names.{[]}
-use Rattle.scene.proofs.ToldSoFar.{told_as}
+use Rattle.scene.proofs.Names.{[], ap, ◌∙◌, told, watchers, with_notes}
 use Rattle.scene.proofs.steps.put_left.Goals as goal
 
 pub returns : goal.returns
-returns c = told_as _ c.blank-note.result _ _ _ (c.blank-note.ensures []) c.tell.ensures
+returns c = c.tell.ensures ∙ ap (λ n. with_notes (told (watchers c.args.document.now.document c.args.views.now) n) c.args.notes.now) (c.blank-note.ensures [])

@@ -8,26 +8,23 @@ pub loop-index-preserved : goal.loop-index-preserved
 loop-index-preserved c =
     let d = c.args.document.now.document in
     let all = changes_of c.args.direction d.history in
-    let i = c.loop-index.index in
     let count = c.change_count-count.ensures in
-    let next = there all i (omega arith) in
+    let next = there all c.loop-index.index (omega arith) in
     let O = some_has _ _ next.0 next.1 c.change_with_need-outline.ensures.outline in
     let D = some_has _ _ next.0 next.1 c.change_with_need-outline.ensures.need in
-    let N = c.change_note_need-notes.ensures next.0 O in
-    let F = c.free_behind-free.ensures next.0 O in
-    rw (c.plus.ensures, c.plus-in-loop-index.ensures, N, c.beside.ensures, D, F) (needed_next (watchers d c.args.views.now) (bits_of c.args.direction) d.line_end_types (save_point_notes (save_point_told c.args.direction d.history) (length (watchers d c.args.views.now))) c.loop-index.free next.0 (drop i all) (drop (i + 1) all) all
-    c.loop-index.need c.loop-index.invariant (drop_some all i next.0 next.1))
+    rw (c.plus.ensures, c.plus-in-loop-index.ensures, c.change_note_need-notes.ensures next.0 O, c.beside.ensures, D, c.free_behind-free.ensures next.0 O)
+    (needed_next (watchers d c.args.views.now) (bits_of c.args.direction) d.line_end_types (save_point_notes (save_point_told c.args.direction d.history) (length (watchers d c.args.views.now)))
+    c.loop-index.free next.0 (drop (c.loop-index.index + 1) all) all c.loop-index.need (rw (drop_some all c.loop-index.index next.0 next.1) at c.loop-index.invariant))
 
 pub returns : goal.returns
 returns c =
     let d = c.args.document.now.document in
     let all = changes_of c.args.direction d.history in
-    let count = c.change_count-count.ensures in
-    let none = drop_all c.loop-index.index all (omega arith) in
     let W = watchers d c.args.views.now in
-    let who = bits_of c.args.direction in
     let told = save_point_notes (save_point_told c.args.direction d.history) (length W) in
+    let count = c.change_count-count.ensures in
+    let so = rw (drop_all c.loop-index.index all (omega arith)) at c.loop-index.invariant in
     record {
-      notes = needed_notes W who d.line_end_types told c.loop-index.free (drop c.loop-index.index all) all c.loop-index.need c.loop-index.invariant none;
-      document = needed_room W who d.line_end_types told c.loop-index.free (drop c.loop-index.index all) all c.loop-index.need c.loop-index.invariant none;
+      notes = needed_notes W (bits_of c.args.direction) d.line_end_types told c.loop-index.free all c.loop-index.need so;
+      document = needed_room W (bits_of c.args.direction) d.line_end_types told c.loop-index.free all c.loop-index.need so;
     }
