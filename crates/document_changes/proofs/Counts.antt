@@ -1,13 +1,5 @@
 -- Counts of markers.
-use Rattle.document_changes.proofs.Names.{◌≡◌, ℕ, zero, suc, ◌+◌, ◌<◌, Bool, true, false, cond, List, [], ◌∷◌, ◌++◌, length, get_or, set, refl, ap, sym, arith, length-append, ◌==◌, not, filter, Some, None, slice_index_or, eqb-true, eqb-false, eq-eqb, ne_eqb, cond-true, cond-false, heard, Row, Marker, fresh_row, Document, View, new_markers, with_new_markers, without_markers, marker_count, marker_note, line_with_handle, marker_count-cons, marker_notice}
-
--- Notes are sent if markers were added or deleted.
-
-pub marker_told : (line : ℕ) (old new : Document) (views : List View) → (marker_count old.rows == marker_count new.rows) ≡ false → heard views (marker_notice old line) ≡ marker_note line old new views
-marker_told line old new views h = sym (cond-false (marker_count old.rows == marker_count new.rows) [] (heard views (marker_notice old line)) h)
-
-pub marker_untold : (line : ℕ) (old new : Document) (views : List View) → (marker_count old.rows == marker_count new.rows) ≡ true → [] ≡ marker_note line old new views
-marker_untold line old new views h = sym (cond-true (marker_count old.rows == marker_count new.rows) [] (heard views (marker_notice old line)) h)
+use Rattle.document_changes.proofs.Names.{◌≡◌, ℕ, zero, suc, ◌+◌, ◌<◌, Bool, true, false, cond, List, [], ◌∷◌, ◌++◌, length, get_or, set, refl, ap, arith, length-append, ◌==◌, not, nat_lt, filter, Some, None, slice_index_or, eqb-true, eqb-false, eq-eqb, ne_eqb, lt-ltb, Row, Marker, fresh_row, Document, new_markers, with_new_markers, without_markers, marker_count, line_with_handle, marker_count-cons}
 
 -- New markers.
 
@@ -25,7 +17,7 @@ set_count (row ∷ rows) (suc line) new h =
     let rest = set_count rows line new (omega arith) in
     omega arith
 
-pub added_count : (line : ℕ) (numbers : List ℕ) (d : Document) → line < length d.rows
+added_count : (line : ℕ) (numbers : List ℕ) (d : Document) → line < length d.rows
     → marker_count (with_new_markers line numbers d).rows ≡ marker_count d.rows + length numbers
 added_count line numbers d h =
     let row = slice_index_or d.rows line fresh_row in
@@ -34,17 +26,14 @@ added_count line numbers d h =
     let c = length_new d.next_handle numbers in
     omega arith
 
-pub some_added : (line : ℕ) (numbers : List ℕ) (d : Document) → line < length d.rows → 0 < length numbers
-    → (marker_count d.rows == marker_count (with_new_markers line numbers d).rows) ≡ false
-some_added line numbers d h some =
-    let a = added_count line numbers d h in
-    ne_eqb (marker_count d.rows) (marker_count (with_new_markers line numbers d).rows) (λ e. omega arith)
+grown : (a n b : ℕ) → b ≡ a + n → nat_lt 0 n ≡ not (a == b)
+grown a zero b e = rw (eq-eqb a b (omega arith)) refl
+grown a (suc n) b e = rw (ne_eqb a b (λ same. omega arith)) (lt-ltb 0 (suc n) (omega arith))
 
-pub none_added : (line : ℕ) (numbers : List ℕ) (d : Document) → line < length d.rows → length numbers ≡ 0
-    → (marker_count d.rows == marker_count (with_new_markers line numbers d).rows) ≡ true
-none_added line numbers d h none =
-    let a = added_count line numbers d h in
-    eq-eqb (marker_count d.rows) (marker_count (with_new_markers line numbers d).rows) (omega arith)
+-- markers are added if there are numbers
+pub some_added : (line : ℕ) (numbers : List ℕ) (d : Document) → line < length d.rows
+    → nat_lt 0 (length numbers) ≡ not (marker_count d.rows == marker_count (with_new_markers line numbers d).rows)
+some_added line numbers d h = grown (marker_count d.rows) (length numbers) (marker_count (with_new_markers line numbers d).rows) (added_count line numbers d h)
 
 -- A marker deleted by its handle.
 

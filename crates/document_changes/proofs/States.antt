@@ -1,5 +1,5 @@
 -- The states of lines are the same or not.
-use Rattle.document_changes.proofs.Names.{◌≡◌, Bool, true, false, refl, ap, arith, ℤ, pos, negsuc, int_le, nat_le, ◌&&◌, is_same}
+use Rattle.document_changes.proofs.Names.{◌≡◌, Bool, true, false, refl, ap, sym, ◌∙◌, arith, ℤ, pos, negsuc, int_le, nat_le, ◌&&◌, ◌==◌, eqb-true, eqb-false, w32, to_z, of_z, to_z-of_z, SFits, is_same}
 use Rattle.std.proofs.Math.Nat.{le_antisymm}
 use lib.Dec.{T, leb→le, le→leb}
 
@@ -21,13 +21,21 @@ int_same (pos n) (negsuc m) h k = absurd (cc)
 int_same (negsuc n) (pos m) h k = absurd (cc)
 int_same (negsuc n) (negsuc m) h k = ap negsuc (le_antisymm (leb→le n m (passes (nat_le n m) k)) (leb→le m n (passes (nat_le m n) h)))
 
-pub same_state : (a b : ℤ) → a ≡ b → is_same a b ≡ true
+same_state : (a b : ℤ) → a ≡ b → is_same a b ≡ true
 same_state a b e = rw e (let h = int_le_self b in rw h refl)
 
-pub other_state : (a b : ℤ) → (a ≡ b → ⊥) → is_same a b ≡ false
+other_state : (a b : ℤ) → (a ≡ b → ⊥) → is_same a b ≡ false
 other_state a b ne = go (int_le a b) refl (int_le b a) refl
   where
     go : (p : Bool) → int_le a b ≡ p → (q : Bool) → int_le b a ≡ q → (p && q) ≡ false
     go true h true k = absurd (ne (int_same a b h k))
     go true h false k = refl
     go false h q k = refl
+
+-- two states of 32 bits are the same if their bits are
+pub same_states : (a b : ℤ) → SFits w32 a → SFits w32 b → (of_z w32 a == of_z w32 b) ≡ is_same a b
+same_states a b fits fits' = go (of_z w32 a == of_z w32 b) refl
+  where
+    go : (p : Bool) → (of_z w32 a == of_z w32 b) ≡ p → p ≡ is_same a b
+    go true e = sym (same_state a b (sym (to_z-of_z w32 a fits) ∙ ap (to_z w32) (eqb-true (of_z w32 a) (of_z w32 b) e) ∙ to_z-of_z w32 b fits'))
+    go false e = sym (other_state a b (λ s. eqb-false (of_z w32 a) (of_z w32 b) e (ap (of_z w32) s)))

@@ -1,5 +1,5 @@
 -- Changes that leave the text unchanged, and the positions of views.
-use Rattle.document_changes.proofs.Names.{◌≡◌, ℕ, false, List, [], ◌∷◌, map, length, take, replicate, refl, ap, sym, ◌∙◌, AllByRecursion, DocumentChange, line_count, Document, View, lines_in, is_large, changed_document, changed_lines, change_told, styled, text_of_styled, Entries, Gathered, KeptView, views_of, watchers, StandsIfOn, IsWatched, AreTold, IsChanged, is_of_types}
+use Rattle.document_changes.proofs.Names.{◌≡◌, ℕ, false, List, [], ◌∷◌, ◌++◌, map, length, take, replicate, refl, ap, sym, ◌∙◌, AllByRecursion, DocumentChange, line_count, Document, View, lines_in, is_large, changed_document, changed_lines, change_told, styled, text_of_styled, Entries, Gathered, KeptView, views_of, watchers, StandsIfOn, IsWatched, IsChanged, is_of_types}
 use Rattle.ed_model.specs.declared.plan.DocumentChange.TheVariants as change
 use Rattle.ed_model.specs.SoundLaws.{occurrences}
 use Rattle.ed_model.specs.proved.Steps.{length_of_bytes}
@@ -31,7 +31,7 @@ all_stand_again : (old new : Document) (vs : List View) → KeepsPlaces old new 
 all_stand_again old new [] same all = tt
 all_stand_again old new (v ∷ vs) same all = (stands_again old new v same all.0, all_stand_again old new vs same all.1)
 
-pub watched_still : (old new : Document) (table : Entries KeptView) → KeepsPlaces old new → IsWatched old table → IsWatched new table
+watched_still : (old new : Document) (table : Entries KeptView) → KeepsPlaces old new → IsWatched old table → IsWatched new table
 watched_still old new table same w = record {
   named = w.named;
   rise = w.rise;
@@ -50,11 +50,15 @@ styled_places new d = record {
   large = refl;
 }
 
-pub keeps_places : (text : List ℕ) (what : DocumentChange) (d : Document) → is_of_types what ≡ false → KeepsPlaces d (changed_document text what d)
+keeps_places : (text : List ℕ) (what : DocumentChange) (d : Document) → is_of_types what ≡ false → KeepsPlaces d (changed_document text what d)
 keeps_places text (change.SetLineEndTypes to) d h = absurd (cc)
 keeps_places text (change.StyleRun count style) d h = styled_places (replicate count style) d
 keeps_places text (change.StyleBytes count) d h = styled_places (take count text) d
 keeps_places text _ d h = record { id = refl; views = refl; size = refl; lines = refl; large = refl }
+
+pub watchers_stay : (text : List ℕ) (what : DocumentChange) (d : Document) (table : Entries KeptView) → watchers (changed_document text what d) table ≡ watchers d table
+watchers_stay text (change.SetLineEndTypes to) d table = refl
+watchers_stay text _ d table = refl
 
 -- Views do not change.
 
@@ -62,7 +66,7 @@ view_stays : (what : DocumentChange) (d : Document) (v : View) → is_of_types w
 view_stays (change.SetLineEndTypes to) d v h = absurd (cc)
 view_stays _ d v h = refl
 
-pub views_stay : (what : DocumentChange) (d : Document) (vs : List View) → is_of_types what ≡ false → vs ≡ map (changed_lines what d) vs
+views_stay : (what : DocumentChange) (d : Document) (vs : List View) → is_of_types what ≡ false → vs ≡ map (changed_lines what d) vs
 views_stay what d [] h = refl
 views_stay what d (v ∷ vs) h =
     let a = view_stays what d v h in
@@ -72,7 +76,7 @@ views_stay what d (v ∷ vs) h =
 -- the change was made, with the notes that the model says
 pub is_changed : (text : List ℕ) (what : DocumentChange) (sender : ℕ) (old new : Document) (views : Entries KeptView) (notes notes' : Gathered) → is_of_types what ≡ false
     → IsWatched old views → new ≡ changed_document text what old
-    → ((v : View) → v.id ≡ sender → AreTold (change_told v (watchers old views) old new what) notes notes')
+    → ((v : View) → v.id ≡ sender → notes'.notes ≡ notes.notes ++ change_told v (watchers old views) old new what)
     → IsChanged text what sender old new views views notes notes'
 is_changed text what sender old new views notes notes' h w made told = record {
   document = made;

@@ -1,6 +1,6 @@
 -- Definitions that the contracts cite.
 pub mod Fit
+pub mod Notes
 pub mod Needs
-pub mod Changed
-pub mod Lines
 pub mod Memory
+pub mod Changed

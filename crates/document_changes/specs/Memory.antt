@@ -1,5 +1,5 @@
 -- The memory of a change: what is reserved for it, and what the change leaves of it.
-use Rattle.std.specs.Prelude.{◌≡◌, ◌≤◌, ℕ, length}
+use Rattle.std.specs.Prelude.{◌≡◌, ◌≤◌, ◌⊎◌, ℕ, length}
 use Rattle.ed_model.specs.declared.plan.DocumentChange.{DocumentChange}
 use Rattle.ed_model.specs.declared.plan.DocumentChange.TheVariants as change
 use Rattle.ed_model.specs.LinePlans.{numbers_in}
@@ -11,6 +11,7 @@ use Rattle.undo_history.specs.Kept as history
 use Rattle.document.specs.Changes.{line_type_edits, with_collecting, with_forgotten_history}
 use Rattle.document.specs.Kept.{Kept, decorated_in, history_in, rows_in}
 use Rattle.document.specs.Memory.{ChangesLineCapacity, ChangesRowCapacity, GrowsForLines, KeepsAllButStyles, KeepsMemoryFilling, RowsGrowTo}
+use Rattle.notify.specs.Gathered.{Gathered, with_room}
 
 -- only the capacity for what belongs to lines may be another, which grows to this at most
 abbrev pub ReservesRows : RowCapacity → Kept → Kept → Type 0
@@ -36,9 +37,11 @@ ReservesFill indicator old new =
     (new ≡ record old { capacity = record old.capacity { indicators = new.capacity.indicators } })
     × IsCapacityForFill indicator (decorated_in old) new.capacity.indicators
 
--- At most what the change needs was reserved, and nothing else is another.
+-- At most what the change needs was reserved, and nothing else is another. A history that is forgotten holds no memory.
 abbrev pub ReservesFor : DocumentChange → Kept → Kept → Type 0
 ReservesFor (change.SetLineEndTypes to) old new = ChangesLineCapacity old new × GrowsForLines (fresh_lines (line_type_edits to old.document)) old new
+ReservesFor change.ForgetHistory old new = new.capacity ≡ (with_forgotten_history old).capacity
+ReservesFor (change.CollectUndo on) old new = new.capacity ≡ (with_collecting on old).capacity
 ReservesFor (change.AppendContainer token coalesce) old new = ReservesStep old new
 ReservesFor (change.AddMarker line number) old new = ReservesMarker old new
 ReservesFor (change.AddMarkers line mask) old new = ReservesRows (most_for_markers (length (numbers_in mask)) (rows_in old)) old new
@@ -53,10 +56,19 @@ ReservesFor other old new = new ≡ old
 abbrev pub with_memory_of : Kept → Kept → Kept
 with_memory_of other k = record k { stored = record k.stored { styles = other.stored.styles }; capacity = other.capacity }
 
--- Each capacity stays, but a history that is forgotten holds no memory, and the fill of an indicator may drop its runs, or give it the
--- spare ones.
-abbrev pub KeepsCapacity : DocumentChange → Kept → Kept → Type 0
-KeepsCapacity change.ForgetHistory old new = new.capacity ≡ (with_forgotten_history old).capacity
-KeepsCapacity (change.CollectUndo on) old new = new.capacity ≡ (with_collecting on old).capacity
-KeepsCapacity (change.FillIndicator indicator start count value) old new = KeepsMemoryFilling indicator old new
-KeepsCapacity other old new = new.capacity ≡ old.capacity
+-- Room was made for a fill of the indicator, which may have dropped its runs, or given it the spare ones.
+pub record FillsWithin (indicator : ℕ) (old new : Kept) : Type 0 where
+  pub ready : Kept
+  pub reserved : ReservesFill indicator old ready
+  pub kept : KeepsMemoryFilling indicator ready new
+
+-- At most what the change needs was reserved for it, before it was made.
+abbrev pub TakesMemory : DocumentChange → Kept → Kept → Type 0
+TakesMemory (change.SetLineEndTypes to) old new = ReservesFor (change.SetLineEndTypes to) old (record old { capacity = new.capacity })
+TakesMemory (change.FillIndicator indicator start count value) old new = FillsWithin indicator old new
+TakesMemory other old new = ReservesFor other old (with_memory_of new old)
+
+-- only the notes and the room for them may be others: room for so many more was made, or none
+abbrev pub ReservesNotes : ℕ → Gathered → Gathered → Type 0
+ReservesNotes count old new =
+    (new ≡ record old { notes = new.notes; capacity = new.capacity }) × ((new.capacity ≡ old.capacity) ⊎ (new.capacity ≡ (with_room count 0 old).capacity))

@@ -1,13 +1,11 @@
 -- What a change needs: room for notes, and room in its document.
-use Rattle.std.specs.Prelude.{◌≡◌, ℕ, Bool, true, false, List, [], length, bit_or}
+use Rattle.std.specs.Prelude.{◌≡◌, ℕ, Bool, true, false, List, [], length}
 use Rattle.ed_model.specs.declared.plan.DocumentChange.{DocumentChange}
 use Rattle.ed_model.specs.declared.plan.DocumentChange.TheVariants as change
 use Rattle.ed_model.specs.History.{History}
 use Rattle.ed_model.specs.LinePlans.{numbers_in}
 use Rattle.ed_model.specs.Notes as notes
 use Rattle.ed_model.specs.Session.{View}
-use Rattle.line_index.specs.declared.edit.LineEdit.{LineEdit}
-use Rattle.line_index.specs.Edits.{fresh_lines}
 use Rattle.document.specs.Changes.{CanStyle, container_need, line_type_edits}
 use Rattle.document.specs.Kept.{Kept, HasFillRoom, HasHistoryRoom, HasLevelRoom, HasLineRoom, HasMarkerRoom, HasStateRoom}
 use Rattle.id_table.specs.Entries.{Entries}
@@ -15,14 +13,7 @@ use Rattle.ed_view.specs.Kept.{KeptView}
 use Rattle.scene.specs.Scenes.{watchers}
 use Rattle.scene.specs.Hearing.{hearers}
 use Rattle.scene.specs.Needs.{leaving_count}
-
--- the kind of the note of a user's change of styles
-abbrev pub style_kind : ℕ
-style_kind = bit_or notes.change_style notes.performed_user
-
--- the kind of the note of a user's change of an indicator
-abbrev pub indicator_kind : ℕ
-indicator_kind = bit_or notes.change_indicator notes.performed_user
+use Rattle.document_changes.specs.Notes.{indicator_kind, style_kind}
 
 -- how many notes the change has at most, if these views watch the document
 abbrev pub notes_of_change : DocumentChange → History → List View → ℕ
@@ -45,19 +36,18 @@ notes_of_change other h views = 0
 abbrev pub change_note_need : DocumentChange → Kept → Entries KeptView → ℕ
 change_note_need what k views = notes_of_change what k.document.history (watchers k.document views)
 
--- The document has room for the change, so that the change allocates nothing. When other line ends are set, `edits` are the changes of
--- the lines.
-abbrev pub IsReady : Kept → DocumentChange → List LineEdit → Type 0
-IsReady k (change.SetLineEndTypes to) edits = (edits ≡ line_type_edits to k.document) × HasLineRoom (fresh_lines edits) k
-IsReady k (change.AppendContainer token coalesce) edits = HasHistoryRoom container_need k
-IsReady k (change.AddMarker line number) edits = HasMarkerRoom 1 k
-IsReady k (change.AddMarkers line mask) edits = HasMarkerRoom (length (numbers_in mask)) k
-IsReady k (change.SetLevel line level) edits = HasLevelRoom line k
-IsReady k (change.SetState line state) edits = HasStateRoom line k
-IsReady k (change.StyleRun count style) edits = CanStyle k
-IsReady k (change.StyleBytes count) edits = CanStyle k
-IsReady k (change.FillIndicator indicator start count value) edits = HasFillRoom indicator k
-IsReady k other edits = Unit {0}
+-- The document has room for the change, which then allocates nothing in it. Other line ends take memory unless they change no line.
+abbrev pub IsReady : DocumentChange → Kept → Type 0
+IsReady (change.SetLineEndTypes to) k = (line_type_edits to k.document ≡ []) × HasLineRoom 0 k
+IsReady (change.AppendContainer token coalesce) k = HasHistoryRoom container_need k
+IsReady (change.AddMarker line number) k = HasMarkerRoom 1 k
+IsReady (change.AddMarkers line mask) k = HasMarkerRoom (length (numbers_in mask)) k
+IsReady (change.SetLevel line level) k = HasLevelRoom line k
+IsReady (change.SetState line state) k = HasStateRoom line k
+IsReady (change.StyleRun count style) k = CanStyle k
+IsReady (change.StyleBytes count) k = CanStyle k
+IsReady (change.FillIndicator indicator start count value) k = HasFillRoom indicator k
+IsReady other k = Unit {0}
 
 -- whether the change needs room in its document
 abbrev pub needs_room : DocumentChange → Bool
@@ -72,16 +62,9 @@ needs_room (change.StyleBytes count) = true
 needs_room (change.FillIndicator indicator start count value) = true
 needs_room other = false
 
--- whether no view is notified of the change, no line changes, and it needs no room
-abbrev pub is_quiet : DocumentChange → Bool
-is_quiet (change.SetReadOnly on) = true
-is_quiet (change.SetLineEnd to) = true
-is_quiet change.BeginGroup = true
-is_quiet change.EndGroup = true
-is_quiet change.ForgetHistory = true
-is_quiet (change.CollectUndo on) = true
-is_quiet (change.SetEndStyled place) = true
-is_quiet other = false
+-- if the change needs no room in the document and has no notes, this holds
+abbrev pub IfChangeIsFree : DocumentChange → Entries KeptView → Type 0 → Kept → Type 0
+IfChangeIsFree what views P k = needs_room what ≡ false → change_note_need what k views ≡ 0 → P
 
 -- whether the change sets which line ends count
 abbrev pub is_of_types : DocumentChange → Bool
@@ -97,4 +80,4 @@ is_frequent other = false
 
 -- If the change is a frequent one that no view hears, and there is room for it, it was made, as `made` says.
 abbrev pub IsMadeIfReady : DocumentChange → Kept → Entries KeptView → Bool → Type 0
-IsMadeIfReady what k views made = is_frequent what ≡ true → change_note_need what k views ≡ 0 → IsReady k what [] → made ≡ true
+IsMadeIfReady what k views made = is_frequent what ≡ true → change_note_need what k views ≡ 0 → IsReady what k → made ≡ true

@@ -1,8 +1,10 @@
 //! Changes of a document that are no steps of its text, with the views that watch it and their notes.
 //!
-//! A message asks `change_note_need` how many notes its change has at most, and reserves room for them. Then
-//! `reserve_change` reserves room in the document, after which `change_document` cannot fail. `change_unheard` is a
-//! shorter way for frequent changes that no view hears. It prepares nothing for notes.
+//! `change_document` reserves room for the change and its notes, makes the change, and notifies the views. If an
+//! allocation fails, nothing has changed. `change_unheard` is a shorter way for frequent changes that no view hears.
+//!
+//! The function that makes a change knows neither views nor notes. It returns what there is to tell of the change
+//! (`ChangeNote`), and `tell` notifies the views of that.
 #![tactic(auto)]
 
 mod change;
@@ -10,7 +12,7 @@ mod history_changes;
 mod laws;
 mod marker_changes;
 mod need;
-mod ready;
+mod note;
 mod row_changes;
 mod style_changes;
 mod telling;
@@ -18,6 +20,4 @@ mod type_changes;
 mod unheard;
 
 pub use change::change_document;
-pub use need::change_note_need;
-pub use ready::{ChangeReady, reserve_change};
 pub use unheard::change_unheard;

@@ -13,7 +13,11 @@ use id_table::IdTable;
 use scene::{count_hearers, count_watchers, leaving_need};
 
 /// Returns how many notes a change of the document has at most. They have no text.
-pub fn change_note_need(document: &Document, views: &IdTable<View>, change: DocumentChange) -> usize
+pub(crate) fn change_note_need(
+    document: &Document,
+    views: &IdTable<View>,
+    change: DocumentChange,
+) -> usize
     requires named { AreNamed views.now.entries }
     ensures { result ≡ change_note_need change document.now views.now }
 {

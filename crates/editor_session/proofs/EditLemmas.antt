@@ -1,53 +1,47 @@
 -- Edits of the text.
-use Rattle.editor_session.proofs.Names.{◌≡◌, ◌⊎◌, inl, inr, ℕ, ℤ, true, false, List, [], ◌∷◌, ◌++◌, length, refl, ap, sym, ◌∙◌, subst, Option, Some, None, IfSome, IsSomeAnd, not, and_parts, eqb-true, Follow, steps_of, has_steps, converted, Scene, session_of, edit_made, followed, EditStepsFit, edit_made_id, Request, Document, Session, text_of, Step, insertion, Entries, value_at, Gathered, Kept, KeptView, kept_scene, views_of, session_in, SessionState, IsKept, IsPastedFor, TakesWithin, is_turned, clipboard_need, taken_along, followed_views, followed_clipboard, Becomes, CanEdit, Edits, MakesEdit, edit_steps, scene_after, takes_nothing_along, IfFree, IsPlannedForSomeValueWithText, StepsFitWidth}
+use Rattle.editor_session.proofs.Names.{◌≡◌, ◌⊎◌, inl, inr, ℕ, ℤ, true, false, List, [], ◌∷◌, ◌++◌, length, refl, ap, sym, ◌∙◌, subst, Some, not, and_parts, eqb-true, Follow, steps_of, source_bytes, has_steps, converted, after_steps, replacement, Scene, scene_of, session_of, edit_made, followed, response, EditStepsFit, IsFitEdit, IsFitSource, IsFitFollow, IsFitPlan, Request, text, size, Document, Session, View, text_of, Step, insertion, Entries, value_at, Gathered, Kept, KeptView, kept_scene, scene_in, views_of, session_in, SessionState, IsKept, IsStoredIn, IsPastedFor, IsEditWithin, TakesWithin, is_turned, stored_bytes, clipboard_need, taken_along, followed_views, followed_clipboard, MakesEdit, edit_steps, takes_nothing_along, needs_no_memory, StepsFitWidth, asked, CanPerform, IsPerformed}
+use Rattle.ed_model.specs.declared.plan.Source.{Source}
 use Rattle.ed_model.specs.declared.plan.Source.TheVariants as source
 use Rattle.ed_model.specs.declared.plan.Edit.{Edit}
 use Rattle.ed_model.specs.declared.plan.Edit.TheVariants as edit
 use Rattle.ed_model.specs.declared.plan.Follow.TheVariants as follow
 use Rattle.ed_model.specs.declared.plan.Plan.TheVariants as plan
+use Rattle.editor_session.proofs.OneDocument.{with_scene, found_is, scene_put}
+use Rattle.editor_session.proofs.Telling.{telling, edit_told_from}
 use Rattle.editor_session.proofs.Widths.{steps_fit_width}
-use Rattle.editor_session.proofs.OneDocument.{with_one, said_of_it, becomes}
-use Rattle.editor_session.proofs.PlanLemmas.{DoneFor, asked_by, asked_with, kept_at, of_kept, for_kept, session_is, takes_here, within_here, limits_here, watched_here, same_steps, edited}
-use Rattle.editor_session.proofs.TableWay.{free_plan}
 
--- The session after an edit and what follows it.
+-- The bytes that an edit inserts, and the ranges in it.
 
-followed_so : (after : Follow) (view : ℕ) (before taken : List ℕ) (s s' : SessionState) (between : Entries KeptView) (notes' : Gathered) (scene : Scene) → Becomes scene s.documents s'.documents between notes'
-    → views_of s'.views.entries ≡ followed_views view after (views_of between.entries) → s'.clipboard.items ≡ followed_clipboard after taken s.clipboard.items → taken ≡ taken_along after before
-    → s'.documents.next ≡ s.documents.next → s'.views.next ≡ s.views.next → s'.limits ≡ s.limits → session_in s' ≡ followed view before after (session_of (session_in s) scene)
-followed_so follow.Nothing view before taken s s' between notes' scene done moved clipboard take next_document next_view limits =
-    let views : views_of s'.views.entries ≡ scene.views = moved ∙ done.views_after in
-    rw (done.documents_after, views, clipboard, next_document, next_view, limits) refl
-followed_so after view before taken s s' between notes' scene done moved clipboard take next_document next_view limits =
-    let views : views_of s'.views.entries ≡ followed_views view after scene.views = moved ∙ ap (followed_views view after) done.views_after in
-    let held = clipboard ∙ ap (λ t. followed_clipboard after t s.clipboard.items) take in
-    rw (done.documents_after, views, held, next_document, next_view, limits) refl
+same_bytes : (r : Request) (start count : ℕ) (from : Source) (pasted : List ℕ) → IsPastedFor (edit.Replace start count from) r.session.clipboard r.document.line_end pasted
+    → stored_bytes from r.message.text r.session.clipboard pasted r.document.line_end ≡ source_bytes r from
+same_bytes r start count (source.Clipboard true) pasted h = h
+same_bytes r start count _ pasted h = refl
 
--- the document, the views and the notes after the steps of an edit
-pub edit_put : (s : SessionState) (kept : IsKept s) (document : ℕ) (change : Edit) (text held pasted : List ℕ) (old new : Kept) (between : Entries KeptView) (notes notes' : Gathered) → value_at s.documents.entries document ≡ Some old → held ≡ s.clipboard.items
-    → MakesEdit (edit_steps change text held pasted old.document) old s.views notes new between notes'
-    → IfSome (value_at s.documents.entries document) (λ k. Becomes (scene_after change text pasted s notes k) s.documents (with_one s.documents document new) between notes')
-edit_put s kept document change text held pasted old new between notes notes' at is made =
-    said_of_it s kept document old new at (λ k. Becomes (scene_after change text pasted s notes k) s.documents (with_one s.documents document new) between notes')
-    (subst (λ x. Becomes (edit_made (edit_steps change text x pasted old.document) (kept_scene old s.views notes)) s.documents (with_one s.documents document new) between notes') is
-    (becomes s.documents between notes' document old new (edit_made (edit_steps change text held pasted old.document) (kept_scene old s.views notes)) kept.documents at made
-    (edit_made_id (edit_steps change text held pasted old.document) (kept_scene old s.views notes))))
+same_edit : (r : Request) (change : Edit) (pasted : List ℕ) → IsPastedFor change r.session.clipboard r.document.line_end pasted → edit_steps change r.message.text r.session.clipboard pasted r.document ≡ steps_of r change
+same_edit r (edit.Replace start count from) pasted h = ap (λ xs. replacement start count xs (text r)) (same_bytes r start count from pasted h)
+same_edit r (edit.ConvertLineEnds to) pasted h = refl
 
-pub edited_with : (s s' : SessionState) (document view : ℕ) (text pasted taken : List ℕ) (change : Edit) (after : Follow) (between : Entries KeptView) (notes notes' : Gathered)
-    → IsSomeAnd (value_at s.documents.entries document) (CanEdit change text pasted after taken s)
-    → IfSome (value_at s.documents.entries document) (λ k. Becomes (scene_after change text pasted s notes k) s.documents s'.documents between notes')
-    → views_of s'.views.entries ≡ followed_views view after (views_of between.entries) → s'.clipboard.items ≡ followed_clipboard after taken s.clipboard.items
-    → s'.documents.next ≡ s.documents.next → s'.views.next ≡ s.views.next → s'.limits ≡ s.limits
-    → IfSome (value_at s.documents.entries document) (λ k. Edits view change text pasted after s notes k s' notes')
-edited_with s s' document view text pasted taken change after between notes notes' can done moved clipboard next_document next_view limits = go (value_at s.documents.entries document) can done
-  where
-    go : (o : Option Kept) → IsSomeAnd o (CanEdit change text pasted after taken s) → IfSome o (λ k. Becomes (scene_after change text pasted s notes k) s.documents s'.documents between notes')
-        → IfSome o (λ k. Edits view change text pasted after s notes k s' notes')
-    go None can done = absurd can
-    go (Some k) can done = record {
-      session_after = followed_so after view (text_of k.document) taken s s' between notes' (scene_after change text pasted s notes k) done moved clipboard can.take next_document next_view limits;
-      notes_after = done.notes_after;
-    }
+stored_in : (r : Request) (from : Source) → IsFitSource r from → IsStoredIn from (length r.message.text)
+stored_in r (source.MessageText count) h = h
+stored_in r _ h = tt
+
+edit_within : (r : Request) (change : Edit) → IsFitEdit r change → IsEditWithin change (size r) (length r.message.text)
+edit_within r (edit.Replace start count from) fit = (fit.0, stored_in r from fit.1)
+edit_within r (edit.ConvertLineEnds to) fit = tt
+
+takes_within : (r : Request) (after : ℕ) (f : Follow) → IsFitFollow r after f → TakesWithin f (size r)
+takes_within r after (follow.Clipboard start count) h = h
+takes_within r after _ h = tt
+
+pub edit_takes : (r : Request) (change : Edit) (value : ℤ) (f : Follow) → IsFitPlan r (plan.Edit change value f) → TakesWithin f (size r)
+edit_takes r change value f fit = takes_within r (length (after_steps (steps_of r change) (text r))) f fit.1
+
+-- what the edit puts in of the clipboard, if that is not converted
+pub pasted_none : (change : Edit) (clipboard pasted : List ℕ) (end : _) → is_turned change ≡ false → IsPastedFor change clipboard end pasted
+pasted_none (edit.Replace start count (source.Clipboard true)) clipboard pasted end h = absurd (cc)
+pasted_none _ clipboard pasted end h = tt
+
+-- An edit that needs no memory: nothing is converted, nothing is taken along, and there are no steps.
 
 inserts_nothing : (gone : List Step) (start : ℕ) (bytes : List ℕ) → not (has_steps (gone ++ insertion start bytes)) ≡ true → bytes ≡ []
 inserts_nothing [] start [] h = refl
@@ -58,11 +52,6 @@ turns_nothing : (r : Request) (change : Edit) → not (has_steps (steps_of r cha
 turns_nothing r (edit.Replace start count (source.Clipboard true)) h = inr (inserts_nothing _ start (converted r.document.line_end r.session.clipboard) h)
 turns_nothing r _ h = inl refl
 
--- what the edit puts in of the clipboard, if that is not converted
-pub pasted_none : (change : Edit) (clipboard pasted : List ℕ) (end : _) → is_turned change ≡ false → IsPastedFor change clipboard end pasted
-pasted_none (edit.Replace start count (source.Clipboard true)) clipboard pasted end h = absurd (cc)
-pasted_none _ clipboard pasted end h = tt
-
 no_steps : (ss : List Step) → not (has_steps ss) ≡ true → ss ≡ []
 no_steps [] h = refl
 no_steps (s ∷ ss) h = absurd (cc)
@@ -71,58 +60,54 @@ nothing_along : (f : Follow) → takes_nothing_along f ≡ true → clipboard_ne
 nothing_along (follow.Clipboard start count) h = eqb-true count 0 h
 nothing_along _ h = refl
 
-module _ (s : SessionState) (kept : IsKept s) (document view : ℕ) (text : List ℕ) (change : Edit) (after : Follow) where
-  module _ (sent : IsPlannedForSomeValueWithText (session_in s) document view text (λ value. plan.Edit change value after)) where
-    pub edit_takes : IsSomeAnd (value_at s.documents.entries document) (λ k. TakesWithin after (length k.document.cells))
-    edit_takes =
-        let by = asked_by sent.sent.planned in
-        for_kept kept by (λ k. TakesWithin after (length k.document.cells)) (takes_here kept by change sent.sent.value after sent.sent.planned.fit)
+module _ (r : Request) (change : Edit) (value : ℤ) (after : Follow) (free : needs_no_memory r (plan.Edit change value after) ≡ true) where
+  parts : (not (has_steps (steps_of r change)) ≡ true) × (takes_nothing_along after ≡ true)
+  parts = and_parts (not (has_steps (steps_of r change))) (takes_nothing_along after) free
 
-    pub can_edit : EditStepsFit → (taken : List ℕ) → IfSome (value_at s.documents.entries document) (λ k. taken ≡ taken_along after (text_of k.document))
-        → (pasted : List ℕ) → IfSome (value_at s.documents.entries document) (λ k. IsPastedFor change s.clipboard.items k.document.line_end pasted)
-        → IsSomeAnd (value_at s.documents.entries document) (CanEdit change text pasted after taken s)
-    can_edit fit taken is pasted turned =
-        let t = sent.sent.planned in let r = t.request in let by = asked_with t sent.text_is in
-        let at = kept_at kept by in
-        let turned_at = of_kept kept by (λ k. IsPastedFor change s.clipboard.items k.document.line_end pasted) turned in
-        for_kept kept by (CanEdit change text pasted after taken s)
-        (record {
-          within = within_here kept by change t.fit.0;
-          watched = watched_here kept by;
-          wide = subst (λ ss. StepsFitWidth at.value.document ss) (sym (same_steps kept by change sent.sent.value after pasted turned_at))
-              (subst (λ d. StepsFitWidth d (steps_of r change)) (sym at.is) (steps_fit_width r (limits_here kept by) by.asked.sound (steps_of r change) (fit r change t.fit.0) t.fit.2));
-          take = of_kept kept by (λ k. taken ≡ taken_along after (text_of k.document)) is;
-        })
+  pub free_steps : steps_of r change ≡ []
+  free_steps = no_steps (steps_of r change) parts.0
 
-  pub edited_for : (pasted : List ℕ) → IfSome (value_at s.documents.entries document) (λ k. IsPastedFor change s.clipboard.items k.document.line_end pasted)
-      → (s' : SessionState) (notes notes' : Gathered) → IfSome (value_at s.documents.entries document) (λ k. Edits view change text pasted after s notes k s' notes')
-      → (value : ℤ) → DoneFor (session_in s) document view text (plan.Edit change value after) s' notes.notes notes'.notes value []
-  edited_for pasted turned s' notes notes' done value = λ m is_recorded t text_is.
-      let by = asked_with t text_is in
-      edited kept by change value after pasted (of_kept kept by (λ k. IsPastedFor change s.clipboard.items k.document.line_end pasted) turned) s' notes notes'
-      (of_kept kept by (λ k. Edits view change text pasted after s notes k s' notes') done)
+  pub free_taken : clipboard_need after ≡ 0
+  free_taken = nothing_along after parts.1
 
-  -- where the message needs no memory, nothing is converted, nothing is taken along, and there are no steps
+  pub free_pasted : (P : Type 0) → (is_turned change ≡ false → P) → (converted r.document.line_end r.session.clipboard ≡ [] → P) → P
+  free_pasted P unturned empty = elim (turns_nothing r change parts.0) [ inl e ↦ unturned e | inr e ↦ empty e ]
 
-  pub pasted_free : (P : Type 0) → (is_turned change ≡ false → P) → IfSome (value_at s.documents.entries document) (λ k. converted k.document.line_end s.clipboard.items ≡ [] → P)
-      → (value : ℤ) → IfFree (session_in s) document view text (plan.Edit change value after) P
-  pasted_free P unturned empty value = λ m is_recorded t text_is free.
-      let r = t.request in let by = asked_by t in
-      elim (turns_nothing r change (and_parts (not (has_steps (steps_of r change))) (takes_nothing_along after) (free_plan t free).0).0) [
-        | inl e ↦ unturned e
-        | inr e ↦ of_kept kept by (λ k. converted k.document.line_end s.clipboard.items ≡ [] → P) empty
-            (ap (λ (d : Document). converted d.line_end s.clipboard.items) (kept_at kept by).is ∙ ap (λ (x : Session). converted r.document.line_end x.clipboard) (sym (session_is kept by)) ∙ e)
-      ]
+-- what follows: the views, and the clipboard
+followed_so : (after : Follow) (view : ℕ) (before taken : List ℕ) (was : Session) (views' : List View) (clipboard' : List ℕ) → views' ≡ followed_views view after was.views → clipboard' ≡ followed_clipboard after taken was.clipboard
+    → taken ≡ taken_along after before → record was { views = views'; clipboard = clipboard' } ≡ followed view before after was
+followed_so follow.Nothing view before taken was views' clipboard' moved held take = rw (moved, held) refl
+followed_so after view before taken was views' clipboard' moved held take = let all = held ∙ ap (λ t. followed_clipboard after t was.clipboard) take in rw (moved, all) refl
 
-  pub taken_free : (P : Type 0) → (clipboard_need after ≡ 0 → P) → (value : ℤ) → IfFree (session_in s) document view text (plan.Edit change value after) P
-  taken_free P h value = λ m is_recorded t text_is free.
-      h (nothing_along after (and_parts (not (has_steps (steps_of t.request change))) (takes_nothing_along after) (free_plan t free).0).1)
+module _ {s : SessionState} {document view : ℕ} {bytes : List ℕ} {change : Edit} {value : ℤ} {after : Follow} (kept : IsKept s) (can : CanPerform (session_in s) document view bytes (plan.Edit change value after)) (held pasted : List ℕ)
+    (clipboard : held ≡ s.clipboard.items) (turned : IsPastedFor change s.clipboard.items (asked (session_in s) view bytes).document.line_end pasted) (old : Kept) (at : value_at s.documents.entries document ≡ Some old) where
+  pub steps_are : edit_steps change bytes held pasted old.document ≡ steps_of (asked (session_in s) view bytes) change
+  steps_are =
+      ap (λ x. edit_steps change bytes x pasted old.document) clipboard ∙ ap (edit_steps change bytes s.clipboard.items pasted) (found_is kept can.request old at) ∙ same_edit (asked (session_in s) view bytes) change pasted turned
 
-  pub steps_free : (pasted : List ℕ) → IfSome (value_at s.documents.entries document) (λ k. IsPastedFor change s.clipboard.items k.document.line_end pasted)
-      → (P : Type 0) → IfSome (value_at s.documents.entries document) (λ k. edit_steps change text s.clipboard.items pasted k.document ≡ [] → P)
-      → (value : ℤ) → IfFree (session_in s) document view text (plan.Edit change value after) P
-  steps_free pasted turned P here value = λ m is_recorded t text_is free.
-      let by = asked_with t text_is in
-      let none = no_steps (steps_of t.request change) (and_parts (not (has_steps (steps_of t.request change))) (takes_nothing_along after) (free_plan t free).0).0 in
-      let turned_at = of_kept kept by (λ k. IsPastedFor change s.clipboard.items k.document.line_end pasted) turned in
-      of_kept kept by (λ k. edit_steps change text s.clipboard.items pasted k.document ≡ [] → P) here (same_steps kept by change value after pasted turned_at ∙ none)
+  pub within_here : IsEditWithin change (length old.document.cells) (length bytes)
+  within_here = subst (λ (d : Document). IsEditWithin change (length d.cells) (length bytes)) (sym (found_is kept can.request old at)) (edit_within (asked (session_in s) view bytes) change can.fit.0)
+
+  pub wide_here : EditStepsFit → StepsFitWidth old.document (edit_steps change bytes held pasted old.document)
+  wide_here fit =
+      let r = asked (session_in s) view bytes in
+      subst (λ ss. StepsFitWidth old.document ss) (sym steps_are)
+      (subst (λ d. StepsFitWidth d (steps_of r change)) (sym (found_is kept can.request old at)) (steps_fit_width r kept.limits can.request.sound (steps_of r change) (fit r change can.fit.0) can.fit.2))
+
+  -- the session after the edit in its document, and after what follows it
+  pub edit_performed : (new : Kept) (between views' : Entries KeptView) (notes notes' : Gathered) (s' : SessionState) (taken : List ℕ) → MakesEdit (edit_steps change bytes held pasted old.document) old s.views notes new between notes'
+      → new.document.id ≡ old.document.id → between.next ≡ s.views.next
+      → session_in s' ≡ (let t = session_in (with_scene s document new between) in record t { views = views_of views'.entries; clipboard = s'.clipboard.items })
+      → views_of views'.entries ≡ followed_views view after (views_of between.entries) → s'.clipboard.items ≡ followed_clipboard after taken s.clipboard.items → taken ≡ taken_along after (text_of (asked (session_in s) view bytes).document)
+      → IsPerformed (session_in s) view bytes (plan.Edit change value after) s' notes.notes notes'.notes value []
+  edit_performed new between views' notes notes' s' taken made same next after_is moved clip take =
+      let r = asked (session_in s) view bytes in
+      let base = edit_made (steps_of r change) (scene_of r) in
+      let scene : kept_scene new between notes' ≡ telling notes.notes base =
+      made ∙ ap (λ ss. edit_made ss (kept_scene old s.views notes)) steps_are ∙ ap (λ d. edit_made (steps_of r change) (scene_in d s.views.entries notes.notes)) (found_is kept can.request old at)
+      ∙ edit_told_from notes.notes (steps_of r change) r.document (views_of s.views.entries) in
+      let was = session_in (with_scene s document new between) in
+      let session : session_in s' ≡ followed r.view.id (text r) after (session_of r.session base) =
+      after_is ∙ followed_so after view (text r) taken was (views_of views'.entries) s'.clipboard.items moved clip take
+      ∙ ap (followed view (text r) after) (scene_put s kept document old new at between notes' notes.notes base scene same next) ∙ ap (λ id. followed id (text r) after (session_of r.session base)) (sym can.request.view_id) in
+      record { told = base.notes; done = ap (λ x. (x, response value [] base.notes)) (sym session); heard = ap (λ (x : Scene). x.notes) scene }

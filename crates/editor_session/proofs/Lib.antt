@@ -3,12 +3,13 @@ pub mod Finding
 pub mod Questions
 pub mod TextQuestions
 pub mod TableWay
+pub mod Telling
 pub mod PlanLemmas
 pub mod Keeping
 pub mod RunLemmas
 pub mod EditLemmas
 pub mod Going
+pub mod Folding
 pub mod Widths
 pub mod OneDocument
 pub mod DocumentChanges
-pub mod OtherPlans

@@ -13,13 +13,14 @@ pub use Rattle.document.specs.Kept.{Kept, document_of, FitsWidth, bound_of}
 pub use Rattle.ed_view.specs.Kept.{KeptView, view_in}
 pub use Rattle.message_requests.specs.Requested.{session_in, documents_in}
 pub use Rattle.message_requests.specs.declared.state.SessionState.{SessionState}
+pub use Rattle.session_changes.specs.Asked.{document_asked, view_asked, asked, IsAsked}
 pub use Rattle.session_changes.specs.Kept.{IsKept, DocumentsAreNamed}
 pub use Rattle.session_changes.specs.proved.Finding.{id_of_view, id_of_document, found_some, found_none, found, unchanged, named_with, own_at, still_named, IsKeptAs, kept_as, replaced, changed, staying}
 pub use Rattle.ed_model.specs.declared.plan.Follow.{Follow}
 pub use Rattle.ed_model.specs.Edits.{steps_of, has_steps, source_bytes, stays_within}
 pub use Rattle.ed_model.specs.LineEnds.{converted, after_steps}
 pub use Rattle.ed_model.specs.Performing.{Scene, session_of, edit_made, followed, with_caret, quiet, history_performed, place_behind, caret_behind, response, styled_text, scene_of, step_made, steps_made, sealed_scene, change_performed, changes_performed, transaction_performed, is_last, changes_lines, save_point_change}
-pub use Rattle.ed_model.specs.PlansFit.{EditStepsFit, PlansFit, UndoStepsFit, RedoStepsFit, IsSoundRequest, IsFitPlan, IsRoomFor, IsFitDocumentChange, IsFitEdit, IsFitSource, IsFitFollow, IsFitPlanned}
+pub use Rattle.ed_model.specs.PlansFit.{EditStepsFit, PlansFit, UndoStepsFit, RedoStepsFit, IsSoundRequest, IsFitPlan, IsRoomFor, IsFitDocumentChange, IsFitEdit, IsFitSource, IsFitFollow, IsFitPlanned, PlansKeepSound}
 pub use Rattle.ed_model.specs.proved.Scenes.{edit_made_id}
 pub use Rattle.ed_model.specs.Requests.{Request, Planned, text, size, answer, answer_number}
 pub use Rattle.ed_model.specs.Steps.{Step, insertion, Insert, Delete, replacement, edited}
@@ -46,7 +47,6 @@ pub use Rattle.scene.specs.Conversion.{free_behind, room_of_steps_beside}
 pub use Rattle.ed_types.specs.declared.limits.Limits.{Limits}
 pub use Rattle.ed_model.specs.declared.plan.SessionChange.{SessionChange}
 pub use Rattle.ed_model.specs.Notes.{told, modify_attempt, blank, bit_if, multi_step}
-pub use Rattle.session_changes.specs.Asked.{IsAsked, CanChangeSession, CanChangeView}
 pub use Rattle.ed_model.specs.declared.plan.ViewChange.{ViewChange}
 pub use Rattle.message_plans.specs.Asking.{questions, question_of, is_question, value_planned, value_asked, text_questions, text_question_of, is_text_question, handed_planned, handed_asked}
 pub use Rattle.ed_model.specs.Run.{Running, outcomes, run_to, after_command, after_message, after_opening, loaded, file_at, set_text_message}
@@ -55,11 +55,9 @@ pub use Rattle.ed_model.specs.Text.{Cell, styles_of, bytes_of}
 pub use Rattle.document_edits.specs.Edits.{MakesEdit}
 pub use Rattle.document_edits.specs.History.{scene_gone}
 pub use Rattle.document_edits.specs.Widths.{StepsFitWidth, ChangesFitWidth}
-pub use Rattle.editor_session.specs.Edited.{IsPastedFor, TakesWithin, is_turned, clipboard_need, taken_along, followed_views, followed_clipboard, Becomes, IsStoredIn, IsTurnedFor, IsEditWithin, stored_bytes}
-pub use Rattle.editor_session.specs.Edits.{CanEdit, Edits, edit_steps, scene_after, IfNoSteps}
+pub use Rattle.editor_session.specs.Edits.{IsPastedFor, TakesWithin, is_turned, clipboard_need, taken_along, followed_views, followed_clipboard, IsStoredIn, IsEditWithin, stored_bytes, edit_steps}
 pub use Rattle.editor_session.specs.Plans.{takes_nothing_along, is_free, needs_no_memory, needs_no_fold_room, planned_without_memory, is_free_request, is_free_from_document, is_free_from_kind, is_free_from_view, is_marked_free, is_recorded_by, MarkedMessagesAreFree}
-pub use Rattle.editor_session.specs.Planned.{IsAskedBy, planned_message, IsPlannedAs, PlannedMessage, recording, first_note, IsFound}
-pub use Rattle.editor_session.specs.Performed.{IfFree, IsPlannedForSomeValueWithText, unrecorded, IsPlannedForSomeValue, going, IsAnswered, IsPlannedWithText}
-pub use Rattle.editor_session.specs.Doing.{CanBeMade, Changes, CanGoOnceThereIsRoom, Goes, CanChangeOnceThereIsRoom, TellsOfChange, views_changed, IsDone, IfChangeIsFree}
+pub use Rattle.editor_session.specs.Performing.{CanPerform, IsPerformed, going}
+pub use Rattle.editor_session.specs.Planned.{request_of, IsFound, IsPlannedAs, recording, first_note}
 pub use Rattle.editor_session.specs.Answers.{with_text, AnswersBy, message_with}
 pub use Rattle.editor_session.specs.Asked.{value_from_document, value_from_view, value_from_kind, value_to, reply_handing, reply_from_document, reply_from_view, reply_from_kind, reply_to}

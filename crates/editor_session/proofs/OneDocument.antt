@@ -1,6 +1,7 @@
--- One document of a session changes, and the views with it.
-use Rattle.editor_session.proofs.Names.{◌≡◌, ℕ, refl, ap, sym, subst, Some, IfSome, Document, IsSound, Entries, value_at, with_value_at, Kept, KeptView, AreNamed, session_in, documents_in, SessionState, IsKept, DocumentsAreNamed, document_of, id_of_document, unchanged, named_with, ◌==◌, map, ◌∙◌, if◌then◌else◌, with_document, Scene, Gathered, scene_in, Becomes, own_at, found_some, replaced}
+-- The document that a plan is performed on: it is in the session's table, and it changes there, the views with it.
+use Rattle.editor_session.proofs.Names.{◌≡◌, ℕ, ◌==◌, ◌∙◌, List, [], ◌∷◌, map, refl, ap, sym, subst, Some, None, IfSome, IsSome, IsSomeAnd, if◌then◌else◌, AllByRecursion, Document, View, Session, Response, Notice, Plan, document_at, view_at, with_document, IsSound, IsSoundView, StandsOn, ListsItsViews, PlansKeepSound, Scene, session_of, performed, found_all, Entries, value_at, with_value_at, Kept, KeptView, Gathered, AreNamed, StandsIfOn, IsWatched, kept_scene, session_in, documents_in, SessionState, IsKept, DocumentsAreNamed, views_of, view_in, id_of_view, document_of, id_of_document, unchanged, named_with, own_at, found_some, replaced, IsKeptAs, kept_as, IsAsked, CanPerform, asked}
 use Rattle.editor_session.proofs.Keeping.{kept_with}
+use Rattle.editor_session.proofs.Telling.{telling}
 
 -- the documents, with this one under the id
 abbrev pub with_one : Entries Kept → ℕ → Kept → Entries Kept
@@ -10,13 +11,98 @@ with_one documents id k = record documents { entries = with_value_at id k docume
 abbrev pub with_scene : SessionState → ℕ → Kept → Entries KeptView → SessionState
 with_scene s id k views = record s { documents = with_one s.documents id k; views = views }
 
-module _ (s : SessionState) (kept : IsKept s) (id : ℕ) (old new : Kept) (at : value_at s.documents.entries id ≡ Some old) where
-  -- what holds of the document holds of the one with the id
-  pub said_of_it : (P : Kept → Type 0) → P old → IfSome (value_at s.documents.entries id) P
-  said_of_it P h = subst (λ o. IfSome o P) (sym at) h
+-- a change of one of the documents of a table
+document_put : (documents : Entries Kept) (id : ℕ) (k k' : Kept) (d : Document) → DocumentsAreNamed documents.entries → value_at documents.entries id ≡ Some k → k'.document ≡ d → d.id ≡ k.document.id
+    → documents_in (with_one documents id k') ≡ with_document d (documents_in documents)
+document_put documents id k k' d named at is same =
+    let own : k.document.id ≡ id = own_at id_of_document (documents_in documents) id k.document (found_some document_of id_of_document documents.entries id k named at) in
+    replaced document_of id_of_document documents.entries id k' named
+    ∙ ap (λ (x : Document). map (λ (e : Document). if e.id == id then x else e) (documents_in documents)) is
+    ∙ ap (λ n. map (λ (e : Document). if e.id == n then d else e) (documents_in documents)) (sym (same ∙ own))
 
+-- The views stand well on a document of a sound session.
+
+stand : (documents : List Document) (d : Document) (views : List View) → document_at documents d.id ≡ Some d → AllByRecursion (IsSoundView documents) views → AllByRecursion (StandsIfOn d) views
+stand documents d [] there all = tt
+stand documents d (v ∷ vs) there all = (
+  (λ e. (let h = all.0 in
+      let hf : document_at documents v.document ≡ Some h.document = h.found in
+      let at : document_at documents v.document ≡ Some d = ap (document_at documents) e ∙ there in
+      let same : h.document ≡ d = cc in
+      subst (λ x. StandsOn x v) same h.stands)),
+  stand documents d vs there all.1,
+)
+
+watched_by : (s : SessionState) (d : Document) → IsKept s → document_at (session_in s).documents d.id ≡ Some d → IsWatched d s.views
+watched_by s d kept there = record {
+  named = kept.views;
+  rise = kept.sound.view_ids;
+  listed = found_all (ListsItsViews (session_in s).views) (λ (e : Document). e.id == d.id) (session_in s).documents d kept.sound.lists there;
+  stand = stand (session_in s).documents d (session_in s).views there kept.sound.views;
+}
+
+-- What a plan is performed on, in a session that is kept.
+module _ {s : SessionState} {document view : ℕ} {text : List ℕ} (kept : IsKept s) (by : IsAsked (session_in s) document view text) where
+  document_there : document_at (session_in s).documents document ≡ Some (asked (session_in s) view text).document
+  document_there =
+      let r = asked (session_in s) view text in
+      let own : r.document.id ≡ r.view.document = own_at id_of_document r.session.documents r.view.document r.document by.sound.document in
+      ap (document_at r.session.documents) (sym by.document_id ∙ own) ∙ by.sound.document
+
+  kept_at : IsKeptAs document_of id_of_document (value_at s.documents.entries document) (asked (session_in s) view text).document
+  kept_at = kept_as document_of id_of_document s.documents.entries document (asked (session_in s) view text).document kept.documents document_there
+
+  -- what holds of its document holds of the one with the id
+  pub for_document : (P : Document → Type 0) → P (asked (session_in s) view text).document → IsSomeAnd (value_at s.documents.entries document) (λ k. P k.document)
+  for_document P h = subst (λ o. IsSomeAnd o (λ k. P k.document)) (sym kept_at.there) (subst P (sym kept_at.is) h)
+
+  -- and the other way round
+  pub of_document : (P : Document → Type 0) → IfSome (value_at s.documents.entries document) (λ k. P k.document) → P (asked (session_in s) view text).document
+  of_document P h = subst P kept_at.is (subst (λ o. IfSome o (λ k. P k.document)) kept_at.there h)
+
+  pub document_here : IsSome (value_at s.documents.entries document)
+  document_here = subst (λ o. IsSome o) (sym kept_at.there) refl
+
+  pub missing : value_at s.documents.entries document ≡ None → ⊥
+  missing none = let there : value_at s.documents.entries document ≡ Some kept_at.value = kept_at.there in cc
+
+  view_kept : IsKeptAs view_in id_of_view (value_at s.views.entries view) (asked (session_in s) view text).view
+  view_kept =
+      let r = asked (session_in s) view text in
+      kept_as view_in id_of_view s.views.entries view r.view kept.views (ap (view_at r.session.views) (sym by.view_id) ∙ by.sound.view)
+
+  -- a fact of the view that is kept
+  pub for_view : (P : KeptView → Type 0) → ((v : KeptView) → v.view ≡ (asked (session_in s) view text).view → P v) → IsSomeAnd (value_at s.views.entries view) P
+  for_view P h = subst (λ o. IsSomeAnd o P) (sym view_kept.there) (h view_kept.value view_kept.is)
+
+  module _ (old : Kept) (at : value_at s.documents.entries document ≡ Some old) where
+    -- the document that is found under the id is that of the request
+    pub found_is : old.document ≡ (asked (session_in s) view text).document
+    found_is =
+        let there : value_at s.documents.entries document ≡ Some kept_at.value = kept_at.there in
+        let same : old ≡ kept_at.value = cc in
+        ap (λ (k : Kept). k.document) same ∙ kept_at.is
+
+    pub watched_here : IsWatched old.document s.views
+    watched_here =
+        subst (λ d. IsWatched d s.views) (sym found_is) (watched_by s (asked (session_in s) view text).document kept (ap (document_at (session_in s).documents) by.document_id ∙ document_there))
+
+-- One document of a session changes, and the views with it.
+module _ (s : SessionState) (kept : IsKept s) (id : ℕ) (old new : Kept) (at : value_at s.documents.entries id ≡ Some old) where
   pub still_named : new.document.id ≡ old.document.id → DocumentsAreNamed (with_one s.documents id new).entries
   still_named same = named_with document_of id_of_document s.documents.entries id s.documents.next kept.documents kept.sound.document_ids old new at same
+
+  pub documents_put : (d : Document) → new.document ≡ d → d.id ≡ old.document.id → documents_in (with_one s.documents id new) ≡ with_document d (documents_in s.documents)
+  documents_put d is same = document_put s.documents id old new d kept.documents at is same
+
+  -- The document, the views and the notes become those of a scene, behind the notes before.
+  pub scene_put : (between : Entries KeptView) (notes' : Gathered) (ns : List Notice) (scene : Scene) → kept_scene new between notes' ≡ telling ns scene → new.document.id ≡ old.document.id → between.next ≡ s.views.next
+      → session_in (with_scene s id new between) ≡ session_of (session_in s) scene
+  scene_put between notes' ns scene made same next =
+      let is : new.document ≡ scene.document = ap (λ (x : Scene). x.document) made in
+      let documents = documents_put scene.document is (ap (λ (d : Document). d.id) (sym is) ∙ same) in
+      let views : views_of between.entries ≡ scene.views = ap (λ (x : Scene). x.views) made in
+      rw (documents, views, next) refl
 
   -- Where the model sees no difference between the documents, it sees none between the sessions.
   module _ (views : Entries KeptView) (same : new.document ≡ old.document) (same_views : views ≡ s.views) where
@@ -31,21 +117,8 @@ module _ (s : SessionState) (kept : IsKept s) (id : ℕ) (old new : Kept) (at : 
         kept_with s (with_scene s id new views) kept (subst IsSound (sym same_session) kept.sound) refl (still_named (ap (λ (d : Document). d.id) same))
         (subst (λ (v : Entries KeptView). AreNamed v.entries) (sym same_views) kept.views)
 
--- A change of one of the documents of a table.
-pub document_put : (documents : Entries Kept) (id : ℕ) (k k' : Kept) (d : Document) → DocumentsAreNamed documents.entries → value_at documents.entries id ≡ Some k → k'.document ≡ d → d.id ≡ k.document.id
-    → documents_in (record documents { entries = with_value_at id k' documents.entries }) ≡ with_document d (documents_in documents)
-document_put documents id k k' d named at is same =
-    let own : k.document.id ≡ id = own_at id_of_document (documents_in documents) id k.document (found_some document_of id_of_document documents.entries id k named at) in
-    replaced document_of id_of_document documents.entries id k' named
-    ∙ ap (λ (x : Document). map (λ (e : Document). if e.id == id then x else e) (documents_in documents)) is
-    ∙ ap (λ n. map (λ (e : Document). if e.id == n then d else e) (documents_in documents)) (sym (same ∙ own))
-
--- The scene after it stands in the table.
-module _ (documents : Entries Kept) (views' : Entries KeptView) (notes' : Gathered) (id : ℕ) (k k' : Kept) (scene : Scene) (named : DocumentsAreNamed documents.entries) (at : value_at documents.entries id ≡ Some k)
-    (made : scene_in k'.document views'.entries notes'.notes ≡ scene) (same : scene.document.id ≡ k.document.id) where
-  pub becomes : Becomes scene documents (record documents { entries = with_value_at id k' documents.entries }) views' notes'
-  becomes = record {
-    documents_after = document_put documents id k k' scene.document named at (ap (λ (x : Scene). x.document) made) same;
-    views_after = ap (λ (x : Scene). x.views) made;
-    notes_after = ap (λ (x : Scene). x.notes) made;
-  }
+-- what holds of a session goes on holding when a plan is performed
+pub kept_performed : PlansKeepSound → {s s' : SessionState} {document view : ℕ} {text : List ℕ} {what : Plan} {reply : Response} → IsKept s → CanPerform (session_in s) document view text what
+    → performed (asked (session_in s) view text) what ≡ (session_in s', reply) → s'.limits ≡ s.limits → DocumentsAreNamed s'.documents.entries → AreNamed s'.views.entries → IsKept s'
+kept_performed law {s} {s'} {document} {view} {text} {what} {reply} kept can done limits documents views =
+    kept_with s s' kept (subst (λ (x : Session × Response). IsSound x.0) done (law (asked (session_in s) view text) what can.request.sound can.fit)) limits documents views

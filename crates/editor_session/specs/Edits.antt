@@ -1,59 +1,78 @@
--- Edits of a session.
-use Rattle.std.specs.Prelude.{◌≡◌, ℕ, List, [], length}
+-- Edits of a document of the session, and what follows them.
+use Rattle.std.specs.Prelude.{◌≡◌, ℕ, ◌+◌, ◌≤◌, Bool, true, false, List, [], take, slice_range}
+use Rattle.ed_model.specs.declared.plan.LineEnd.{LineEnd}
+use Rattle.ed_model.specs.declared.plan.Source.{Source}
+use Rattle.ed_model.specs.declared.plan.Source.TheVariants as source
 use Rattle.ed_model.specs.declared.plan.Edit.{Edit}
 use Rattle.ed_model.specs.declared.plan.Edit.TheVariants as edit
 use Rattle.ed_model.specs.declared.plan.Follow.{Follow}
-use Rattle.ed_model.specs.LineEnds.{conversion_steps}
+use Rattle.ed_model.specs.declared.plan.Follow.TheVariants as follow
+use Rattle.ed_model.specs.LineEnds.{line_end_bytes, converted, conversion_steps}
 use Rattle.ed_model.specs.Steps.{Step, replacement}
-use Rattle.ed_model.specs.Session.{Document, text_of}
-use Rattle.ed_model.specs.Performing.{Scene, edit_made, followed, session_of}
+use Rattle.ed_model.specs.Session.{Document, View, text_of}
+use Rattle.ed_model.specs.Performing.{with_caret, with_target}
 use Rattle.id_table.specs.Entries.{Entries}
-use Rattle.notify.specs.Gathered.{Gathered}
-use Rattle.document.specs.Kept.{Kept}
 use Rattle.ed_view.specs.Kept.{KeptView}
-use Rattle.scene.specs.Scenes.{kept_scene, IsWatched}
-use Rattle.document_edits.specs.Widths.{StepsFitWidth}
-use Rattle.message_requests.specs.Requested.{session_in}
-use Rattle.message_requests.specs.declared.state.SessionState.{SessionState}
-use Rattle.editor_session.specs.Documents.{OfDocument}
-use Rattle.editor_session.specs.Edited.{IsEditWithin, stored_bytes, taken_along}
+use Rattle.scene.specs.Scenes.{views_of}
+
+-- the bytes of a source lie in a text of the length
+abbrev pub IsStoredIn : Source → ℕ → Type 0
+IsStoredIn (source.MessageText count) size = count ≤ size
+IsStoredIn other size = Unit {0}
+
+-- the bytes of a source, as they stand in the message's text, in the clipboard, in what the clipboard was turned into, or as the line end
+abbrev pub stored_bytes : Source → List ℕ → List ℕ → List ℕ → LineEnd → List ℕ
+stored_bytes source.Nothing text clipboard pasted end = []
+stored_bytes (source.MessageText count) text clipboard pasted end = take count text
+stored_bytes (source.Clipboard true) text clipboard pasted end = pasted
+stored_bytes (source.Clipboard false) text clipboard pasted end = clipboard
+stored_bytes source.LineEnd text clipboard pasted end = line_end_bytes end
 
 -- the steps of an edit of the document
 abbrev pub edit_steps : Edit → List ℕ → List ℕ → List ℕ → Document → List Step
 edit_steps (edit.Replace start count from) text clipboard pasted d = replacement start count (stored_bytes from text clipboard pasted d.line_end) (text_of d)
 edit_steps (edit.ConvertLineEnds to) text clipboard pasted d = conversion_steps to (text_of d)
 
--- no text on the way of the edit is too long for the document's places
-abbrev pub EditFitsWidth : Edit → List ℕ → List ℕ → List ℕ → Kept → Type 0
-EditFitsWidth change text clipboard pasted k = StepsFitWidth k.document (edit_steps change text clipboard pasted k.document)
+-- the edit puts in the clipboard with other line ends
+abbrev pub is_turned : Edit → Bool
+is_turned (edit.Replace start count (source.Clipboard convert)) = convert
+is_turned other = false
 
--- the scene of a document after the edit
-abbrev pub edited_scene : Edit → List ℕ → List ℕ → List ℕ → Entries KeptView → Gathered → Kept → Scene
-edited_scene change text clipboard pasted views notes k = edit_made (edit_steps change text clipboard pasted k.document) (kept_scene k views notes)
+-- what the clipboard was turned into, where the edit puts that in
+abbrev pub IsPastedFor : Edit → List ℕ → LineEnd → List ℕ → Type 0
+IsPastedFor (edit.Replace start count (source.Clipboard true)) clipboard end pasted = pasted ≡ converted end clipboard
+IsPastedFor other clipboard end pasted = Unit {0}
 
--- if the edit of the document has no steps, this holds
-abbrev pub IfNoSteps : Edit → List ℕ → List ℕ → List ℕ → Type 0 → Kept → Type 0
-IfNoSteps change text clipboard pasted P k = edit_steps change text clipboard pasted k.document ≡ [] → P
+-- the ranges of an edit lie in texts of these lengths: the document's, and the message's
+abbrev pub IsEditWithin : Edit → ℕ → ℕ → Type 0
+IsEditWithin (edit.Replace start count from) size text = (start + count ≤ size) × IsStoredIn from text
+IsEditWithin (edit.ConvertLineEnds to) size text = Unit {0}
 
--- the scene of a document of the session after the edit
-abbrev pub scene_after : Edit → List ℕ → List ℕ → SessionState → Gathered → Kept → Scene
-scene_after change text pasted s notes k = edited_scene change text s.clipboard.items pasted s.views notes k
+-- What follows.
 
--- the edit lies within the document and the text, no text on its way is too long for the document's places, and `taken` is what it takes to
--- the clipboard
-pub record CanEdit (change : Edit) (text pasted : List ℕ) (follow : Follow) (taken : List ℕ) (s : SessionState) (k : Kept) : Type 0 where
-  pub within : IsEditWithin change (length k.document.cells) (length text)
-  pub watched : IsWatched k.document s.views
-  pub wide : EditFitsWidth change text s.clipboard.items pasted k
-  pub take : taken ≡ taken_along follow (text_of k.document)
+-- what goes to the clipboard is in a text of this length
+abbrev pub TakesWithin : Follow → ℕ → Type 0
+TakesWithin (follow.Clipboard start count) size = start + count ≤ size
+TakesWithin other size = Unit {0}
 
-pub record Edits (view : ℕ) (change : Edit) (text pasted : List ℕ) (follow : Follow) (s : SessionState) (notes : Gathered) (k : Kept) (s' : SessionState) (notes' : Gathered) : Type 0 where
-  pub session_after : session_in s' ≡ followed view (text_of k.document) follow (session_of (session_in s) (scene_after change text pasted s notes k))
-  pub notes_after : notes'.notes ≡ (scene_after change text pasted s notes k).notes
+-- how many bytes go to the clipboard
+abbrev pub clipboard_need : Follow → ℕ
+clipboard_need (follow.Clipboard start count) = count
+clipboard_need other = 0
 
--- the edit is made in the document with the id, with what follows it: the session and the notes are those after it
-abbrev pub EditsAt : ℕ → ℕ → Edit → List ℕ → List ℕ → Follow → SessionState → Gathered → SessionState → Gathered → Type 0
-EditsAt document view change text pasted follow s notes s' notes' =
-    OfDocument s.documents document (λ k. Edits view change text pasted follow s notes k s' notes')
+abbrev pub taken_along : Follow → List ℕ → List ℕ
+taken_along (follow.Clipboard start count) text = slice_range text start (start + count)
+taken_along other text = []
 
--- The clipboard before and after an edit.
+abbrev pub followed_views : ℕ → Follow → List View → List View
+followed_views view (follow.Caret place) views = with_caret view place views
+followed_views view (follow.Target start past) views = with_target view start past views
+followed_views view other views = views
+
+-- the views are those before it, once the view with the id has followed the edit
+abbrev pub FollowsEdit : ℕ → Follow → Entries KeptView → Entries KeptView → Type 0
+FollowsEdit view after views views' = views_of views'.entries ≡ followed_views view after (views_of views.entries)
+
+abbrev pub followed_clipboard : Follow → List ℕ → List ℕ → List ℕ
+followed_clipboard (follow.Clipboard start count) taken clipboard = taken
+followed_clipboard other taken clipboard = clipboard

@@ -8,12 +8,9 @@ pub mod Planned
 pub mod Lent
 pub mod Lends
 pub mod Ranges
-pub mod Doing
-pub mod Edited
 pub mod Edits
 pub mod Opening
 pub mod PartLends
-pub mod Performed
 pub mod Performing
 pub mod Left
 pub mod Commands

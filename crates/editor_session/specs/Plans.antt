@@ -17,7 +17,7 @@ use Rattle.ed_model.specs.Edits.{steps_of, has_steps}
 use Rattle.ed_model.specs.Table.{request, plan_of}
 use Rattle.document_changes.specs.Needs.{needs_room, notes_of_change}
 use Rattle.session_changes.specs.Folding.{takes_fold_room}
-use Rattle.session_changes.specs.Ready.{takes_memory}
+use Rattle.session_changes.specs.Memory.{takes_memory}
 
 abbrev pub takes_nothing_along : Follow → Bool
 takes_nothing_along (follow.Clipboard start count) = count == 0

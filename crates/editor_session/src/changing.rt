@@ -1,72 +1,30 @@
 //! Changes of the document, of the view and of the session other than edits of the text; and attempts to edit a
-//! read-only document. Room is made for all that a change needs, before anything changes.
+//! read-only document. If an allocation fails, nothing has changed.
 
 ghost use Rattle.editor_session.specs.Documents.{OfDocument};
 ghost use Rattle.ed_model.specs.Notes.{blank as blank_note, modify_attempt, told as notes_told};
-ghost use Rattle.std.specs.Prelude.{List, ℤ, ℕ, ◌++◌, ◌≡◌, ◌≤◌, not, true, false, length, OnOk, OnErr, IfErr, IsOk, IsSome};
+ghost use Rattle.std.specs.Prelude.{[], pos, ◌++◌, ◌≡◌, not, true, false, OnOk, OnErr, IfErr, IsOk, IsSome};
 ghost use Rattle.ed_types.specs.declared.refusal.Refusal.TheVariants.{OutOfMemory};
 ghost use Rattle.ed_model.specs.declared.plan.Plan.TheVariants as plan;
-ghost use Rattle.ed_model.specs.Changes.{changed_document};
+ghost use Rattle.ed_model.specs.Performing.{quiet};
+ghost use Rattle.ed_model.specs.Table.{performed};
 ghost use Rattle.id_table.specs.Entries.{value_at};
-ghost use Rattle.document_changes.specs.Fit.{IsFitChange, bytes_read};
-ghost use Rattle.scene.specs.Scenes.{watchers, views_of, IsWatched};
+ghost use Rattle.scene.specs.Scenes.{watchers};
 ghost use Rattle.message_requests.specs.Requested.{session_in};
 ghost use Rattle.session_changes.specs.Folding.{takes_fold_room};
+ghost use Rattle.session_changes.specs.Asked.{asked};
 ghost use Rattle.session_changes.specs.Kept.{IsKept};
-ghost use Rattle.editor_session.specs.Doing.{views_changed, TellsOfChange, IfChangeIsFree};
-ghost use Rattle.editor_session.specs.Performed.{IfFree, IsPlannedForSomeValue};
-ghost use Rattle.editor_session.specs.Performing.{IsPlanned, IsPlanPerformed, TellsNothing, TellsNothingForAnyText, IfPlanIsFree, AnswersItsValue};
+ghost use Rattle.editor_session.specs.Performing.{CanPerform, IsPerformed};
+ghost use Rattle.editor_session.specs.Plans.{needs_no_memory};
 
-use document::Document;
-use document_changes::{change_document, change_note_need, reserve_change};
-use ed_model::{DocumentChange, SessionChange, ViewChange, soundness_is_kept};
+use document_changes::change_document;
+use ed_model::{DocumentChange, SessionChange, ViewChange, plans_are_fit};
 use ed_types::Refusal;
-use ed_view::View;
-use id_table::IdTable;
 use message_requests::SessionState;
 use notify::NoteList;
 use scene::attempt;
-use session_changes::{change_session, change_view, prepare_session_change, reserve_view_change};
-use std::alloc::{AllocError, Global};
-
-/// Makes room in a document and for notes, and makes `change`, which a message to the view with the id `sender` asks
-/// for.
-///
-/// # Errors
-///
-/// `AllocError` if an allocation fails. The document and the views are then as they were.
-#[inline(always)]
-fn change_with_room(
-    alloc: Global,
-    document: &mut Document,
-    views: &mut IdTable<View>,
-    notes: &mut NoteList,
-    sender: u32,
-    text: &[u8],
-    change: DocumentChange,
-) -> Result<(), AllocError>
-    requires fits { IsFitChange document.old.document change }
-    requires text { bytes_read change ≤ length text.now }
-    requires watched { IsWatched document.old.document views.old }
-    ensures document { OnOk result (document.new.document ≡ changed_document text.now change document.old.document) }
-    ensures lines { OnOk result (views_of views.new.entries ≡ views_changed change document.old views.old) }
-    ensures told { OnOk result (TellsOfChange change sender text.now document.old views.old notes.old notes.new) }
-    ensures same { OnErr result (document.new.document ≡ document.old.document) }
-    ensures same_views { OnErr result (views.new ≡ views.old) }
-    ensures id { document.new.document.id ≡ document.old.document.id }
-    ensures watched { IsWatched document.new.document views.new }
-    ensures next { views.new.next ≡ views.old.next }
-    ensures free { IfChangeIsFree change views.old (IsOk result) document.old }
-{
-    let Ok(()) = notes.reserve(change_note_need(document, views, change), 0) else {
-        return Err(AllocError);
-    };
-    let Ok(made) = reserve_change(alloc, document, change) else {
-        return Err(AllocError);
-    };
-    change_document(document, views, notes, sender, text, change, made);
-    Ok(())
-}
+use session_changes::{change_session, change_view};
+use std::alloc::Global;
 
 /// Makes `change` in the document with this id, for a message to `view`.
 ///
@@ -84,16 +42,15 @@ pub(crate) fn perform_change(
     notes: &mut NoteList,
 ) -> Result<(), Refusal>
     requires kept { IsKept state.old }
-    requires sent { IsPlanned state.old document view text.now (plan.ChangeDocument change) }
-    ensures answer { let performed = IsPlanPerformed state.old document view text.now (plan.ChangeDocument change) in
-        OnOk result (performed notes.old state.new notes.new) }
+    requires can { CanPerform (session_in state.old) document view text.now (plan.ChangeDocument change (pos 0)) }
+    ensures done { OnOk result (IsPerformed (session_in state.old) view text.now (plan.ChangeDocument change (pos 0)) state.new notes.old.notes notes.new.notes (pos 0) []) }
     ensures same { OnErr result (session_in state.new ≡ session_in state.old) }
     ensures refused { IfErr result (λ refusal. refusal ≡ OutOfMemory) }
     ensures kept { IsKept state.new }
-    ensures free { IfPlanIsFree state.old document view text.now (plan.ChangeDocument change) (IsOk result) }
+    ensures free { needs_no_memory (asked (session_in state.old) view text.now) (plan.ChangeDocument change (pos 0)) ≡ true → IsOk result }
 {
-    // States that the session stays sound.
-    soundness_is_kept();
+    // States that performing a plan keeps the session sound.
+    plans_are_fit();
     let SessionState {
         documents,
         views,
@@ -102,7 +59,7 @@ pub(crate) fn perform_change(
     let Some(document) = documents.get_mut(document) else {
         unreachable!()
     };
-    match change_with_room(alloc, document, views, notes, view, text, change) {
+    match change_document(alloc, document, views, notes, view, text, change) {
         Ok(()) => Ok(()),
         Err(_) => Err(Refusal::OutOfMemory),
     }
@@ -132,14 +89,16 @@ pub(crate) fn perform_free_change(
     change: ViewChange,
 )
     requires kept { IsKept state.old }
-    requires sent { IsPlannedForSomeValue (session_in state.old) document view (plan.ChangeView change) }
+    requires can { CanPerform (session_in state.old) document view [] (plan.ChangeView change (pos 0)) }
     requires light { takes_fold_room change ≡ false }
-    ensures answer { AnswersItsValue state.old document view (plan.ChangeView change) state.new }
+    ensures done { performed (asked (session_in state.old) view []) (plan.ChangeView change (pos 0)) ≡ (session_in state.new, quiet (pos 0)) }
     ensures kept { IsKept state.new }
 {
-    // States that the session stays sound.
-    soundness_is_kept();
-    change_view(state, document, view, change);
+    // States that performing a plan keeps the session sound.
+    plans_are_fit();
+    let Ok(()) = change_view(state, document, view, change) else {
+        unreachable!()
+    };
 }
 
 /// Makes a change of `view`, which is attached to `document`. No view is notified of it.
@@ -155,20 +114,19 @@ pub(crate) fn perform_view_change(
     change: ViewChange,
 ) -> Result<(), Refusal>
     requires kept { IsKept state.old }
-    requires sent { IsPlannedForSomeValue (session_in state.old) document view (plan.ChangeView change) }
-    ensures answer { OnOk result (TellsNothingForAnyText state.old document view (plan.ChangeView change) state.new) }
+    requires can { CanPerform (session_in state.old) document view [] (plan.ChangeView change (pos 0)) }
+    ensures done { OnOk result (performed (asked (session_in state.old) view []) (plan.ChangeView change (pos 0)) ≡ (session_in state.new, quiet (pos 0))) }
     ensures same { OnErr result (session_in state.new ≡ session_in state.old) }
     ensures refused { IfErr result (λ refusal. refusal ≡ OutOfMemory) }
     ensures kept { IsKept state.new }
-    ensures free { (value : ℤ) (text : List ℕ) → IfFree (session_in state.old) document view text (plan.ChangeView change value) (IsOk result) }
+    ensures free { needs_no_memory (asked (session_in state.old) view []) (plan.ChangeView change (pos 0)) ≡ true → IsOk result }
 {
-    // States that the session stays sound.
-    soundness_is_kept();
-    let Ok(()) = reserve_view_change(state, view, change) else {
-        return Err(Refusal::OutOfMemory);
-    };
-    change_view(state, document, view, change);
-    Ok(())
+    // States that performing a plan keeps the session sound.
+    plans_are_fit();
+    match change_view(state, document, view, change) {
+        Ok(()) => Ok(()),
+        Err(_) => Err(Refusal::OutOfMemory),
+    }
 }
 
 /// Makes a change of the session, for a message to `view`, which is attached to `document`. No view is notified of it.
@@ -186,20 +144,19 @@ pub(crate) fn perform_session_change(
     change: SessionChange,
 ) -> Result<(), Refusal>
     requires kept { IsKept state.old }
-    requires sent { IsPlanned state.old document view text.now (plan.ChangeSession change) }
-    ensures answer { OnOk result (TellsNothing state.old document view text.now (plan.ChangeSession change) state.new) }
+    requires can { CanPerform (session_in state.old) document view text.now (plan.ChangeSession change (pos 0)) }
+    ensures done { OnOk result (performed (asked (session_in state.old) view text.now) (plan.ChangeSession change (pos 0)) ≡ (session_in state.new, quiet (pos 0))) }
     ensures same { OnErr result (session_in state.new ≡ session_in state.old) }
     ensures refused { IfErr result (λ refusal. refusal ≡ OutOfMemory) }
     ensures kept { IsKept state.new }
-    ensures free { IfPlanIsFree state.old document view text.now (plan.ChangeSession change) (IsOk result) }
+    ensures free { needs_no_memory (asked (session_in state.old) view text.now) (plan.ChangeSession change (pos 0)) ≡ true → IsOk result }
 {
-    // States that the session stays sound.
-    soundness_is_kept();
-    let Ok(ready) = prepare_session_change(alloc, state, change) else {
-        return Err(Refusal::OutOfMemory);
-    };
-    change_session(state, document, view, text, change, ready);
-    Ok(())
+    // States that performing a plan keeps the session sound.
+    plans_are_fit();
+    match change_session(alloc, state, document, view, text, change) {
+        Ok(()) => Ok(()),
+        Err(_) => Err(Refusal::OutOfMemory),
+    }
 }
 
 /// Notifies the listening views of this document of an attempt to edit it while it is read-only.

@@ -1,24 +1,27 @@
 //! Edits of the text: room is made for all of an edit, and then it is made, with what follows it.
 
 ghost use Rattle.ed_model.specs.Session.{text_of};
-ghost use Rattle.std.specs.Prelude.{◌≡◌, [], true, false, length, OnOk, OnErr, IfOk, IfErr, IsOk, IsSome};
+ghost use Rattle.std.specs.Prelude.{◌≡◌, [], pos, true, false, length, OnOk, OnErr, IfOk, IfErr, IsOk, IsSome};
 ghost use Rattle.ed_types.specs.declared.refusal.Refusal.TheVariants.{OutOfMemory};
-ghost use Rattle.ed_model.specs.declared.plan.Edit.TheVariants as edit;
+ghost use Rattle.ed_model.specs.declared.plan.Plan.TheVariants as plan;
 ghost use Rattle.ed_model.specs.LineEnds.{converted};
 ghost use Rattle.id_table.specs.Entries.{value_at};
-ghost use Rattle.scene.specs.Scenes.{AreNamed, IsWatched};
+ghost use Rattle.ed_model.specs.Edits.{steps_of};
+ghost use Rattle.scene.specs.Scenes.{IsWatched};
 ghost use Rattle.document_edits.specs.Edits.{MakesEdit};
+ghost use Rattle.document_edits.specs.Widths.{StepsFitWidth};
 ghost use Rattle.message_requests.specs.Requested.{session_in};
-ghost use Rattle.session_changes.specs.Kept.{IsKept, DocumentsAreNamed};
-ghost use Rattle.editor_session.specs.Edited.{taken_along, IsPastedFor, IsEditWithin, TakesWithin, is_turned, clipboard_need};
-ghost use Rattle.editor_session.specs.Edits.{CanEdit, IfNoSteps, edit_steps, EditFitsWidth, EditsAt};
+ghost use Rattle.session_changes.specs.Asked.{asked};
+ghost use Rattle.session_changes.specs.Kept.{IsKept};
+ghost use Rattle.editor_session.specs.Edits.{taken_along, IsPastedFor, IsEditWithin, TakesWithin, is_turned, clipboard_need, edit_steps};
 ghost use Rattle.editor_session.specs.Documents.{OfDocument, HasDocument};
-ghost use Rattle.editor_session.specs.Performing.{IsPlanned, editing, IsPlanPerformed, IfPlanIsFree};
+ghost use Rattle.editor_session.specs.Performing.{CanPerform, IsPerformed};
+ghost use Rattle.editor_session.specs.Plans.{needs_no_memory};
 
 use crate::edits::{follow_edit, source_bytes};
 use document::Document;
 use document_edits::{convert_with_room, replace_with_room};
-use ed_model::{Edit, Follow, LineEnd, Source, plans_are_fit, soundness_is_kept};
+use ed_model::{Edit, Follow, LineEnd, Source, plans_are_fit};
 use ed_types::Refusal;
 use ed_view::View;
 use id_table::IdTable;
@@ -44,7 +47,7 @@ fn edit_with_room(
     edit: Edit,
 ) -> Result<(), AllocError>
     requires within { IsEditWithin edit (length document.old.document.cells) (length text.now) }
-    requires wide { EditFitsWidth edit text.now clipboard.now pasted.now document.old }
+    requires wide { StepsFitWidth document.old.document (edit_steps edit text.now clipboard.now pasted.now document.old.document) }
     requires watched { IsWatched document.old.document views.old }
     ensures scene { let steps = edit_steps edit text.now clipboard.now pasted.now document.old.document in
         OnOk result (MakesEdit steps document.old views.old notes.old document.new views.new notes.new) }
@@ -69,8 +72,9 @@ fn edit_with_room(
     }
 }
 
-/// Like `edit_with_room`, in the document with this id, and then does what follows the edit for `view`. `taken` becomes
-/// the clipboard, if the edit takes bytes there.
+/// Like `edit_with_room`, in the document with this id, and then does what follows the edit for `view`. `pasted` is the
+/// clipboard with the document's line ends, if the edit inserts that. `taken` becomes the clipboard, if the edit takes
+/// bytes there.
 ///
 /// # Errors
 ///
@@ -88,15 +92,16 @@ fn edit_making_room(
     notes: &mut NoteList,
 ) -> Result<(), AllocError>
     requires kept { IsKept state.old }
-    requires can { HasDocument state.old.documents document (CanEdit edit text.now pasted.now follow taken.items state.old) }
-    ensures edited { let edited = EditsAt document view edit text.now pasted.now follow state.old notes.old in
-        OnOk result (edited state.new notes.new) }
+    requires can { CanPerform (session_in state.old) document view text.now (plan.Edit edit (pos 0) follow) }
+    requires pasted { IsPastedFor edit state.old.clipboard.items (asked (session_in state.old) view text.now).document.line_end pasted.now }
+    requires taken { taken.items ≡ taken_along follow (text_of (asked (session_in state.old) view text.now).document) }
+    ensures done { OnOk result (IsPerformed (session_in state.old) view text.now (plan.Edit edit (pos 0) follow) state.new notes.old.notes notes.new.notes (pos 0) []) }
     ensures same { OnErr result (session_in state.new ≡ session_in state.old) }
-    ensures documents { DocumentsAreNamed state.new.documents.entries }
-    ensures views { AreNamed state.new.views.entries }
-    ensures limits { state.new.limits ≡ state.old.limits }
-    ensures free { OfDocument state.old.documents document (IfNoSteps edit text.now state.old.clipboard.items pasted.now (IsOk result)) }
+    ensures kept { IsKept state.new }
+    ensures free { steps_of (asked (session_in state.old) view text.now) edit ≡ [] → IsOk result }
 {
+    // States that the steps of an edit fit the text and its limit, and that performing a plan keeps the session sound.
+    plans_are_fit();
     let SessionState {
         documents,
         views,
@@ -219,17 +224,13 @@ pub(crate) fn perform_edit(
     notes: &mut NoteList,
 ) -> Result<(), Refusal>
     requires kept { IsKept state.old }
-    requires sent { IsPlanned state.old document view text.now (editing edit follow) }
-    ensures answer { let performed = IsPlanPerformed state.old document view text.now (editing edit follow) in
-        OnOk result (performed notes.old state.new notes.new) }
+    requires can { CanPerform (session_in state.old) document view text.now (plan.Edit edit (pos 0) follow) }
+    ensures done { OnOk result (IsPerformed (session_in state.old) view text.now (plan.Edit edit (pos 0) follow) state.new notes.old.notes notes.new.notes (pos 0) []) }
     ensures same { OnErr result (session_in state.new ≡ session_in state.old) }
     ensures refused { IfErr result (λ refusal. refusal ≡ OutOfMemory) }
     ensures kept { IsKept state.new }
-    ensures free { IfPlanIsFree state.old document view text.now (editing edit follow) (IsOk result) }
+    ensures free { needs_no_memory (asked (session_in state.old) view text.now) (plan.Edit edit (pos 0) follow) ≡ true → IsOk result }
 {
-    // States that the steps of an edit fit the text and its limit, and that the session stays sound.
-    plans_are_fit();
-    soundness_is_kept();
     let Ok(pasted) = pasted_bytes(alloc, state, document, edit) else {
         return Err(Refusal::OutOfMemory);
     };

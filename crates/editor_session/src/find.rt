@@ -5,7 +5,7 @@ ghost use Rattle.ed_types.specs.declared.refusal.Refusal.TheVariants.{OutOfMemor
 ghost use Rattle.ed_model.specs.Table.{table};
 ghost use Rattle.message_requests.specs.Requested.{session_in};
 ghost use Rattle.session_changes.specs.Kept.{IsKept};
-ghost use Rattle.editor_session.specs.Planned.{IsFound};
+ghost use Rattle.editor_session.specs.Planned.{IsFound, request_of};
 
 use crate::attached::{look_up, request_to};
 use ed_types::{Kind, Refusal};
@@ -23,7 +23,8 @@ pub(crate) fn find<'a, 'm: 'a>(
     message: &SentMessage<'m>,
 ) -> Result<(Kind, Request<'a>), Refusal>
     requires kept { IsKept state.now }
-    ensures found { IfOk result (λ found. IsFound (session_in state.now) view message.now found.0 found.1) }
+    ensures found { IfOk result (λ found. IsFound (session_in state.now) view message.now found.0) }
+    ensures request { IfOk result (λ found. found.1 ≡ request_of (session_in state.now) view message.now) }
     ensures refused { IfErr result (λ refusal. table (session_in state.now) view message.now ≡ Err refusal) }
     ensures memory { IfErr result (λ refusal. refusal ≢ OutOfMemory) }
 {

@@ -9,16 +9,16 @@ ghost use Rattle.message_plans.specs.Ways.{frequent_change_in};
 ghost use Rattle.message_requests.specs.Requested.{session_in};
 ghost use Rattle.session_changes.specs.Kept.{IsKept};
 ghost use Rattle.editor_session.specs.Plans.{is_free};
-ghost use Rattle.editor_session.specs.Performed.{going, IsPlannedForSomeValue};
+ghost use Rattle.editor_session.specs.Performing.{going};
+ghost use Rattle.editor_session.specs.Planned.{IsPlannedAs};
 ghost use Rattle.editor_session.specs.Answering.{IsAnswer, AnswersValue};
-ghost use Rattle.editor_session.specs.Performing.{HasPlan, AnswersItsValue};
 
 use crate::attached::{look_up, request_to};
 use crate::changing::perform_change;
-use crate::history::perform_transaction_unheard;
+use crate::history::perform_transaction;
 use document::Direction;
 use document_changes::change_unheard;
-use ed_model::{DocumentChange, plans_are_fit, soundness_is_kept};
+use ed_model::{DocumentChange, plans_are_fit};
 use ed_types::modification::{CHANGE_FOLD, CHANGE_MARKER, CHANGE_STYLE};
 use ed_types::{Bytes, Kind, Refusal, Reply, kinds_and_numbers};
 use message_plans::{Way, change_of, is_performed};
@@ -65,8 +65,7 @@ pub(crate) fn find_change(
 ) -> Option<FrequentChange>
     requires kept { IsKept state.now }
     requires frequent { frequent_change_of message.now.number ≡ Some kind }
-    ensures { let has_plan = HasPlan state.now view message.now in
-        IfSome result (λ found. has_plan found.document (plan.ChangeDocument found.change found.value) false) }
+    ensures { IfSome result (λ found. IsPlannedAs (session_in state.now) view message.now found.document (plan.ChangeDocument found.change found.value) false) }
 {
     // States that each kind is found by its number, and that a plan's numbers are in range.
     kinds_and_numbers();
@@ -85,34 +84,6 @@ pub(crate) fn find_change(
     })
 }
 
-/// Applies `change`, for a message to `view`, to the document with this id if no view listens, and returns whether it
-/// did. Otherwise, and if an allocation fails, the session is as it was.
-#[inline(always)]
-fn perform_change_unheard(
-    state: &mut SessionState,
-    document: u32,
-    view: u32,
-    change: DocumentChange,
-) -> bool
-    requires kept { IsKept state.old }
-    requires sent { IsPlannedForSomeValue (session_in state.old) document view (plan.ChangeDocument change) }
-    ensures answer { result ≡ true → AnswersItsValue state.old document view (plan.ChangeDocument change) state.new }
-    ensures same { result ≡ false → session_in state.new ≡ session_in state.old }
-    ensures kept { IsKept state.new }
-{
-    // States that the session stays sound.
-    soundness_is_kept();
-    let SessionState {
-        documents,
-        views,
-        ..
-    } = state;
-    let Some(document) = documents.get_mut(document) else {
-        unreachable!()
-    };
-    change_unheard(document, views, change)
-}
-
 /// Makes the frequent change that this message to `view` asks for, and returns the value that is answered. `None`, with
 /// nothing changed, if a view listens, the change is refused or an allocation fails. Out of line, so that other
 /// messages do not pay for its stack frame.
@@ -129,10 +100,20 @@ pub(crate) fn answer_unheard_change(
     ensures same { IfNone result (session_in state.new ≡ session_in state.old) }
     ensures kept { IsKept state.new }
 {
+    // States that performing a plan keeps the session sound.
+    plans_are_fit();
     let Some(found) = find_change(state, view, kind, message) else {
         return None;
     };
-    if perform_change_unheard(state, found.document, view, found.change) {
+    let SessionState {
+        documents,
+        views,
+        ..
+    } = state;
+    let Some(document) = documents.get_mut(found.document) else {
+        unreachable!()
+    };
+    if change_unheard(document, views, found.change) {
         Some(found.value)
     } else {
         None
@@ -154,8 +135,7 @@ pub(crate) fn answer_found_change(
     message: &SentMessage,
 ) -> Result<Reply, Refusal>
     requires kept { IsKept state.old }
-    requires planned { let what = plan.ChangeDocument found.change found.value in
-        HasPlan state.old view message.now found.document what false }
+    requires planned { IsPlannedAs (session_in state.old) view message.now found.document (plan.ChangeDocument found.change found.value) false }
     ensures answer { IsAnswer state.old view message.now state.new result }
     ensures refused { IfErr result (λ refusal. refusal ≡ OutOfMemory) }
     ensures kept { IsKept state.new }
@@ -192,7 +172,7 @@ fn find_transaction(
 ) -> Option<u32>
     requires kept { IsKept state.now }
     requires transaction { transaction_of message.now.number ≡ Some kind }
-    ensures { IfSome result (λ document. HasPlan state.now view message.now document (performing kind) false) }
+    ensures { IfSome result (λ document. IsPlannedAs (session_in state.now) view message.now document (performing kind) false) }
 {
     // States that each kind is found by its number, and that a plan's numbers are in range.
     kinds_and_numbers();
@@ -243,9 +223,9 @@ pub(crate) fn answer_unheard_transaction(
     let Some(document) = find_transaction(state, view, kind, message) else {
         return None;
     };
-    if perform_transaction_unheard(alloc, state, document, view, direction_of(kind)) {
-        Some(0)
-    } else {
-        None
+    let mut notes = NoteList::new(alloc);
+    match perform_transaction(state, document, view, direction_of(kind), &mut notes, 0) {
+        Ok(()) => Some(0),
+        Err(_) => None,
     }
 }

@@ -4,12 +4,13 @@
 ghost use Rattle.std.specs.Prelude.{◌≡◌, [], true, OnErr, IfOk, IfErr, IsOk};
 ghost use Rattle.ed_types.specs.declared.refusal.Refusal.TheVariants.{OutOfMemory};
 ghost use Rattle.message_requests.specs.Requested.{session_in};
+ghost use Rattle.session_changes.specs.Asked.{asked};
 ghost use Rattle.session_changes.specs.Kept.{IsKept};
 ghost use Rattle.editor_session.specs.Left.{told, IsLeft};
-ghost use Rattle.editor_session.specs.Plans.{is_free};
-ghost use Rattle.editor_session.specs.Performed.{IfFree, IsPlannedWithText};
+ghost use Rattle.editor_session.specs.Plans.{is_free, needs_no_memory};
 ghost use Rattle.editor_session.specs.Answering.{IsAnswer};
-ghost use Rattle.editor_session.specs.Performing.{HasPlan, IsPerformed};
+ghost use Rattle.editor_session.specs.Planned.{IsPlannedAs};
+ghost use Rattle.editor_session.specs.Performing.{CanPerform, IsPerformed};
 
 use crate::changing::{
     is_free_change, perform_attempt, perform_change, perform_free_change, perform_session_change,
@@ -45,14 +46,13 @@ fn perform(
     notes: &mut NoteList,
 ) -> Result<i64, Refusal>
     requires kept { IsKept state.old }
-    requires sent { IsPlannedWithText (session_in state.old) document view text.now plan.now }
+    requires can { CanPerform (session_in state.old) document view text.now plan.now }
     requires empty { handed_out.old.items ≡ [] }
-    ensures answer { let performed = IsPerformed state.old document view text.now plan.now notes.old state.new in
-        IfOk result (λ value. performed value handed_out.new.items notes.new) }
+    ensures done { IfOk result (λ value. IsPerformed (session_in state.old) view text.now plan.now state.new notes.old.notes notes.new.notes value handed_out.new.items) }
     ensures same { OnErr result (session_in state.new ≡ session_in state.old) }
     ensures refused { IfErr result (λ refusal. refusal ≡ OutOfMemory) }
     ensures kept { IsKept state.new }
-    ensures free { IfFree (session_in state.old) document view text.now plan.now (IsOk result) }
+    ensures free { needs_no_memory (asked (session_in state.old) view text.now) plan.now ≡ true → IsOk result }
 {
     match *plan {
         Plan::Answer { value } => Ok(value),
@@ -81,11 +81,11 @@ fn perform(
             Ok(0)
         }
         Plan::Undo => {
-            perform_transaction(state, document, view, Direction::Undo, notes)?;
+            perform_transaction(state, document, view, Direction::Undo, notes, usize::MAX)?;
             Ok(0)
         }
         Plan::Redo => {
-            perform_transaction(state, document, view, Direction::Redo, notes)?;
+            perform_transaction(state, document, view, Direction::Redo, notes, usize::MAX)?;
             Ok(0)
         }
         Plan::ChangeDocument { change, value } => {
@@ -121,7 +121,7 @@ fn perform_with_notes(
     reply: &mut Reply,
 ) -> Result<i64, Refusal>
     requires kept { IsKept state.old }
-    requires planned { HasPlan state.old view message.now document plan.now is_recorded }
+    requires planned { IsPlannedAs (session_in state.old) view message.now document plan.now is_recorded }
     ensures answer { IsAnswer state.old view message.now state.new (told result reply.new) }
     ensures place { IsLeft result reply.old reply.new }
     ensures refused { IfErr result (λ refusal. refusal ≡ OutOfMemory) }
@@ -166,7 +166,7 @@ pub(crate) fn perform_message(
     reply: &mut Reply,
 ) -> Result<i64, Refusal>
     requires kept { IsKept state.old }
-    requires planned { HasPlan state.old view message.now document plan.now is_recorded }
+    requires planned { IsPlannedAs (session_in state.old) view message.now document plan.now is_recorded }
     ensures answer { IsAnswer state.old view message.now state.new (told result reply.new) }
     ensures place { IsLeft result reply.old reply.new }
     ensures refused { IfErr result (λ refusal. refusal ≡ OutOfMemory) }

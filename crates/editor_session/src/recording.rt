@@ -1,41 +1,33 @@
 //! The note of a message that is recorded.
 
-ghost use Rattle.std.specs.Prelude.{◌≡◌, ◌++◌, length, true, false, OnOk, IsOk};
-ghost use Rattle.notify.specs.Gathered.{CanPut, CanShare};
-ghost use Rattle.editor_session.specs.Planned.{first_note};
+ghost use Rattle.std.specs.Prelude.{◌≡◌, ◌++◌, [], ◌∷◌, false, OnOk, IfErr, IsOk};
+ghost use Rattle.ed_types.specs.declared.refusal.Refusal.TheVariants.{OutOfMemory};
+ghost use Rattle.editor_session.specs.Planned.{first_note, recording};
 
+use ed_types::Refusal;
 use ed_types::notification::MACRO_RECORD;
 use message_requests::SentMessage;
 use notify::{NoteList, blank};
-use std::alloc::AllocError;
 
-/// Appends the note of `message`, which `view` records. It must fit in.
-fn put_record(view: u32, message: &SentMessage, notes: &mut NoteList)
-    requires notes { CanPut 1 notes.old }
-    requires texts { CanShare (length message.now.text) notes.old }
-    ensures { notes.new.notes ≡ notes.old.notes ++ first_note true view message.now }
+/// Appends the note of `message`, which `view` records. Out of line, since few views record.
+///
+/// # Errors
+///
+/// `OutOfMemory` if an allocation fails.
+#[inline(never)]
+fn record(view: u32, message: &SentMessage, notes: &mut NoteList) -> Result<(), Refusal>
+    ensures note { OnOk result (notes.new.notes ≡ notes.old.notes ++ recording view message.now ∷ []) }
+    ensures refused { IfErr result (λ refusal. refusal ≡ OutOfMemory) }
 {
+    let Ok(()) = notes.reserve(1, message.text.len()) else {
+        return Err(Refusal::OutOfMemory);
+    };
     let mut note = blank(MACRO_RECORD);
     note.view = view;
     note.message = message.number;
     note.w = message.w;
     note.l = message.l;
     notes.put(note, message.text);
-}
-
-/// Like `put_record`, but makes room for the note first. Out of line, since few views record.
-///
-/// # Errors
-///
-/// `AllocError` if an allocation fails.
-#[inline(never)]
-fn record(view: u32, message: &SentMessage, notes: &mut NoteList) -> Result<(), AllocError>
-    ensures { OnOk result (notes.new.notes ≡ notes.old.notes ++ first_note true view message.now) }
-{
-    let Ok(()) = notes.reserve(1, message.text.len()) else {
-        return Err(AllocError);
-    };
-    put_record(view, message, notes);
     Ok(())
 }
 
@@ -43,14 +35,14 @@ fn record(view: u32, message: &SentMessage, notes: &mut NoteList) -> Result<(), 
 ///
 /// # Errors
 ///
-/// `AllocError` if an allocation fails.
+/// `OutOfMemory` if an allocation fails.
 #[inline(always)]
 pub(crate) fn record_if(
     is_recorded: bool,
     view: u32,
     message: &SentMessage,
     notes: &mut NoteList,
-) -> Result<(), AllocError>
+) -> Result<(), Refusal>
     ensures notes { OnOk result (notes.new.notes ≡ notes.old.notes ++ first_note is_recorded view message.now) }
     ensures free { is_recorded ≡ false → IsOk result }
 {

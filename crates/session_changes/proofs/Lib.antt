@@ -2,4 +2,5 @@
 pub mod Names
 pub mod AskedLemmas
 pub mod MovingLemmas
+pub mod MemoryLemmas
 pub mod SessionLemmas

@@ -1,314 +1,200 @@
--- Whole sessions, and results.
-use Rattle.session_changes.proofs.Names.{◌≡◌, ◌≢◌, ℕ, ◌+◌, ◌-◌, ◌<◌, ◌≤◌, ◌==◌, ◌^◌, Bool, true, false, cond, List, [], ◌∷◌, ◌++◌, map, length, refl, ap, sym, ◌∙◌, subst, arith, Option, Some, None, IfSome, IsSomeAnd, vec_capacity, AllByRecursion, eq-eqb, ne_eqb, length-map, map-append, ViewChange, Session, Document, View, view_at, document_at, text_of, lines_in, references, living, left_by, is_allowed, is_large, attached_to, new_document, with_view, Rise, IsSoundDocument, ListsItsViews, Request, IsFitSessionChange, session_changed, held_less, attached, attached_last, with_attached, with_new_document, rise_added, Kept, HasViewRoom, document_of, let_go, released, LeavesTheLiving, fold_need, HasFoldRoom, KeptView, HasFewLines, Entry, Entries, entry, value_at, with_value_at, views_of, session_in, documents_in, SessionState, IsKept, DocumentsAreNamed, IsAsked, CanChangeSession, HasFoldRoomAt, IsFoldRoomAtMost, IsRoomAtMostAt, changed_at, DocumentsRise, CanMove, IsReady, AwaitsView, IsHeld, HasPlacesAtMost, ArePlacesAtMost, id_of_document, own_at, holds_at, found_some, kept_as, for_replaced, value_replaced, other_replaced, without_itself, none_listed}
-use Rattle.std.specs.Global.{Vec, Box}
-use Rattle.std.proofs.lemmas.Bool.Decides.{nat_tests}
-use Rattle.ed_types.specs.declared.limits.Limits.{Limits}
-use Rattle.ed_model.specs.declared.plan.SessionChange.{SessionChange}
-use Rattle.ed_model.specs.declared.plan.SessionChange.TheVariants as change
-use Rattle.ed_model.specs.Text.{Cell}
-use Rattle.ed_model.specs.proved.Limits.{allowed_lengths}
-use Rattle.ed_model.specs.proved.Lines.{few_lines}
-use Rattle.ed_model.specs.proved.Elements.{all_added}
-use Rattle.document.specs.declared.kept.Document.{Document as KeptDocument}
+-- Whole sessions: references, a view that is attached, and a new document.
+use Rattle.session_changes.proofs.Names.{◌≡◌, ◌≢◌, ℕ, ◌+◌, ◌-◌, ◌<◌, ◌≤◌, ◌==◌, ◌^◌, max, Bool, true, false, cond, List, [], ◌∷◌, ◌++◌, map, length, refl, ap, sym, ◌∙◌, subst, arith, Some, IsSomeAnd, AllByRecursion, eq-eqb, ne_eqb, if◌then◌else◌, length-map, map-append, Document, View, view_at, document_at, text_of, lines_in, references, living, left_by, is_allowed, is_large, attached_to, new_document, with_view, Rise, IsSoundDocument, ListsItsViews, held_less, attached, attached_last, with_attached, with_new_document, documents_added, all_added, all_append, all_weaker, append-nil, Kept, HasViewRoom, document_of, new_kept, let_go, released, LeavesTheLiving, KeptView, view_in, HasFewLines, capacities, AreFewLines, Entry, Entries, entry, value_at, with_value_at, views_of, session_in, documents_in, SessionState, SessionChange, Attach, IsKept, DocumentsAreNamed, IsAsked, asked, DocumentsRise, CanMove, CanAttach, KeepsRoom, with_added, KeepsClipboard, TableGrows, RoomsGrow, attaches_to, AllStays, TableStays, Stays, id_of_view, id_of_document, own_at, holds_at, found_some, replaced, unchanged, keeping, named_with, for_replaced, without_itself, none_listed, nat_tests, Limits, allowed_lengths, few_lines, Cell}
 use Rattle.document_table.specs.Leaving.{documents_in as entries_in}
-use Rattle.ed_view.specs.Flags.{AreFewLines}
-use Rattle.ed_view.specs.declared.folding.FoldNeed.{FoldNeed}
-use Rattle.session_changes.specs.Clipboard.{copied, CanCopy}
-use Rattle.session_changes.specs.declared.ready.SessionReady.TheVariants as made
-use Rattle.session_changes.proofs.AskedLemmas.{of_document, view_found, on_document, document_found, kept_view, kept_document, stands, in_its_place}
+use Rattle.session_changes.proofs.AskedLemmas.{some_same, is_some_and, document_is, no_document_at, sender_of, document_for, view_found, on_document, document_found, same_view, no_view, stands}
 use Rattle.session_changes.proofs.MovingLemmas.{ChangesAlike, living_left}
-
-pub for_some : {V : Type 0} (P : V → Type 0) (o : Option V) (v : V) → o ≡ Some v → P v → IfSome o P
-for_some P o v e h = subst (λ x. IfSome x P) (sym e) h
-
-pub of_some : {V : Type 0} (P : V → Type 0) (o : Option V) (v : V) → o ≡ Some v → IfSome o P → P v
-of_some P o v e h = subst (λ x. IfSome x P) e h
-
-pub there_of_some : {V : Type 0} (P : V → Type 0) (o : Option V) (v : V) → o ≡ Some v → IsSomeAnd o P → P v
-there_of_some P o v e h = subst (λ x. IsSomeAnd x P) e h
-
--- Room that is made, and room that is there already.
-
-pub places_most : (entries : List (Entry Kept)) (id : ℕ) (old new : Kept) → value_at entries id ≡ Some old → HasPlacesAtMost old new → ArePlacesAtMost entries (with_value_at id new entries) id
-places_most entries id old new at most =
-    (for_some _ _ old at (for_some _ _ new (value_replaced entries id old new at) most), λ other differs. other_replaced entries id other new differs)
-
-pub fold_room_is_there : (entries : List (Entry KeptView)) (view : ℕ) (old : KeptView) (change : ViewChange) (need : FoldNeed) → value_at entries view ≡ Some old → need ≡ fold_need old.view.flags change
-    → HasFoldRoomAt entries view change → HasFoldRoom old.capacity need
-fold_room_is_there entries view old change need at is has =
-    subst (λ n. HasFoldRoom old.capacity n) (sym is) (there_of_some (λ (v : KeptView). HasFoldRoom v.capacity (fold_need v.view.flags change)) (value_at entries view) old at has)
-
-pub fold_room_there : (entries : List (Entry KeptView)) (view : ℕ) (old new : KeptView) (change : ViewChange) (need : FoldNeed) → value_at entries view ≡ Some old → new.view ≡ old.view
-    → need ≡ fold_need old.view.flags change → HasFoldRoom new.capacity need → HasFoldRoomAt (with_value_at view new entries) view change
-fold_room_there entries view old new change need at same is room =
-    for_replaced (λ w. HasFoldRoom w.capacity (fold_need w.view.flags change)) entries view old new at
-    (subst (λ (v : View). HasFoldRoom new.capacity (fold_need v.flags change)) (sym same) (subst (λ n. HasFoldRoom new.capacity n) is room))
-
-pub fold_room_most : (entries : List (Entry KeptView)) (view : ℕ) (old new : KeptView) (change : ViewChange) (need : FoldNeed) → value_at entries view ≡ Some old → need ≡ fold_need old.view.flags change
-    → IsFoldRoomAtMost old.capacity new.capacity need → IsRoomAtMostAt entries (with_value_at view new entries) view change
-fold_room_most entries view old new change need at is most =
-    for_some _ _ old at (for_some _ _ new (value_replaced entries view old new at) (subst (λ n. IsFoldRoomAtMost old.capacity new.capacity n) is most))
-
--- The clipboard.
-
-pub can_copy : (documents : Entries Kept) (what : SessionChange) (bytes : Vec ℕ) (r : Request) (text : List ℕ) → IsReady documents what (made.Clipboard bytes) → r.message.text ≡ text → IsFitSessionChange r what
-    → CanCopy what (length r.document.cells) (length text) (vec_capacity bytes)
-can_copy documents (change.Copy start count) bytes r text ready is fit = (fit, omega (arith, ready.1))
-can_copy documents (change.CopyText count) bytes r text ready is fit = (subst (λ (t : List ℕ). count ≤ length t) is fit, omega (arith, ready.1))
-can_copy documents (change.Attach id) bytes r text ready is fit = absurd ready.0
-can_copy documents change.AttachNew bytes r text ready is fit = absurd ready
-can_copy documents (change.Create options) bytes r text ready is fit = absurd ready
-can_copy documents (change.AddReference id) bytes r text ready is fit = absurd ready
-can_copy documents (change.Release id) bytes r text ready is fit = absurd ready
-
-pub copied_so : (documents : Entries Kept) (what : SessionChange) (bytes : Vec ℕ) (r : Request) → IsReady documents what (made.Clipboard bytes)
-    → (let s = r.session in record s { clipboard = copied what (text_of r.document) r.message.text }) ≡ session_changed r what
-copied_so documents (change.Copy start count) bytes r ready = refl
-copied_so documents (change.CopyText count) bytes r ready = refl
-copied_so documents (change.Attach id) bytes r ready = absurd ready.0
-copied_so documents change.AttachNew bytes r ready = absurd ready
-copied_so documents (change.Create options) bytes r ready = absurd ready
-copied_so documents (change.AddReference id) bytes r ready = absurd ready
-copied_so documents (change.Release id) bytes r ready = absurd ready
-
-pub clipboard_so : (s : SessionState) (document view : ℕ) (text : List ℕ) (what : SessionChange) (bytes done : Vec ℕ) → IsKept s → IsReady s.documents what (made.Clipboard bytes)
-    → IfSome (value_at s.documents.entries document) (λ k. done.items ≡ copied what (text_of k.document) text)
-    → (r : Request) → IsAsked (session_in s) document view r → r.message.text ≡ text → session_in (record s { clipboard = done }) ≡ session_changed r what
-clipboard_so s document view text what bytes done kept ready put r asked is =
-    let there = kept_document s document view r kept asked in
-    let items : done.items ≡ copied what (text_of r.document) r.message.text =
-    of_some (λ k. done.items ≡ copied what (text_of k.document) text) (value_at s.documents.entries document) there.value there.there put
-    ∙ ap (λ (d : Document). copied what (text_of d) text) there.is ∙ ap (copied what (text_of r.document)) (sym is) in
-    let old = session_in s in
-    ap (λ xs. record old { clipboard = xs }) items
-    ∙ ap (λ (x : Session). record x { clipboard = copied what (text_of r.document) r.message.text }) (sym asked.session)
-    ∙ copied_so s.documents what bytes r ready
+use Rattle.session_changes.proofs.MemoryLemmas.{more, last_at, rooms_added, rooms_reserved, has_room}
 
 -- References.
 
-pub held_few : (l : Limits) → is_allowed l ≡ true → l.refs ≤ 2 ^ 31 - 1
-held_few l h = grind (arith, nat_tests)
+pub few_ids : {s : SessionState} → IsKept s → s.documents.next ≤ s.limits.ids → s.documents.next + 1 < 2 ^ 32
+few_ids {s} kept few = let most = ids_few s.limits kept.limits in omega (arith, few, most)
+  where
+    ids_few : (l : Limits) → is_allowed l ≡ true → l.ids ≤ 2 ^ 31 - 1
+    ids_few l h = grind (arith, nat_tests)
+
+-- one more caller can hold a document that is below its limit of references
+pub few_held : {s : SessionState} → IsKept s → (id : ℕ) (d : Document) → document_at (documents_in s.documents) id ≡ Some d → references d < s.limits.refs
+    → IsSomeAnd (value_at s.documents.entries id) (λ k. k.document.held_by_callers + 1 < 2 ^ 32)
+few_held {s} kept id d found few =
+    is_some_and (λ k. k.document.held_by_callers + 1 < 2 ^ 32) (value_at s.documents.entries id) (no_document_at kept id d found)
+    (λ k at.
+    let held : k.document.held_by_callers ≡ d.held_by_callers = ap (λ (x : Document). x.held_by_callers) (document_is kept id d found k at) in
+    let most = refs_few s.limits kept.limits in omega (arith, few, most, held))
+  where
+    refs_few : (l : Limits) → is_allowed l ≡ true → l.refs ≤ 2 ^ 31 - 1
+    refs_few l h = grind (arith, nat_tests)
+
+all_referenced : {s : SessionState} → IsKept s → AllByRecursion (λ (d : Document). 0 < references d) (documents_in s.documents)
+all_referenced {s} kept = all_weaker (IsSoundDocument s.limits) (λ (d : Document). 0 < references d) (λ d sound. sound.referenced) (documents_in s.documents) kept.sound.documents
+
+-- a reference is released
+pub released_so : LeavesTheLiving → {s : SessionState} → IsKept s → (id : ℕ) (left : Entries Kept) → entries_in left.entries ≡ let_go id released (entries_in s.documents.entries) → left.next ≡ s.documents.next
+    → session_in (record s { documents = left }) ≡ (let old = session_in s in record old { documents = living (map (held_less id) old.documents) })
+released_so law {s} kept id left gone next =
+    let old = session_in s in
+    ap (λ x. record old { documents = x; next_document = left.next })
+    (living_left law id s.documents.next released (held_less id) s.documents.entries left.entries kept.documents kept.sound.document_ids
+    (all_referenced kept)
+    (all_weaker (λ (d : Document). 0 < references d) (ChangesAlike id released (held_less id))
+    (λ d _. (λ is. ap (λ b. cond b (released d) d) (eq-eqb d.id id is), λ other. ap (λ b. cond b (released d) d) (ne_eqb d.id id other))) old.documents (all_referenced kept))
+    gone)
+    ∙ ap (λ n. record old { documents = living (map (held_less id) old.documents); next_document = n }) next
+
+-- A view is attached.
 
 -- texts within the limit have fewer lines than the width of their document can count
 limit_few : (b : Bool) (l : Limits) (n : ℕ) → (l.doc_bytes ≤ 2 ^ 31 - 1) × (l.large_bytes ≤ 2 ^ 40) → n ≤ cond b l.large_bytes l.doc_bytes + 1 → AreFewLines b (n + 1)
 limit_few true l n h few = (let large = h.1 in omega (arith, large), λ e. absurd (cc))
 limit_few false l n h few = (let small = h.0 in omega (arith, small), λ e. let small = h.0 in omega (arith, small))
 
--- a view has few lines
-pub few_flags : (s : SessionState) (document view : ℕ) (r : Request) → IsKept s → IsAsked (session_in s) document view r → IsSomeAnd (value_at s.views.entries view) HasFewLines
-few_flags s document view r kept asked =
-    let there = kept_view s document view r kept asked in
-    let stand = stands s document view r kept asked in
-    let flags : length there.value.view.flags ≡ lines_in r.document = ap (λ (x : View). length x.flags) there.is ∙ stand.lines in
-    let sound : IsSoundDocument s.limits r.document = holds_at id_of_document (IsSoundDocument s.limits) (session_in s).documents document r.document kept.sound.documents (document_found s document view r kept asked) in
-    let cells : length (text_of r.document) ≡ length r.document.cells = length-map r.document.cells (λ (c : Cell). c.byte) in
-    let width : there.value.view.large ≡ is_large r.document = ap (λ (x : View). x.large) there.is ∙ stand.large in
-    let few : HasFewLines there.value =
-    subst (λ large. AreFewLines large (length there.value.view.flags + 1)) (sym width)
-    (limit_few (is_large r.document) s.limits (length there.value.view.flags) (allowed_lengths s.limits kept.limits)
-    (omega (arith, flags, few_lines r.document.line_end_types (text_of r.document), cells, sound.bounded))) in
-    subst (λ o. IsSomeAnd o HasFewLines) (sym there.there) few
-
-pub references_few : (s : SessionState) (r : Request) (id : ℕ) → IsKept s → r.session ≡ session_in s → IsFitSessionChange r (change.AddReference id)
-    → IsSomeAnd (value_at s.documents.entries id) (λ k. k.document.held_by_callers + 1 < 2 ^ 32)
-references_few s r id kept is fit =
-    let d = fit.0 in
-    let at : document_at (session_in s).documents id ≡ Some d = ap (λ (x : Session). document_at x.documents id) (sym is) ∙ fit.1 in
-    let there = kept_as document_of id_of_document s.documents.entries id d kept.documents at in
-    let few : references d < s.limits.refs = subst (λ (x : Session). references d < x.limits.refs) is fit.2 in
-    let held : there.value.document.held_by_callers ≡ d.held_by_callers = ap (λ (x : Document). x.held_by_callers) there.is in
-    let less : there.value.document.held_by_callers + 1 < 2 ^ 32 = omega (arith, few, held_few s.limits kept.limits, held) in
-    subst (λ o. IsSomeAnd o (λ k. k.document.held_by_callers + 1 < 2 ^ 32)) (sym there.there) less
-
--- a reference is released
-alike_held : (id : ℕ) (ds : List Document) → AllByRecursion (ChangesAlike id released (held_less id)) ds
-alike_held id [] = tt
-alike_held id (d ∷ ds) = (
-  (λ is. ap (λ b. cond b (released d) d) (eq-eqb d.id id is), λ other. ap (λ b. cond b (released d) d) (ne_eqb d.id id other)),
-  alike_held id ds,
-)
-
-referenced : (limits : Limits) (ds : List Document) → AllByRecursion (IsSoundDocument limits) ds → AllByRecursion (λ (d : Document). 0 < references d) ds
-referenced limits [] all = tt
-referenced limits (d ∷ ds) all = (all.0.referenced, referenced limits ds all.1)
-
-pub released_so : LeavesTheLiving → (s : SessionState) (id : ℕ) (left : Entries Kept) → IsKept s → entries_in left.entries ≡ let_go id released (entries_in s.documents.entries) → left.next ≡ s.documents.next
-    → session_in (record s { documents = left }) ≡ (let old = session_in s in record old { documents = living (map (held_less id) old.documents) })
-released_so law s id left kept gone next =
-    let old = session_in s in
-    let ds : documents_in left ≡ living (map (held_less id) old.documents) =
-    living_left law id s.documents.next released (held_less id) s.documents.entries left.entries kept.documents kept.sound.document_ids
-    (referenced s.limits old.documents kept.sound.documents) (alike_held id old.documents) gone in
-    ap (λ x. record old { documents = x; next_document = left.next }) ds
-    ∙ ap (λ n. record old { documents = living (map (held_less id) old.documents); next_document = n }) next
-
--- A view is attached.
-
 listed_elsewhere : (views : List View) (v : View) (view from : ℕ) (ds : List Document) → view_at views view ≡ Some v → v.document ≡ from → AllByRecursion (ListsItsViews views) ds
     → AllByRecursion (λ (d : Document). d.id ≢ from → left_by view d ≡ d) ds
-listed_elsewhere views v view from [] found on lists = tt
-listed_elsewhere views v view from (d ∷ ds) found on lists = (
-  λ other. ap (λ ids. record d { views = ids }) (without_itself view d.views (none_listed views v view d.id d.views found (λ is. other (is ∙ on)) lists.0)),
-  listed_elsewhere views v view from ds found on lists.1,
-)
+listed_elsewhere views v view from ds found on lists =
+    all_weaker (ListsItsViews views) (λ (d : Document). d.id ≢ from → left_by view d ≡ d)
+    (λ d listed other. ap (λ ids. record d { views = ids }) (without_itself view d.views (none_listed views v view d.id d.views found (λ is. other (is ∙ on)) listed))) ds lists
 
-though_not : (to : ℕ) (ds : List Document) → AllByRecursion (λ (d : Document). 0 < references d) ds → AllByRecursion (λ (d : Document). d.id ≢ to → 0 < references d) ds
-though_not to [] all = tt
-though_not to (d ∷ ds) all = (λ _. all.0, though_not to ds all.1)
+module _ {s : SessionState} {document view : ℕ} {text : List ℕ} (kept : IsKept s) (is_asked : IsAsked (session_in s) document view text) where
+  few_flags : IsSomeAnd (value_at s.views.entries view) HasFewLines
+  few_flags =
+      is_some_and HasFewLines (value_at s.views.entries view) (no_view kept is_asked)
+      (λ v at.
+      let d = document_for s view in
+      let same = same_view kept is_asked v at in
+      let flags : length v.view.flags ≡ lines_in d = ap (λ (x : View). length x.flags) same ∙ (stands kept is_asked).lines in
+      let sound : IsSoundDocument s.limits d = holds_at id_of_document (IsSoundDocument s.limits) (documents_in s.documents) document d kept.sound.documents (document_found kept is_asked) in
+      let cells : length (text_of d) ≡ length d.cells = length-map d.cells (λ (c : Cell). c.byte) in
+      subst (λ large. AreFewLines large (length v.view.flags + 1)) (sym (ap (λ (x : View). x.large) same ∙ (stands kept is_asked).large))
+      (limit_few (is_large d) s.limits (length v.view.flags) (allowed_lengths s.limits kept.limits) (omega (arith, flags, few_lines d.line_end_types (text_of d), cells, sound.bounded))))
 
-pub can_attach : (s : SessionState) (document view to : ℕ) (r : Request) → IsKept s → IsAsked (session_in s) document view r → IsFitSessionChange r (change.Attach to)
-    → IfSome (value_at s.documents.entries to) HasViewRoom → CanMove s.documents document view to
-can_attach s document view to r kept asked fit place =
-    let d = fit.0 in
-    let at : document_at (session_in s).documents to ≡ Some d = ap (λ (x : Session). document_at x.documents to) (sym asked.session) ∙ fit.1 in
-    let there = kept_as document_of id_of_document s.documents.entries to d kept.documents at in
-    record {
-      named = kept.documents;
-      rise = kept.sound.document_ids;
-      elsewhere = listed_elsewhere (session_in s).views r.view view document (session_in s).documents (view_found s document view r kept asked) (on_document s document view r kept asked) kept.sound.lists;
-      referenced = though_not to (session_in s).documents (referenced s.limits (session_in s).documents kept.sound.documents);
-      place = subst (λ o. IsSomeAnd o HasViewRoom) (sym there.there) (of_some HasViewRoom (value_at s.documents.entries to) there.value there.there place);
+  elsewhere : AllByRecursion (λ (d : Document). d.id ≢ document → left_by view d ≡ d) (documents_in s.documents)
+  elsewhere = listed_elsewhere (views_of s.views.entries) (sender_of s view) view document (documents_in s.documents) (view_found kept is_asked) (on_document kept is_asked) kept.sound.lists
+
+  with_reference : (to : ℕ) → AllByRecursion (λ (d : Document). d.id ≢ to → 0 < references d) (documents_in s.documents)
+  with_reference to = all_weaker (IsSoundDocument s.limits) (λ (d : Document). d.id ≢ to → 0 < references d) (λ d sound other. sound.referenced) (documents_in s.documents) kept.sound.documents
+
+  -- the view can be attached to a document of these, which are those of the session and perhaps more
+  pub can_attach : (documents : Entries Kept) (to : ℕ) (more : List Document) → documents_in documents ≡ documents_in s.documents ++ more → DocumentsAreNamed documents.entries → DocumentsRise documents
+      → AllByRecursion (λ (d : Document). d.id ≢ document → left_by view d ≡ d) more → AllByRecursion (λ (d : Document). d.id ≢ to → 0 < references d) more
+      → IsSomeAnd (value_at documents.entries to) HasViewRoom → CanAttach (record s { documents = documents }) document view to
+  can_attach documents to more is named rise alone referenced place =
+      let Alone : Document → Type 0 = λ d. d.id ≢ document → left_by view d ≡ d in let Referenced : Document → Type 0 = λ d. d.id ≢ to → 0 < references d in
+      let moves : CanMove documents document view to = record {
+        named = named;
+        rise = rise;
+        elsewhere = subst (AllByRecursion Alone) (sym is) (all_append Alone (documents_in s.documents) more elsewhere alone);
+        referenced = subst (AllByRecursion Referenced) (sym is) (all_append Referenced (documents_in s.documents) more (with_reference to) referenced);
+        place = place;
+      } in
+      record { documents = moves; views = kept.views; rise = kept.sound.view_ids; there = view_found kept is_asked; few = few_flags }
+
+  -- A document that exists gets room for the view.
+  module _ (to : ℕ) (old new : Kept) (at : value_at s.documents.entries to ≡ Some old) (rest : new ≡ record old { capacity = record old.capacity { views = new.capacity.views } }) where
+    abbrev pub with_place : SessionState
+    with_place = record s { documents = record s.documents { entries = with_value_at to new s.documents.entries } }
+
+    documents_same : documents_in with_place.documents ≡ documents_in s.documents
+    documents_same = unchanged document_of id_of_document s.documents.entries to s.documents.next kept.documents kept.sound.document_ids old new at (ap document_of rest)
+
+    still_named : DocumentsAreNamed with_place.documents.entries
+    still_named = named_with document_of id_of_document s.documents.entries to s.documents.next kept.documents kept.sound.document_ids old new at (ap (λ (k : Kept). k.document.id) rest)
+
+    pub session_same : session_in with_place ≡ session_in s
+    session_same = ap (λ ds. let x = session_in s in record x { documents = ds }) documents_same
+
+    pub place_stays : new.capacity.views ≤ max old.capacity.views (length old.document.views + max 1 (length old.document.views)) → Stays (Attach to) s with_place
+    place_stays most = record {
+      limits = refl;
+      clipboard = refl;
+      documents = still_named;
+      table = refl;
+      rooms = rooms_reserved s.documents to old new at (has_room old new rest most);
+      views = kept.views;
+      fold_capacities = refl;
+      view_capacity = refl;
     }
 
--- the session after the view is attached; `old` may have one document more than the session of the request
-pub attached_so : (old new : SessionState) (view to : ℕ) (v : View) (k : Kept) → DocumentsAreNamed old.documents.entries → value_at old.documents.entries to ≡ Some k → v.id ≡ view
-    → changed_at view (attached_to k.document) (views_of old.views.entries) ≡ with_view (attached_to k.document v) (views_of old.views.entries)
-    → documents_in new.documents ≡ living (map (attached_last view to) (documents_in old.documents))
-    → IfSome (value_at old.documents.entries to) (λ k. views_of new.views.entries ≡ changed_at view (attached_to k.document) (views_of old.views.entries))
-    → new.documents.next ≡ old.documents.next → new.views.next ≡ old.views.next → new.clipboard ≡ old.clipboard → new.limits ≡ old.limits
-    → session_in new ≡ attached to v (session_in old)
-attached_so old new view to v k named at own here documents views next_document next_view clipboard limits =
-    let s = session_in old in
-    let d = k.document in
-    let found : document_at s.documents to ≡ Some d = found_some document_of id_of_document old.documents.entries to k named at in
-    let id : d.id ≡ to = own_at id_of_document s.documents to d found in
-    let ds : documents_in new.documents ≡ living (map (attached_last v.id d.id) s.documents) =
-    documents ∙ ap (λ n. living (map (attached_last n to) s.documents)) (sym own) ∙ ap (λ n. living (map (attached_last v.id n) s.documents)) (sym id) in
-    let vs : views_of new.views.entries ≡ with_view (attached_to d v) s.views =
-    of_some (λ k. views_of new.views.entries ≡ changed_at view (attached_to k.document) (views_of old.views.entries)) (value_at old.documents.entries to) k at views ∙ here in
-    ap (λ x. record s { documents = x; views = views_of new.views.entries; next_document = new.documents.next; next_view = new.views.next; clipboard = new.clipboard.items; limits = new.limits }) ds
-    ∙ ap (λ x. record (with_attached (Some d) v s) { views = x; next_document = new.documents.next; next_view = new.views.next; clipboard = new.clipboard.items; limits = new.limits }) vs
-    ∙ ap (λ x. record (with_attached (Some d) v s) { next_document = x; next_view = new.views.next; clipboard = new.clipboard.items; limits = new.limits }) next_document
-    ∙ ap (λ x. record (with_attached (Some d) v s) { next_view = x; clipboard = new.clipboard.items; limits = new.limits }) next_view
-    ∙ ap (λ (x : Vec ℕ). record (with_attached (Some d) v s) { clipboard = x.items; limits = new.limits }) clipboard
-    ∙ ap (λ x. record (with_attached (Some d) v s) { limits = x }) limits
-    ∙ ap (λ o. with_attached o v s) (sym found)
+    pub can_attach_there : HasViewRoom new → CanAttach with_place document view to
+    can_attach_there room =
+        can_attach with_place.documents to [] (documents_same ∙ sym (append-nil (documents_in s.documents))) still_named
+        (subst (λ ds. Rise 0 s.documents.next (map (λ (d : Document). d.id) ds)) (sym documents_same) kept.sound.document_ids) tt tt
+        (for_replaced HasViewRoom s.documents.entries to old new at room)
+
+-- the session after the view is attached
+module _ {s : SessionState} {from view to : ℕ} (can : CanAttach s from view to) (k : Kept) (document_at_to : value_at s.documents.entries to ≡ Some k) (old new : KeptView) (at : value_at s.views.entries view ≡ Some old)
+    (made : new.view ≡ attached_to k.document old.view) where
+  abbrev with_moved : Entries Kept → SessionState
+  with_moved documents = record s { documents = documents; views = record s.views { entries = with_value_at view new s.views.entries } }
+
+  pub attached_so : (documents : Entries Kept) → documents_in documents ≡ living (map (attached_last view to) (documents_in s.documents)) → documents.next ≡ s.documents.next
+      → session_in (with_moved documents) ≡ attached to (sender_of s view) (session_in s)
+  attached_so documents moved next =
+      let x = session_in s in let d = k.document in let v = sender_of s view in
+      let found : document_at x.documents to ≡ Some d = found_some document_of id_of_document s.documents.entries to k can.documents.named document_at_to in
+      let id : d.id ≡ to = own_at id_of_document x.documents to d found in
+      let own : v.id ≡ view = own_at id_of_view x.views view v can.there in
+      let same : old.view ≡ v = some_same old.view v (sym (found_some view_in id_of_view s.views.entries view old can.views at) ∙ can.there) in
+      let ds : documents_in documents ≡ living (map (attached_last v.id d.id) x.documents) =
+      moved ∙ ap (λ n. living (map (attached_last n to) x.documents)) (sym own) ∙ ap (λ n. living (map (attached_last v.id n) x.documents)) (sym id) in
+      let vs : views_of (with_value_at view new s.views.entries) ≡ with_view (attached_to d v) x.views =
+      replaced view_in id_of_view s.views.entries view new can.views ∙ ap (λ n. map (λ (w : View). if w.id == n then new.view else w) x.views) (sym own)
+      ∙ ap (λ y. map (λ (w : View). if w.id == v.id then y else w) x.views) (made ∙ ap (attached_to d) same) in
+      ap (λ y. record x { documents = y; views = views_of (with_value_at view new s.views.entries); next_document = documents.next }) ds
+      ∙ ap (λ y. record (with_attached (Some d) v x) { views = y; next_document = documents.next }) vs
+      ∙ ap (λ n. record (with_attached (Some d) v x) { next_document = n }) next
+      ∙ ap (λ o. with_attached o v x) (sym found)
+
+  pub attached_stays : capacities new ≡ capacities old → (documents : Entries Kept) → TableStays s.documents documents → AllStays s (with_moved documents)
+  attached_stays same documents stays = record {
+    limits = refl;
+    clipboard = refl;
+    documents = stays;
+    views = named_with view_in id_of_view s.views.entries view s.views.next can.views can.rise old new at (ap id_of_view made);
+    fold_capacities = keeping view_in id_of_view s.views.entries view s.views.next can.views can.rise old new at capacities same;
+    view_capacity = refl;
+  }
 
 -- A new document.
 
-pub named_more : (entries : List (Entry Kept)) (next : ℕ) (k : Kept) → DocumentsAreNamed entries → k.document.id ≡ next → DocumentsAreNamed (entries ++ entry next k ∷ [])
-named_more entries next k named is = all_added (λ (e : Entry Kept). e.id ≡ e.value.document.id) entries (entry next k) named (sym is)
+module _ {s : SessionState} (kept : IsKept s) (k : Kept) (table : Entries Kept) (is : table ≡ with_added k table.capacity s.documents) where
+  entries : table.entries ≡ more s.documents kept.documents kept.sound.document_ids k
+  entries = ap (λ (t : Entries Kept). t.entries) is
 
-pub value_last : (low next : ℕ) (entries : List (Entry Kept)) (k : Kept) → DocumentsAreNamed entries → Rise low next (map (λ (d : Document). d.id) (map (λ (e : Entry Kept). e.value.document) entries))
-    → value_at (entries ++ entry next k ∷ []) next ≡ Some k
-value_last low next [] k named rise = let same : (next == next) ≡ true = eq-eqb next next refl in rw same refl
-value_last low next (e ∷ es) k named rise =
-    let id : e.id ≡ e.value.document.id = named.0 in
-    let below : e.value.document.id < next = rise.1 in
-    let other : (e.id == next) ≡ false = ne_eqb e.id next (λ is. absurd (omega (arith, is, id, below))) in
-    rw other (value_last (e.value.document.id + 1) next es k named.1 rise.2)
-
--- a session with a new document at the end, to which a view can be attached
-module _ (s : SessionState) (document view : ℕ) (r : Request) (kept : IsKept s) (asked : IsAsked (session_in s) document view r) (more : Entries Kept) (k : Kept)
-    (entries : more.entries ≡ s.documents.entries ++ entry s.documents.next k ∷ []) (next : more.next ≡ s.documents.next + 1) where
-  abbrev pub with_more : SessionState
-  with_more = record s { documents = more }
-
-  pub documents_more : documents_in more ≡ documents_in s.documents ++ k.document ∷ []
+  documents_more : documents_in table ≡ documents_in s.documents ++ k.document ∷ []
   documents_more = ap (map (λ (e : Entry Kept). e.value.document)) entries ∙ map-append (λ (e : Entry Kept). e.value.document) s.documents.entries (entry s.documents.next k ∷ [])
 
-  pub all_named : k.document.id ≡ s.documents.next → DocumentsAreNamed more.entries
-  all_named is = subst DocumentsAreNamed (sym entries) (named_more s.documents.entries s.documents.next k kept.documents is)
-
-  pub last_at : value_at more.entries s.documents.next ≡ Some k
-  last_at = ap (λ es. value_at es s.documents.next) entries ∙ value_last 0 s.documents.next s.documents.entries k kept.documents kept.sound.document_ids
-
-  all_rise : k.document.id ≡ s.documents.next → DocumentsRise more
-  all_rise is =
-      let ids : map (λ (d : Document). d.id) (documents_in more) ≡ map (λ (d : Document). d.id) (documents_in s.documents) ++ s.documents.next ∷ [] =
-      ap (map (λ (d : Document). d.id)) documents_more ∙ map-append (λ (d : Document). d.id) (documents_in s.documents) (k.document ∷ [])
-      ∙ ap (λ n. map (λ (d : Document). d.id) (documents_in s.documents) ++ n ∷ []) is in
-      subst (λ n. Rise 0 n (map (λ (d : Document). d.id) (documents_in more))) (sym next)
-      (subst (Rise 0 (s.documents.next + 1)) (sym ids) (rise_added 0 s.documents.next (map (λ (d : Document). d.id) (documents_in s.documents)) (omega arith) kept.sound.document_ids))
-
-  pub can_attach_new : AwaitsView s.documents.next k → CanMove more document view s.documents.next
-  can_attach_new awaits =
-      let new : k.document ≡ new_document s.documents.next 0 = ap document_of awaits in
-      let is : k.document.id ≡ s.documents.next = ap (λ (d : Document). d.id) new in
-      record {
-        named = all_named is;
-        rise = all_rise is;
-        elsewhere = subst (AllByRecursion (λ (d : Document). d.id ≢ document → left_by view d ≡ d)) (sym documents_more)
-            (all_added (λ (d : Document). d.id ≢ document → left_by view d ≡ d) (documents_in s.documents) k.document
-            (listed_elsewhere (session_in s).views r.view view document (session_in s).documents (view_found s document view r kept asked) (on_document s document view r kept asked) kept.sound.lists)
-            (subst (λ (d : Document). d.id ≢ document → left_by view d ≡ d) (sym new) (λ _. refl)));
-        referenced = subst (AllByRecursion (λ (d : Document). d.id ≢ s.documents.next → 0 < references d)) (sym documents_more)
-            (all_added (λ (d : Document). d.id ≢ s.documents.next → 0 < references d) (documents_in s.documents) k.document
-            (though_not s.documents.next (session_in s).documents (referenced s.limits (session_in s).documents kept.sound.documents))
-            (λ other. absurd (other is)));
-        place = subst (λ o. IsSomeAnd o HasViewRoom) (sym last_at) (let fits : 0 < 1 = omega arith in subst HasViewRoom (sym awaits) fits);
-      }
+  named_more : k.document.id ≡ s.documents.next → DocumentsAreNamed table.entries
+  named_more own = subst DocumentsAreNamed (sym entries) (all_added (λ (e : Entry Kept). e.id ≡ e.value.document.id) s.documents.entries (entry s.documents.next k) kept.documents (sym own))
 
   -- it is the model's session with this new document
-  pub session_more : (d : Document) → k.document ≡ d → session_in with_more ≡ with_new_document d (session_in s)
-  session_more d is =
-      let old = session_in s in
-      ap (λ x. record old { documents = x; next_document = more.next }) (documents_more ∙ ap (λ x. documents_in s.documents ++ x ∷ []) is)
-      ∙ ap (λ n. record old { documents = old.documents ++ d ∷ []; next_document = n }) next
+  pub session_more : (d : Document) → k.document ≡ d → session_in (record s { documents = table }) ≡ with_new_document d (session_in s)
+  session_more d made =
+      let x = session_in s in
+      ap (λ ds. record x { documents = ds; next_document = table.next }) (documents_more ∙ ap (λ d. x.documents ++ d ∷ []) made)
+      ∙ ap (λ (t : Entries Kept). record x { documents = x.documents ++ d ∷ []; next_document = t.next }) is
 
-  pub created_so : (options : ℕ) → IsHeld s.documents.next options k → session_in with_more ≡ session_changed r (change.Create options)
-  created_so options held =
-      session_more (let d = new_document s.documents.next options in record d { held_by_callers = 1 }) (ap document_of held)
-      ∙ ap (λ (x : Session). with_new_document (let d = new_document x.next_document options in record d { held_by_callers = 1 }) x) (sym asked.session)
+  pub stays_more : (change : SessionChange) → k.document.id ≡ s.documents.next → KeepsClipboard change s.clipboard s.clipboard → TableGrows change s.documents table.capacity
+      → KeepsRoom (attaches_to change s.documents.next s.documents.next) (new_kept s.documents.next 0) k → Stays change s (record s { documents = table })
+  stays_more change own clipboard grows room = record {
+    limits = refl;
+    clipboard = clipboard;
+    documents = named_more own;
+    table = grows;
+    rooms = subst (RoomsGrow change s.documents) (sym entries) (rooms_added s.documents kept.documents kept.sound.document_ids k change room);
+    views = kept.views;
+    fold_capacities = refl;
+    view_capacity = refl;
+  }
 
-  pub attached_new_so : (new : SessionState) → AwaitsView s.documents.next k
-      → documents_in new.documents ≡ living (map (attached_last view s.documents.next) (documents_in more))
-      → IfSome (value_at more.entries s.documents.next) (λ k. views_of new.views.entries ≡ changed_at view (attached_to k.document) (views_of s.views.entries))
-      → new.documents.next ≡ more.next → new.views.next ≡ s.views.next → new.clipboard ≡ s.clipboard → new.limits ≡ s.limits
-      → session_in new ≡ session_changed r change.AttachNew
-  attached_new_so new awaits documents views next_document next_view clipboard limits =
-      let is : k.document.id ≡ s.documents.next = ap (λ (k : Kept). k.document.id) awaits in
-      attached_so with_more new view s.documents.next r.view k (all_named is) last_at asked.view_id
-      (in_its_place s document view r kept asked (attached_to k.document) refl ∙ ap (λ (x : Session). with_view (attached_to k.document r.view) x.views) asked.session)
-      documents views next_document next_view clipboard limits
-      ∙ ap (attached s.documents.next r.view) (session_more (new_document s.documents.next 0) (ap document_of awaits))
-      ∙ ap (λ (x : Session). attached x.next_document r.view (with_new_document (new_document x.next_document 0) x)) (sym asked.session)
-
-pub attached_old_so : (s new : SessionState) (document view to : ℕ) (r : Request) → IsKept s → IsAsked (session_in s) document view r → (k : Kept) → value_at s.documents.entries to ≡ Some k
-    → documents_in new.documents ≡ living (map (attached_last view to) (documents_in s.documents))
-    → IfSome (value_at s.documents.entries to) (λ k. views_of new.views.entries ≡ changed_at view (attached_to k.document) (views_of s.views.entries))
-    → new.documents.next ≡ s.documents.next → new.views.next ≡ s.views.next → new.clipboard ≡ s.clipboard → new.limits ≡ s.limits
-    → session_in new ≡ session_changed r (change.Attach to)
-attached_old_so s new document view to r kept asked k at documents views next_document next_view clipboard limits =
-    attached_so s new view to r.view k kept.documents at asked.view_id
-    (in_its_place s document view r kept asked (attached_to k.document) refl ∙ ap (λ (x : Session). with_view (attached_to k.document r.view) x.views) asked.session)
-    documents views next_document next_view clipboard limits
-    ∙ ap (attached to r.view) (sym asked.session)
-
-pub some_of : {V : Type 0} (P : V → Type 0) (o : Option V) → IsSomeAnd o P → (v : V) × (o ≡ Some v)
-some_of P None h = absurd h
-some_of P (Some v) h = (v, refl)
-
-abbrev pub given_more : Document → Document
-given_more d = record d { held_by_callers = d.held_by_callers + 1 }
-
-pub can_copy_at : (s : SessionState) (document view : ℕ) (what : SessionChange) (bytes : Vec ℕ) (text : List ℕ) → IsKept s → CanChangeSession (session_in s) document view text what
-    → IsReady s.documents what (made.Clipboard bytes) → IsSomeAnd (value_at s.documents.entries document) (λ k. CanCopy what (length k.document.cells) (length text) (vec_capacity bytes))
-can_copy_at s document view what bytes text kept can ready =
-    of_document s document view can.request kept can.asked (λ k. CanCopy what (length k.document.cells) (length text) (vec_capacity bytes))
-    (λ k is. subst (λ (d : Document). CanCopy what (length d.cells) (length text) (vec_capacity bytes)) (sym is) (can_copy s.documents what bytes can.request text ready can.message can.fit))
-
--- a new document that no view is going to be attached to was made for a caller
-pub record IsCreation (documents : Entries Kept) (what : SessionChange) (k : Kept) : Type 0 where
-  pub options : ℕ
-  pub is : what ≡ change.Create options
-  pub held : IsHeld documents.next options k
-
-pub is_creation : (documents : Entries Kept) (what : SessionChange) (boxed : Box KeptDocument) → (what ≡ change.AttachNew → ⊥) → IsReady documents what (made.NewDocument boxed) → IsCreation documents what boxed.value
-is_creation documents (change.Copy start count) k other ready = absurd ready
-is_creation documents (change.CopyText count) k other ready = absurd ready
-is_creation documents (change.Attach id) k other ready = absurd ready.0
-is_creation documents change.AttachNew k other ready = absurd (other refl)
-is_creation documents (change.Create options) k other ready = record { options = options; is = refl; held = ready.1 }
-is_creation documents (change.AddReference id) k other ready = absurd ready
-is_creation documents (change.Release id) k other ready = absurd ready
+  -- the view can be attached to it
+  pub can_attach_new : {document view : ℕ} {text : List ℕ} → IsAsked (session_in s) document view text → k.document ≡ new_document s.documents.next 0 → HasViewRoom k
+      → CanAttach (record s { documents = table }) document view s.documents.next
+  can_attach_new {document} {view} asked made room =
+      let own : k.document.id ≡ s.documents.next = ap id_of_document made in
+      let next : table.next ≡ s.documents.next + 1 = ap (λ (t : Entries Kept). t.next) is in
+      can_attach kept asked table s.documents.next (k.document ∷ []) documents_more (named_more own)
+      (subst (λ ds. Rise 0 table.next (map (λ (d : Document). d.id) ds)) (sym documents_more)
+      (subst (λ n. Rise 0 n (map (λ (d : Document). d.id) (documents_in s.documents ++ k.document ∷ []))) (sym next)
+      (documents_added s.documents.next (documents_in s.documents) k.document own kept.sound.document_ids)))
+      (subst (λ (d : Document). d.id ≢ document → left_by view d ≡ d) (sym made) (λ _. refl), tt) (λ other. absurd (other own), tt)
+      (subst (λ o. IsSomeAnd o HasViewRoom) (sym (ap (λ es. value_at es s.documents.next) entries ∙ last_at s.documents kept.documents kept.sound.document_ids k)) room)

@@ -1,8 +1,7 @@
 -- Definitions that the contracts cite.
 pub mod Kept
 pub mod Asked
-pub mod Clipboard
 pub mod Folding
 pub mod Moving
-pub mod Ready
+pub mod Memory
 pub mod proved

@@ -1,15 +1,12 @@
 //! Changes of a session that are no changes of a document's content: settings and folds of a view, the clipboard, and
 //! the documents with their references.
 //!
-//! Each change takes two calls. The first allocates all that the change needs, and leaves the session as it is. The
-//! second makes the change, and cannot fail.
+//! One call makes each change. It fails only if an allocation does, and has then changed nothing but how much fits in.
 #![tactic(auto)]
 
 mod moving;
-mod ready;
 mod sessions;
 mod views;
 
-pub use ready::{SessionReady, prepare_session_change};
 pub use sessions::change_session;
-pub use views::{change_view, reserve_view_change};
+pub use views::change_view;

@@ -1,82 +1,169 @@
 //! Changes of a session: of its clipboard, and of its documents and their references.
 
-ghost use Rattle.std.specs.Prelude.{◌≡◌, ◌+◌, ◌<◌, ◌^◌, [], map, vec_capacity, IsSomeAnd};
-ghost use Rattle.ed_model.specs.Changes.{held_more};
+ghost use Rattle.std.specs.Prelude.{◌≡◌, ◌+◌, ◌<◌, ◌≤◌, ◌^◌, [], map, take, length, false, IsOk, IfOk, OnOk, OnErr, IsSomeAnd};
+ghost use Rattle.ed_model.specs.Changes.{held_less, held_more, session_changed, with_new_document};
+ghost use Rattle.ed_model.specs.Session.{living, new_document};
 ghost use Rattle.id_table.specs.Entries.{value_at};
-ghost use Rattle.scene.specs.Scenes.{AreNamed, KeepFoldCapacities};
-ghost use Rattle.message_requests.specs.Requested.{session_in, documents_in};
-ghost use Rattle.session_changes.specs.Kept.{IsKept, DocumentsAreNamed};
-ghost use Rattle.session_changes.specs.Asked.{CanChangeSession, CanChangeDocuments, ChangesSession, ChangesDocuments};
-ghost use Rattle.session_changes.specs.Clipboard.{AreCopied, CanCopyFrom};
-ghost use Rattle.session_changes.specs.Moving.{DocumentsRise, IsReleased};
-ghost use Rattle.session_changes.specs.Ready.{IsReady};
-ghost use Rattle.session_changes.specs.declared.ready.SessionReady.TheVariants as made;
+ghost use Rattle.document.specs.Kept.{text_from};
+ghost use Rattle.message_requests.specs.Requested.{session_in};
+ghost use Rattle.session_changes.specs.Kept.{IsKept};
+ghost use Rattle.session_changes.specs.Asked.{CanChangeSession, asked, document_asked};
+ghost use Rattle.session_changes.specs.Memory.{AllStays, GrowsForOne, HasPlaceFor, Stays, takes_memory, with_added};
 
 use crate::moving::attach;
-use crate::ready::SessionReady;
 use document::Document;
 use document_table::{DocumentTable, the_living_are_left};
 use ed_model::SessionChange;
 use message_requests::SessionState;
+use std::alloc::{AllocError, Global};
 
-/// Copies the bytes that go to the clipboard into `bytes`, which is empty and has room for them. They come from the
-/// document with this id, or from the message's text.
+/// Replaces the clipboard by the `count` bytes of the document with this id from `start` on (COPY, COPYRANGE).
+///
+/// # Errors
+///
+/// `AllocError` if the allocation fails. The session is then as it was.
 fn copy(
-    documents: &DocumentTable,
+    alloc: Global,
+    state: &mut SessionState,
     document: u32,
-    text: &[u8],
-    change: SessionChange,
-    bytes: &mut Vec<u8>,
-)
-    requires empty { bytes.old.items ≡ [] }
-    requires can { CanCopyFrom documents.now document change text.now (vec_capacity bytes.old) }
-    ensures { AreCopied documents.now document change text.now bytes.new.items }
+    start: usize,
+    count: usize,
+) -> Result<(), AllocError>
+    requires kept { IsKept state.old }
+    requires within { IsSomeAnd (value_at state.old.documents.entries document) (λ k. start + count ≤ length k.document.cells) }
+    ensures copied { let s = session_in state.old in OnOk result (session_in state.new ≡ record s { clipboard = text_from start count (document_asked s.documents document) }) }
+    ensures rest { state.new ≡ record state.old { clipboard = state.new.clipboard } }
+    ensures same { OnErr result (state.new ≡ state.old) }
+    ensures free { count ≡ 0 → IsOk result }
 {
-    let Some(document) = documents.get(document) else {
+    let Some(document) = state.documents.get(document) else {
         unreachable!()
     };
-    let copied = match change {
-        SessionChange::Copy { start, count } => document.append_text_to(start, count, bytes),
-        SessionChange::CopyText { count } => bytes.extend_from_slice(&text[..count]),
-        _ => unreachable!(),
-    };
-    let Ok(()) = copied else { unreachable!() };
+    state.clipboard = document.text_to_vec(alloc, start, count, 0)?;
+    Ok(())
 }
 
-/// Replaces the clipboard (COPY, COPYRANGE, COPYTEXT). `bytes` is empty and has room for the bytes of the new
-/// clipboard.
-fn change_clipboard(
+/// Replaces the clipboard by the first `count` bytes of a message's text (COPYTEXT).
+///
+/// # Errors
+///
+/// `AllocError` if the allocation fails. The session is then as it was.
+fn copy_text(
+    alloc: Global,
+    state: &mut SessionState,
+    text: &[u8],
+    count: usize,
+) -> Result<(), AllocError>
+    requires within { count ≤ length text.now }
+    ensures copied { let s = session_in state.old in OnOk result (session_in state.new ≡ record s { clipboard = take count text.now }) }
+    ensures rest { state.new ≡ record state.old { clipboard = state.new.clipboard } }
+    ensures same { OnErr result (state.new ≡ state.old) }
+    ensures free { count ≡ 0 → IsOk result }
+{
+    let mut bytes = Vec::with_capacity(alloc, count)?;
+    bytes.extend_from_slice(&text[..count])?;
+    state.clipboard = bytes;
+    Ok(())
+}
+
+/// Attaches the view to a document that exists (SETDOCPOINTER).
+///
+/// # Errors
+///
+/// `AllocError` if the allocation of a place in the document's list of views fails. The session is then as it was.
+fn attach_existing(
     state: &mut SessionState,
     document: u32,
     view: u32,
-    text: &[u8],
-    change: SessionChange,
-    mut bytes: Vec<u8>,
-)
+    to: u32,
+) -> Result<(), AllocError>
     requires kept { IsKept state.old }
-    requires can { CanChangeSession (session_in state.old) document view text.now change }
-    requires ready { IsReady state.old.documents change (made.Clipboard bytes) }
-    ensures changed { ChangesSession state.old state.new document view text.now change }
-    ensures limits { state.new.limits ≡ state.old.limits }
-    ensures documents { DocumentsAreNamed state.new.documents.entries }
-    ensures views { AreNamed state.new.views.entries }
-    ensures fold_capacities { KeepFoldCapacities state.old.views state.new.views }
-    ensures view_capacity { state.new.views.capacity ≡ state.old.views.capacity }
+    requires can { CanChangeSession (session_in state.old) document view [] (SessionChange.Attach to) }
+    ensures changed { OnOk result (session_in state.new ≡ session_changed (asked (session_in state.old) view []) (SessionChange.Attach to)) }
+    ensures same { OnErr result (session_in state.new ≡ session_in state.old) }
+    ensures place { HasPlaceFor (SessionChange.Attach to) state.old.documents.entries → IsOk result }
+    ensures stays { Stays (SessionChange.Attach to) state.old state.new }
 {
-    copy(&state.documents, document, text, change, &mut bytes);
-    state.clipboard = bytes;
+    let Some(other) = state.documents.get_mut(to) else {
+        unreachable!()
+    };
+    let Ok(()) = other.reserve_view() else {
+        return Err(AllocError);
+    };
+    attach(state, document, view, to);
+    Ok(())
+}
+
+/// Adds a new document to the table, behind the others, and returns its id.
+///
+/// # Errors
+///
+/// `AllocError` if an allocation fails. The table is then as it was, but that more may fit in.
+fn add(documents: &mut DocumentTable, document: Document) -> Result<u32, AllocError>
+    requires few { documents.old.next + 1 < 2 ^ 32 }
+    ensures id { IfOk result (λ id. id ≡ documents.old.next) }
+    ensures added { OnOk result (documents.new ≡ with_added document documents.new.capacity documents.old) }
+    ensures same { OnErr result (documents.new ≡ record documents.old { capacity = documents.new.capacity }) }
+    ensures grows { GrowsForOne documents.old documents.new.capacity }
+{
+    let Ok(()) = documents.reserve(1) else {
+        return Err(AllocError);
+    };
+    Ok(documents.insert_reserved(document))
+}
+
+/// Attaches the view to a new document (SETDOCPOINTER with 0).
+///
+/// # Errors
+///
+/// `AllocError` if an allocation fails. The session is then as it was.
+fn attach_new(
+    alloc: Global,
+    state: &mut SessionState,
+    document: u32,
+    view: u32,
+) -> Result<(), AllocError>
+    requires kept { IsKept state.old }
+    requires can { CanChangeSession (session_in state.old) document view [] SessionChange.AttachNew }
+    ensures changed { OnOk result (session_in state.new ≡ session_changed (asked (session_in state.old) view []) SessionChange.AttachNew) }
+    ensures same { OnErr result (session_in state.new ≡ session_in state.old) }
+    ensures stays { Stays SessionChange.AttachNew state.old state.new }
+{
+    let mut new = Document::new(alloc, state.documents.next(), 0)?;
+    let Ok(()) = new.reserve_view() else {
+        return Err(AllocError);
+    };
+    let id = add(&mut state.documents, new)?;
+    attach(state, document, view, id);
+    Ok(())
+}
+
+/// Creates a document with these options and one reference, held by a caller (CREATEDOCUMENT).
+///
+/// # Errors
+///
+/// `AllocError` if an allocation fails. The session is then as it was.
+fn create(alloc: Global, state: &mut SessionState, options: u32) -> Result<(), AllocError>
+    requires kept { IsKept state.old }
+    requires few { state.old.documents.next ≤ state.old.limits.ids }
+    ensures changed { let s = session_in state.old in OnOk result (session_in state.new ≡ with_new_document (record (new_document s.next_document options) { held_by_callers = 1 }) s) }
+    ensures same { OnErr result (session_in state.new ≡ session_in state.old) }
+    ensures stays { Stays (SessionChange.Create options) state.old state.new }
+{
+    let mut new = Document::new(alloc, state.documents.next(), options)?;
+    new.hold();
+    add(&mut state.documents, new)?;
+    Ok(())
 }
 
 /// Adds a reference held by a caller to the document with this id (ADDREFDOCUMENT).
-fn hold(documents: &mut DocumentTable, document: u32)
-    requires few { IsSomeAnd (value_at documents.old.entries document) (λ k. k.document.held_by_callers + 1 < 2 ^ 32) }
-    requires named { DocumentsAreNamed documents.old.entries }
-    requires rise { DocumentsRise documents.old }
-    ensures documents { documents_in documents.new ≡ map (held_more document) (documents_in documents.old) }
-    ensures named { DocumentsAreNamed documents.new.entries }
-    ensures next { documents.new.next ≡ documents.old.next }
+fn add_reference(state: &mut SessionState, document: u32)
+    requires kept { IsKept state.old }
+    requires few { IsSomeAnd (value_at state.old.documents.entries document) (λ k. k.document.held_by_callers + 1 < 2 ^ 32) }
+    ensures changed { let s = session_in state.old in session_in state.new ≡ record s { documents = map (held_more document) s.documents } }
+    ensures stays { AllStays state.old state.new }
 {
-    let Some(document) = documents.get_mut(document) else {
+    let Some(document) = state.documents.get_mut(document) else {
         unreachable!()
     };
     document.hold();
@@ -86,89 +173,49 @@ fn hold(documents: &mut DocumentTable, document: u32)
 /// its last reference.
 fn release(state: &mut SessionState, document: u32)
     requires kept { IsKept state.old }
-    ensures changed { IsReleased document state.old state.new }
-    ensures limits { state.new.limits ≡ state.old.limits }
-    ensures documents { DocumentsAreNamed state.new.documents.entries }
-    ensures views { state.new.views ≡ state.old.views }
+    ensures changed { let s = session_in state.old in session_in state.new ≡ record s { documents = living (map (held_less document) s.documents) } }
+    ensures stays { AllStays state.old state.new }
 {
     // States that the documents that are left are those with a reference.
     the_living_are_left();
     state.documents.release(document);
 }
 
-/// Attaches the view to a document that exists, or adds or releases a reference held by a caller.
-fn change_references(state: &mut SessionState, document: u32, view: u32, change: SessionChange)
-    requires kept { IsKept state.old }
-    requires can { CanChangeDocuments (session_in state.old) document view change }
-    requires ready { IsReady state.old.documents change made.Nothing }
-    ensures changed { ChangesDocuments state.old state.new document view change }
-    ensures limits { state.new.limits ≡ state.old.limits }
-    ensures documents { DocumentsAreNamed state.new.documents.entries }
-    ensures views { AreNamed state.new.views.entries }
-    ensures fold_capacities { KeepFoldCapacities state.old.views state.new.views }
-    ensures view_capacity { state.new.views.capacity ≡ state.old.views.capacity }
-{
-    match change {
-        SessionChange::Attach { document: to } => attach(state, document, view, to),
-        SessionChange::AddReference { document } => hold(&mut state.documents, document),
-        SessionChange::Release { document } => release(state, document),
-        _ => unreachable!(),
-    }
-}
-
-/// Adds a new document to the table (CREATEDOCUMENT), and attaches the view to it if that is the change (SETDOCPOINTER
-/// with 0).
-fn add_document(
-    state: &mut SessionState,
-    document: u32,
-    view: u32,
-    change: SessionChange,
-    new: Box<Document>,
-)
-    requires kept { IsKept state.old }
-    requires can { CanChangeDocuments (session_in state.old) document view change }
-    requires ready { IsReady state.old.documents change (made.NewDocument new) }
-    ensures changed { ChangesDocuments state.old state.new document view change }
-    ensures limits { state.new.limits ≡ state.old.limits }
-    ensures documents { DocumentsAreNamed state.new.documents.entries }
-    ensures views { AreNamed state.new.views.entries }
-    ensures fold_capacities { KeepFoldCapacities state.old.views state.new.views }
-    ensures view_capacity { state.new.views.capacity ≡ state.old.views.capacity }
-{
-    let id = state.documents.insert_reserved(Box::into_inner(new));
-    if let SessionChange::AttachNew = change {
-        attach(state, document, view, id);
-    }
-}
-
-/// Makes a change of the session for a message with this text to `view`, which is attached to `document`. Cannot fail:
-/// `ready` is what `prepare_session_change` allocated for the change. Each view keeps its capacity for hidden and for
-/// contracted lines, and the session keeps its capacity for views.
+/// Makes a change of the session for a message with this text to `view`, which is attached to `document`.
+///
+/// # Errors
+///
+/// `AllocError` if an allocation fails. The session is then as it was, but that more may fit into the table of documents.
 pub fn change_session(
+    alloc: Global,
     state: &mut SessionState,
     document: u32,
     view: u32,
     text: &[u8],
     change: SessionChange,
-    ready: SessionReady,
-)
+) -> Result<(), AllocError>
     requires kept { IsKept state.old }
     requires can { CanChangeSession (session_in state.old) document view text.now change }
-    requires ready { IsReady state.old.documents change ready }
-    ensures changed { ChangesSession state.old state.new document view text.now change }
-    ensures limits { state.new.limits ≡ state.old.limits }
-    ensures documents { DocumentsAreNamed state.new.documents.entries }
-    ensures views { AreNamed state.new.views.entries }
-    ensures fold_capacities { KeepFoldCapacities state.old.views state.new.views }
-    ensures view_capacity { state.new.views.capacity ≡ state.old.views.capacity }
+    ensures changed { OnOk result (session_in state.new ≡ session_changed (asked (session_in state.old) view text.now) change) }
+    ensures same { OnErr result (session_in state.new ≡ session_in state.old) }
+    ensures free { takes_memory change ≡ false → IsOk result }
+    ensures place { HasPlaceFor change state.old.documents.entries → IsOk result }
+    ensures stays { Stays change state.old state.new }
+    ensures clipboard { OnErr result (state.new.clipboard ≡ state.old.clipboard) }
 {
-    match ready {
-        SessionReady::Nothing => change_references(state, document, view, change),
-        SessionReady::Clipboard { bytes } => {
-            change_clipboard(state, document, view, text, change, bytes);
+    match change {
+        SessionChange::Copy { start, count } => copy(alloc, state, document, start, count),
+        SessionChange::CopyText { count } => copy_text(alloc, state, text, count),
+        SessionChange::Attach { document: to } => attach_existing(state, document, view, to),
+        SessionChange::AttachNew => attach_new(alloc, state, document, view),
+        SessionChange::Create { options } => create(alloc, state, options),
+        SessionChange::AddReference { document } => {
+            add_reference(state, document);
+            Ok(())
         }
-        SessionReady::NewDocument { document: new } => {
-            add_document(state, document, view, change, new);
+        SessionChange::Release { document } => {
+            release(state, document);
+            Ok(())
         }
     }
 }

@@ -1,28 +1,20 @@
-use Rattle.document_changes.proofs.Names.{List, [], refl, sym, ap, ◌∙◌, subst, w64, ◌&&◌, ℤ, cond-true, cond-false, to_z-of_z, Notice, told, blank, save_point_left, Kept, changed_document, watchers, AreTold}
+use Rattle.document_changes.proofs.Names.{◌≡◌, refl, cond, ap, ◌∙◌, w64, ◌&&◌, ℤ, to_z-of_z, common_steps, arith, Kept, changed_document}
 use Rattle.ed_model.specs.declared.plan.DocumentChange.TheVariants as change
 use Rattle.ed_model.specs.History.{at_save_point}
-use Rattle.document_changes.proofs.Told.{told_nothing}
-use Rattle.document_changes.proofs.Unmoved.{is_changed}
+use Rattle.document_changes.specs.declared.note.ChangeNote.TheVariants as note
+use Rattle.document_changes.proofs.Told.{is_made_if}
 use Rattle.document_changes.proofs.history_changes.append_container.Goals as goal
 
-pub returns-then-is_left-clause-changed : goal.returns-then-is_left-clause-changed
-returns-then-is_left-clause-changed c = λ text sender.
+pub returns : goal.returns
+returns c = λ text.
     let d = c.args.document.now.document in
-    let views = watchers d c.args.views.now in
-    let made = ap (λ (k : Kept). k.document) c.append_container_reserved.ensures
-    ∙ ap (λ (z : ℤ). changed_document text (change.AppendContainer z c.args.coalesce) d) (to_z-of_z w64 c.args.token c.ranges.token) in
-    is_changed text (change.AppendContainer c.args.token c.args.coalesce) sender d _ c.args.views.now c.args.notes.now _ refl c.requires.watched made
-    (λ v _. subst (λ (ts : List Notice). AreTold ts c.args.notes.now c.tell_all.new.notes)
-    (sym (cond-true (d.history.collecting && at_save_point d.history) (told views (blank save_point_left)) [] (sym c.leaves_save_point-is_left.ensures ∙ c.if-is_left.true)))
-    (rw made at c.tell_all.ensures))
-
-pub returns-else-is_left-clause-changed : goal.returns-else-is_left-clause-changed
-returns-else-is_left-clause-changed c = λ text sender.
-    let d = c.args.document.now.document in
-    let views = watchers d c.args.views.now in
-    let made = ap (λ (k : Kept). k.document) c.append_container_reserved.ensures
-    ∙ ap (λ (z : ℤ). changed_document text (change.AppendContainer z c.args.coalesce) d) (to_z-of_z w64 c.args.token c.ranges.token) in
-    is_changed text (change.AppendContainer c.args.token c.args.coalesce) sender d _ c.args.views.now c.args.notes.now _ refl c.requires.watched made
-    (λ v _. subst (λ (ts : List Notice). AreTold ts c.args.notes.now c.args.notes.now)
-    (sym (cond-false (d.history.collecting && at_save_point d.history) (told views (blank save_point_left)) [] (sym c.leaves_save_point-is_left.ensures ∙ c.if-is_left.false)))
-    (told_nothing c.args.notes.now))
+    let same : c.reserve_container.new.self.document ≡ d = ap (λ (k : Kept). k.document) c.reserve_container.ensures.rest in
+    let what = change.AppendContainer c.args.token c.args.coalesce in
+    is_made_if (d.history.collecting && at_save_point d.history) text what c.args.document.now c.append_container_reserved.new.self note.SavePointLeft c.note_if.result
+    (rw same at (c.note_if.ensures ∙ ap (λ b. cond b note.SavePointLeft note.Nothing) c.leaves_save_point-is_left.ensures))
+    (ap (λ (k : Kept). k.document) c.append_container_reserved.ensures
+    ∙ ap (λ (z : ℤ). changed_document text (change.AppendContainer z c.args.coalesce) c.reserve_container.new.self.document) (to_z-of_z w64 c.args.token c.ranges.token)
+    ∙ ap (changed_document text what) same)
+    (λ v views. refl)
+    tt
+    (grind (arith, common_steps))

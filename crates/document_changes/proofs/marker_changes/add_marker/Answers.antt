@@ -1,16 +1,18 @@
-use Rattle.document_changes.proofs.Names.{◌<◌, List, [], ◌∷◌, length, refl, ap, sym, subst, arith, Notice, Kept, with_new_markers, watchers, AreTold}
+use Rattle.document_changes.proofs.Names.{◌≡◌, ◌<◌, true, [], ◌∷◌, length, refl, ap, ◌∙◌, sym, subst, arith, common_steps, Kept, heard, marker_notice}
 use Rattle.ed_model.specs.declared.plan.DocumentChange.TheVariants as change
-use Rattle.document_changes.proofs.Counts.{marker_told, some_added}
-use Rattle.document_changes.proofs.Unmoved.{is_changed}
+use Rattle.document_changes.specs.declared.note.ChangeNote.TheVariants as note
+use Rattle.document_changes.proofs.Counts.{some_added}
+use Rattle.document_changes.proofs.Told.{is_made_if, flipped}
 use Rattle.document_changes.proofs.marker_changes.add_marker.Goals as goal
 
-pub returns-clause-changed : goal.returns-clause-changed
-returns-clause-changed c = λ text sender.
+pub returns : goal.returns
+returns c = λ text.
     let d = c.args.document.now.document in
-    let made = ap (λ (k : Kept). k.document) c.add_marker_reserved.ensures.document in
-    let within : c.args.line < length d.rows = subst (λ n. c.args.line < n) (sym c.parts_match_text.ensures.rows) c.requires.line in
-    let numbers = c.args.number ∷ [] in
-    is_changed text (change.AddMarker c.args.line c.args.number) sender d _ c.args.views.now c.args.notes.now _ refl c.requires.watched made
-    (λ v _. rw made (subst (λ (ts : List Notice). AreTold ts c.args.notes.now c.tell_markers.new.notes)
-    (marker_told c.args.line d (with_new_markers c.args.line numbers d) (watchers d c.args.views.now) (some_added c.args.line numbers d within (omega arith)))
-    (rw made at c.tell_markers.ensures)))
+    let line = c.args.line in
+    let same : c.reserve_markers.new.self.document ≡ d = ap (λ (k : Kept). k.document) c.reserve_markers.ensures.rest in
+    let within : line < length d.rows = subst (λ n. line < n) (sym c.parts_match_text.ensures.rows) c.requires.line in
+    is_made_if true text (change.AddMarker line c.args.number) c.args.document.now c.add_marker_reserved.new.self (note.Markers line) (note.Markers line) refl
+    (ap (λ (k : Kept). k.document) c.add_marker_reserved.ensures.document ∙ rw same refl)
+    (λ v views. flipped _ true (heard views (marker_notice d line)) (some_added line (c.args.number ∷ []) d within))
+    c.requires.line
+    (grind (arith, common_steps))

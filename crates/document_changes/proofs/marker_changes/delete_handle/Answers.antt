@@ -1,43 +1,29 @@
-use Rattle.document_changes.proofs.Names.{List, [], refl, sym, ap, ◌∙◌, subst, arith, Notice, Kept, changed_document, line_with_handle, heard, watchers, AreTold, marker_notice}
+use Rattle.document_changes.proofs.Names.{◌<◌, true, false, not, refl, sym, ap, ◌∙◌, subst, arith, common_steps, Kept, line_with_handle, lines_in, heard, marker_notice, IsMade}
 use Rattle.ed_model.specs.declared.plan.DocumentChange.TheVariants as change
-use Rattle.document_changes.proofs.Counts.{marker_told, marker_untold, left_within, left_line, left_none}
-use Rattle.document_changes.proofs.Told.{told_nothing}
-use Rattle.document_changes.proofs.Unmoved.{is_changed}
+use Rattle.document_changes.specs.declared.note.ChangeNote.TheVariants as note
+use Rattle.document_changes.proofs.Counts.{left_within, left_line, left_none}
+use Rattle.document_changes.proofs.Told.{is_made_if, flipped}
 use Rattle.document_changes.proofs.marker_changes.delete_handle.Goals as goal
 
-pub tell_markers-requires-clause-line : goal.tell_markers-requires-clause-line
-tell_markers-requires-clause-line c =
+pub returns-in-Some : goal.returns-in-Some
+returns-in-Some c = λ text.
     let d = c.args.document.now.document in
     let made = ap (λ (k : Kept). k.document) c.delete_handle.ensures.document in
     let left = left_line _ _ _ (rw made at (sym c.delete_handle.ensures.line ∙ c.in-Some.is)) in
-    let within = left_within c.args.handle 0 d.rows left.0 in
-    let count = c.parts_match_text.ensures.rows in
-    let same = left.1 in
-    rw made (omega arith)
+    let own = line_with_handle c.args.handle 0 d.rows in
+    let within : own < lines_in d = (let w = left_within c.args.handle 0 d.rows left.0 in let n = c.parts_match_text.ensures.rows in omega arith) in
+    subst (λ line. IsMade text (change.DeleteHandle c.args.handle) c.args.document.now c.delete_handle.new.self (note.Markers line)) left.1
+    (is_made_if true text (change.DeleteHandle c.args.handle) c.args.document.now c.delete_handle.new.self (note.Markers own) (note.Markers own) refl made
+    (λ v views. flipped _ true (heard views (marker_notice d own)) (sym (ap not left.0)))
+    within
+    (grind (arith, common_steps)))
 
-pub returns-in-Some-clause-changed : goal.returns-in-Some-clause-changed
-returns-in-Some-clause-changed c = λ text sender.
+pub returns-in-None : goal.returns-in-None
+returns-in-None c = λ text.
     let d = c.args.document.now.document in
-    let what = change.DeleteHandle c.args.handle in
-    let new = changed_document [] what d in
-    let views = watchers d c.args.views.now in
     let made = ap (λ (k : Kept). k.document) c.delete_handle.ensures.document in
-    let left = left_line _ _ _ (rw made at (sym c.delete_handle.ensures.line ∙ c.in-Some.is)) in
-    let line = line_with_handle c.args.handle 0 d.rows in
-    is_changed text what sender d _ c.args.views.now c.args.notes.now _ refl c.requires.watched made
-    (λ v _. rw made (subst (λ (ts : List Notice). AreTold ts c.args.notes.now c.tell_markers.new.notes)
-    (ap (λ l. heard views (marker_notice d l)) (sym left.1) ∙ marker_told line d new views left.0)
-    (rw made at c.tell_markers.ensures)))
-
-pub returns-in_default-clause-changed : goal.returns-in_default-clause-changed
-returns-in_default-clause-changed c = λ text sender.
-    let d = c.args.document.now.document in
-    let what = change.DeleteHandle c.args.handle in
-    let new = changed_document [] what d in
-    let views = watchers d c.args.views.now in
-    let made = ap (λ (k : Kept). k.document) c.delete_handle.ensures.document in
-    let none = left_none _ _ (rw made at (sym c.delete_handle.ensures.line ∙ c.in_default.is)) in
-    is_changed text what sender d _ c.args.views.now c.args.notes.now _ refl c.requires.watched made
-    (λ v _. rw made (subst (λ (ts : List Notice). AreTold ts c.args.notes.now c.args.notes.now)
-    (marker_untold (line_with_handle c.args.handle 0 d.rows) d new views none)
-    (told_nothing c.args.notes.now)))
+    let none = left_none _ _ (rw made at (sym c.delete_handle.ensures.line ∙ c.in-None.is)) in
+    is_made_if false text (change.DeleteHandle c.args.handle) c.args.document.now c.delete_handle.new.self note.Nothing note.Nothing refl made
+    (λ v views. flipped _ false (heard views (marker_notice d (line_with_handle c.args.handle 0 d.rows))) (sym (ap not none)))
+    tt
+    (grind (arith, common_steps))

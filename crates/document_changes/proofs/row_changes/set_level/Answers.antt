@@ -1,42 +1,19 @@
-use Rattle.document_changes.proofs.Names.{List, [], refl, sym, ap, ◌∙◌, subst, eq-eqb, ne_eqb, cond-true, cond-false, ◌==◌, Notice, document_row, heard, Kept, watchers, AreTold, level_notice}
+use Rattle.document_changes.proofs.Names.{◌≡◌, refl, ap, ◌∙◌, ◌==◌, not, arith, common_steps, Kept, document_row, heard, notice_of}
 use Rattle.ed_model.specs.declared.plan.DocumentChange.TheVariants as change
-use Rattle.document_changes.proofs.Told.{told_nothing, told_nobody}
-use Rattle.document_changes.proofs.Unmoved.{is_changed}
+use Rattle.document_changes.specs.declared.note.ChangeNote.TheVariants as note
+use Rattle.document_changes.proofs.Told.{is_made_if, flipped}
 use Rattle.document_changes.proofs.row_changes.set_level.Goals as goal
 
-pub returns-then-before-level-clause-changed : goal.returns-then-before-level-clause-changed
-returns-then-before-level-clause-changed c = λ text sender.
+pub returns-clause-made : goal.returns-clause-made
+returns-clause-made c = λ text.
     let d = c.args.document.now.document in
-    let old = (document_row d c.args.line).level in
-    let views = watchers d c.args.views.now in
-    let made = ap (λ (k : Kept). k.document) c.set_level-before.ensures.document in
-    let same = eq-eqb old c.args.level (sym c.set_level-before.ensures.before ∙ c.if-before-level.true) in
-    is_changed text (change.SetLevel c.args.line c.args.level) sender d _ c.args.views.now c.args.notes.now _ refl c.requires.watched made
-    (λ v _. subst (λ (ts : List Notice). AreTold ts c.args.notes.now c.args.notes.now)
-    (sym (cond-true (old == c.args.level) [] (heard views (level_notice c.args.line c.args.level old)) same))
-    (told_nothing c.args.notes.now))
-
-pub returns-then-is_full-clause-changed : goal.returns-then-is_full-clause-changed
-returns-then-is_full-clause-changed c = λ text sender.
-    let d = c.args.document.now.document in
-    let old = (document_row d c.args.line).level in
-    let views = watchers d c.args.views.now in
-    let made = ap (λ (k : Kept). k.document) c.set_level-before.ensures.document in
-    let other = ne_eqb old c.args.level (λ e. c.if-before-level.false (c.set_level-before.ensures.before ∙ e)) in
-    let n = level_notice c.args.line c.args.level old in
-    is_changed text (change.SetLevel c.args.line c.args.level) sender d _ c.args.views.now c.args.notes.now _ refl c.requires.watched made
-    (λ v _. subst (λ (ts : List Notice). AreTold ts c.args.notes.now c.args.notes.now)
-    (sym (cond-false (old == c.args.level) [] (heard views n) other))
-    (told_nobody views n c.args.notes.now c.requires.room (sym c.is_full.ensures ∙ c.if-is_full.true)))
-
-pub returns-clause-changed : goal.returns-clause-changed
-returns-clause-changed c = λ text sender.
-    let d = c.args.document.now.document in
-    let old = (document_row d c.args.line).level in
-    let views = watchers d c.args.views.now in
-    let made = ap (λ (k : Kept). k.document) c.set_level-before.ensures.document in
-    let other = ne_eqb old c.args.level (λ e. c.if-before-level.false (c.set_level-before.ensures.before ∙ e)) in
-    is_changed text (change.SetLevel c.args.line c.args.level) sender d _ c.args.views.now c.args.notes.now _ refl c.requires.watched made
-    (λ v _. subst (λ (ts : List Notice). AreTold ts c.args.notes.now c.tell_level.new.notes)
-    (ap (λ b. heard views (level_notice c.args.line c.args.level b)) c.set_level-before.ensures.before ∙ sym (cond-false (old == c.args.level) [] (heard views (level_notice c.args.line c.args.level old)) other))
-    (rw made at c.tell_level.ensures))
+    let line = c.args.line in
+    let before = (document_row d line).level in
+    let same : c.reserve_level.new.self.document ≡ d = ap (λ (k : Kept). k.document) c.reserve_level.ensures.rest in
+    let was : c.set_level-before.result ≡ before = c.set_level-before.ensures.before ∙ rw same refl in
+    is_made_if (not (before == c.args.level)) text (change.SetLevel line c.args.level) c.args.document.now c.set_level-before.new.self (note.Level line c.args.level before) c.note_if.result
+    (rw was at c.note_if.ensures)
+    (ap (λ (k : Kept). k.document) c.set_level-before.ensures.document ∙ rw same refl)
+    (λ v views. flipped (before == c.args.level) _ (heard views (notice_of d (note.Level line c.args.level before))) refl)
+    c.requires
+    (grind (arith, common_steps))

@@ -1,55 +1,23 @@
-use Rattle.document_changes.proofs.Names.{List, [], refl, sym, ap, ◌∙◌, subst, w32, w64, to_z-of_z, to_z, of_z, ℤ, cond-true, cond-false, Notice, changed_document, document_row, line_note, is_same, heard, change_line_state, Kept, watchers, AreTold}
+use Rattle.document_changes.proofs.Names.{◌≡◌, refl, ap, ◌∙◌, ◌==◌, not, w32, w64, to_z-of_z, of_z, ℤ, arith, common_steps, Kept, changed_document, document_row, is_same, line_note, heard, change_line_state}
 use Rattle.ed_model.specs.declared.plan.DocumentChange.TheVariants as change
-use Rattle.document_changes.proofs.States.{same_state, other_state}
-use Rattle.document_changes.proofs.Told.{told_nothing, told_nobody}
-use Rattle.document_changes.proofs.Unmoved.{is_changed}
+use Rattle.document_changes.specs.declared.note.ChangeNote.TheVariants as note
+use Rattle.document_changes.proofs.States.{same_states}
+use Rattle.document_changes.proofs.Told.{is_made_if, flipped}
 use Rattle.document_changes.proofs.row_changes.set_state.Goals as goal
 
-pub returns-then-before-state-clause-changed : goal.returns-then-before-state-clause-changed
-returns-then-before-state-clause-changed c = λ text sender.
+pub returns : goal.returns
+returns c = λ text.
     let d = c.args.document.now.document in
-    let old = (document_row d c.args.line).state in
-    let views = watchers d c.args.views.now in
-    let is = c.narrowed-state.ensures ∙ to_z-of_z w64 c.args.state c.ranges.state in
-    let own = to_z-of_z w32 c.narrowed-state.result (record { sfits = c.narrowed-state.type_inv }) in
-    let made = ap (λ (k : Kept). k.document) c.set_state-before.ensures.document
-    ∙ ap (λ (z : ℤ). changed_document text (change.SetState c.args.line z) d) (own ∙ is) in
-    let before = to_z-of_z w32 c.set_state-before.result (record { sfits = c.set_state-before.type_inv }) in
-    let same = same_state old c.args.state (sym c.set_state-before.ensures.before ∙ sym before ∙ ap (to_z w32) c.if-before-state.true ∙ own ∙ is) in
-    let n = line_note change_line_state c.args.line in
-    is_changed text (change.SetState c.args.line c.args.state) sender d _ c.args.views.now c.args.notes.now _ refl c.requires.watched made
-    (λ v _. subst (λ (ts : List Notice). AreTold ts c.args.notes.now c.args.notes.now)
-    (sym (cond-true (is_same old c.args.state) [] (heard views n) same))
-    (told_nothing c.args.notes.now))
-
-pub returns-then-is_full-clause-changed : goal.returns-then-is_full-clause-changed
-returns-then-is_full-clause-changed c = λ text sender.
-    let d = c.args.document.now.document in
-    let old = (document_row d c.args.line).state in
-    let views = watchers d c.args.views.now in
-    let is = c.narrowed-state.ensures ∙ to_z-of_z w64 c.args.state c.ranges.state in
-    let own = to_z-of_z w32 c.narrowed-state.result (record { sfits = c.narrowed-state.type_inv }) in
-    let made = ap (λ (k : Kept). k.document) c.set_state-before.ensures.document
-    ∙ ap (λ (z : ℤ). changed_document text (change.SetState c.args.line z) d) (own ∙ is) in
-    let other = other_state old c.args.state (λ e. c.if-before-state.false (ap (of_z w32) (c.set_state-before.ensures.before ∙ e ∙ sym is))) in
-    let n = line_note change_line_state c.args.line in
-    is_changed text (change.SetState c.args.line c.args.state) sender d _ c.args.views.now c.args.notes.now _ refl c.requires.watched made
-    (λ v _. subst (λ (ts : List Notice). AreTold ts c.args.notes.now c.args.notes.now)
-    (sym (cond-false (is_same old c.args.state) [] (heard views n) other))
-    (told_nobody views n c.args.notes.now c.requires.room (sym c.is_full.ensures ∙ c.if-is_full.true)))
-
-pub returns-clause-changed : goal.returns-clause-changed
-returns-clause-changed c = λ text sender.
-    let d = c.args.document.now.document in
-    let old = (document_row d c.args.line).state in
-    let views = watchers d c.args.views.now in
-    let is = c.narrowed-state.ensures ∙ to_z-of_z w64 c.args.state c.ranges.state in
-    let own = to_z-of_z w32 c.narrowed-state.result (record { sfits = c.narrowed-state.type_inv }) in
-    let made = ap (λ (k : Kept). k.document) c.set_state-before.ensures.document
-    ∙ ap (λ (z : ℤ). changed_document text (change.SetState c.args.line z) d) (own ∙ is) in
-    let other = other_state old c.args.state (λ e. c.if-before-state.false (ap (of_z w32) (c.set_state-before.ensures.before ∙ e ∙ sym is))) in
-    let n = line_note change_line_state c.args.line in
-    is_changed text (change.SetState c.args.line c.args.state) sender d _ c.args.views.now c.args.notes.now _ refl c.requires.watched made
-    (λ v _. subst (λ (ts : List Notice). AreTold ts c.args.notes.now c.tell_state.new.notes)
-    (sym (cond-false (is_same old c.args.state) [] (heard views n) other))
-    (rw made at c.tell_state.ensures))
+    let line = c.args.line in
+    let old = (document_row d line).state in
+    let same : c.reserve_state.new.self.document ≡ d = ap (λ (k : Kept). k.document) c.reserve_state.ensures.rest in
+    let is : c.narrowed-state.result ≡ c.args.state = c.narrowed-state.ensures ∙ to_z-of_z w64 c.args.state c.ranges.state in
+    let was : c.set_state-before.result ≡ old = c.set_state-before.ensures.before ∙ rw same refl in
+    let states = same_states c.set_state-before.result c.narrowed-state.result (record { sfits = c.set_state-before.type_inv }) (record { sfits = c.narrowed-state.type_inv }) in
+    is_made_if (not (of_z w32 c.set_state-before.result == of_z w32 c.narrowed-state.result)) text (change.SetState line c.args.state) c.args.document.now c.set_state-before.new.self (note.State line) c.note_if.result
+    c.note_if.ensures
+    (ap (λ (k : Kept). k.document) c.set_state-before.ensures.document
+    ∙ rw same (ap (λ (z : ℤ). changed_document text (change.SetState line z) d) (to_z-of_z w32 c.narrowed-state.result (record { sfits = c.narrowed-state.type_inv }) ∙ is)))
+    (λ v views. flipped (is_same old c.args.state) _ (heard views (line_note change_line_state line)) (ap not (states ∙ rw (was, is) refl)))
+    c.requires.line
+    (grind (arith, common_steps))

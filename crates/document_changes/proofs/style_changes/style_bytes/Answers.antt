@@ -1,20 +1,24 @@
-use Rattle.document_changes.proofs.Names.{take, refl, ap, ◌∙◌, subst, arith, length-map, Option, range_notes, styled, change_style, Cell, styles_of, Kept, watchers, AreTold}
-use Rattle.ed_model.specs.declared.plan.DocumentChange.TheVariants as change
+use Rattle.document_changes.proofs.Names.{◌≡◌, refl, ap, ◌∙◌, subst, take, arith, common_steps, length-map, Option, ℕ, change_style, range_notes, notes_of, Cell, Kept, styled, styles_of}
 use Rattle.document_changes.proofs.Ranges.{range_small, take_own}
-use Rattle.document_changes.proofs.Unmoved.{is_changed}
 use Rattle.document_changes.proofs.style_changes.style_bytes.Goals as goal
 
-pub tell_range-requires-clause-small : goal.tell_range-requires-clause-small
-tell_range-requires-clause-small c =
+pub range_note-requires : goal.range_note-requires
+range_note-requires c =
     let d = c.args.document.now.document in
+    let same : c.reserve_styles.new.self.document ≡ d = ap (λ (k : Kept). k.document) c.reserve_styles.ensures.rest in
     let l = length-map d.cells (λ (c : Cell). c.style) in
     let small = c.document_is_small.ensures.text in
-    range_small c.style_bytes-changed.result (styles_of d.cells) (styles_of c.style_bytes-changed.new.self.document.cells) c.style_bytes-changed.ensures.changed (omega arith)
+    range_small c.style_bytes-changed.result (styles_of d.cells) (styles_of c.style_bytes-changed.new.self.document.cells) (rw same at c.style_bytes-changed.ensures.changed) (omega arith)
 
-pub returns-clause-changed : goal.returns-clause-changed
-returns-clause-changed c = λ sender.
+pub returns : goal.returns
+returns c =
     let d = c.args.document.now.document in
-    let made = ap (λ (k : Kept). k.document) c.style_bytes-changed.ensures.document ∙ ap (λ ss. styled ss d) (take_own (take c.args.count c.args.text.now)) in
-    is_changed c.args.text.now (change.StyleBytes c.args.count) sender d _ c.args.views.now c.args.notes.now _ refl c.requires.watched made
-    (λ v _. subst (λ (o : Option _). AreTold (range_notes change_style o (watchers d c.args.views.now)) c.args.notes.now c.tell_range.new.notes) c.style_bytes-changed.ensures.changed
-    (rw made at (c.tell_range.ensures change_style refl)))
+    let new = c.style_bytes-changed.new.self in
+    let same : c.reserve_styles.new.self.document ≡ d = ap (λ (k : Kept). k.document) c.reserve_styles.ensures.rest in
+    record {
+      document = ap (λ (k : Kept). k.document) c.style_bytes-changed.ensures.document ∙ rw same (ap (λ ss. styled ss d) (take_own (take c.args.count c.args.text.now)));
+      told = λ v views. subst (λ (o : Option (ℕ × ℕ)). range_notes change_style o views ≡ notes_of v views new.document c.range_note.result) (rw same at c.style_bytes-changed.ensures.changed)
+          (c.range_note.ensures.told change_style v views new.document refl);
+      fits = c.range_note.ensures.fits new.document;
+      memory = grind (arith, common_steps);
+    }

@@ -1,49 +1,41 @@
-use Rattle.editor_session.proofs.Names.{◌≡◌, false, true, refl, sym, ap, subst, ◌∙◌, IsSomeAnd, option_copied_mut, CanChangeOnceThereIsRoom, Changes, IfChangeIsFree, rules}
-use Rattle.editor_session.proofs.OneDocument.{with_scene, said_of_it, still_named, same_session, still_kept}
-use Rattle.editor_session.proofs.PlanLemmas.{answers, kept_by}
-use Rattle.editor_session.proofs.DocumentChanges.{can_change_once, change_made, changed_for, change_free}
+use Rattle.editor_session.proofs.Names.{rules, ◌≡◌, false, true, refl, sym, ap, ◌∙◌, option_copied_mut, Document}
+use Rattle.ed_model.specs.proved.Changes.{changed_id}
+use Rattle.editor_session.proofs.OneDocument.{missing, watched_here, still_named, same_session, still_kept, kept_performed}
+use Rattle.editor_session.proofs.DocumentChanges.{fits_here, text_read, change_performed, change_free}
 use Rattle.editor_session.proofs.changing.perform_change.Goals as goal
 
 pub unreachable-requires : goal.unreachable-requires
-unreachable-requires c =
-    let a = c.args in
-    subst (λ o. IsSomeAnd o (CanChangeOnceThereIsRoom a.change a.text.now a.state.now.views)) (sym c.get_mut.ensures.value ∙ ap option_copied_mut c.in_default.is)
-    (can_change_once a.state.now c.requires.kept a.document a.view a.text.now a.change c.requires.sent)
+unreachable-requires c = missing c.requires.kept c.requires.can.request (sym c.get_mut.ensures.value ∙ ap option_copied_mut c.in_default.is)
 
-pub change_with_room-requires : goal.change_with_room-requires
-change_with_room-requires c =
-    let a = c.args in
+pub change_document-requires : goal.change_document-requires
+change_document-requires c =
+    let old = c.in-Some.document.now in let kept = c.requires.kept in let can = c.requires.can in
     let at = sym c.get_mut.ensures.value ∙ ap option_copied_mut c.in-Some.is in
-    let can = subst (λ o. IsSomeAnd o (CanChangeOnceThereIsRoom a.change a.text.now a.state.now.views)) at (can_change_once a.state.now c.requires.kept a.document a.view a.text.now a.change c.requires.sent) in
-    record { fits = can.fits; text = can.read; watched = can.watched }
+    record { fits = fits_here kept can old at; text = text_read kept can; watched = watched_here kept can.request old at }
 
 pub returns-in-Ok : goal.returns-in-Ok
 returns-in-Ok c =
-    let a = c.args in let s = a.state.now in let sent = c.requires.sent in let old = c.in-Some.document.now in
-    let n = c.change_with_room.new in let e = c.in-Ok.ensures in
+    let a = c.args in let s = a.state.now in let old = c.in-Some.document.now in let kept = c.requires.kept in let can = c.requires.can in
+    let n = c.change_document.new in let e = c.in-Ok.ensures.changed in
     let at = sym c.get_mut.ensures.value ∙ ap option_copied_mut c.in-Some.is in
-    let s' = with_scene s a.document n.document n.views in
-    let done = changed_for s c.requires.kept a.document a.view a.text.now a.change s' a.notes.now n.notes
-    (said_of_it s c.requires.kept a.document old n.document at (λ k. Changes a.change a.view a.text.now k s a.notes.now s' n.notes)
-    (change_made s c.requires.kept a.change a.document a.view a.text.now old n.document n.views a.notes.now n.notes at e.document e.lines e.told e.next)) in
+    let made = change_performed kept can old at n.document n.views a.notes.now.notes n.notes.notes e.document e.lines e.next e.told in
     record {
-      answer = λ value. answers (done value);
+      done = made;
       same = search rules;
       refused = search rules;
-      kept = kept_by c.soundness_is_kept.ensures.by_messages c.requires.kept (done sent.sent.value) sent.sent.planned sent.text_is refl (still_named s c.requires.kept a.document old n.document at e.id) e.watched.named;
+      kept = kept_performed c.plans_are_fit.ensures.keep_sound kept can made.done refl (still_named s kept a.document old n.document at (ap (λ (d : Document). d.id) e.document ∙ changed_id a.text.now a.change old.document)) e.watched.named;
       free = search rules;
     }
 
 pub returns-in-Err : goal.returns-in-Err
 returns-in-Err c =
-    let a = c.args in let s = a.state.now in let old = c.in-Some.document.now in let n = c.change_with_room.new in
+    let a = c.args in let s = a.state.now in let old = c.in-Some.document.now in let n = c.change_document.new in let kept = c.requires.kept in
     let e = c.in-Err.ensures in
     let at = sym c.get_mut.ensures.value ∙ ap option_copied_mut c.in-Some.is in
     record {
-      answer = search rules;
-      same = same_session s c.requires.kept a.document old n.document at n.views e.same e.same_views;
+      done = search rules;
+      same = same_session s kept a.document old n.document at n.views e.same.document e.same.views;
       refused = search rules;
-      kept = still_kept s c.requires.kept a.document old n.document at n.views e.same e.same_views;
-      free = change_free s c.requires.kept a.document a.view a.text.now a.change (false ≡ true)
-          (said_of_it s c.requires.kept a.document old n.document at (IfChangeIsFree a.change s.views (false ≡ true)) e.free);
+      kept = still_kept s kept a.document old n.document at n.views e.same.document e.same.views;
+      free = change_free kept c.requires.can old at (false ≡ true) e.free;
     }

@@ -1,22 +1,20 @@
-use Rattle.editor_session.proofs.Names.{[], refl, sym, subst, Entries, Kept, DocumentsAreNamed}
-use Rattle.editor_session.proofs.PlanLemmas.{kept_by}
-use Rattle.editor_session.proofs.OtherPlans.{view_fits, light_room, light_answer, view_changed_for}
+use Rattle.editor_session.proofs.Names.{◌≡◌, pos, false, true, ap, sym, subst, quiet, DocumentsAreNamed, SessionState}
+use Rattle.editor_session.proofs.Folding.{light_room}
+use Rattle.editor_session.proofs.OneDocument.{kept_performed}
 use Rattle.editor_session.proofs.changing.perform_free_change.Goals as goal
 
 pub change_view-requires : goal.change_view-requires
-change_view-requires c =
-    let a = c.args in
-    record {
-      kept = c.requires.kept;
-      can = view_fits a.state.now c.requires.kept a.document a.view a.change c.requires.sent;
-      room = light_room a.state.now c.requires.kept a.document a.view a.change c.requires.sent c.requires.light;
-    }
+change_view-requires c = record { kept = c.requires.kept; can = record { request = c.requires.can.request; fit = c.requires.can.fit } }
+
+pub unreachable-requires : goal.unreachable-requires
+unreachable-requires c = let bad : false ≡ true = c.in_default.ensures.free (light_room c.requires.kept c.requires.can.request c.args.change c.requires.light) in cc
 
 pub returns : goal.returns
 returns c =
-    let a = c.args in let n = c.change_view.new.state in let e = c.change_view.ensures in let sent = c.requires.sent in
+    let e = c.in-Ok.ensures in let q = c.requires in
+    let made = ap (λ x. (x, quiet (pos 0))) (sym e.changed) in
     record {
-      answer = light_answer a.state.now c.requires.kept a.document a.view a.change n e.changed;
-      kept = kept_by c.soundness_is_kept.ensures.by_messages c.requires.kept (view_changed_for a.state.now c.requires.kept a.document a.view a.change n e.changed sent.value sent.message.text []) sent.planned refl e.limits
-          (subst (λ (t : Entries Kept). DocumentsAreNamed t.entries) (sym e.documents) c.requires.kept.documents) e.views;
+      done = made;
+      kept = kept_performed c.plans_are_fit.ensures.keep_sound q.kept q.can made (ap (λ (s : SessionState). s.limits) e.stays.rest)
+          (subst (λ (s : SessionState). DocumentsAreNamed s.documents.entries) (sym e.stays.rest) q.kept.documents) e.stays.views;
     }

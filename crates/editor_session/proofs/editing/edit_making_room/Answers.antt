@@ -1,38 +1,45 @@
-use Rattle.editor_session.proofs.Names.{◌≡◌, false, true, refl, sym, ap, subst, ◌∙◌, option_copied_mut, SessionState, IfNoSteps}
-use Rattle.editor_session.proofs.EditLemmas.{edit_put, edited_with}
-use Rattle.editor_session.proofs.OneDocument.{with_scene, said_of_it, still_named, same_session}
+use Rattle.editor_session.proofs.Names.{rules, refl, sym, ap, ◌∙◌, option_copied_mut, SessionState}
+use Rattle.editor_session.proofs.EditLemmas.{steps_are, within_here, wide_here, edit_performed}
+use Rattle.editor_session.proofs.OneDocument.{missing, watched_here, with_scene, still_named, same_session, still_kept, kept_performed}
 use Rattle.editor_session.proofs.editing.edit_making_room.Goals as goal
 
-pub returns-in-Ok-clause-edited : goal.returns-in-Ok-clause-edited
-returns-in-Ok-clause-edited c =
-    let a = c.args in let s = a.state.now in let old = c.in-Some.document.now in let n = c.edit_with_room.new in
-    let e = c.in-Ok.ensures in let f = c.follow_edit in
+pub unreachable-requires : goal.unreachable-requires
+unreachable-requires c = missing c.requires.kept c.requires.can.request (sym c.get_mut.ensures.value ∙ ap option_copied_mut c.in_default.is)
+
+pub edit_with_room-requires : goal.edit_with_room-requires
+edit_with_room-requires c =
+    let q = c.requires in let old = c.in-Some.document.now in let held = c.deref.result.now in let clipboard = c.deref.ensures.value in
+    let at = sym c.get_mut.ensures.value ∙ ap option_copied_mut c.in-Some.is in
+    record {
+      within = within_here q.kept q.can held c.args.pasted.now clipboard q.pasted old at;
+      wide = wide_here q.kept q.can held c.args.pasted.now clipboard q.pasted old at c.plans_are_fit.ensures.edit_steps;
+      watched = watched_here q.kept q.can.request old at;
+    }
+
+pub returns-in-Ok : goal.returns-in-Ok
+returns-in-Ok c =
+    let a = c.args in let s = a.state.now in let q = c.requires in let old = c.in-Some.document.now in let n = c.edit_with_room.new in
+    let e = c.in-Ok.ensures in let f = c.follow_edit in let next = f.ensures.next in
     let at = sym c.get_mut.ensures.value ∙ ap option_copied_mut c.in-Some.is in
     let put : SessionState = with_scene s a.document n.document f.new.views in
     let s' : SessionState = record put { clipboard = f.new.clipboard } in
-    edited_with s s' a.document a.view a.text.now a.pasted.now a.taken.items a.edit a.follow n.views a.notes.now n.notes c.requires.can
-    (edit_put s c.requires.kept a.document a.edit a.text.now _ a.pasted.now old n.document n.views a.notes.now n.notes at c.deref.ensures.value e.scene)
-    f.ensures.views f.ensures.clipboard refl (f.ensures.next ∙ e.next) refl
+    let made = edit_performed q.kept q.can c.deref.result.now a.pasted.now c.deref.ensures.value q.pasted old at n.document n.views f.new.views a.notes.now n.notes s' a.taken.items e.scene e.id e.next
+    (rw next refl) f.ensures.views f.ensures.clipboard q.taken in
+    record {
+      done = made;
+      same = search rules;
+      kept = kept_performed c.plans_are_fit.ensures.keep_sound q.kept q.can made.done refl (still_named s q.kept a.document old n.document at e.id) f.ensures.named;
+      free = search rules;
+    }
 
-pub returns-in-Ok-clause-documents : goal.returns-in-Ok-clause-documents
-returns-in-Ok-clause-documents c =
+pub returns-in-Err : goal.returns-in-Err
+returns-in-Err c =
+    let a = c.args in let s = a.state.now in let q = c.requires in let old = c.in-Some.document.now in let n = c.edit_with_room.new in
+    let e = c.in-Err.ensures in
     let at = sym c.get_mut.ensures.value ∙ ap option_copied_mut c.in-Some.is in
-    still_named c.args.state.now c.requires.kept c.args.document c.in-Some.document.now c.edit_with_room.new.document at c.edit_with_room.ensures.id
-
-pub returns-in-Err-clause-same : goal.returns-in-Err-clause-same
-returns-in-Err-clause-same c =
-    let n = c.edit_with_room.new in
-    let at = sym c.get_mut.ensures.value ∙ ap option_copied_mut c.in-Some.is in
-    same_session c.args.state.now c.requires.kept c.args.document c.in-Some.document.now n.document at n.views c.in-Err.ensures.same c.in-Err.ensures.same_views
-
-pub returns-in-Err-clause-documents : goal.returns-in-Err-clause-documents
-returns-in-Err-clause-documents c =
-    let at = sym c.get_mut.ensures.value ∙ ap option_copied_mut c.in-Some.is in
-    still_named c.args.state.now c.requires.kept c.args.document c.in-Some.document.now c.edit_with_room.new.document at c.edit_with_room.ensures.id
-
-pub returns-in-Err-clause-free : goal.returns-in-Err-clause-free
-returns-in-Err-clause-free c =
-    let a = c.args in let s = a.state.now in
-    let at = sym c.get_mut.ensures.value ∙ ap option_copied_mut c.in-Some.is in
-    said_of_it s c.requires.kept a.document c.in-Some.document.now c.edit_with_room.new.document at (IfNoSteps a.edit a.text.now s.clipboard.items a.pasted.now (false ≡ true))
-    (subst (λ held. IfNoSteps a.edit a.text.now held a.pasted.now (false ≡ true) c.in-Some.document.now) c.deref.ensures.value c.in-Err.ensures.free)
+    record {
+      done = search rules;
+      same = same_session s q.kept a.document old n.document at n.views e.same e.same_views;
+      kept = still_kept s q.kept a.document old n.document at n.views e.same e.same_views;
+      free = λ none. e.free (steps_are q.kept q.can c.deref.result.now a.pasted.now c.deref.ensures.value q.pasted old at ∙ none);
+    }

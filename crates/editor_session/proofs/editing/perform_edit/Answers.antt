@@ -1,46 +1,39 @@
-use Rattle.editor_session.proofs.Names.{◌≡◌, false, true, sym, subst, IfSome, value_at, IsPastedFor, rules}
-use Rattle.editor_session.proofs.EditLemmas.{edit_takes, can_edit, edited_for, pasted_free, taken_free, steps_free}
-use Rattle.editor_session.proofs.PlanLemmas.{answers, asked_by, document_here, kept_by}
+use Rattle.editor_session.proofs.Names.{◌≡◌, [], pos, false, true, length, sym, subst, Document, text_of, converted, session_in, asked, TakesWithin, IsPastedFor, taken_along}
+use Rattle.editor_session.proofs.EditLemmas.{edit_takes, free_steps, free_taken, free_pasted}
+use Rattle.editor_session.proofs.OneDocument.{document_here, for_document, of_document}
 use Rattle.editor_session.proofs.editing.perform_edit.Goals as goal
 
 pub pasted_bytes-requires : goal.pasted_bytes-requires
-pasted_bytes-requires c = record { there = document_here c.requires.kept (asked_by c.requires.sent.sent.planned) }
+pasted_bytes-requires c = record { there = document_here c.requires.kept c.requires.can.request }
 
 pub taken_bytes-requires : goal.taken_bytes-requires
-taken_bytes-requires c = record { can = edit_takes c.args.state.now c.requires.kept c.args.document c.args.view c.args.text.now c.args.edit c.args.follow c.requires.sent }
+taken_bytes-requires c =
+    let a = c.args in let q = c.requires in
+    record { can = for_document q.kept q.can.request (λ (d : Document). TakesWithin a.follow (length d.cells)) (edit_takes (asked (session_in a.state.now) a.view a.text.now) a.edit (pos 0) a.follow q.can.fit) }
 
-pub edit_making_room-requires-clause-can : goal.edit_making_room-requires-clause-can
-edit_making_room-requires-clause-can c =
-    let a = c.args in
-    let turned = subst (λ x. IfSome (value_at a.state.now.documents.entries a.document) (λ k. IsPastedFor a.edit a.state.now.clipboard.items k.document.line_end x)) (sym c.deref.ensures.value) c.in-Ok.ensures.pasted in
-    can_edit a.state.now c.requires.kept a.document a.view a.text.now a.edit a.follow c.requires.sent c.plans_are_fit.ensures.edit_steps c.in-Ok-taken_bytes.taken.items c.in-Ok-taken_bytes.ensures.taken c.deref.result.now turned
-
-pub returns-in-Ok-edit_making_room : goal.returns-in-Ok-edit_making_room
-returns-in-Ok-edit_making_room c =
-    let a = c.args in let n = c.edit_making_room.new in let e = c.edit_making_room.ensures in
-    let sent = c.requires.sent in
-    let turned = subst (λ x. IfSome (value_at a.state.now.documents.entries a.document) (λ k. IsPastedFor a.edit a.state.now.clipboard.items k.document.line_end x)) (sym c.deref.ensures.value) c.in-Ok.ensures.pasted in
-    let done = edited_for a.state.now c.requires.kept a.document a.view a.text.now a.edit a.follow c.deref.result.now turned n.state a.notes.now n.notes c.in-Ok-edit_making_room.ensures.edited in
+pub edit_making_room-requires : goal.edit_making_room-requires
+edit_making_room-requires c =
+    let a = c.args in let s = a.state.now in let q = c.requires in let d = (asked (session_in s) a.view a.text.now).document in
     record {
-      answer = λ value. answers (done value);
-      same = search rules;
-      refused = search rules;
-      kept = kept_by c.soundness_is_kept.ensures.by_messages c.requires.kept (done sent.sent.value) sent.sent.planned sent.text_is e.limits e.documents e.views;
-      free = search rules;
+      kept = q.kept;
+      can = q.can;
+      pasted = subst (λ x. IsPastedFor a.edit s.clipboard.items d.line_end x) (sym c.deref.ensures.value)
+          (of_document q.kept q.can.request (λ (d : Document). IsPastedFor a.edit s.clipboard.items d.line_end c.in-Ok.pasted.items) c.in-Ok.ensures.pasted);
+      taken = of_document q.kept q.can.request (λ (d : Document). c.in-Ok-taken_bytes.taken.items ≡ taken_along a.follow (text_of d)) c.in-Ok-taken_bytes.ensures.taken;
     }
 
 pub returns-clause-free : goal.returns-clause-free
-returns-clause-free c = λ value.
+returns-clause-free c = λ free.
     let a = c.args in
-    let turned = subst (λ x. IfSome (value_at a.state.now.documents.entries a.document) (λ k. IsPastedFor a.edit a.state.now.clipboard.items k.document.line_end x)) (sym c.deref.ensures.value) c.in-Ok.ensures.pasted in
-    steps_free a.state.now c.requires.kept a.document a.view a.text.now a.edit a.follow c.deref.result.now turned (false ≡ true) c.in-Err.ensures.free value
+    c.in-Err.ensures.free (free_steps (asked (session_in a.state.now) a.view a.text.now) a.edit (pos 0) a.follow free)
 
 pub returns-in_default-clause-free : goal.returns-in_default-clause-free
-returns-in_default-clause-free c = λ value.
-    let a = c.args in
-    pasted_free a.state.now c.requires.kept a.document a.view a.text.now a.edit a.follow (false ≡ true) c.in_default.ensures.free c.in_default.ensures.empty value
+returns-in_default-clause-free c = λ free.
+    let a = c.args in let s = a.state.now in let q = c.requires in
+    free_pasted (asked (session_in s) a.view a.text.now) a.edit (pos 0) a.follow free (false ≡ true) c.in_default.ensures.free
+    (of_document q.kept q.can.request (λ (d : Document). converted d.line_end s.clipboard.items ≡ [] → false ≡ true) c.in_default.ensures.empty)
 
 pub returns-in_default-taken_bytes-clause-free : goal.returns-in_default-taken_bytes-clause-free
-returns-in_default-taken_bytes-clause-free c = λ value.
+returns-in_default-taken_bytes-clause-free c = λ free.
     let a = c.args in
-    taken_free a.state.now c.requires.kept a.document a.view a.text.now a.edit a.follow (false ≡ true) c.in_default-taken_bytes.ensures.free value
+    c.in_default-taken_bytes.ensures.free (free_taken (asked (session_in a.state.now) a.view a.text.now) a.edit (pos 0) a.follow free)

@@ -1,5 +1,5 @@
-use Rattle.editor_session.proofs.Names.{rules, sym, subst, session_in, IsFound}
-use Rattle.editor_session.proofs.TableWay.{no_view, no_kind, is_found}
+use Rattle.editor_session.proofs.Names.{rules, ◌∙◌, session_in}
+use Rattle.editor_session.proofs.TableWay.{no_view, no_kind, is_found, request_is}
 use Rattle.editor_session.proofs.find.find.Goals as goal
 
 pub returns-in_default-clause-refused : goal.returns-in_default-clause-refused
@@ -11,7 +11,10 @@ returns-in_default-from_number-clause-refused c = no_kind (session_in c.args.sta
 
 pub returns-clause-found : goal.returns-clause-found
 returns-clause-found c =
-    let a = c.args in let s = session_in a.state.now in let m = a.message.now in
-    let kind = c.in-Some-from_number.kind in
-    subst (λ r. IsFound s a.view m kind r) (sym c.request_to.ensures)
-    (is_found s a.view m c.in-Some.found.view.now.view kind c.in-Some.found.document.now.document c.requires.kept.sound c.in-Some.ensures.view (search rules) c.in-Some.ensures.document)
+    let a = c.args in
+    is_found (session_in a.state.now) a.view a.message.now c.in-Some.found.view.now.view c.in-Some-from_number.kind c.in-Some.found.document.now.document c.requires.kept.sound c.in-Some.ensures.view (search rules) c.in-Some.ensures.document
+
+pub returns-clause-request : goal.returns-clause-request
+returns-clause-request c =
+    let a = c.args in
+    c.request_to.ensures ∙ request_is (session_in a.state.now) a.view a.message.now c.in-Some.found.view.now.view c.in-Some.found.document.now.document c.in-Some.ensures.view c.in-Some.ensures.document

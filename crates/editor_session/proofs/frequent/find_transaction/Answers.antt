@@ -1,4 +1,4 @@
-use Rattle.editor_session.proofs.Names.{rules, ◌≡◌, sym, subst, true, request, plan_of, session_in, performing, is_performed, IsPlannedAs, unrecorded}
+use Rattle.editor_session.proofs.Names.{rules, ◌≡◌, subst, true, request, plan_of, session_in, is_performed}
 use Rattle.editor_session.proofs.DocumentChanges.{transaction_plan}
 use Rattle.editor_session.proofs.frequent.find_transaction.Goals as goal
 
@@ -7,5 +7,4 @@ returns-then-is_performed c =
     let a = c.args in let s = session_in a.state.now in let m = a.message.now in
     let v = c.in-Some.found.view.now.view in let d = c.in-Some.found.document.now.document in
     let asked : is_performed a.kind (plan_of a.kind (request s v d m)) ≡ true = subst (λ r. is_performed a.kind (plan_of a.kind r) ≡ true) c.request_to-request.ensures (search rules) in
-    subst (λ n. IsPlannedAs s a.view m (unrecorded n a.view (performing a.kind))) (sym c.id.ensures)
-    (transaction_plan c.plans_are_fit.ensures.in_range c.kinds_and_numbers.ensures.found s a.view m a.kind v d c.requires.kept.sound c.requires.transaction c.in-Some.ensures.view c.in-Some.ensures.document asked)
+    transaction_plan c.plans_are_fit.ensures.in_range c.kinds_and_numbers.ensures.found s a.view m a.kind v d c.requires.kept.sound c.in-Some.ensures.view c.in-Some.ensures.document _ c.id.ensures c.requires.transaction asked

@@ -1,12 +1,12 @@
 use Rattle.session_changes.proofs.Names.{refl, released}
-use Rattle.session_changes.proofs.MovingLemmas.{still_named_left}
+use Rattle.session_changes.proofs.MemoryLemmas.{documents_alone, one_left}
 use Rattle.session_changes.proofs.SessionLemmas.{released_so}
 use Rattle.session_changes.proofs.sessions.release.Goals as goal
 
-pub returns-clause-changed : goal.returns-clause-changed
-returns-clause-changed c =
-    released_so c.the_living_are_left.ensures c.args.state.now c.args.document c.release.new.self c.requires.kept c.release.ensures.documents c.release.ensures.next
-
-pub returns-clause-documents : goal.returns-clause-documents
-returns-clause-documents c =
-    still_named_left c.args.document released (λ d. refl) c.args.state.now.documents.entries c.release.new.self.entries c.requires.kept.documents c.release.ensures.documents
+pub returns : goal.returns
+returns c =
+    let s = c.args.state.now in let kept = c.requires.kept in let done = c.release.ensures in
+    record {
+      changed = released_so c.the_living_are_left.ensures kept c.args.document c.release.new.self done.documents done.next;
+      stays = documents_alone kept c.release.new.self (one_left c.args.document released (λ d. refl) s.documents c.release.new.self kept.documents done.documents done.others done.rest done.next done.capacity);
+    }

@@ -1,14 +1,18 @@
-use Rattle.session_changes.proofs.Names.{refl, sym, subst, IsSome, levels_of}
-use Rattle.session_changes.proofs.AskedLemmas.{kept_document, kept_view, view_changed_so}
+use Rattle.session_changes.proofs.Names.{[], refl, ap, sym, ◌∙◌, option_copied_mut, KeptView, changed_view_id, view_in}
+use Rattle.session_changes.proofs.AskedLemmas.{no_view, document_for, levels_in, view_changed, only_view, capacity_stays}
 use Rattle.session_changes.proofs.views.change_view.Goals as goal
 
-pub set_in-requires-clause-there : goal.set_in-requires-clause-there
-set_in-requires-clause-there c =
-    let can = c.requires.can in
-    subst IsSome (sym (kept_view c.args.state.now c.args.document c.args.view can.request c.requires.kept can.asked).there) refl
+pub unreachable-requires : goal.unreachable-requires
+unreachable-requires c = no_view c.requires.kept c.requires.can.request (sym c.get_mut.ensures.value ∙ ap option_copied_mut c.in_default.is)
 
-pub returns-then-is_setting-clause-changed : goal.returns-then-is_setting-clause-changed
-returns-then-is_setting-clause-changed c = λ r asked.
-    let there = kept_document c.args.state.now c.args.document c.args.view r c.requires.kept asked in
-    view_changed_so c.args.state.now c.args.document c.args.view c.args.change c.set_in.new.views c.requires.kept
-    there.value there.there (levels_of there.value.document) refl (c.set_in.ensures.views (levels_of there.value.document)) c.set_in.ensures.next r asked
+pub returns-clause-changed : goal.returns-clause-changed
+returns-clause-changed c =
+    let levels = levels_in (document_for c.args.state.now c.args.view) in
+    view_changed c.requires.kept c.requires.can.request c.args.change c.in-Some.view.now (sym c.get_mut.ensures.value ∙ ap option_copied_mut c.in-Some.is) c.set.new.self levels refl (ap view_in (c.set.ensures levels))
+
+pub returns-clause-stays : goal.returns-clause-stays
+returns-clause-stays c =
+    let old = c.in-Some.view.now in let made = c.set.ensures [] in
+    only_view c.requires.kept c.requires.can.request c.args.change old (sym c.get_mut.ensures.value ∙ ap option_copied_mut c.in-Some.is) c.set.new.self
+    (ap (λ (v : KeptView). v.view.id) made ∙ changed_view_id [] c.args.change old.view)
+    (capacity_stays c.args.change old c.set.new.self (ap (λ (v : KeptView). v.capacity) made) (ap (λ (v : KeptView). v.other_capacity) made))
