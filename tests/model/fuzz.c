@@ -3,8 +3,9 @@
  * refusal leaves, how long lent bytes stand, which calls take memory, what is given back. Allocations are refused at random, and each text that is
  * sent and each buffer that is filled ends, or begins, at a page that nobody may touch.
  *
- * There are two ways in: the calls of hongpilas.h (fuzz_calls.h) and, where FUZZ_SCINTILLA is in the environment, the Scintilla-compatible interface
- * (fuzz_scintilla.h). The same input makes the same messages of the model by both, but for what the interface takes as an int or up to a NUL.
+ * There are two ways in: the calls of hongpilas.h (fuzz_calls.h) and the Scintilla-compatible interface (fuzz_scintilla.h). FUZZ_WAY in the environment
+ * says which: `calls`, as without it, `scintilla`, or `both`, one session each. The same input makes the same messages of the model by both, but for
+ * what the interface takes as an int or up to a NUL. Some records are done by another thread, as the headers allow.
  *
  * With -DLIBFUZZER it is a target of libFuzzer. Else it is a program:
  *   fuzz [--seed N] [--calls N] [--seconds N]    drawn by a generator of its own, for so many calls or seconds
@@ -21,6 +22,7 @@
 
 #include <hongpilas_scintilla.h>
 #include <inttypes.h>
+#include <pthread.h>
 #include <signal.h>
 #include <stdio.h>
 #include <stdlib.h>
@@ -42,8 +44,9 @@ typedef struct ear {
   bool hears, told;
 } ear;
 
-/* A session, as the way in has it, and that of the model; and the views. */
+/* A session, as its way in has it, and that of the model; and the views. */
 typedef struct side {
+  const struct way *by;
   model *plain;
   uint32_t views[VIEWS];
   size_t view_count;
@@ -86,7 +89,7 @@ typedef struct way {
   void (*try_edges)(side *s, uint32_t view, const record *r); /* null pointers */
 } way;
 
-static const way *by; /* the one that is taken */
+static side sides[SIDES];
 
 static struct {
   const uint8_t *data;
@@ -97,9 +100,9 @@ static struct {
   int64_t w, l;
 } now;
 
-/* What was done: records, messages that were sent, all calls; of them refused for memory; requests for memory, and refused ones. Through the Scintilla-
- * compatible interface: notifications that were heard, and messages that were sent while they were told. */
-static struct { uint64_t inputs, records, messages, calls, out_of_memory, requests, refused, looks, answers[8], heard, meddled; } counts;
+/* What was done: records, those of them that another thread did, messages that were sent, all calls; of them refused for memory; requests for memory, and
+ * refused ones. Through the Scintilla-compatible interface: notifications that were heard, and messages that were sent while they were told. */
+static struct { uint64_t inputs, records, moved, messages, calls, out_of_memory, requests, refused, looks, answers[8], heard, meddled; } counts;
 
 static void fail(const char *what) {
   fprintf(stderr, "fuzz: FAILED by call %" PRIu64 ", record %zu of its input: %s; doing %s, message %" PRIu32 " %" PRId64 " %" PRId64 "\n", counts.records,
@@ -188,7 +191,7 @@ static void begin_message(side *s, const message *m, const char *doing) {
 static hongpilas_answer send_numbers(side *s, uint32_t view, uint32_t number, int64_t w, int64_t l) {
   static const uint8_t none = 0;
   message m = {view, number, w, l, &none, 0, now.sent % 2 == 0, (uint8_t)(now.sent * 167 >> 2)};
-  return by->send(s, &m);
+  return s->by->send(s, &m);
 }
 
 static int64_t ask(side *s, uint32_t view, uint32_t number, int64_t w, int64_t l) {
@@ -239,7 +242,7 @@ static void open_view(side *s) {
   now.doing = "opening a view";
   give_up_lent(s);
   was_refused = false;
-  hongpilas_answer answer = by->new_view(s, &view);
+  hongpilas_answer answer = s->by->new_view(s, &view);
   refuse_in = 0;
   counts.calls++;
   if (answer == HONGPILAS_OUT_OF_MEMORY) {
@@ -254,27 +257,28 @@ static void open_view(side *s) {
     must_be(view, wanted, "the view's id");
     if (answer == HONGPILAS_DONE) s->views[s->view_count++] = view;
   }
-  by->compare_last(s, true);
+  s->by->compare_last(s, true);
 }
 
 static void close_view(side *s, uint32_t view, size_t slot) {
   now.doing = "closing a view";
   give_up_lent(s);
   uint64_t requests = counts.requests;
-  must_be(by->close_view(s, view), model_close_view(s->plain, view), "the answer");
+  must_be(s->by->close_view(s, view), model_close_view(s->plain, view), "the answer");
   must(requests == counts.requests, "closing a view takes no memory");
   refuse_in = 0;
   counts.calls++;
   if (slot < s->view_count) s->views[slot] = s->views[--s->view_count];
-  by->compare_last(s, true);
+  s->by->compare_last(s, true);
 }
 
 /* Opens a session, with limits that are drawn: first at times with one that is out of range, which has to be refused; then low ones, or none. */
-static void open_session(side *s, const record *r, bool is_low) {
+static void open_session(side *s, const way *by, const record *r, bool is_low) {
   hongpilas_limits limits = HONGPILAS_GREATEST_LIMITS;
   hongpilas_answer answer = HONGPILAS_DONE;
   memset(s, 0x5C, sizeof *s); /* anything may stand there before */
   memset(s->ears, 0, sizeof s->ears);
+  s->by = by;
   s->view_count = 0;
   s->lent = NULL;
   s->text = NULL;
@@ -286,7 +290,7 @@ static void open_session(side *s, const record *r, bool is_low) {
     *one = r->t % 3 == 0 ? 0 : r->t % 3 == 1 ? *one + 1 : UINT64_MAX;
     counts.calls++;
     was_refused = false;
-    must_be(by->open(s, &wrong), HONGPILAS_BAD_ARGUMENT, "wrong limits");
+    must_be(s->by->open(s, &wrong), HONGPILAS_BAD_ARGUMENT, "wrong limits");
     must(model_new(&wrong) == NULL, "wrong limits in the model");
   }
   if (is_low) {
@@ -301,20 +305,21 @@ static void open_session(side *s, const record *r, bool is_low) {
   counts.calls++;
   do {
     was_refused = false;
-    answer = by->open(s, is_low ? &limits : NULL);
+    answer = s->by->open(s, is_low ? &limits : NULL);
     must(answer == HONGPILAS_DONE || (answer == HONGPILAS_OUT_OF_MEMORY && was_refused), "a session opens");
     refuse_in = 0;
   } while (answer != HONGPILAS_DONE);
   s->plain = model_new(&limits);
   must(s->plain != NULL, "a session of the model opens");
-  by->compare_last(s, false);
+  s->by->compare_last(s, false);
   open_view(s);
 }
 
 static void close_session(side *s) {
   now.doing = "giving a session back";
   give_up_lent(s);
-  by->close(s);
+  s->by->close(s);
+  s->view_count = 0;
   model_free(s->plain);
   counts.calls++;
 }
@@ -336,7 +341,7 @@ static void send_drawn(side *s, uint32_t view, uint32_t number, const record *r)
     refuse_in = 1 + (r->who >> 3) % 3;
     refuse_all_then = (r->who >> 5) % 2 == 1;
   }
-  if (by->send(s, &m) == HONGPILAS_OUT_OF_MEMORY) {
+  if (s->by->send(s, &m) == HONGPILAS_OUT_OF_MEMORY) {
     if (r->t % 8 == 0) look_at_all(s, 4);
     else look_at(s, view, 2);
   }
@@ -370,7 +375,7 @@ static void do_lend(side *s, uint32_t view, const record *r) {
   /* A copy is told of no more room than there is. */
   bool copies = r->operation > 234 && count >= 0 && count <= PAGE;
   if (r->t % 4 == 1 && start >= 0 && start <= length) count = count < 0 || count > length - start ? length - start : count;
-  by->lend(s, r->t == 255 ? 77777 : view, (uint64_t)start, (uint64_t)count, copies);
+  s->by->lend(s, r->t == 255 ? 77777 : view, (uint64_t)start, (uint64_t)count, copies);
 }
 
 static void do_record(side *s, const record *r) {
@@ -382,7 +387,7 @@ static void do_record(side *s, const record *r) {
   if (s->view_count == 0) open_view(s);
   if (s->view_count == 0) { /* ids are used up */
     close_session(s);
-    open_session(s, r, true);
+    open_session(s, s->by, r, true);
   }
   if (s->view_count == 0) return;
   uint32_t view = s->views[(r->who >> 1) % s->view_count];
@@ -416,17 +421,17 @@ static void do_record(side *s, const record *r) {
       case 239:
       case 240:
       case 241:
-      case 242: by->read_last(s, view, r); break;
-      case 243: by->ask_names(s, view, r); break;
+      case 242: s->by->read_last(s, view, r); break;
+      case 243: s->by->ask_names(s, view, r); break;
       case 244: /* a number that is no message, and a view that is none */
         send_drawn(s, view, r->w_kind < 128 ? 2000u + r->w * 9u % 2100u : (uint32_t)hostile_number(r->w_kind, r->w, &(around){0}), r);
         break;
       case 245: send_numbers(s, 5000 + r->w, numbers[r->l % count], r->w, r->l); break;
-      case 246: by->try_edges(s, view, r); break;
+      case 246: s->by->try_edges(s, view, r); break;
       case 247: /* a new session in place of this one */
         if (r->who < 64) {
           close_session(s);
-          open_session(s, r, r->t_kind % 2 == 0);
+          open_session(s, s->by, r, r->t_kind % 2 == 0);
         }
         break;
       case 248:
@@ -438,12 +443,48 @@ static void do_record(side *s, const record *r) {
   if (counts.records % LOOK_EVERY == 0 && s->view_count > 0) look_at(s, s->views[(r->who >> 1) % s->view_count], 8);
 }
 
+/* A session may be used by any thread, while no calls on it overlap: one record in 64 is done by a thread of its own, which ends before the next one. */
+
+typedef struct errand {
+  side *s;
+  const record *r;
+} errand;
+
+static void *run_errand(void *given) {
+  const errand *it = given;
+  do_record(it->s, it->r);
+  return NULL;
+}
+
+static bool is_for_a_thread(const record *r) {
+  uint64_t mixed;
+  memcpy(&mixed, r, sizeof mixed);
+  return mixed * 0x9E3779B97F4A7C15 >> 58 == 0;
+}
+
+static void do_in_a_thread(side *s, const record *r) {
+  errand it = {s, r};
+  pthread_t thread;
+  must(pthread_create(&thread, NULL, run_errand, &it) == 0 && pthread_join(thread, NULL) == 0, "a thread begins and ends");
+  counts.moved++;
+}
+
+/* The ways in of the sessions. Where both are taken, the input says which session has which. */
+
+static const way *ways[SIDES];
+
+static void choose_ways(void) {
+  const char *chosen = getenv("FUZZ_WAY");
+  if (chosen == NULL) chosen = "calls";
+  ways[0] = strcmp(chosen, "scintilla") == 0 ? &way_by_scintilla : &way_by_calls;
+  ways[1] = strcmp(chosen, "both") == 0 ? &way_by_scintilla : ways[0];
+}
+
 int LLVMFuzzerTestOneInput(const uint8_t *data, size_t size);
 
 int LLVMFuzzerTestOneInput(const uint8_t *data, size_t size) {
-  static side sides[SIDES];
   record first = {0, 0, 0, 63, 0, 15, 0, 7};
-  if (by == NULL) by = getenv("FUZZ_SCINTILLA") != NULL ? &way_by_scintilla : &way_by_calls;
+  if (ways[0] == NULL) choose_ways();
   now.data = data;
   now.size = size;
   now.at = now.sent = 0;
@@ -451,12 +492,14 @@ int LLVMFuzzerTestOneInput(const uint8_t *data, size_t size) {
   counts.inputs++;
   /* The first record has the limits of the second session. */
   if (size >= RECORD) memcpy(&first, data, RECORD);
-  open_session(&sides[0], &first, false);
-  open_session(&sides[1], &first, true);
+  size_t which = first.operation % SIDES;
+  open_session(&sides[0], ways[which], &first, false);
+  open_session(&sides[1], ways[1 - which], &first, true);
   for (now.at = RECORD; now.at + RECORD <= size; now.at += RECORD) {
     record r;
     memcpy(&r, data + now.at, RECORD);
-    do_record(&sides[r.who % SIDES], &r);
+    if (is_for_a_thread(&r)) do_in_a_thread(&sides[r.who % SIDES], &r);
+    else do_record(&sides[r.who % SIDES], &r);
   }
   for (size_t i = 0; i < SIDES; i++) {
     look_at_all(&sides[i], 6);
@@ -467,32 +510,6 @@ int LLVMFuzzerTestOneInput(const uint8_t *data, size_t size) {
 }
 
 #ifndef LIBFUZZER
-
-#ifndef HAS_ASAN
-/* Whether an address is in one of the pages around guarded memory. */
-static bool is_at_guard(const void *address) {
-  for (int i = 0; i < 3; i++) {
-    uintptr_t at = (uintptr_t)address, room = (uintptr_t)rooms[i];
-    if (rooms[i] != NULL && at - (room - PAGE) < ROOM + 2 * PAGE && at - room >= ROOM) return true;
-  }
-  return false;
-}
-
-/* Where no sanitizer tells of a touched page, this does, and of a crash at any other address. */
-static void on_fault(int signal_number, siginfo_t *info, void *context) {
-  (void)context;
-  signal(signal_number, SIG_DFL);
-  fail(is_at_guard(info->si_addr) ? "memory that nobody may touch" : "a crash");
-}
-
-static void catch_faults(int signal_number) {
-  struct sigaction caught;
-  memset(&caught, 0, sizeof caught);
-  caught.sa_sigaction = on_fault;
-  caught.sa_flags = SA_SIGINFO;
-  sigaction(signal_number, &caught, NULL);
-}
-#endif
 
 static void run_file(const char *path) {
   static uint8_t bytes[1 << 20];
@@ -507,9 +524,11 @@ static void run_file(const char *path) {
 }
 
 static void print_counts(double seconds) {
-  printf("fuzz: by %s: %" PRIu64 " inputs, %" PRIu64 " calls drawn, %" PRIu64 " messages sent (%" PRIu64 " of them to look), %" PRIu64
-         " calls in all, in %.0f seconds\n",
-         by == NULL ? "nothing" : by->name, counts.inputs, counts.records, counts.messages, counts.looks, counts.calls, seconds);
+  if (ways[0] == NULL) choose_ways();
+  printf("fuzz: by %s%s%s: %" PRIu64 " inputs, %" PRIu64 " calls drawn, %" PRIu64 " of them in other threads, %" PRIu64 " messages sent (%" PRIu64
+         " of them to look), %" PRIu64 " calls in all, in %.0f seconds\n",
+         ways[0]->name, ways[0] == ways[1] ? "" : " and ", ways[0] == ways[1] ? "" : ways[1]->name, counts.inputs, counts.records, counts.moved,
+         counts.messages, counts.looks, counts.calls, seconds);
   printf("fuzz: answers of messages: done %" PRIu64 ", out of memory %" PRIu64 ", no such view %" PRIu64 ", unknown message %" PRIu64
          ", no such document %" PRIu64 ", too long %" PRIu64 ", bad argument %" PRIu64 ", too many %" PRIu64 "\n",
          counts.answers[0], counts.answers[1], counts.answers[2], counts.answers[3], counts.answers[4], counts.answers[5], counts.answers[6],

@@ -115,4 +115,30 @@ static uint8_t *place_for(int which, size_t size, bool at_end) {
   return guarded(which) + (at_end ? ROOM - size : 0);
 }
 
+#if !defined(HAS_ASAN) && !defined(LIBFUZZER)
+/* Whether an address is in one of the pages around guarded memory. */
+static bool is_at_guard(const void *address) {
+  for (int i = 0; i < 3; i++) {
+    uintptr_t at = (uintptr_t)address, room = (uintptr_t)rooms[i];
+    if (rooms[i] != NULL && at - (room - PAGE) < ROOM + 2 * PAGE && at - room >= ROOM) return true;
+  }
+  return false;
+}
+
+/* Where no sanitizer tells of a touched page, this does, and of a crash at any other address. */
+static void on_fault(int signal_number, siginfo_t *info, void *context) {
+  (void)context;
+  signal(signal_number, SIG_DFL);
+  fail(is_at_guard(info->si_addr) ? "memory that nobody may touch" : "a crash");
+}
+
+static void catch_faults(int signal_number) {
+  struct sigaction caught;
+  memset(&caught, 0, sizeof caught);
+  caught.sa_sigaction = on_fault;
+  caught.sa_flags = SA_SIGINFO;
+  sigaction(signal_number, &caught, NULL);
+}
+#endif
+
 #endif

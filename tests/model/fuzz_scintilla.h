@@ -99,6 +99,17 @@ static void send_inside(ear *e, uint64_t draw) {
   else must(was_refused, "memory runs out only where a growth was refused");
 }
 
+/* Another session may be used inside a notify function: one that has the calls of hongpilas.h is asked there. */
+static void ask_other(const side *s) {
+  side *other = &sides[s == sides];
+  int64_t length = -77;
+  if (other->by != &way_by_calls || other->view_count == 0) return;
+  give_up_lent(other);
+  must_be(hongpilas_ask(other->session, other->views[0], SCI_GETLENGTH, 0, 0, &length), HONGPILAS_DONE, "the answer of another session");
+  must_be(length, model_peek(other->plain, other->views[0], SCI_GETLENGTH), "the length in another session");
+  counts.calls++;
+}
+
 /* Inside a notify function a message that edits the text is refused, of any view, and reads and writes nothing; others are done. A notify function may be
  * set. */
 static void meddle(heard_note *h) {
@@ -120,6 +131,7 @@ static void meddle(heard_note *h) {
   must_stand(e, (int)status_of(e));
   must(counts.requests == requests && blocks == had, "an edit that is refused takes no memory, and gives none back");
   counts.calls += 2;
+  ask_other(s);
   for (uint64_t draw = now.sent + heard.count; draw % 4 != 0; draw++) send_inside(draw % 2 == 0 ? e : ear_of(s, h->by->id), draw * 2654435761u >> 3);
   if (other->id == 0 || now.sent % 3 != 0) return;
   other->hears = !other->hears;
@@ -445,7 +457,7 @@ static void lend_by_scintilla(side *s, uint32_t view, uint64_t start, uint64_t c
   const uint8_t *wanted = NULL;
   message m = {view, copies ? SCI_GETTEXTRANGE : SCI_GETRANGEPOINTER, (int64_t)start, (int64_t)(start + count), NULL, 0, count % 2 == 0, 0};
   if (copies || e == NULL) {
-    by->send(s, &m);
+    s->by->send(s, &m);
     return;
   }
   begin_message(s, &m, "SCI_GETRANGEPOINTER");
@@ -475,7 +487,7 @@ static void read_by_scintilla(side *s, uint32_t view, const record *r) {
   bool is_line = number == SCI_GETLINE, is_range = number == SCI_GETTEXTRANGE || number == SCI_GETSTYLEDTEXT;
   int64_t w = draw_number(is_line ? 'l' : 'p', r->w_kind, r->w, 0, &a);
   message m = {view, number, w, draw_number(is_range ? 'e' : '-', r->l_kind, r->l, w, &a), NULL, 0, r->t % 2 == 0, r->t};
-  by->send(s, &m);
+  s->by->send(s, &m);
 }
 
 /* No view and no component are harmless to each call, and no view has always failed. */
@@ -515,7 +527,7 @@ static void try_null_pointers(side *s, uint32_t view, const record *r) {
   message m = {view, numbers[r->w % (sizeof numbers / sizeof *numbers)], r->l % 4 - 1, -1, some, sizeof some, true, 5 * 4};
   ear *e = ear_of(s, view);
   int status = 0;
-  by->send(s, &m);
+  s->by->send(s, &m);
   mark_status(e);
   must_be(hongpilas_direct_status(e->view, r->t % 2 == 0 ? SCI_GETTEXTRANGE : SCI_GETSTYLEDTEXT, 0, 0, &status), 0, "what no range answers");
   e->status = SC_STATUS_FAILURE;
