@@ -1,4 +1,4 @@
-// load_huge [MEBIBYTES [ROUNDS]]: a document above 4 GiB (4,200 MiB), under random work about its start, its end, 2^31 and 2^32. It has the option for
+// load_huge [MEBIBYTES [ROUNDS [SEED]]]: a document above 4 GiB (4,200 MiB), under random work about its start, its end, 2^31 and 2^32. It has the option for
 // large texts, markers, styles and an indicator at its front, hidden lines and three views. The text is that of a plain model, a list of pieces of one
 // text that repeats and of what was put in; it is compared about the places of the work after each thousandth call, and in full once the work is done and
 // once more when all of it is undone. Then messages of each kind are sent about 2^32, whose answers, texts and notes follow from the model. The times
@@ -33,8 +33,9 @@ static void fail(const char *what, Number found = 0, Number wanted = 0) {
   std::abort();
 }
 
+static std::uint64_t state;  // of what is drawn
+
 static Number below(Number bound) {
-  static std::uint64_t state = 7;
   std::uint64_t drawn = next_random(&state);
   return bound <= 0 ? 0 : Number(drawn % std::uint64_t(bound));
 }
@@ -561,6 +562,7 @@ static void style() {
 int main(int count, char **words) {
   wanted = (count > 1 ? std::atoll(words[1]) : 4200) << 20;
   Number rounds = count > 2 ? std::atoll(words[2]) : 60;
+  state = count > 3 ? std::strtoull(words[3], nullptr, 10) : 7;
   far_place = wanted > (Number(1) << 32) + (1 << 20) ? Number(1) << 32 : wanted / 2;
   double begun = now_us();
   open_all();
