@@ -3,7 +3,7 @@
 
 Each script is run with the files that it loads, and once more with --quiet, which leaves out the notes' lines and nothing else. The program's
 own run in `rt ci` takes one of them from standard input: crates/sci_console/stdin and stdout are looked at to be that example. Run it anywhere
-in the repository after `rt ci`, or after `rt run` in crates/sci_console.
+in the repository after `rt ci`, or after `rt run` in crates/sci_console. With --valgrind each run is under valgrind, and may have no fault and no leak.
 """
 import os
 import re
@@ -13,6 +13,7 @@ import sys
 TOP = os.path.dirname(os.path.dirname(os.path.dirname(os.path.abspath(__file__))))
 EXAMPLES = os.path.join(TOP, "examples", "messages")
 CRATE = os.path.join(TOP, "crates", "sci_console")
+UNDER = ["valgrind", "-q", "--error-exitcode=9", "--leak-check=full"] if sys.argv[1:] == ["--valgrind"] else []
 # What the program's own run in `rt ci` takes from standard input.
 OWN_RUN = "all_notes_of_an_insertion"
 
@@ -55,7 +56,7 @@ def is_as_written(program, flags, script, loaded):
     if "--quiet" in flags:
         printed = b"".join(line for line in printed.splitlines(True) if not line.startswith(b"@"))
     status = 4 if re.search(rb"(?m)^- ", printed) else 0
-    ran = subprocess.run([program, "run", *flags, script, *loaded], capture_output=True, cwd=EXAMPLES)
+    ran = subprocess.run([*UNDER, program, "run", *flags, script, *loaded], capture_output=True, cwd=EXAMPLES)
     same = (ran.stdout, ran.returncode) == (printed, status)
     if not same:
         print("FAILED  %s by %s" % (" ".join([*flags, script]), os.path.basename(program)))
