@@ -263,4 +263,5 @@ def main():
     print("".join(f"{fault}\n" for fault in faults()), end="")
 
 
-main()
+if __name__ == "__main__":
+    main()
