@@ -76,7 +76,7 @@ out/libhongpilas_scintilla.so: out/libhongpilas.so
 out/libhongpilas_scintilla.so: private BESIDE := -Wl,-rpath,'$$ORIGIN'
 
 # The Scintilla-compatible interface stands beside the libraries: a program that does not use it links none of it. An exception may pass through it.
-out/libhongpilas_scintilla.a: c/scintilla.c c/scintilla_manners.h c/scintilla_stack.h include/hongpilas_scintilla.h include/hongpilas.h
+out/libhongpilas_scintilla.a: c/scintilla.c c/scintilla_manners.h c/scintilla_queue.h c/scintilla_stack.h include/hongpilas_scintilla.h include/hongpilas.h
 	mkdir -p out
 	rm -f $@
 	$(COMPILE) -fPIC -fexceptions -c $< -o out/scintilla.o

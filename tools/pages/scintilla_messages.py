@@ -1,7 +1,7 @@
 #!/usr/bin/env python3
 """Writes what hangs on the list of messages beside Scintilla's: scintilla_messages.py [SCINTILLA_H].
 
-In c/scintilla_manners.h it writes the table that finds a message's row and marks by its number, from the rows above it and the definitions. Where
+In c/scintilla_manners.h it writes the table that finds a message's way and marks by its number, from the ways above it and the definitions. Where
 a Scintilla.h is named, it also writes docs/scintilla_left_out.txt, the list of Scintilla's messages that are not here.
 With --check it writes nothing and needs no Scintilla.h: it fails where the table is not that of the rows and the definitions, or where the list names
 a message of the definitions.
@@ -25,16 +25,16 @@ BY_INTERFACE = {"GETRANGEPOINTER", "GETSTATUS", "SETSTATUS"}
 MANNERS = "c/scintilla_manners.h"
 BEGIN = "/* Written by tools/pages/scintilla_messages.py: begin */\n"
 END = "/* Written by tools/pages/scintilla_messages.py: end */\n"
-ROW = re.compile(r"^    \{(\w+), \w+, \w+, -?\d+\},", re.M)
-# The marks that the interface asks for, with their bits: HONGPILAS_MARK_Q and HONGPILAS_MARK_E. An entry has four bits for marks.
-MARKS = {"Q": 1, "E": 4}
+WAY = re.compile(r"^  WAY_(\w+) = ", re.M)
+# The marks that the interface asks for, with the names of their bits.
+MARKS = {"Q": "QUERY", "E": "EDIT"}
 # The query that the interface alone has.
 LENT = "SCI_GETRANGEPOINTER"
 # The table ends before groups of numbers that lie far behind the others.
 FIRST, LAST = 2000, 2999
 TABLE = f"""/* clang-format off */
-/* The first entry is that of the message {FIRST}. An entry is 16 times the message's row of `manners`, with the bits of its marks Q and E. A message
- * behind the last entry has the first row, and neither mark. */
+/* The first entry is that of the message {FIRST}. An entry has the bits of the message's marks Q and E, and those of its way. A message behind
+ * the last entry has none. */
 enum {{ FIRST_MESSAGE = {FIRST} }};
 static const uint16_t entries[] = {{
 %s
@@ -58,23 +58,23 @@ def numbers():
 
 
 def entries(manners):
-    """The entry of each number from the first on, up to the last that is not 0."""
+    """The words of each entry from the first on, up to the last that has any."""
     number_of, found = numbers(), {}
     for name, number, marks in (*header.rows(), (LENT, number_of[LENT], "Q")):
-        found[number] = sum(bit for mark, bit in MARKS.items() if mark in marks)
-    for place, name in enumerate(ROW.findall(manners)):
-        if place > 0:
-            found[number_of[name]] += 16 * place
-    needed = {number: entry for number, entry in found.items() if entry != 0}
+        found[number] = [MARKS[mark] for mark in MARKS if mark in marks]
+    for name in WAY.findall(manners):
+        found.setdefault(number_of["SCI_" + name], []).append("WAY_" + name)
+    needed = {number: " | ".join(words) for number, words in found.items() if words}
     if not all(FIRST <= number <= LAST for number in needed):
-        sys.exit(f"{MANNERS}: a message outside of {FIRST} to {LAST} has a row, or the mark Q or E: the table has to reach farther")
-    return [needed.get(number, 0) for number in range(FIRST, max(needed) + 1)]
+        sys.exit(f"{MANNERS}: a message outside of {FIRST} to {LAST} has a way, or the mark Q or E: the table has to reach farther")
+    return [needed.get(number, "0") for number in range(FIRST, max(needed) + 1)]
 
 
 def written(manners):
-    """The header with the table of its rows."""
+    """The header with the table of its ways."""
     head, rest = manners.split(BEGIN)
-    lines = textwrap.fill(", ".join(f"0x{entry:03X}" for entry in entries(head)) + ",", 160, initial_indent="    ", subsequent_indent="    ")
+    words = ", ".join(entries(head)).replace(" | ", "~") + ","  # an entry of several words stands in one line
+    lines = textwrap.fill(words, 150, initial_indent="    ", subsequent_indent="    ", break_long_words=False).replace("~", " | ")
     return head + BEGIN + TABLE % lines + END + rest.split(END)[1]
 
 
@@ -83,8 +83,8 @@ def check(manners):
     if told:
         sys.exit(f"{PAGE} has messages of the definitions: run tools/pages/scintilla_messages.py: {', '.join(sorted(told))}")
     if written(manners) != manners:
-        sys.exit(f"{MANNERS}: the table is not that of its rows and of the definitions: run tools/pages/scintilla_messages.py")
-    print(f"{PAGE} has no message of the definitions; the table of {MANNERS} is that of its rows")
+        sys.exit(f"{MANNERS}: the table is not that of its ways and of the definitions: run tools/pages/scintilla_messages.py")
+    print(f"{PAGE} has no message of the definitions; the table of {MANNERS} is that of its ways")
 
 
 def main():
@@ -94,8 +94,9 @@ def main():
         return
     if len(sys.argv) > 2:
         sys.exit(__doc__)
+    changed = written(manners)
     with open(os.path.join(header.TOP, MANNERS), "w", encoding="utf-8") as file:
-        file.write(written(manners))
+        file.write(changed)
     if len(sys.argv) == 1:
         return
     with open(sys.argv[1], encoding="utf-8") as file:
