@@ -2,310 +2,252 @@
 #ifndef JOBS_H
 #define JOBS_H
 
-#include "texts.h"
+#include <limits.h>
 
-enum { JOB_RUNS = BENCH_RUNS < 3 ? BENCH_RUNS : 3, PIECE = 128 * 1024, FRAME = 50, KEYS = 2000, COVERED = 100000, INDENTED = 30000 };
+#include "work.h"
 
-static input log_50 = {50u * MEBIBYTE, make_log, NULL}, source_16 = {16u * MEBIBYTE, make_source, NULL}, source_4 = {4u * MEBIBYTE, make_source, NULL},
-             source_1 = {MEBIBYTE, make_source, NULL};
+enum { JOB_RUNS = BENCH_RUNS < 3 ? BENCH_RUNS : 3, MOST_PARTS = 8 };
 
-/* A job: which text it is about, and its unit. It answers how many of them were done. */
-typedef struct job {
+static input log_50 = {50u * MEBIBYTE, make_log, NULL}, source_16 = {16u * MEBIBYTE, make_source, NULL}, lines_16 = {16u * MEBIBYTE, make_lines, NULL},
+             source_4 = {4u * MEBIBYTE, make_source, NULL}, source_1 = {MEBIBYTE, make_source, NULL}, one_line_1 = {MEBIBYTE, make_one_line, NULL};
+
+#include "edits.h"
+
+#include "looks.h"
+
+/* A part of a job, which is timed by itself: its unit, and what does it and answers how many of them were done. */
+typedef struct part {
   const char *name, *unit;
+  long (*run)(const side *s, input *of);
+} part;
+
+/* A job: what its parts are about, what is done before them, and the parts, each of which goes on where the one before it ended. Behind the last stands one
+ * without a name. What `about` says ends the name of each. */
+typedef struct job {
+  const char *about;
   input *text;
   void (*prepare)(const side *s, input *of);
-  long (*run)(const side *s, input *of);
+  const part *parts;
 } job;
 
-static int64_t ask(const side *s, uint32_t number, int64_t w) { return s->send(number, w, 0, NULL, 0); }
+/* ---- Files and edits ---- */
 
-/* ---- Files ---- */
+static const part open_parts[] = {{"opened", "byte", open_at_once}, {"closed", "byte", close_it}, {NULL, NULL, NULL}};
 
-/* A new document, of which nothing is told. */
-static void renew(const side *s, input *of) {
-  (void)of;
-  s->attach(0);
-  ask(s, SCI_SETDOCPOINTER, 0);
-  ask(s, SCI_SETMODEVENTMASK, 0);
-}
+static const part open_pieces_parts[] = {{"opened in pieces of 128 KiB", "byte", open_in_pieces}, {NULL, NULL, NULL}};
 
-static long open_at_once(const side *s, input *of) {
-  ask(s, SCI_SETUNDOCOLLECTION, 0);
-  s->send(SCI_SETTEXT, 0, 0, bytes_of(of), of->size);
-  ask(s, SCI_SETUNDOCOLLECTION, 1);
-  ask(s, SCI_SETSAVEPOINT, 0);
-  return (long)of->size;
-}
+static const part save_parts[] = {{"saved in pieces of 128 KiB", "byte", save}, {"copied out at once", "byte", take_all}, {NULL, NULL, NULL}};
 
-static long open_in_pieces(const side *s, input *of) {
-  ask(s, SCI_SETUNDOCOLLECTION, 0);
-  for (size_t at = 0; at < of->size; at += PIECE) {
-    size_t count = of->size - at < PIECE ? of->size - at : PIECE;
-    s->send(SCI_APPENDTEXT, (int64_t)count, 0, bytes_of(of) + at, count);
-  }
-  ask(s, SCI_SETUNDOCOLLECTION, 1);
-  ask(s, SCI_SETSAVEPOINT, 0);
-  return (long)of->size;
-}
+static const part set_parts[] = {
+    {"opened, undo on", "byte", set_all}, {"SETTEXT over it, undo on", "byte", set_all}, {"UNDO of that SETTEXT", "byte", undo_change}, {NULL, NULL, NULL}};
 
-static void load_input(const side *s, input *of) {
-  renew(s, of);
-  open_at_once(s, of);
-  ask(s, SCI_GOTOPOS, (int64_t)of->size / 2);
-  s->send(SCI_ADDTEXT, 1, 0, "x", 1); /* so that the gap is in the midst */
-  ask(s, SCI_UNDO, 0);
-}
+static const part reload_parts[] = {{"SETTEXT over it, undo off", "byte", open_at_once}, {NULL, NULL, NULL}};
 
-static long save(const side *s, input *of) {
-  for (size_t at = 0; at < of->size; at += PIECE) s->copied_range((int64_t)at, (int64_t)(at + PIECE < of->size ? at + PIECE : of->size));
-  return (long)of->size;
-}
+static const part apart_parts[] = {{"8 bytes in anywhere", "edit", insert_anywhere},
+                                   {"8 bytes in at both ends in turn", "edit", insert_at_ends},
+                                   {"UNDO of both", "step", undo_steps},
+                                   {"a line in anywhere", "edit", insert_lines_anywhere},
+                                   {"all borrowed, a byte typed in the midst", "turn", borrow_and_type},
+                                   {NULL, NULL, NULL}};
 
-static long take_all(const side *s, input *of) {
-  s->copied_range(0, (int64_t)of->size);
-  return (long)of->size;
-}
+static const part replace_parts[] = {
+    {"all replaced", "match", replace_words}, {"UNDO of that", "match", undo_change}, {"REDO of that", "match", redo_change}, {NULL, NULL, NULL}};
 
-/* ---- A container lexer ---- */
+static const part replace_word_parts[] = {{"whole words without case replaced", "match", replace_whole_words},
+                                          {"UNDO of these words", "match", undo_change},
+                                          {"REDO of these words", "match", redo_change},
+                                          {NULL, NULL, NULL}};
 
-static char styles[1024]; /* of a line, which is shorter */
+static const part replace_byte_parts[] = {{"each e replaced by E", "match", replace_bytes},
+                                          {"UNDO of these bytes", "match", undo_change},
+                                          {"REDO of these bytes", "match", redo_change},
+                                          {NULL, NULL, NULL}};
 
-/* The styles and the level of a line. Returns where the next begins. */
-static int64_t style_line_of(const side *s, int64_t line, int64_t start, int *depth) {
-  int64_t end = start + ask(s, SCI_LINELENGTH, line);
-  must(end - start <= (int64_t)sizeof styles, "a line is too long");
-  s->copied_range(start, end);
-  int64_t level = lex(buffer, (size_t)(end - start), styles, depth);
-  if (end > start) s->send(SCI_SETSTYLINGEX, end - start, 0, styles, (size_t)(end - start));
-  s->send(SCI_SETFOLDLEVEL, line, level, NULL, 0);
-  s->send(SCI_SETLINESTATE, line, *depth, NULL, 0);
-  return end;
-}
+static const part indent_parts[] = {{"30,000 lines indented", "line", indent},
+                                    {"UNDO of the indent", "line", undo_change},
+                                    {"REDO of the indent", "line", redo_change},
+                                    {"30,000 lines outdented", "line", outdent},
+                                    {NULL, NULL, NULL}};
 
-static long highlight_lines(const side *s, input *of) {
-  int64_t lines = ask(s, SCI_GETLINECOUNT, 0), start = 0;
-  int depth = 0;
-  (void)of;
-  ask(s, SCI_STARTSTYLING, 0);
-  for (int64_t line = 0; line < lines; line++) start = style_line_of(s, line, start, &depth);
-  return (long)lines;
-}
+static const part indent_backwards_parts[] = {{"30,000 lines indented, the last first", "line", indent_backwards}, {NULL, NULL, NULL}};
 
-static long highlight_tokens(const side *s, input *of) {
-  const char *bytes = bytes_of(of);
-  long tokens = 0;
-  ask(s, SCI_STARTSTYLING, 0);
-  for (size_t at = 0; at < of->size; tokens++) {
-    char style = SPACE;
-    size_t count = token_of(bytes + at, of->size - at, &style);
-    s->send(SCI_SETSTYLING, (int64_t)count, style, NULL, 0);
-    at += count;
-  }
-  return tokens;
-}
+static const part move_parts[] = {{"5,000 lines moved 30 lines on", "line", move_lines}, {NULL, NULL, NULL}};
 
-static void load_highlighted(const side *s, input *of) {
-  load_input(s, of);
-  highlight_lines(s, of);
-}
+static const part end_parts[] = {{"CONVERTEOLS to CRLF", "line", convert_to_crlf},
+                                 {"UNDO of CONVERTEOLS", "line", undo_change},
+                                 {"REDO of CONVERTEOLS", "line", redo_change},
+                                 {"CONVERTEOLS back to LF", "line", convert_to_lf},
+                                 {"CLEARALL", "line", clear_all},
+                                 {"UNDO of CLEARALL", "line", undo_change},
+                                 {"half of it deleted", "line", delete_half},
+                                 {"UNDO of half of it", "line", undo_change},
+                                 {NULL, NULL, NULL}};
 
-static void load_heard(const side *s, input *of) {
-  load_highlighted(s, of);
-  ask(s, SCI_SETMODEVENTMASK, SC_MODEVENTMASKALL);
-}
+static const part undo_parts[] = {{"1,000 steps at two places", "step", type_steps},
+                                  {"UNDO of all steps", "step", undo_steps},
+                                  {"REDO of all steps", "step", redo_steps},
+                                  {"EMPTYUNDOBUFFER", "step", forget_history},
+                                  {NULL, NULL, NULL}};
 
-/* A byte that is typed, at places in some order, and what a lexer then does for its line. */
-static long press_keys(const side *s, input *of) {
-  int64_t place = (int64_t)of->size / 2;
-  for (long i = 0; i < KEYS; i++) {
-    if (i % 50 == 0) ask(s, SCI_GOTOPOS, place + i / 50 % 8 * 3000);
-    s->send(SCI_ADDTEXT, 1, 0, "x", 1);
-    int64_t line = ask(s, SCI_LINEFROMPOSITION, ask(s, SCI_GETCURRENTPOS, 0)), start = ask(s, SCI_POSITIONFROMLINE, line);
-    int depth = line > 0 ? (int)ask(s, SCI_GETLINESTATE, line - 1) : 0;
-    ask(s, SCI_STARTSTYLING, start);
-    style_line_of(s, line, start, &depth);
-  }
-  return KEYS;
-}
+static const part group_parts[] = {{"1,000 bytes in one group", "byte", type_group},
+                                   {"UNDO of the group", "byte", undo_change},
+                                   {"REDO of the group", "byte", redo_change},
+                                   {NULL, NULL, NULL}};
 
-/* ---- A window is drawn ---- */
+static const part action_parts[] = {
+    {"container actions that coalesce", "action", add_joining_actions}, {"a byte typed after them", "byte", type_key}, {NULL, NULL, NULL}};
 
-static void load_to_draw(const side *s, input *of) {
-  load_input(s, of);
-  int64_t lines = ask(s, SCI_GETLINECOUNT, 0);
-  ask(s, SCI_STARTSTYLING, 0);
-  for (int64_t line = 0; line < lines; line++) s->send(SCI_SETSTYLING, ask(s, SCI_LINELENGTH, line), line % 5, NULL, 0);
-  ask(s, SCI_SETINDICATORCURRENT, 8);
-  for (int64_t i = 0; i < 20000; i++) s->send(SCI_INDICATORFILLRANGE, i * 2500, 9, NULL, 0);
-  for (int64_t i = 0; i < 1000; i++) s->send(SCI_MARKERADD, i * 500, 1, NULL, 0);
-}
+static const part search_parts[] = {{"no match, case", "byte", none_with_case},
+                                    {"no match, no case", "byte", none},
+                                    {"no match, no case, whole words", "byte", none_of_words},
+                                    {"no match, case, backwards", "byte", none_backwards_with_case},
+                                    {"no match, no case, backwards", "byte", none_backwards},
+                                    {"no match, a rare first byte", "byte", none_of_rare_byte},
+                                    {"no match, one byte", "byte", none_of_one_byte},
+                                    {NULL, NULL, NULL}};
 
-static void draw_line(const side *s, int64_t row) {
-  int64_t line = ask(s, SCI_DOCLINEFROMVISIBLE, row), start = ask(s, SCI_POSITIONFROMLINE, line), end = ask(s, SCI_GETLINEENDPOSITION, line), place = start;
-  s->styled_range(start, end);
-  ask(s, SCI_MARKERGET, line);
-  ask(s, SCI_GETFOLDLEVEL, line);
-  while (place < end) {
-    int64_t next = s->send(SCI_INDICATOREND, 8, place, NULL, 0);
-    ask(s, SCI_INDICATORALLONFOR, place);
-    place = next > place ? next : end;
-  }
-}
+static const part find_parts[] = {{"each match found, case", "match", find_with_case},
+                                  {"each match found, no case", "match", find},
+                                  {"each match found, whole words", "match", find_words},
+                                  {"each e found", "match", find_bytes},
+                                  {NULL, NULL, NULL}};
 
-static long draw_windows(const side *s, input *of) {
-  enum { WINDOWS = 300 };
-  int64_t rows = ask(s, SCI_VISIBLEFROMDOCLINE, ask(s, SCI_GETLINECOUNT, 0) - 1) - FRAME;
-  (void)of;
-  for (long i = 0; i < WINDOWS; i++)
-    for (int64_t first = below(rows), row = first; row < first + FRAME; row++) draw_line(s, row);
-  return WINDOWS;
-}
+static const part near_parts[] = {{"near matches, case", "byte", near_with_case},
+                                  {"near matches, no case", "byte", near},
+                                  {"near matches, the odd byte in the midst", "byte", near_in_midst},
+                                  {"no whole word", "byte", near_word},
+                                  {NULL, NULL, NULL}};
 
-/* ---- All is replaced, or indented ---- */
+/* ---- Looks ---- */
 
-static long replaced; /* how often, at last */
+static const part window_parts[] = {{"a window of 50 lines drawn", "window", draw_windows},
+                                    {"of a window its lines and rows", "window", draw_rows},
+                                    {"of a window GETSTYLEDTEXT", "window", draw_styles},
+                                    {"of a window its indicators", "window", draw_indicators},
+                                    {NULL, NULL, NULL}};
 
-static long replace_all(const side *s, input *of) {
-  int64_t from = 0, end = (int64_t)of->size;
-  replaced = 0;
-  ask(s, SCI_SETSEARCHFLAGS, SCFIND_MATCHCASE);
-  ask(s, SCI_BEGINUNDOACTION, 0);
-  for (;; replaced++) {
-    s->send(SCI_SETTARGETRANGE, from, end, NULL, 0);
-    if (s->send(SCI_SEARCHINTARGET, 6, 0, "length", 6) < 0) break;
-    from = ask(s, SCI_GETTARGETSTART, 0) + s->send(SCI_REPLACETARGET, 7, 0, "extents", 7);
-    end++;
-  }
-  ask(s, SCI_ENDUNDOACTION, 0);
-  return replaced;
-}
+static const part highlight_parts[] = {{"highlighted by lines", "line", highlight_lines},
+                                       {"GETLINE of each line", "byte", take_lines},
+                                       {"GETSTYLEDTEXT of each line", "byte", take_styled_lines},
+                                       {NULL, NULL, NULL}};
 
-static void load_replaced(const side *s, input *of) {
-  load_highlighted(s, of);
-  replace_all(s, of);
-}
+static const part token_parts[] = {
+    {"SETSTYLING of each token", "token", highlight_tokens}, {"the same, where nothing changes", "token", highlight_tokens}, {NULL, NULL, NULL}};
 
-static long undo_replaced(const side *s, input *of) {
-  ask(s, SCI_UNDO, 0);
-  must(ask(s, SCI_GETLENGTH, 0) == (int64_t)of->size, "not all was undone");
-  return replaced;
-}
+static const part token_heard_parts[] = {{"SETSTYLING of each token", "token", highlight_tokens}, {NULL, NULL, NULL}};
 
-static long indent(const side *s, input *of) {
-  (void)of;
-  ask(s, SCI_BEGINUNDOACTION, 0);
-  for (int64_t line = 0; line < INDENTED; line++) s->send(SCI_INSERTTEXT, ask(s, SCI_POSITIONFROMLINE, line), 0, "  ", 2);
-  ask(s, SCI_ENDUNDOACTION, 0);
-  return INDENTED;
-}
+static const part style_parts[] = {{"SETSTYLINGEX of 4 KiB", "byte", style_4_kib},
+                                   {"SETSTYLINGEX of 64 KiB", "byte", style_64_kib},
+                                   {"SETSTYLINGEX of the same 64 KiB", "byte", style_64_kib},
+                                   {"SETSTYLINGEX of each line", "byte", style_each_line},
+                                   {"SETFOLDLEVEL of each line", "line", level_each_line},
+                                   {NULL, NULL, NULL}};
 
-static void load_indented(const side *s, input *of) {
-  load_highlighted(s, of);
-  indent(s, of);
-}
+static const part key_parts[] = {{"a key, its line styled anew", "key", press_keys}, {NULL, NULL, NULL}};
 
-static long undo_indented(const side *s, input *of) {
-  ask(s, SCI_UNDO, 0);
-  must(ask(s, SCI_GETLENGTH, 0) == (int64_t)of->size, "not all was undone");
-  return INDENTED;
-}
+static const part fold_parts[] = {{"all folded", "header", fold_all},
+                                  {"VISIBLEFROMDOCLINE of each line, folded", "line", row_of_each_line},
+                                  {"GETLINEVISIBLE of each line, folded", "line", visibility_of_each_line},
+                                  {"50 DOCLINEFROMVISIBLE, folded", "window", lines_of_windows},
+                                  {"all unfolded", "header", unfold_all},
+                                  {"all folded, the last first", "header", fold_backwards},
+                                  {NULL, NULL, NULL}};
 
-/* ---- All is folded ---- */
+static const part show_parts[] = {{"ENSUREVISIBLE anywhere, folded", "jump", jump},
+                                  {"SHOWLINES of all", "line", show_lines},
+                                  {"HIDELINES of all", "line", hide_lines},
+                                  {"SHOWLINES of all, again", "line", show_lines},
+                                  {"all folded as SciTE does", "header", fold_by_hiding},
+                                  {NULL, NULL, NULL}};
 
-static long fold(const side *s, int64_t action) {
-  int64_t lines = ask(s, SCI_GETLINECOUNT, 0);
-  long headers = 0;
-  for (int64_t line = 0; line < lines; line++) {
-    if ((ask(s, SCI_GETFOLDLEVEL, line) & SC_FOLDLEVELHEADERFLAG) == 0) continue;
-    s->send(SCI_FOLDLINE, line, action, NULL, 0);
-    headers++;
-  }
-  return headers;
-}
+static const part nest_parts[] = {{"folded, the innermost first", "header", fold_inner_first},
+                                  {"ENSUREVISIBLE of the innermost line", "jump", jump_to_innermost},
+                                  {"folded, the outermost first", "header", fold_outer_first},
+                                  {"unfolded, the outermost first", "header", unfold_outer_first},
+                                  {"GETFOLDPARENT of each line", "line", parent_of_each_line},
+                                  {"GETLASTCHILD of each header", "header", last_child_of_each_header},
+                                  {NULL, NULL, NULL}};
 
-static long fold_all(const side *s, input *of) {
-  (void)of;
-  return fold(s, SC_FOLDACTION_CONTRACT);
-}
+static const part marker_parts[] = {{"100,000 lines marked, in order", "marker", mark_in_order},
+                                    {"MARKERNEXT from each to the next of all", "marker", next_of_each_mark},
+                                    {"MARKERLINEFROMHANDLE anywhere", "marker", lines_of_handles},
+                                    {"a newline at the top, marked", "newline", newlines_at_top},
+                                    {"newlines at both ends in turn, marked", "newline", newlines_at_ends},
+                                    {"MARKERDELETEALL of one of eight", "marker", unmark_one_kind},
+                                    {"MARKERDELETEALL of all", "marker", unmark_all},
+                                    {"100,000 lines marked, the last first", "marker", mark_backwards},
+                                    {NULL, NULL, NULL}};
 
-static long unfold_all(const side *s, input *of) {
-  (void)of;
-  return fold(s, SC_FOLDACTION_EXPAND);
-}
+static const part disorder_parts[] = {
+    {"100,000 lines marked, in disorder", "marker", mark_in_disorder}, {"MARKERDELETE, in disorder", "marker", unmark_in_disorder}, {NULL, NULL, NULL}};
 
-static void load_folded(const side *s, input *of) {
-  load_highlighted(s, of);
-  fold_all(s, of);
-}
+static const part indicator_parts[] = {{"32 indicators of 10,000 runs filled", "run", fill_all_indicators},
+                                       {"INDICATORALLONFOR anywhere, 32 in use", "place", indicators_anywhere},
+                                       {"1,000 bytes typed, 32 indicators", "key", type_1000},
+                                       {"8 bytes in anywhere, 32 indicators", "edit", insert_anywhere},
+                                       {"8 bytes in at both ends, 32 indicators", "edit", insert_at_ends},
+                                       {"all indicators cleared", "run", clear_all_indicators},
+                                       {NULL, NULL, NULL}};
 
-/* ---- Markers of a coverage tool ---- */
+static const part type_1000_parts[] = {{"a byte typed", "key", type_1000}, {NULL, NULL, NULL}};
 
-static long mark_in_order(const side *s, input *of) {
-  (void)of;
-  for (int64_t i = 0; i < COVERED; i++) s->send(SCI_MARKERADD, i, i % 3, NULL, 0);
-  return COVERED;
-}
+static const part type_40_parts[] = {{"a byte typed", "key", type_40}, {NULL, NULL, NULL}};
 
-/* Each line once: the step has no factor with the number of lines. */
-static long mark_in_disorder(const side *s, input *of) {
-  (void)of;
-  for (int64_t i = 0; i < COVERED; i++) s->send(SCI_MARKERADD, i * 61803 % COVERED, i % 3, NULL, 0);
-  return COVERED;
-}
-
-/* ---- Several views ---- */
-
-static void load_views(const side *s, input *of, int count) {
-  load_input(s, of);
-  s->attach(count - 1);
-  ask(s, SCI_SETMODEVENTMASK, SC_MODEVENTMASKALL);
-}
-
-static void load_2_views(const side *s, input *of) { load_views(s, of, 2); }
-static void load_16_views(const side *s, input *of) { load_views(s, of, 16); }
-static void load_256_views(const side *s, input *of) { load_views(s, of, 256); }
-static void load_1000_views(const side *s, input *of) { load_views(s, of, MOST_VIEWS); }
-
-static long type_keys(const side *s, long count) {
-  for (long i = 0; i < count; i++) s->send(SCI_ADDTEXT, 1, 0, "x", 1);
-  return count;
-}
-
-static long type_1000(const side *s, input *of) {
-  (void)of;
-  return type_keys(s, 1000);
-}
-
-static long type_40(const side *s, input *of) {
-  (void)of;
-  return type_keys(s, 40);
-}
+/* ---- The jobs ---- */
 
 static const job jobs[] = {
-    {"a log of 50 MiB opened", "byte", &log_50, renew, open_at_once},
-    {"the same in pieces of 128 KiB", "byte", &log_50, renew, open_in_pieces},
-    {"saved in pieces of 128 KiB", "byte", &log_50, load_input, save},
-    {"all of it copied out at once", "byte", &log_50, load_input, take_all},
-    {"a window of 50 lines drawn", "window", &log_50, load_to_draw, draw_windows},
-    {"16 MiB of source highlighted, by lines", "line", &source_16, load_input, highlight_lines},
-    {"the same, by tokens", "token", &source_16, load_input, highlight_tokens},
-    {"a key, its line styled anew", "key", &source_16, load_highlighted, press_keys},
-    {"all replaced", "match", &source_4, load_highlighted, replace_all},
-    {"the undo of that", "match", &source_4, load_replaced, undo_replaced},
-    {"30,000 lines indented", "line", &source_4, load_highlighted, indent},
-    {"the undo of that, by lines", "line", &source_4, load_indented, undo_indented},
-    {"all folded", "header", &source_4, load_highlighted, fold_all},
-    {"all unfolded", "header", &source_4, load_folded, unfold_all},
-    {"100,000 lines marked, in order", "marker", &source_16, load_input, mark_in_order},
-    {"100,000 lines marked, in disorder", "marker", &source_16, load_input, mark_in_disorder},
+    {": log of 50 MiB", &log_50, renew, open_parts},
+    {": log of 50 MiB", &log_50, renew, open_pieces_parts},
+    {": log of 50 MiB", &log_50, load_input, save_parts},
+    {": log of 50 MiB", &log_50, renew, set_parts},
+    {": log of 50 MiB", &log_50, load_at_once, reload_parts},
+    {"", &log_50, load_to_draw, window_parts},
+    {": source of 16 MiB", &source_16, load_input, highlight_parts},
+    {"", &source_16, load_input, token_parts},
+    {"", &source_16, load_to_style, style_parts},
+    {"", &source_16, load_highlighted, key_parts},
+    {"", &source_16, load_input, apart_parts},
+    {", styled", &source_16, load_highlighted, apart_parts},
+    {"", &source_16, load_input, search_parts},
+    {"", &source_16, load_input, find_parts},
+    {"", &source_16, load_input, marker_parts},
+    {"", &source_16, load_input, disorder_parts},
+    {"", &lines_16, load_at_once, end_parts},
+    {"", &lines_16, load_input, indicator_parts},
+    {"", &source_4, load_highlighted, replace_parts},
+    {", unstyled", &source_4, load_input, replace_parts},
+    {"", &source_4, load_highlighted, replace_word_parts},
+    {"", &source_4, load_highlighted, replace_byte_parts},
+    {", 32 indicators", &source_4, load_indicated_input, replace_parts},
+    {"", &source_4, load_highlighted, indent_parts},
+    {"", &source_4, load_highlighted, indent_backwards_parts},
+    {"", &source_4, load_highlighted, move_parts},
+    {"", &source_4, load_highlighted, fold_parts},
+    {"", &source_4, load_folded, show_parts},
+    {", nest of 100", &source_1, load_nest_100, nest_parts},
+    {", nest of 1,000", &source_1, load_nest_1000, nest_parts},
+    {"", &source_1, load_input, undo_parts},
+    {"", &source_1, load_input, group_parts},
+    {"", &source_1, load_typed_key, action_parts},
+    {", 1 view", &source_1, load_input, type_1000_parts},
+    {", 2 views", &source_1, load_2_views, type_1000_parts},
+    {", 16 views", &source_1, load_16_views, type_1000_parts},
+    {", 256 views", &source_1, load_256_views, type_40_parts},
+    {", 1,000 views", &source_1, load_1000_views, type_40_parts},
+    {"", &one_line_1, load_at_once, near_parts},
+    {", the gap in the midst", &one_line_1, load_input, near_parts},
 };
 
+/* These again, in views that listen for all modifications and whose notifications are read. */
 static const job notified_jobs[] = {
-    {"a key, its line styled anew, notified", "key", &source_16, load_heard, press_keys},
-    {"a key that 2 views hear", "key", &source_1, load_2_views, type_1000},
-    {"a key that 16 views hear", "key", &source_1, load_16_views, type_1000},
-    {"a key that 256 views hear", "key", &source_1, load_256_views, type_40},
-    {"a key that 1,000 views hear", "key", &source_1, load_1000_views, type_40},
+    {", notified", &source_16, load_heard, key_parts},
+    {", notified", &source_16, load_input_heard, token_heard_parts},
+    {", notified", &source_4, load_heard, replace_parts},
+    {", 1 view notified", &source_1, load_1_notified, type_1000_parts},
+    {", 2 views notified", &source_1, load_2_notified, type_1000_parts},
+    {", 16 views notified", &source_1, load_16_notified, type_1000_parts},
+    {", 256 views notified", &source_1, load_256_notified, type_40_parts},
+    {", 1,000 views notified", &source_1, load_1000_notified, type_40_parts},
 };
 
 #endif

@@ -20,6 +20,8 @@ enum { RUNS = BENCH_RUNS, SIZES = BENCH_SIZES, LINE = 40, MEBIBYTE = 1 << 20 };
 
 #include "sides.h"
 
+#include "texts.h"
+
 static char *text;  /* lines of 40 bytes, with their ends */
 static size_t room; /* how many bytes of it there are */
 static size_t size; /* how many of them the document has at first */
@@ -63,8 +65,6 @@ static void insert(const side *s, long count) {
 static void delete (const side *s, long count) {
   for (long i = 0; i < count; i++) s->send(SCI_DELETERANGE, below((int64_t)size - 8 * count), 8, NULL, 0);
 }
-
-static const char line_text[] = "A line that is put in has forty bytes..\n";
 
 static void append(const side *s, long count) {
   for (long i = 0; i < count; i++) s->send(SCI_APPENDTEXT, LINE, 0, line_text, LINE);
@@ -337,6 +337,8 @@ static const row notified_rows[] = {
 
 #include "jobs.h"
 
+#include "limits.h"
+
 /* ---- The tables ---- */
 
 static double now(void) {
@@ -364,14 +366,6 @@ static double timed(const side *s, const row *r, long count) {
   double before = now();
   r->run(s, count);
   return (now() - before) / (double)count;
-}
-
-static double timed_job(const side *s, const job *j, long *count) {
-  seed = 88172645463325252u;
-  j->prepare(s, j->text);
-  double before = now();
-  *count = j->run(s, j->text);
-  return (now() - before) / (double)*count;
 }
 
 static double log_sum;
@@ -414,22 +408,76 @@ static void print_rows(const row *rows, size_t count) {
   for (size_t i = 0; i < count; i++) print_sizes(&rows[i]);
 }
 
+/* A part's name: what it does, and what its job says. */
+static const char *name_of(const job *j, const part *p) {
+  static char name[96];
+  snprintf(name, sizeof name, "%s%s", p->name, j->about);
+  return name;
+}
+
+/* How many parts of a job are to be done: those up to the last one that is wanted. */
+static int count_of_parts(const job *j) {
+  int count = 0;
+  for (int i = 0; j->parts[i].name != NULL; i++)
+    if (is_wanted(name_of(j, &j->parts[i]))) count = i + 1;
+  must(count <= MOST_PARTS, j->parts[0].name);
+  return count;
+}
+
+static double job_times[MOST_PARTS][SIDES][RUNS];
+static long job_units[MOST_PARTS];
+
+/* Does the first parts of a job once by each side. */
+static void time_job(const job *j, int parts, int run) {
+  for (int k = 0; k < side_count; k++) {
+    int i = (run + k) % side_count;
+    seed = 88172645463325252u;
+    j->prepare(present[i], j->text);
+    for (int at = 0; at < parts; at++) {
+      double before = now();
+      job_units[at] = j->parts[at].run(present[i], j->text);
+      job_times[at][i][run] = (now() - before) / (double)job_units[at];
+    }
+  }
+}
+
 static void print_jobs(const job *list, size_t count) {
   for (size_t at = 0; at < count; at++) {
     const job *j = &list[at];
-    double times[SIDES][RUNS];
-    long units = 0;
-    if (!is_wanted(j->name)) continue;
+    int parts = count_of_parts(j);
+    if (parts == 0) continue;
     bytes_of(j->text);
-    for (int run = 0; run < JOB_RUNS; run++)
-      for (int k = 0; k < side_count; k++) {
-        int i = (run + k) % side_count;
-        times[i][run] = timed_job(present[i], j, &units);
-      }
-    printf("| %-37s | %8ld %-6s |", j->name, units, j->unit);
-    print_times(times, JOB_RUNS);
+    for (int run = 0; run < JOB_RUNS; run++) time_job(j, parts, run);
+    for (int i = 0; i < parts; i++) {
+      const char *name = name_of(j, &j->parts[i]);
+      if (!is_wanted(name)) continue;
+      printf("| %-62s | %8ld %-7s |", name, job_units[i], j->parts[i].unit);
+      print_times(job_times[i], JOB_RUNS);
+    }
     if (at + 1 == count || list[at + 1].text != j->text) forget(j->text);
   }
+}
+
+static void print_limit(const limit *l) {
+  double times[RUNS];
+  long units = 0;
+  if (!is_wanted(l->name)) return;
+  for (int run = 0; run < JOB_RUNS; run++) {
+    seed = 88172645463325252u;
+    double before = now();
+    units = l->run();
+    times[run] = (now() - before) / (double)units;
+  }
+  qsort(times, JOB_RUNS, sizeof times[0], by_size);
+  printf("| %-62s | %8ld %-7s | %11.2f (%11.2f) |\n", l->name, units, l->unit, times[0], times[JOB_RUNS / 2]);
+}
+
+static void print_limits(void) {
+  puts("| Limits of the machine, ns a unit | how many | least (median) |\n|---|---|---|");
+  copy_bytes(); /* which are compared */
+  for (size_t i = 0; i < sizeof limits / sizeof *limits; i++) print_limit(&limits[i]);
+  if (is_wanted(load_limit.name)) make_cycle();
+  print_limit(&load_limit);
 }
 
 /* Whether each view listens, and what it hears is read. Scintilla's signal stays connected: a mask of 0 lets nothing through. */
@@ -469,10 +517,11 @@ static void print_messages(bool all) {
 }
 
 static void print_both_jobs(void) {
-  print_head("Jobs, ns a unit                       | how many");
+  print_head("Jobs, ns a unit | how many");
   print_jobs(jobs, sizeof jobs / sizeof *jobs);
   listen(true);
   print_jobs(notified_jobs, sizeof notified_jobs / sizeof *notified_jobs);
+  print_limits();
 }
 
 static void make_text(void) {
@@ -481,7 +530,7 @@ static void make_text(void) {
   text = malloc(room);
   buffer = malloc(most);
   must(text != NULL && buffer != NULL, "out of memory");
-  for (size_t i = 0; i < room; i++) text[i] = line_text[i % LINE];
+  make_lines(text, room);
   memset(buffer, 0, most); /* its memory is there before it is timed */
 }
 
@@ -496,7 +545,7 @@ int main(int count, char **words) {
   if (!is_page) words++, count--;
   bool is_named = count > 1 && words[1][0] != '\0';
   wanted = count > 2 ? words[2] : "";
-  must(hongpilas_new(&session) == HONGPILAS_DONE && hongpilas_new_view(session, &view) == HONGPILAS_DONE, "no session");
+  open_ours();
   open_compatible();
   make_text();
   has_theirs = is_named && open_theirs(words[1]);

@@ -1,4 +1,4 @@
-/* The sides that do the work of messages.c: the library, the Scintilla-compatible interface over it, and Scintilla. A part of messages.c. */
+/* The sides that do the work: the library, the Scintilla-compatible interface over it, and Scintilla. A part of messages.c and of memory.c. */
 #ifndef SIDES_H
 #define SIDES_H
 
@@ -8,12 +8,13 @@ enum { MOST_VIEWS = 1000 };
 typedef struct side {
   const char *name;
   int64_t (*send)(uint32_t number, int64_t w, int64_t l, const char *text, size_t length);
-  void (*text_range)(int64_t from, int64_t to); /* the last four hand over bytes, or bytes with their styles */
+  void (*text_range)(int64_t from, int64_t to); /* the next six hand over bytes, or bytes with their styles */
   void (*lent_range)(int64_t from, int64_t to);
   void (*whole_text)(void);
   void (*copied_range)(int64_t from, int64_t to); /* into `buffer`, as the next */
   void (*styled_range)(int64_t from, int64_t to);
-  void (*attach)(int count); /* so many other views on the document, which hear of all modifications; 0 leaves none */
+  void (*copied_line)(int64_t line);
+  void (*attach)(int count, int64_t mask); /* so many other views on the document, subscribed to the modifications of the mask; 0 leaves none */
 } side;
 
 static char *buffer;     /* where texts come back to */
@@ -61,22 +62,29 @@ static void copied_range_ours(int64_t from, int64_t to) {
   must(hongpilas_copy_range_unchecked(session, view, (size_t)from, (uint8_t *)buffer, (size_t)(to - from)) == HONGPILAS_DONE, "no bytes copied");
 }
 
-static void styled_range_ours(int64_t from, int64_t to) {
-  const uint8_t *styled;
+/* Puts the text of a query into `buffer`. */
+static void read_ours(uint32_t number, int64_t w, int64_t l) {
+  const uint8_t *bytes;
   size_t length;
   int64_t value;
-  must(hongpilas_read_unchecked(session, view, SCI_GETSTYLEDTEXT, from, to, &styled, &length, &value) == HONGPILAS_DONE, "no styled text read");
-  memcpy(buffer, styled, length);
+  must(hongpilas_read_unchecked(session, view, number, w, l, &bytes, &length, &value) == HONGPILAS_DONE, "no text read");
+  memcpy(buffer, bytes, length);
 }
 
-static void attach_ours(int count) {
+static void styled_range_ours(int64_t from, int64_t to) { read_ours(SCI_GETSTYLEDTEXT, from, to); }
+static void copied_line_ours(int64_t line) { read_ours(SCI_GETLINE, line, 0); }
+
+static void attach_ours(int count, int64_t mask) {
   int64_t document = send_ours(SCI_GETDOCPOINTER, 0, 0, NULL, 0), value;
   while (other_count > 0) must(hongpilas_close_view(session, others[--other_count]) == HONGPILAS_DONE, "a view was not closed");
   for (; other_count < count; other_count++) {
     must(hongpilas_new_view(session, &others[other_count]) == HONGPILAS_DONE, "no view opened");
     must(hongpilas_send(session, others[other_count], SCI_SETDOCPOINTER, 0, document, NULL, 0, &value) == HONGPILAS_DONE, "a view was not attached");
+    must(hongpilas_send(session, others[other_count], SCI_SETMODEVENTMASK, mask, 0, NULL, 0, &value) == HONGPILAS_DONE, "a view has no mask");
   }
 }
+
+static void open_ours(void) { must(hongpilas_new(&session) == HONGPILAS_DONE && hongpilas_new_view(session, &view) == HONGPILAS_DONE, "no session"); }
 
 /* ---- The Scintilla-compatible interface ---- */
 
@@ -112,13 +120,16 @@ static void styled_range_compatible(int64_t from, int64_t to) {
   hongpilas_direct(compatible_view, SCI_GETSTYLEDTEXT, 0, (sptr_t)&range);
 }
 
-static void attach_compatible(int count) {
+static void copied_line_compatible(int64_t line) { hongpilas_direct(compatible_view, SCI_GETLINE, (uptr_t)line, (sptr_t)buffer); }
+
+static void attach_compatible(int count, int64_t mask) {
   sptr_t document = hongpilas_direct(compatible_view, SCI_GETDOCPOINTER, 0, 0);
   while (compatible_count > 0) hongpilas_scintilla_close(compatible_others[--compatible_count]);
   for (; compatible_count < count; compatible_count++) {
     compatible_others[compatible_count] = hongpilas_scintilla_open(component);
     must(compatible_others[compatible_count] != 0, "no view opened");
     hongpilas_direct(compatible_others[compatible_count], SCI_SETDOCPOINTER, 0, document);
+    hongpilas_direct(compatible_others[compatible_count], SCI_SETMODEVENTMASK, (uptr_t)mask, 0);
     hongpilas_set_notify(compatible_others[compatible_count], hear_compatible, NULL);
   }
 }
@@ -158,6 +169,8 @@ static void styled_range_theirs(int64_t from, int64_t to) {
   scintilla_send(widget, SCI_GETSTYLEDTEXT, 0, (intptr_t)&range);
 }
 
+static void copied_line_theirs(int64_t line) { scintilla_send(widget, SCI_GETLINE, (uintptr_t)line, (intptr_t)buffer); }
+
 /* What its signal "sci-notify" calls. */
 static void take_theirs(void *sender, int id, const SCNotification *notification, void *data) {
   (void)sender;
@@ -173,7 +186,7 @@ static void listen_to(void *it) { must(connect_signal(it, "sci-notify", (void (*
 static void listen_to_theirs(void) { listen_to(widget); }
 
 /* Widgets are made once, and put on a document of their own when they are not wanted. */
-static void attach_theirs(int count) {
+static void attach_theirs(int count, int64_t mask) {
   intptr_t document = scintilla_send(widget, SCI_GETDOCPOINTER, 0, 0);
   while (their_count > 0) scintilla_send(their_others[--their_count], SCI_SETDOCPOINTER, 0, 0);
   for (; their_count < count; their_count++) {
@@ -182,6 +195,7 @@ static void attach_theirs(int count) {
       listen_to(their_others[widget_count++]);
     }
     scintilla_send(their_others[their_count], SCI_SETDOCPOINTER, 0, document);
+    scintilla_send(their_others[their_count], SCI_SETMODEVENTMASK, (uintptr_t)mask, 0);
   }
 }
 
@@ -205,13 +219,14 @@ enum { OURS, COMPATIBLE, THEIRS, SIDES };
 
 /* A view of ours listens where its mask says so, and a program that has none does not look for notifications. */
 static const side sides[SIDES] = {
-    {"ours", send_ours, text_range_ours, lent_range_ours, whole_text_ours, copied_range_ours, styled_range_ours, attach_ours},
+    {"ours", send_ours, text_range_ours, lent_range_ours, whole_text_ours, copied_range_ours, styled_range_ours, copied_line_ours, attach_ours},
     {"compatible", send_compatible, copied_range_compatible, lent_range_compatible, whole_text_compatible, copied_range_compatible, styled_range_compatible,
-     attach_compatible},
-    {"Scintilla", send_theirs, copied_range_theirs, lent_range_theirs, whole_text_theirs, copied_range_theirs, styled_range_theirs, attach_theirs},
+     copied_line_compatible, attach_compatible},
+    {"Scintilla", send_theirs, copied_range_theirs, lent_range_theirs, whole_text_theirs, copied_range_theirs, styled_range_theirs, copied_line_theirs,
+     attach_theirs},
 };
 
-static const side ours_notified = {"ours",          send_ours_and_read, text_range_ours,   lent_range_ours,
-                                   whole_text_ours, copied_range_ours,  styled_range_ours, attach_ours};
+static const side ours_notified = {
+    "ours", send_ours_and_read, text_range_ours, lent_range_ours, whole_text_ours, copied_range_ours, styled_range_ours, copied_line_ours, attach_ours};
 
 #endif

@@ -1,4 +1,4 @@
-/* The texts of the jobs of messages.c, which are the same each time, and what a container lexer makes of a line: a part of messages.c. */
+/* The texts, which are the same each time, and what a container lexer makes of a line: a part of messages.c and of memory.c. */
 #ifndef TEXTS_H
 #define TEXTS_H
 
@@ -24,6 +24,16 @@ static size_t put(char *into, size_t at, size_t size, const char *line) {
   memcpy(into + at, line, count);
   return at + count;
 }
+
+static const char line_text[] = "A line that is put in has forty bytes..\n";
+
+/* Lines of 40 bytes. */
+static void make_lines(char *into, size_t size) {
+  for (size_t at = 0; at < size;) at = put(into, at, size, line_text);
+}
+
+/* One byte again and again, without a line end. */
+static void make_one_line(char *into, size_t size) { memset(into, 'a', size); }
 
 /* Lines of 60 to 110 bytes. */
 static void make_log(char *into, size_t size) {
