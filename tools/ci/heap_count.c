@@ -1,7 +1,8 @@
 /* Counts the blocks that a program takes of the heap and gives back. Preloaded (LD_PRELOAD), it writes at the end one line into the file that HEAP_REPORT
  * names: how many were taken, how many of them were not given back, the largest one's size in bytes, the most bytes that all blocks held together had at any
  * time, and how often a block, or a larger one, was asked for. Where HEAP_MOST is set, a block of more bytes is refused; where HEAP_PEAK is set, a block with
- * which all would have more bytes; where HEAP_REFUSED is set, what is asked for at that time, counted from 1. */
+ * which all would have more bytes; where HEAP_REFUSED is set, what is asked for at that time, counted from 1. A program that it is linked into may ask
+ * what all blocks have now (heap_held), as bench/memory.c does. */
 #include <errno.h>
 #include <fcntl.h>
 #include <malloc.h>
@@ -15,8 +16,11 @@ void *__libc_calloc(size_t count, size_t size);
 void *__libc_realloc(void *block, size_t size);
 void *__libc_memalign(size_t alignment, size_t size);
 void __libc_free(void *block);
+unsigned long heap_held(void);
 
 static unsigned long taken, given, largest, held, peak, asked, most = SIZE_MAX, peak_limit = SIZE_MAX, refused_at = SIZE_MAX;
+
+unsigned long heap_held(void) { return held; }
 
 static unsigned long limit_of(const char *name) {
   const char *limit = getenv(name);
