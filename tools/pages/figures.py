@@ -1,13 +1,16 @@
 #!/usr/bin/env python3
-"""Writes the tables of measured figures in README.md, docs/FIGURES.md and docs/TUTORIAL.md, from tools/data/figures.txt.
+"""Writes the tables of measured figures in README.md, docs/FIGURES.md and docs/TUTORIAL.md, from tools/data/figures.txt (times) and memory.txt (bytes
+that the heap holds).
 
-tools/data/figures.txt has a head (`== commit, date, machine`), and a line for each row (its name, a colon, and its values, each behind its word
-and with its unit). `bench/messages --record` measures anew and hands what it prints to this tool, which replaces the file. The README's line on memory has the numbers of docs/FIGURES.md, *Memory*:
+Each file has a head (`== commit, date, machine`), and a line for each row (its name, a colon, and its values, each behind its word and with its unit).
+`bench/messages --record` and `bench/memory --record` measure anew and hand what they print to this tool, which replaces the file. The README's line on memory
+also has numbers of docs/FIGURES.md, *Memory*:
 
-    tools/pages/figures.py              writes the tables
-    tools/pages/figures.py --record     replaces the file by what is read from standard input, and writes the tables
-    tools/pages/figures.py --check      writes nothing, and ends with status 1 where a table is not that of the file, or where the text above a
-                                  table does not name the file's commit
+    tools/pages/figures.py                  writes the tables
+    tools/pages/figures.py --record         replaces figures.txt by what is read from standard input, and writes the tables
+    tools/pages/figures.py --record-memory  the same with memory.txt
+    tools/pages/figures.py --check          writes nothing, and ends with status 1 where a table is not that of the file, or where the text above a
+                                            table does not name the file's commit
 """
 import math
 import os
@@ -18,10 +21,14 @@ import textwrap
 from datetime import datetime, timezone
 
 TOP = os.path.dirname(os.path.dirname(os.path.dirname(os.path.abspath(__file__))))
-FILE, README, FIGURES, TUTORIAL = "tools/data/figures.txt", "README.md", "docs/FIGURES.md", "docs/TUTORIAL.md"
-BENCH = "bench/messages"
+FILE, MEMORY_FILE = "tools/data/figures.txt", "tools/data/memory.txt"
+README, FIGURES, TUTORIAL = "README.md", "docs/FIGURES.md", "docs/TUTORIAL.md"
+BENCH, MEMORY_BENCH = "bench/messages", "bench/memory"
 HEAD = f"""# What was measured last, at one commit and on one machine. Written by `{BENCH} --record`; tools/pages/figures.py writes the tables of README.md,
 # docs/FIGURES.md and docs/TUTORIAL.md from it.
+"""
+MEMORY_HEAD = f"""# What the heap held, at one commit. Written by `{MEMORY_BENCH} --record`; tools/pages/figures.py writes the table of docs/FIGURES.md from it, and README.md's
+# line on memory.
 """
 SIZES = ("1 MiB", "16 MiB")
 # The rows of the README: what it calls them, and what `bench/messages` does, in a document of CITED_SIZE.
@@ -43,13 +50,13 @@ ASKED_BY_ROW = {
     "its bookmarks: SCI_MARKERGET": (1, "MARKERGET"),
 }
 WINDOW = 50
-# What docs/FIGURES.md says of memory.
-LOADED = re.compile(r"a text of (?P<size>\d+ MiB) was loaded, the heap held (?P<times>[\d.]+) times the bytes of its text and line starts", re.S)
-WORKED_ON = re.compile(r"^\| 64 MiB \|.*\| (?P<alive>[\d.]+) MiB \| (?P<held>[\d.]+) MiB \| [\d.]+ MiB \|$", re.M)
+# What docs/FIGURES.md says of memory after random work.
+WORKED_ON = re.compile(r"After random edits by `out/load`, at commit (?P<commit>\w+), in (?P<size>\d+ MiB) of text: (?P<held>[\d.]+) MiB held, (?P<alive>[\d.]+) of them in use")
 # How the rows of the benchmark are named whose view listens. The README counts the others alone.
 NOTIFIED = ", notified"
 # The rows that it prints; times are followed by their medians.
 PRINTED = re.compile(r"^\| (?P<name>.+?) +\| +(?P<size>\d+) \| +(?P<ours>[\d.]+) .*?\| +(?P<Scintilla>[\d.]+) .*?\| +[\d.]+ \|$", re.M)
+PRINTED_MEMORY = re.compile(r"^\| (?P<name>.+?) +\| +(?P<ours>[\d.]+) \| +(?P<Scintilla>[\d.]+) \|$", re.M)
 
 
 def read(path):
@@ -62,9 +69,9 @@ def write(path, text):
         file.write(text)
 
 
-def recorded():
+def recorded(path=FILE):
     """The file's head, and the lines of its rows."""
-    head, rows = re.search(r"^== ([^\n]*)\n(.*)", read(FILE), re.M | re.S).groups()
+    head, rows = re.search(r"^== ([^\n]*)\n(.*)", read(path), re.M | re.S).groups()
     return head, rows.splitlines()
 
 
@@ -137,16 +144,42 @@ def of_tutorial():
     return table(["What is asked", *SIZES], rows) + f"\nSo the queries for a window of {WINDOW} rows take {window}, without fold levels and styles (SCI_GETSTYLEDTEXT), which were not measured.\n"
 
 
-def on_memory():
-    page = " ".join(read(FIGURES).split())
-    loaded, worked_on = LOADED.search(page), WORKED_ON.search(read(FIGURES))
-    if not loaded or not worked_on:
-        sys.exit(f"{FIGURES}: no sentence on a loaded text, or no row of 64 MiB, under *Memory*")
-    commit = re.search(r"By `out/load` \(`TESTING.md`\), at commit (\w+):", page)[1]
-    return (f"**Memory.** While loading {loaded['size']}, the heap held {loaded['times']} times the text with its line index. After minutes of "
-            f"random edits in 64 MiB of text, it held {float(worked_on['held']):.0f} MiB, {float(worked_on['alive']):.0f} MiB of them in use "
-            f"({commit}). The rest is mostly spare capacity, which a document keeps.")
+# ---- What the heap held ----
 
+def held():
+    """How many bytes are held here and in Scintilla, by what they are held for."""
+    rows = (values_of(row) for row in recorded(MEMORY_FILE)[1])
+    return {name: (number(values["ours"]), number(values["Scintilla"])) for name, values in rows}
+
+
+def counted(bytes_held):
+    """Bytes, as the page has them."""
+    return f"{bytes_held:.2f}" if bytes_held < 100 else f"{bytes_held:,.0f}"
+
+
+def of_memory():
+    """The table: what says the same before its colon stands in one row."""
+    groups = {}
+    for name, pair in held().items():
+        what, _, case = name.partition(": ")
+        groups.setdefault(what, []).append((case, *map(counted, pair)))
+    rows = [[what + ": " * bool(cases[0]) + "; ".join(cases), *map("; ".join, sides)] for what, group in groups.items() for cases, *sides in [zip(*group)]]
+    return table(["Bytes held for each", "ours", "Scintilla"], rows)
+
+
+def on_memory():
+    """The README's line."""
+    worked_on = WORKED_ON.search(" ".join(read(FIGURES).split()))
+    if not worked_on:
+        sys.exit(f"{FIGURES}: no sentence on random work, under *Memory*")
+    (text, line), (their_text, their_line) = zip(*(held()[name] for name in ("byte: loaded", "line: start")))
+    styled = held()["byte: styled"]
+    return (f"**Memory.** A byte takes {text:.2f} bytes loaded, {styled[0]:.2f} styled, a line {line:.2f} "
+            f"(Scintilla: {their_text:.2f}, {styled[1]:.2f}, {their_line:.2f}). After minutes of random edits in {worked_on['size']} of text, the heap held "
+            f"{float(worked_on['held']):.0f} MiB, {float(worked_on['alive']):.0f} of them in use ({worked_on['commit']}): a document keeps its spare capacity.")
+
+
+# ---- The README ----
 
 def of_readme():
     """The README's section on figures."""
@@ -185,6 +218,7 @@ def replaced(page, title, pattern, new):
 def pages():
     """What the pages are to be."""
     figures = replaced(read(FIGURES), "Beside Scintilla", r"(^\|[^\n]*\n)+", beside_scintilla())
+    figures = replaced(figures, "Memory", r"(^\|[^\n]*\n)+", of_memory())
     tutorial = replaced(read(TUTORIAL), "What a frame costs", r"(^\|[^\n]*\n)+(\nSo the queries [^\n]*\n)?", of_tutorial())
     return {README: replaced(read(README), "Figures", r"\A.*\Z", of_readme()), FIGURES: figures, TUTORIAL: tutorial}
 
@@ -192,9 +226,9 @@ def pages():
 def faults():
     for path, wanted in pages().items():
         if read(path) != wanted:
-            yield f"{path}: the figures are not those of {FILE}: run tools/pages/figures.py"
-    commit = commit_of(recorded()[0])
-    for path, title in ((FIGURES, "Beside Scintilla"), (TUTORIAL, "What a frame costs")):
+            yield f"{path}: the figures are not those of {FILE} and {MEMORY_FILE}: run tools/pages/figures.py"
+    for path, title, file in ((FIGURES, "Beside Scintilla", FILE), (FIGURES, "Memory", MEMORY_FILE), (TUTORIAL, "What a frame costs", FILE)):
+        commit = commit_of(recorded(file)[0])
         section = re.search(rf"^## {title}\n(.*?)^\|", read(path), re.M | re.S)
         if commit not in section[1]:
             yield f"{path}: the text of *{title}* does not name the commit of its table, {commit}"
@@ -210,7 +244,7 @@ def machine():
 
 def commit_here():
     """The commit whose crates are measured: they have to be as it has them."""
-    measured = ["crates", "include", "c", "bench"]
+    measured = ["crates", "include", "c", "bench", "tools/ci/heap_count.c"]
     if subprocess.run(["git", "-C", TOP, "diff", "--quiet", "HEAD", "--", *measured]).returncode:
         sys.exit(f"{', '.join(measured)}: something differs from the last commit, so the figures would be of none")
     command = ["git", "-C", TOP, "rev-parse", "--short=7", "HEAD"]
@@ -237,25 +271,30 @@ def shown(lines):
         yield line
 
 
-def record():
+def memory_rows_of(printed):
+    return [f"{row['name']}: ours {row['ours']} bytes, Scintilla {row['Scintilla']} bytes" for row in PRINTED_MEMORY.finditer(printed)]
+
+
+def record(path, head, rows_of_text):
     commit = commit_here()
-    rows = rows_of("".join(shown(sys.stdin)))
+    rows = rows_of_text("".join(shown(sys.stdin)))
     # A row that went by another name before, or failed, is told.
-    before, now = ({values_of(row)[0] for row in lines} for lines in (recorded()[1], rows))
+    before, now = ({values_of(row)[0] for row in lines} for lines in (recorded(path)[1], rows))
     if before - now:
         sys.exit("not measured: " + "; ".join(sorted(before - now)))
-    head = f"commit {commit}, {datetime.now(timezone.utc):%Y-%m-%d}, {machine()}"
-    write(FILE, f"{HEAD}\n== {head}\n" + "".join(f"{row}\n" for row in rows))
-    print(f"{FILE}: {len(rows)} rows")
+    write(path, f"{head}\n== commit {commit}, {datetime.now(timezone.utc):%Y-%m-%d}, {machine()}\n" + "".join(f"{row}\n" for row in rows))
+    print(f"{path}: {len(rows)} rows")
 
 
 def main():
     words = sys.argv[1:]
     if words[:1] == ["--record"]:
-        record()
+        record(FILE, HEAD, rows_of)
+    elif words[:1] == ["--record-memory"]:
+        record(MEMORY_FILE, MEMORY_HEAD, memory_rows_of)
     elif words == ["--check"]:
         wrong = list(faults())
-        print("\n".join(wrong) or f"the figures of {README}, {FIGURES} and {TUTORIAL} are those of {FILE}")
+        print("\n".join(wrong) or f"the figures of {README}, {FIGURES} and {TUTORIAL} are those of {FILE} and {MEMORY_FILE}")
         sys.exit(bool(wrong))
     for path, wanted in pages().items():
         write(path, wanted)
