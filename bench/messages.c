@@ -375,7 +375,8 @@ static int compared;
 static void print_times(double times[SIDES][RUNS], int runs) {
   for (int i = 0; i < side_count; i++) {
     qsort(times[i], (size_t)runs, sizeof times[i][0], by_size);
-    printf(" %11.1f (%11.1f) |", times[i][0], times[i][runs / 2]);
+    int decimals = times[i][0] < 10 ? 2 : 1;
+    printf(" %11.*f (%11.*f) |", decimals, times[i][0], decimals, times[i][runs / 2]);
   }
   for (int i = 0; has_theirs && i < side_count - 1; i++) printf(" %5.2f |", times[i][0] / times[side_count - 1][0]);
   if (has_theirs) {
