@@ -1,5 +1,7 @@
 -- The smallest range with all changed styles, when one style after another is written.
-use Rattle.cell_buffer.proofs.Names.{◌≡◌, ◌<◌, ◌+◌, ◌-◌, ℕ, zero, suc, List, [], ◌∷◌, ◌++◌, length, take, drop, get_or, Bool, true, false, refl, eq-eqb, ap, ap₂, sym, ◌∙◌, arith, append_assoc, Option, Some, if◌then◌else◌, not, ◌==◌, slice_index, unwrap_or, filter, length-append, length-take-le, drop_more, take-append-drop, append-nil, changed_places, changed_range, extent, overwritten, widened}
+use Rattle.cell_buffer.proofs.Names.{◌≡◌, ◌<◌, ◌+◌, ◌-◌, ℕ, zero, suc, List, [], ◌∷◌, ◌++◌, length, take, drop, get_or, Bool, true, false, refl, eq-eqb, ap, ap₂, sym, ◌∙◌, arith, append_assoc, Option, Some, if◌then◌else◌, not, ◌==◌, slice_index, unwrap_or, filter, length-append, length-take-le, drop_more, take-append-drop, append-nil, changed_places, changed_range, extent, nothing_changed, set, overwritten, range_of, range_with, widened}
+use Rattle.split_vector.specs.Split.{Split}
+use Rattle.cell_buffer.proofs.Pairs.{overwritten_none, overwritten_push}
 use Rattle.std.specs.List.{range_with_len, last_or}
 
 -- the places at which two lists differ, the first of their items standing at the place k
@@ -114,7 +116,22 @@ range_in_front xs ys zs l =
     ∙ append-nil (differing 0 xs ys)
     ∙ sym (places xs ys l))
 
--- what `put` returns for one more item, by what was known before
-pub range_put : (xs done before : List ℕ) (so_far : Option (ℕ × ℕ)) (start i a : ℕ) → before ≡ overwritten xs start done → so_far ≡ changed_range xs before → length done ≡ i → start + i < length xs →
-    (if slice_index before (start + i) == a then so_far else widened (start + i) so_far) ≡ changed_range xs (overwritten xs start (done ++ a ∷ []))
-range_put xs done before so_far start i a e s h l = rw (s, e) (sym (range_more xs done start i a h l))
+-- the loops of `overwrite` and `fill`: so many items are written, the range of those that changed is known, and nothing moved
+pub record Written (start : ℕ) (done : List ℕ) (ends : ℕ × ℕ) (old now : Split ℕ) : Type 0 where
+  pub items : now.items ≡ overwritten old.items start done
+  pub changed : range_of ends ≡ changed_range old.items now.items
+  pub rest : now ≡ record old { items = now.items }
+
+pub written_none : (start : ℕ) (old : Split ℕ) → Written start [] (0, 0) old old
+written_none start old = record { items = sym (overwritten_none old.items start); changed = sym (nothing_changed old.items); rest = refl }
+
+-- one more item
+pub written_more : (start i a : ℕ) (done more : List ℕ) (ends ends' : ℕ × ℕ) (old now next : Split ℕ) → Written start done ends old now → next ≡ record now { items = set now.items (start + i) a } →
+    range_of ends' ≡ range_with now.items (start + i) a (range_of ends) → length done ≡ i → start + i < length old.items → more ≡ done ++ a ∷ [] → Written start more ends' old next
+written_more start i a done more ends ends' old now next w e r h l m =
+    let items : next.items ≡ overwritten old.items start (done ++ a ∷ []) = ap (λ s. s.items) e ∙ ap (λ xs. set xs (start + i) a) w.items ∙ overwritten_push old.items done start i a h l in
+    record {
+      items = items ∙ ap (λ t. overwritten old.items start t) (sym m);
+      changed = r ∙ rw (w.items, w.changed, w.items, items) (sym (range_more old.items done start i a h l));
+      rest = e ∙ ap (λ (s : Split ℕ). record s { items = set now.items (start + i) a }) w.rest ∙ ap (λ xs. record old { items = xs }) (sym (ap (λ s. s.items) e));
+    }

@@ -7,4 +7,4 @@ pub use Rattle.ed_model.specs.Steps.{Insert, edited_cells}
 pub use Rattle.ed_model.specs.Text.{bytes_of, styles_of, plain_cell, plain_cells}
 pub use Rattle.ed_model.specs.proved.Indicators.{nothing_changed}
 pub use Rattle.split_vector.specs.Split.{gap_after, moved_after, gap_closed, moved_closed, inserted, deleted}
-pub use Rattle.cell_buffer.specs.Buffer.{overwritten, widened, Buffer, CostsAtMost, CostsBoth, paired, range_between}
+pub use Rattle.cell_buffer.specs.Buffer.{overwritten, widened, Buffer, CostsAtMost, CostsBoth, paired, range_of, range_with}

@@ -1,6 +1,7 @@
 -- The bytes and the stored styles as cells: how both are read and changed.
 use Rattle.cell_buffer.proofs.Names.{◌≡◌, ◌≤◌, ◌<◌, ◌+◌, ◌-◌, ℕ, List, [], ◌∷◌, ◌++◌, length, take, drop, replicate, get_or, ap, ap₂, sym, ◌∙◌, arith, Some, min, slice_get, slice_range, length-append, length-take, length-drop, length-map, length-replicate, take_all, drop_all, take-append-le, drop-append-le, bytes_of, styles_of, plain_cells, Insert, edited_cells, changed_range, inserted, deleted, paired, overwritten}
 use Rattle.std.proofs.Common.{append-nil}
+use Rattle.ed_model.specs.Text.{Cell}
 use Rattle.std.proofs.Math.Seq.{take-append-add, drop-append-add}
 use Rattle.cell_buffer.proofs.Pairs.{pairs_length, pairs_bytes, pairs_styles, plain_pairs, zeros_stored, read_item, deleted_pairs, deleted_all, overwritten_length}
 use Rattle.cell_buffer.proofs.Changed.{range_in_front}
@@ -61,6 +62,9 @@ changed_of_stored bs ss new start h l =
     sym (ap₂ changed_range (pairs_styles bs ss h) now ∙ range_in_front ss (overwritten ss start new) zeros same)
 
 -- A range of two lists that stand one behind the other.
+
+pub text_seen : (bs ss : List ℕ) (cells : List Cell) → paired bs ss ≡ cells → bs ≡ bytes_of cells
+text_seen bs ss cells e = sym (pairs_bytes bs ss) ∙ ap bytes_of e
 
 pub range_before : (xs ys : List ℕ) (start past : ℕ) → start ≤ past → past ≤ length xs → slice_range xs start past ≡ slice_range (xs ++ ys) start past
 range_before xs ys start past l h =

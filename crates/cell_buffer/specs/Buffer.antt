@@ -1,8 +1,9 @@
 -- What a contract sees of `Cells`.
-use Rattle.std.specs.Prelude.{◌≡◌, ◌≤◌, ◌<◌, ℕ, ◌+◌, ◌-◌, ◌*◌, ◌⊎◌, ◌==◌, if◌then◌else◌, min, max, nat_lt, nat_le, Bool, true, false, List, [], ◌∷◌, ◌++◌, length, take, drop, slice_index, slice_range, Option, Some, None}
+use Rattle.std.specs.Prelude.{◌≡◌, ◌≤◌, ◌<◌, ℕ, ◌+◌, ◌-◌, ◌^◌, ◌⊎◌, ◌==◌, if◌then◌else◌, min, nat_lt, nat_le, Bool, true, false, List, [], ◌∷◌, ◌++◌, length, take, drop, slice_index, slice_range, Option, Some, None}
 use Rattle.ed_model.specs.Text.{Cell, bytes_of, plain_cell}
 use Rattle.ed_model.specs.Changes.{restyled}
-use Rattle.split_vector.specs.Split.{Split, gap_after, gap_closed, moved_after, moved_closed}
+use Rattle.ed_model.specs.Steps.{Insert, edited_cells}
+use Rattle.split_vector.specs.Split.{Split, gap_after, gap_closed, most_held, moved_after, moved_closed}
 
 -- The cells; whether styles are kept (otherwise all are 0); for how many cells, from the first on, the styles are stored
 -- (those behind are 0); and how many bytes, and how many styles, fit in all without an allocation. Then, for the gap buffer
@@ -36,19 +37,22 @@ KeepsRoom old new = (count : ℕ) → HasRoom count old → HasRoom count new
 abbrev pub IsWithin : ℕ × ℕ → ℕ × ℕ → Type 0
 IsWithin less more = (less.0 ≤ more.0) × (less.1 ≤ more.1)
 
--- the most that fits into a block once memory for `wanted` items was requested: as much as before if they fit, and
--- otherwise `wanted`, or twice as much as before
-abbrev pub most_held : (held wanted : ℕ) → ℕ
-most_held held wanted = if nat_le wanted held then held else max wanted (2 * held)
-
 -- the most that fits once room for `count` more bytes was requested
 abbrev pub most_capacity : ℕ → Buffer → ℕ × ℕ
 most_capacity count b =
     (most_held b.capacity.0 (length b.cells + count), most_held b.capacity.1 (styles_for b.keeps_styles (length b.cells + count)))
 
--- styles are kept, and nothing else changes but how many of them fit
+-- nothing but the capacity has changed: it is no less, and no more than room for `count` more bytes asks for
+abbrev pub Grows : ℕ → Buffer → Buffer → Type 0
+Grows count old new =
+    (new ≡ record old { capacity = new.capacity })
+    × IsWithin old.capacity new.capacity
+    × IsWithin new.capacity (most_capacity count old)
+    × (new.capacity.0 < 2 ^ 63)
+
+-- styles are kept, and nothing else changes but how many of them fit; whatever there was room for still fits
 abbrev pub GainsStyles : Buffer → Buffer → Type 0
-GainsStyles old new = new ≡ record old { keeps_styles = true; capacity = (old.capacity.0, new.capacity.1) }
+GainsStyles old new = (new ≡ record old { keeps_styles = true; capacity = (old.capacity.0, new.capacity.1) }) × KeepsRoom old new
 
 -- the `count` bytes from the start on
 abbrev pub bytes_in : Buffer → (start count : ℕ) → List ℕ
@@ -78,52 +82,42 @@ styled_ahead = 4096
 abbrev pub styled_up_to : ℕ → ℕ → ℕ → ℕ
 styled_up_to n end styled = if nat_le end styled then styled else end + min (n - end) styled_ahead
 
--- where both gaps lie after `count` cells were inserted at the place
-abbrev pub gaps_after_insertion : Buffer → (place count : ℕ) → ℕ × ℕ
-gaps_after_insertion b place count =
-    (gap_after place count b.gaps.0, gap_after place (styles_in b place count) b.gaps.1)
-
--- both counters after that insertion
-abbrev pub moved_after_insertion : Buffer → (place count : ℕ) → ℕ × ℕ
-moved_after_insertion b place count =
-    (moved_after place count b.gaps.0 b.moved.0, moved_after place (styles_in b place count) b.gaps.1 b.moved.1)
-
--- where both gaps lie after the `count` cells from the place on were deleted
-abbrev pub gaps_after_deletion : Buffer → (place count : ℕ) → ℕ × ℕ
-gaps_after_deletion b place count =
-    (gap_closed place count b.gaps.0, gap_closed place (styles_out b place count) b.gaps.1)
-
--- both counters after that deletion
-abbrev pub moved_after_deletion : Buffer → (place count : ℕ) → ℕ × ℕ
-moved_after_deletion b place count =
-    (moved_closed place count b.gaps.0 b.moved.0, moved_closed place (styles_out b place count) b.gaps.1 b.moved.1)
-
--- where the gap of the styles lies once the styles of the first `styled` cells are stored
-abbrev pub gap_after_storing : Buffer → ℕ → ℕ
-gap_after_storing b styled = gap_after b.styled (styled - b.styled) b.gaps.1
-
--- the counter of the styles then
-abbrev pub moved_after_storing : Buffer → ℕ → ℕ
-moved_after_storing b styled = moved_after b.styled (styled - b.styled) b.gaps.1 b.moved.1
-
--- the styles up to the end are stored, and nothing else changes except the gap and the counter of the styles
-abbrev pub StoresStyles : ℕ → Buffer → Buffer → Type 0
-StoresStyles end old new =
-    new ≡ record old {
-      styled = styled_up_to (length old.cells) end old.styled;
-      gaps = (old.gaps.0, new.gaps.1);
-      moved = (old.moved.0, new.moved.1);
+-- after the bytes were inserted at the place, with style 0: where both gaps lie, and both counters
+abbrev pub with_inserted : ℕ → List ℕ → Buffer → Buffer
+with_inserted place bytes b =
+    let count = length bytes in
+    let styles = styles_in b place count in
+    record b {
+      cells = edited_cells (Insert place bytes) b.cells;
+      styled = b.styled + styles;
+      gaps = (gap_after place count b.gaps.0, gap_after place styles b.gaps.1);
+      moved = (moved_after place count b.gaps.0 b.moved.0, moved_after place styles b.gaps.1 b.moved.1);
     }
 
--- the same up to the end of `count` cells from the start on, which get these styles
-abbrev pub SetsStyles : (start count : ℕ) → List ℕ → Buffer → Buffer → Type 0
-SetsStyles start count styles old new =
-    new ≡ record old {
-      cells = take start old.cells ++ restyled styles (drop start old.cells);
-      styled = styled_up_to (length old.cells) (start + count) old.styled;
-      gaps = (old.gaps.0, new.gaps.1);
-      moved = (old.moved.0, new.moved.1);
+-- after the `count` cells from the place on were deleted
+abbrev pub with_deleted : (place count : ℕ) → Buffer → Buffer
+with_deleted place count b =
+    let styles = styles_out b place count in
+    record b {
+      cells = take place b.cells ++ drop (place + count) b.cells;
+      styled = b.styled - styles;
+      gaps = (gap_closed place count b.gaps.0, gap_closed place styles b.gaps.1);
+      moved = (moved_closed place count b.gaps.0 b.moved.0, moved_closed place styles b.gaps.1 b.moved.1);
     }
+
+-- once the styles of the first `styled` cells are stored
+abbrev pub with_stored : ℕ → Buffer → Buffer
+with_stored styled b =
+    record b {
+      styled = styled;
+      gaps = (b.gaps.0, gap_after b.styled (styled - b.styled) b.gaps.1);
+      moved = (b.moved.0, moved_after b.styled (styled - b.styled) b.gaps.1 b.moved.1);
+    }
+
+-- once the `count` cells from the start on have these styles; the styles up to there are stored
+abbrev pub with_styles : (start count : ℕ) → List ℕ → Buffer → Buffer
+with_styles start count styles b =
+    record (with_stored (styled_up_to (length b.cells) (start + count) b.styled) b) { cells = take start b.cells ++ restyled styles (drop start b.cells) }
 
 -- xs with the new items instead of those from the place on
 abbrev pub overwritten : List ℕ → ℕ → List ℕ → List ℕ
@@ -133,13 +127,9 @@ overwritten xs place new = take place xs ++ new ++ drop (place + length new) xs
 abbrev pub Overwrites : ℕ → List ℕ → Split ℕ → Split ℕ → Type 0
 Overwrites place new before after = after ≡ record before { items = overwritten before.items place new }
 
--- the range from a place up to an end, if the end is not 0
-abbrev pub range_between : ℕ → ℕ → Option (ℕ × ℕ)
-range_between first end = if end == 0 then None else Some (first, end - first)
-
--- the same, of a pair of both ends
+-- the range between both ends, if the second is not 0
 abbrev pub range_of : ℕ × ℕ → Option (ℕ × ℕ)
-range_of ends = range_between ends.0 ends.1
+range_of ends = if ends.1 == 0 then None else Some (ends.0, ends.1 - ends.0)
 
 -- the range with one more place behind it, if there is a range
 abbrev pub widened : ℕ → Option (ℕ × ℕ) → Option (ℕ × ℕ)

@@ -1,28 +1,18 @@
--- What a growth keeps of a block, how large the block becomes, and what pays for it.
-use Rattle.std.specs.Prelude.{◌≡◌, ℕ, ◌+◌, ◌-◌, ◌*◌, ◌^◌, ◌<◌, ◌≤◌, ◌⊎◌, min, Bool, false, length, Vec, vec_len, vec_capacity}
-use Rattle.split_vector.specs.Split.{Split, IsDoubled, most_room}
+-- How large a block becomes, and what pays for it.
+use Rattle.std.specs.Prelude.{◌≡◌, ℕ, ◌+◌, ◌*◌, ◌^◌, ◌-◌, ◌<◌, ◌≤◌, ◌⊎◌, min, length, Vec, vec_len, vec_capacity}
+use Rattle.split_vector.specs.Split.{Split, most_held}
 
--- nothing has changed except the spare capacity
-abbrev pub HasSameItems : Split ℕ → Split ℕ → Type 0
-HasSameItems old new = (new.items ≡ old.items) × (new.gap ≡ old.gap) × (new.moved ≡ old.moved)
+-- nothing but the capacity has changed: it is no less, and no more than `wanted` items ask for
+abbrev pub GrowsTo : ℕ → Split ℕ → Split ℕ → Type 0
+GrowsTo wanted old new =
+    (new ≡ record old { capacity = new.capacity })
+    × (old.capacity ≤ new.capacity)
+    × (new.capacity ≤ most_held old.capacity wanted)
+    × (new.capacity < 2 ^ 63)
 
--- both blocks did not grow, or have twice as many cells
-abbrev pub AreDoubled : Split ℕ → Split ℕ → Split ℕ → Split ℕ → Type 0
-AreDoubled bytes bytes' styles styles' = IsDoubled bytes bytes' × IsDoubled styles styles'
-
--- with so much spare capacity, the block of the styles has a cell for each byte and for `count` more
-abbrev pub HasStyleRoom : ℕ → Split ℕ → Split ℕ → ℕ → Type 0
-HasStyleRoom count bytes styles spare = length bytes.items + count ≤ length styles.items + spare
-
--- no styles are kept, or there is a cell for the style of each byte and of `count` more
-abbrev pub StylesFit : Bool → ℕ → Split ℕ → Split ℕ → Type 0
-StylesFit keeps_styles count bytes styles =
-    (keeps_styles ≡ false) ⊎ HasStyleRoom count bytes styles styles.spare
-
--- the most spare capacity that the block of the styles may have after room for `count` more bytes was requested
-abbrev pub most_style_room : ℕ → Split ℕ → Split ℕ → ℕ
-most_style_room count bytes styles =
-    most_room (length styles.items) styles.spare (length bytes.items - length styles.items + count)
+-- the block did not grow, or to twice its size at least
+abbrev pub IsDoubled : Split ℕ → Split ℕ → Type 0
+IsDoubled old new = (new ≡ old) ⊎ (2 * old.capacity ≤ new.capacity)
 
 -- `count` more bytes are few beside the text, and growth by little is paid for: the text was moved by more than the
 -- units from which on it is

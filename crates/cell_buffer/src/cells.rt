@@ -1,12 +1,13 @@
 //! `Cells` and its calls. A contract sees its `cells`, whether it keeps styles (`keeps_styles`), for how many cells the
 //! styles are stored (`styled`), and the `capacity`, `gaps` and `moved` of both gap buffers.
 
-ghost use Rattle.std.specs.Prelude.{◌≡◌, ◌<◌, ◌≤◌, ◌+◌, ◌^◌, true, false, ◌++◌, [], ◌∷◌, length, take, drop, replicate, slice_get, slice_range, vec_capacity, IfOk, OnOk, OnErr, IsOk};
+ghost use Rattle.std.specs.Prelude.{◌≡◌, ◌<◌, ◌≤◌, ◌+◌, ◌^◌, ◌↔◌, true, false, ◌++◌, [], ◌∷◌, length, replicate, slice_get, slice_range, vec_capacity, IfOk, OnOk, OnErr, IsOk, IsTrue};
 ghost use Rattle.ed_model.specs.Text.{bytes_of, styles_of, plain_cells};
-ghost use Rattle.ed_model.specs.Steps.{Insert, edited_cells};
 ghost use Rattle.ed_model.specs.Indicators.{changed_range};
-ghost use Rattle.cell_buffer.specs.Buffer.{bytes_in, gap_after_storing, gaps_after_deletion, gaps_after_insertion, most_capacity, most_held, moved_after_deletion, moved_after_insertion, moved_after_storing, no_cells, styles_in, styles_out, CostsBoth, CostsInsertion, GainsStyles, HasRoom, IsWithin, KeepsRoom, SetsStyles, StoresStyles};
+ghost use Rattle.cell_buffer.specs.Buffer.{bytes_in, no_cells, styled_up_to, styles_out, with_deleted, with_inserted, with_stored, with_styles, CostsBoth, CostsInsertion, GainsStyles, Grows, HasRoom};
 ghost use Rattle.cell_buffer.specs.Growing.{HasCapacity, HasRoomFor};
+ghost use Rattle.split_vector.specs.Split.{most_held};
+ghost use Rattle.vec_room.specs.Reserved.{IsReserved};
 
 use crate::growth::{grow_blocks, size_is_small};
 use crate::styling::{fill, overwrite};
@@ -36,7 +37,6 @@ pub struct Cells {
 
 impl Model for Cells {
     ghost use Rattle.std.specs.Prelude.{◌≡◌, ◌≤◌, false, length};
-    ghost use Rattle.split_vector.specs.Split.{block_size};
     ghost use Rattle.cell_buffer.specs.Buffer.{Buffer, paired, styles_for};
 
     ghost Value = { Buffer };
@@ -45,7 +45,7 @@ impl Model for Cells {
       cells = paired c.bytes.items c.styles.items;
       keeps_styles = c.keeps_styles;
       styled = length c.styles.items;
-      capacity = (block_size c.bytes, block_size c.styles);
+      capacity = (c.bytes.capacity, c.styles.capacity);
       gaps = (c.bytes.gap, c.styles.gap);
       moved = (c.bytes.moved, c.styles.moved);
     } };
@@ -53,7 +53,7 @@ impl Model for Cells {
     ghost invariant = { λ c. record {
       style_count : length c.styles.items ≤ length c.bytes.items;
       no_styles : c.keeps_styles ≡ false → length c.styles.items ≡ 0;
-      styles_fit : styles_for c.keeps_styles (length c.bytes.items) ≤ block_size c.styles;
+      styles_fit : styles_for c.keeps_styles (length c.bytes.items) ≤ c.styles.capacity;
     } };
 }
 
@@ -77,8 +77,7 @@ impl Cells {
     #[tactic(auto, using(crate::proofs::Pairs::pairs_length))]
     pub fn len(&self) -> usize
         ensures len { result ≡ length self.now.cells }
-        ensures fit { HasRoom 0 self.now }
-        ensures within { self.now.capacity.0 < 2 ^ 63 }
+        ensures fits { HasRoom 0 self.now × (self.now.capacity.0 < 2 ^ 63) }
     {
         self.bytes.len()
     }
@@ -130,12 +129,8 @@ impl Cells {
     #[tactic(auto, using(crate::proofs::Pairs::pairs_length))]
     #[inline(always)]
     pub fn reserve(&mut self, count: usize) -> Result<(), AllocError>
-        ensures rest { self.new ≡ record self.old { capacity = self.new.capacity } }
-        ensures ok { OnOk result (HasRoom count self.new) }
-        ensures room_is_there { HasRoom count self.old → IsOk result × (self.new ≡ self.old) }
-        ensures capacity { IsWithin self.old.capacity self.new.capacity }
-        ensures at_most { IsWithin self.new.capacity (most_capacity count self.old) }
-        ensures within { self.new.capacity.0 < 2 ^ 63 }
+        ensures reserved { IsReserved (HasRoom count) result self.old self.new }
+        ensures grown { Grows count self.old self.new }
     {
         if self.fits(count) {
             return Ok(());
@@ -147,9 +142,7 @@ impl Cells {
     #[inline(always)]
     #[tactic(auto, using(crate::proofs::Pairs::pairs_length))]
     fn fits(&self, count: usize) -> bool
-        ensures yes { result ≡ true → HasRoom count self.now }
-        ensures there { HasRoom count self.now → result ≡ true }
-        ensures within { self.now.capacity.0 < 2 ^ 63 }
+        ensures { (IsTrue result ↔ HasRoom count self.now) × (self.now.capacity.0 < 2 ^ 63) }
     {
         if self.bytes.spare() < count {
             return false;
@@ -157,8 +150,7 @@ impl Cells {
         if !self.keeps_styles {
             return true;
         }
-        let kept = self.styles.len() + self.styles.spare();
-        count <= kept - self.bytes.len()
+        count <= self.styles.capacity() - self.bytes.len()
     }
 
     // Allocates memory for `count` more bytes, and for their styles, of which there is too little. Out of line, since
@@ -166,11 +158,8 @@ impl Cells {
     #[inline(never)]
     #[tactic(auto, using(crate::proofs::Pairs::pairs_length))]
     fn grow(&mut self, count: usize) -> Result<(), AllocError>
-        ensures rest { self.new ≡ record self.old { capacity = self.new.capacity } }
         ensures ok { OnOk result (HasRoom count self.new) }
-        ensures capacity { IsWithin self.old.capacity self.new.capacity }
-        ensures at_most { IsWithin self.new.capacity (most_capacity count self.old) }
-        ensures within { self.new.capacity.0 < 2 ^ 63 }
+        ensures grown { Grows count self.old self.new }
     {
         grow_blocks(
             &mut self.bytes,
@@ -191,7 +180,6 @@ impl Cells {
     pub fn keep_styles(&mut self) -> Result<(), AllocError>
         ensures ok { OnOk result (GainsStyles self.old self.new) }
         ensures plain { self.old.keeps_styles ≡ false → self.new.cells ≡ plain_cells (bytes_of self.new.cells) }
-        ensures room { OnOk result (KeepsRoom self.old self.new) }
         ensures at_most { self.new.capacity.1 ≤ most_held self.old.capacity.1 self.old.capacity.0 }
         ensures kept { self.old.keeps_styles ≡ true → IsOk result × (self.new ≡ self.old) }
         ensures err { OnErr result (self.new ≡ self.old) }
@@ -199,7 +187,8 @@ impl Cells {
         if self.keeps_styles {
             return Ok(());
         }
-        let fit = self.bytes.len() + self.bytes.spare();
+        size_is_small(&self.bytes);
+        let fit = self.bytes.capacity();
         let Ok(()) = self.styles.reserve(fit) else {
             return Err(AllocError);
         };
@@ -211,13 +200,8 @@ impl Cells {
     #[tactic(auto, using(crate::proofs::Pairs::pairs_length, crate::proofs::Pairs::inserted_among, crate::proofs::Pairs::inserted_behind, crate::proofs::Stored::inserted_length, crate::proofs::Stored::stored_length, crate::proofs::Stored::inserted_cells_length, crate::proofs::Costs::insertion_costs))]
     pub fn insert_reserved(&mut self, place: usize, bytes: &[u8])
         requires { (place ≤ length self.old.cells) × HasRoom (length bytes.now) self.old }
-        ensures cells { self.new.cells ≡ edited_cells (Insert place bytes.now) self.old.cells }
+        ensures inserted { self.new ≡ with_inserted place bytes.now self.old }
         ensures len { length self.new.cells ≡ length self.old.cells + length bytes.now }
-        ensures keeps { self.new.keeps_styles ≡ self.old.keeps_styles }
-        ensures capacity { self.new.capacity ≡ self.old.capacity }
-        ensures styled { self.new.styled ≡ self.old.styled + styles_in self.old place (length bytes.now) }
-        ensures gaps { self.new.gaps ≡ gaps_after_insertion self.old place (length bytes.now) }
-        ensures moved { self.new.moved ≡ moved_after_insertion self.old place (length bytes.now) }
         ensures cost { CostsInsertion place (length bytes.now) self.old self.new }
     {
         self.bytes.insert_slice_reserved(place, bytes);
@@ -230,13 +214,8 @@ impl Cells {
     #[tactic(auto, using(crate::proofs::Pairs::pairs_length, crate::proofs::Stored::deleted_among, crate::proofs::Pairs::deleted_behind, crate::proofs::Stored::deleted_cells_length, crate::proofs::Stored::shrunk, crate::proofs::Costs::deletion_costs))]
     pub fn delete(&mut self, place: usize, count: usize)
         requires { place + count ≤ length self.old.cells }
-        ensures cells { self.new.cells ≡ take place self.old.cells ++ drop (place + count) self.old.cells }
+        ensures deleted { self.new ≡ with_deleted place count self.old }
         ensures len { length self.new.cells + count ≡ length self.old.cells }
-        ensures keeps { self.new.keeps_styles ≡ self.old.keeps_styles }
-        ensures capacity { self.new.capacity ≡ self.old.capacity }
-        ensures styled { self.new.styled + styles_out self.old place count ≡ self.old.styled }
-        ensures gaps { self.new.gaps ≡ gaps_after_deletion self.old place count }
-        ensures moved { self.new.moved ≡ moved_after_deletion self.old place count }
         ensures cost { CostsBoth place count (styles_out self.old place count) self.old self.new }
     {
         size_is_small(&self.bytes);
@@ -254,9 +233,7 @@ impl Cells {
     fn store_styles(&mut self, end: usize)
         requires within { end ≤ length self.old.cells }
         requires kept { self.old.keeps_styles ≡ true }
-        ensures same { StoresStyles end self.old self.new }
-        ensures gap { self.new.gaps.1 ≡ gap_after_storing self.old self.new.styled }
-        ensures moved { self.new.moved.1 ≡ moved_after_storing self.old self.new.styled }
+        ensures { self.new ≡ with_stored (styled_up_to (length self.old.cells) end self.old.styled) self.old }
     {
         if self.styles.len() < end {
             self.store_more(end);
@@ -270,9 +247,7 @@ impl Cells {
         requires within { end ≤ length self.old.cells }
         requires kept { self.old.keeps_styles ≡ true }
         requires more { self.old.styled < end }
-        ensures same { StoresStyles end self.old self.new }
-        ensures gap { self.new.gaps.1 ≡ gap_after_storing self.old self.new.styled }
-        ensures moved { self.new.moved.1 ≡ moved_after_storing self.old self.new.styled }
+        ensures { self.new ≡ with_stored (styled_up_to (length self.old.cells) end self.old.styled) self.old }
     {
         let styled = self.styles.len();
         let ahead = (self.bytes.len() - end).min(STYLED_AHEAD);
@@ -287,9 +262,7 @@ impl Cells {
     pub fn set_styles(&mut self, start: usize, styles: &[u8]) -> Option<(usize, usize)>
         requires within { start + length styles.now ≤ length self.old.cells }
         requires kept { self.old.keeps_styles ≡ true }
-        ensures cells { SetsStyles start (length styles.now) styles.now self.old self.new }
-        ensures gap { self.new.gaps.1 ≡ gap_after_storing self.old self.new.styled }
-        ensures moved { self.new.moved.1 ≡ moved_after_storing self.old self.new.styled }
+        ensures cells { self.new ≡ with_styles start (length styles.now) styles.now self.old }
         ensures len { length self.new.cells ≡ length self.old.cells }
         ensures changed { result ≡ changed_range (styles_of self.old.cells) (styles_of self.new.cells) }
     {
@@ -305,9 +278,7 @@ impl Cells {
     pub fn set_style_run(&mut self, start: usize, count: usize, style: u8) -> Option<(usize, usize)>
         requires within { start + count ≤ length self.old.cells }
         requires kept { self.old.keeps_styles ≡ true }
-        ensures cells { SetsStyles start count (replicate count style) self.old self.new }
-        ensures gap { self.new.gaps.1 ≡ gap_after_storing self.old self.new.styled }
-        ensures moved { self.new.moved.1 ≡ moved_after_storing self.old self.new.styled }
+        ensures cells { self.new ≡ with_styles start count (replicate count style) self.old }
         ensures len { length self.new.cells ≡ length self.old.cells }
         ensures changed { result ≡ changed_range (styles_of self.old.cells) (styles_of self.new.cells) }
     {

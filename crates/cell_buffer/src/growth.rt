@@ -3,9 +3,11 @@
 //! twice its size, and by a 64th only where the copies are few beside the other work: once after a large insertion,
 //! whose bytes were written just then, and after that each time that gaps have moved over the whole text many times.
 
-ghost use Rattle.std.specs.Prelude.{◌≡◌, ◌≤◌, ◌<◌, ◌+◌, ◌-◌, ◌*◌, ◌^◌, ◌⊎◌, true, false, length, IsTrue, OnOk, OnErr, IsOk};
-ghost use Rattle.split_vector.specs.Split.{block_size, most_room, GrowsByPart, IsDoubled};
-ghost use Rattle.cell_buffer.specs.Growing.{most_style_room, AreDoubled, HasSameItems, HasStyleRoom, IsFullPrice, IsPaidFor, StylesFit};
+ghost use Rattle.std.specs.Prelude.{◌≡◌, ◌≤◌, ◌<◌, ◌+◌, ◌-◌, ◌*◌, ◌^◌, ◌⊎◌, true, false, length, IsTrue, OnOk, OnErr};
+ghost use Rattle.split_vector.specs.Split.{part_larger, Grows, ItemsFit};
+ghost use Rattle.cell_buffer.specs.Buffer.{styles_for};
+ghost use Rattle.cell_buffer.specs.Growing.{GrowsTo, IsDoubled, IsFullPrice, IsPaidFor};
+ghost use Rattle.vec_room.specs.Reserved.{IsReserved};
 
 use split_vector::SplitVector;
 use std::alloc::AllocError;
@@ -20,12 +22,12 @@ const PARTS: usize = 64;
 /// The unit of `paid_from`, in bytes. In units the number takes four bytes, which fit beside a `bool`.
 const UNIT: usize = 65_536;
 
-// A block has fewer than 2^63 cells.
+// A law: a block has fewer than 2^63 cells.
 #[inline(always)]
 pub(crate) fn size_is_small(block: &SplitVector<u8>)
-    ensures { block_size block.now < 2 ^ 63 }
+    ensures { (length block.now.items ≤ block.now.capacity) × (block.now.capacity < 2 ^ 63) }
 {
-    block.spare();
+    block.len();
 }
 
 // Returns how many units the bytes make, at most `u32::MAX`.
@@ -59,15 +61,11 @@ fn paid_after(len: usize, count: usize, moved: u64) -> u32
 // Makes room for `count` more items in a block. A block that is too small grows by a 64th, or to what is needed if that
 // is more, if `by_little`, and otherwise to twice its size. If the allocation fails, nothing changes.
 fn grow_block(block: &mut SplitVector<u8>, count: usize, by_little: bool) -> Result<(), AllocError>
-    ensures items { HasSameItems block.old block.new }
-    ensures ok { OnOk result (count ≤ block.new.spare) }
-    ensures room_is_there { count ≤ block.old.spare → IsOk result × (block.new ≡ block.old) }
-    ensures room_stays { block.old.spare ≤ block.new.spare }
-    ensures part { by_little ≡ true → block.old.spare < count → OnOk result (GrowsByPart count block.old block.new) }
+    ensures reserved { IsReserved (ItemsFit count) result block.old block.new }
+    ensures grown { Grows count block.old block.new }
+    ensures part { by_little ≡ true → block.old.capacity < length block.old.items + count → OnOk result (block.new.capacity ≡ part_larger block.old.capacity (length block.old.items + count)) }
     ensures doubles { by_little ≡ false → IsDoubled block.old block.new }
-    ensures at_most { block.new.spare ≤ most_room (length block.old.items) block.old.spare count }
     ensures err { OnErr result (block.new ≡ block.old) }
-    ensures within { length block.new.items + block.new.spare < 2 ^ 63 }
 {
     if by_little {
         block.reserve_narrow(count)
@@ -90,19 +88,12 @@ pub(crate) fn grow_blocks(
     count: usize,
 ) -> Result<(), AllocError>
     requires { length styles.old.items ≤ length bytes.old.items }
-    ensures bytes { HasSameItems bytes.old bytes.new }
-    ensures styles { HasSameItems styles.old styles.new }
-    ensures ok { OnOk result (count ≤ bytes.new.spare) }
-    ensures styles_ok { keeps_styles ≡ true → OnOk result (HasStyleRoom count bytes.old styles.old styles.new.spare) }
-    ensures bytes_stay { count ≤ bytes.old.spare → bytes.new ≡ bytes.old }
-    ensures styles_stay { StylesFit keeps_styles count bytes.old styles.old → styles.new ≡ styles.old }
-    ensures room_stays { (bytes.old.spare ≤ bytes.new.spare) × (styles.old.spare ≤ styles.new.spare) }
-    ensures at_most { bytes.new.spare ≤ most_room (length bytes.old.items) bytes.old.spare count }
-    ensures styles_at_most { styles.new.spare ≤ most_style_room count bytes.old styles.old }
-    ensures paid { AreDoubled bytes.old bytes.new styles.old styles.new ⊎ IsPaidFor count bytes.old paid_from.old }
+    ensures bytes { GrowsTo (length bytes.old.items + count) bytes.old bytes.new }
+    ensures styles { GrowsTo (styles_for keeps_styles (length bytes.old.items + count)) styles.old styles.new }
+    ensures ok { OnOk result (ItemsFit count bytes.new × (styles_for keeps_styles (length bytes.old.items + count) ≤ styles.new.capacity)) }
+    ensures paid { (IsDoubled bytes.old bytes.new × IsDoubled styles.old styles.new) ⊎ IsPaidFor count bytes.old paid_from.old }
     ensures price { OnOk result (64 * count ≤ length bytes.old.items → IsFullPrice bytes.old paid_from.new) }
     ensures err { OnErr result ((styles.new ≡ styles.old) × (paid_from.new ≡ paid_from.old)) }
-    ensures within { (block_size bytes.new < 2 ^ 63) × (block_size styles.new < 2 ^ 63) }
 {
     let len = bytes.len();
     let by_little = grows_by_little(len, count, bytes.moved(), *paid_from);

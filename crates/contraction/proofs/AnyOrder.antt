@@ -1,51 +1,17 @@
 -- The fold parents of a line may be opened in any order: the outermost first, or the nearest first.
-use Rattle.contraction.proofs.Names.{◌≡◌, ℕ, zero, suc, ◌+◌, ◌-◌, ◌<◌, ◌≤◌, Bool, true, false, not, ◌&&◌, ◌||◌, cond, ltb, leb, eqb, List, length, reverse, Option, Some, None, sym, refl, ap, ◌∙◌, inl, inr, arith, fold, range_with_len, list_all, cases_eq, cases_lt, cases_Bool, and_parts, and_from, false≢true, ltb-true, leb-true, le-leb, lt-ltb, le-ltb, eqb-true, eq-eqb, ne_eqb, ext_get_or, get_or-set_same, get_or-set_other, Flags, fresh_flags, flags_at, is_visible, is_expanded, with_expanded, is_between, lines_shown, expanded, is_open_between, is_header, is_child, last_child, number_at, fold_parents, fold_parent, header_opened}
+use Rattle.contraction.proofs.Names.{◌≡◌, ℕ, zero, suc, ◌+◌, ◌-◌, ◌<◌, ◌≤◌, Bool, true, false, not, ◌&&◌, ◌||◌, cond, ltb, leb, eqb, List, [], ◌∷◌, length, reverse, Option, Some, None, sym, refl, ap, ◌∙◌, inl, inr, arith, and-false, or_right, fold, fold-append, reverse-append, cases_eq, cases_lt, cases_Bool, and_parts, and_from, false≢true, ltb-true, leb-true, le-leb, lt-ltb, le-ltb, eqb-true, eq-eqb, ne_eqb, ext_get_or, get_or-set_same, get_or-set_other, Flags, fresh_flags, flags_at, is_visible, is_expanded, with_expanded, is_between, lines_shown, expanded, is_open_between, is_header, is_child, last_child, number_at, fold_parents, fold_parent, parents_from, header_opened}
 use Rattle.ed_model.specs.Folding.{is_parent_of}
-use Rattle.contraction.proofs.LineSets.{same_tests}
+use Rattle.ed_model.specs.proved.Folding.{parents_are}
 use Rattle.contraction.proofs.Changed.{one_line}
-use Rattle.contraction.proofs.Expanding.{visible_at, expanded_still, length-with_visible, length-with_expanded, lets_through, all_through}
+use Rattle.contraction.proofs.Expanding.{visible_at, expanded_still, length-with_visible, length-with_expanded, lets_through, open_through, open_to, open_apart, all_through, all_agree}
 use Rattle.contraction.proofs.FoldLines.{last_before, last_here, last_earlier}
 use Rattle.contraction.proofs.Nesting.{last_child_is}
-use Rattle.contraction.proofs.Revealing.{parents_of, none_opened, parent_opened}
-
--- Open between two lines, header by header.
-
-each_passes : (test : ℕ → Bool) (a n k : ℕ) → list_all test (range_with_len a n) ≡ true → a ≤ k → k < a + n → test k ≡ true
-each_passes test a zero k e h l = absurd (omega arith)
-each_passes test a (suc n) k e h l =
-    let both = and_parts (test a) (list_all test (range_with_len (a + 1) n)) e in
-    elim (cases_eq k a) [
-      | inl q ↦ rw q both.0
-      | inr ne ↦ each_passes test (a + 1) n k both.1 (omega arith) (omega arith)
-    ]
 
 module _ (levels : List ℕ) where
-  is_open : (flags : List Flags) (header k : ℕ) → ((r : ℕ) → header < r → r < k → lets_through levels flags k r ≡ true) → is_open_between levels flags header k ≡ true
-  is_open flags header k each = all_through (lets_through levels flags k) (header + 1) (k - (header + 1)) (λ r a b. each r (omega arith) (omega arith))
-
-  open_at : (flags : List Flags) (header k r : ℕ) → is_open_between levels flags header k ≡ true → header < r → r < k → lets_through levels flags k r ≡ true
-  open_at flags header k r e a b = each_passes (lets_through levels flags k) (header + 1) (k - (header + 1)) r e (omega arith) (omega arith)
-
-  same_open : (f g : List Flags) (a b k : ℕ)
-      → (is_open_between levels f a k ≡ true → (r : ℕ) → b < r → r < k → lets_through levels g k r ≡ true)
-      → (is_open_between levels g b k ≡ true → (r : ℕ) → a < r → r < k → lets_through levels f k r ≡ true)
-      → is_open_between levels f a k ≡ is_open_between levels g b k
-  same_open f g a b k to from = same_tests (is_open_between levels f a k) (is_open_between levels g b k) (λ t. is_open g b k (to t)) (λ t. is_open f a k (from t))
-
-  -- a header that is expanded hides nothing
-  expanded_through : (flags : List Flags) (r k : ℕ) → is_expanded flags r ≡ true → lets_through levels flags k r ≡ true
-  expanded_through flags r k e = go (is_header levels r && is_child levels r k) (is_expanded flags r) e
-    where
-      go : (a b : Bool) → b ≡ true → (not a || b) ≡ true
-      go true b e = e
-      go false b e = refl
-
-  -- nor does one that is none, or has the line as no child
-  other_through : (flags : List Flags) (r k : ℕ) → is_header levels r && is_child levels r k ≡ false → lets_through levels flags k r ≡ true
-  other_through flags r k e = go (is_header levels r && is_child levels r k) (is_expanded flags r) e
-    where
-      go : (a b : Bool) → a ≡ false → (not a || b) ≡ true
-      go a b e = rw e refl
+  -- whether a line is shown depends on which headers before it are expanded
+  open_agrees : (f g : List Flags) (a k : ℕ) → ((r : ℕ) → a < r → r < k → is_expanded f r ≡ is_expanded g r) → is_open_between levels f a k ≡ is_open_between levels g a k
+  open_agrees f g a k same =
+      all_agree (lets_through levels f k) (lets_through levels g k) (a + 1) (k - (a + 1)) (λ r b c. ap (λ b. not (is_header levels r && is_child levels r k) || b) (same r (omega arith) (omega arith)))
 
   -- One line, after a header is opened.
 
@@ -92,10 +58,7 @@ module _ (levels : List ℕ) where
             (shown_line flags h k l
             ∙ shows (eqb k h) (is_child levels h k) (is_open_between levels flags h k) (flags_at flags k) (λ t. ap (is_expanded flags) (eqb-true k h t) ∙ on))
         | inr off ↦
-            let still : is_open_between levels shown h k ≡ is_open_between levels flags h k =
-            same_open shown flags h h k
-            (λ t r a b. ap (λ e. not (is_header levels r && is_child levels r k) || e) (sym (expanded_still (is_between h (h + 1)) (λ _. true) flags r (omega arith))) ∙ open_at shown h k r t a b)
-            (λ t r a b. ap (λ e. not (is_header levels r && is_child levels r k) || e) (expanded_still (is_between h (h + 1)) (λ _. true) flags r (omega arith)) ∙ open_at flags h k r t a b) in
+            let still = open_agrees shown flags h k (λ r a b. expanded_still (is_between h (h + 1)) (λ _. true) flags r (omega arith)) in
             rw off
             (visible_at (is_child levels h) (is_open_between levels shown h) (with_expanded h true shown) k (omega (arith, length-with_expanded h true shown))
             ∙ ap (λ (f : Flags). cond (is_child levels h k) (record f { visible = is_open_between levels shown h k }) f)
@@ -112,8 +75,7 @@ module _ (levels : List ℕ) where
       expands : (here child free' free : Bool) (f : Flags) → free' ≡ free → (here ≡ true → child ≡ false)
           → (let g = cond here (record f { visible = true }) f in let x = cond here (record g { expanded = true }) g in cond child (record x { visible = free' }) x)
           ≡ record { visible = cond here true (cond (not false && child) free f.visible); expanded = here || f.expanded }
-      expands true true free' free f e n = absurd (false≢true (sym (n refl)))
-      expands true false free' free f e n = refl
+      expands true child free' free f e n = rw (n refl) refl
       expands false true free' free f e n = rw e refl
       expands false false free' free f e n = refl
 
@@ -124,13 +86,12 @@ module _ (levels : List ℕ) where
       ≡ cond (eqb k h) true (cond (not (is_expanded flags h) && is_child levels h k) (is_open_between levels flags h k) (is_visible flags k))
   visible_opened flags h k l = ap (λ (f : Flags). f.visible) (opened flags h k l)
 
-  -- opening expands lines, and contracts none
+  -- opening expands the header, and contracts no line
+  header_expanded : (flags : List Flags) (h : ℕ) → h < length flags → is_expanded (header_opened levels flags h) h ≡ true
+  header_expanded flags h l = expanded_opened flags h h l ∙ rw (eq-eqb h h refl) refl
+
   still_expanded : (flags : List Flags) (h k : ℕ) → k < length flags → is_expanded flags k ≡ true → is_expanded (header_opened levels flags h) k ≡ true
-  still_expanded flags h k l e = expanded_opened flags h k l ∙ rw e (or_true (eqb k h))
-    where
-      or_true : (b : Bool) → (b || true) ≡ true
-      or_true true = refl
-      or_true false = refl
+  still_expanded flags h k l e = expanded_opened flags h k l ∙ or_right (eqb k h) (is_expanded flags k) e
 
   -- no contracted header between two lines has the second one as a child
   abbrev pub ClearBetween : List Flags → ℕ → ℕ → Type 0
@@ -158,56 +119,46 @@ module _ (levels : List ℕ) where
         elim (cases_Bool (is_header levels r && is_child levels r k)) [
           | inl t ↦
               let both = and_parts (is_header levels r) (is_child levels r k) t in
-              expanded_through (header_opened levels flags h) r k
+              open_through levels (header_opened levels flags h) k r
               (still_expanded flags h r (omega arith) (clear r b c (and_from (is_header levels r) (is_child levels r h) both.0 (child_between r h k c a both.1))))
-          | inr f ↦ other_through (header_opened levels flags h) r k f
+          | inr f ↦ rw f refl
         ]
 
     inner_shown : is_open_between levels (header_opened levels flags h) p h ≡ true
-    inner_shown = is_open (header_opened levels flags h) p h (λ r a b. through_between h r (omega arith) inside a b)
-
-    same_through : (g : List Flags) (k r : ℕ) → is_expanded g r ≡ is_expanded flags r → lets_through levels g k r ≡ lets_through levels flags k r
-    same_through g k r e = ap (λ b. not (is_header levels r && is_child levels r k) || b) e
+    inner_shown = all_through (lets_through levels (header_opened levels flags h) h) (p + 1) (h - (p + 1)) (λ r a b. through_between h r (omega arith) inside (omega arith) (omega arith))
 
     -- what opening one header leaves of another line
     apart : (one k : ℕ) → k < length flags → (k ≡ one → ⊥) → is_expanded (header_opened levels flags one) k ≡ is_expanded flags k
     apart one k l ne = expanded_opened flags one k l ∙ rw (ne_eqb k one ne) refl
 
     open_from_inner : (k : ℕ) → k < length flags → is_open_between levels (header_opened levels flags p) h k ≡ is_open_between levels flags h k
-    open_from_inner k l =
-        same_open (header_opened levels flags p) flags h h k
-        (λ t r a b. sym (same_through (header_opened levels flags p) k r (apart p r (omega arith) (λ q. omega arith))) ∙ open_at (header_opened levels flags p) h k r t a b)
-        (λ t r a b. same_through (header_opened levels flags p) k r (apart p r (omega arith) (λ q. omega arith)) ∙ open_at flags h k r t a b)
+    open_from_inner k l = open_agrees (header_opened levels flags p) flags h k (λ r a b. apart p r (omega arith) (λ q. omega arith))
 
     -- for a child of the inner one, if both are expanded
     open_from_either : (k : ℕ) → h < k → k < length flags → is_open_between levels flags h k ≡ is_open_between levels (header_opened levels flags h) p k
     open_from_either k a l =
-        same_open flags (header_opened levels flags h) h p k
-        (λ t r b c.
+        let up_to : open_to levels (header_opened levels flags h) p (h + 1) k ≡ true =
+        all_through (lets_through levels (header_opened levels flags h) k) (p + 1) (h + 1 - (p + 1))
+        (λ r b c.
         elim (cases_lt r h) [
-          | inl low ↦ through_between k r (omega arith) l b low
-          | inr high ↦
-              elim (cases_eq r h) [
-                | inl q ↦ expanded_through (header_opened levels flags h) r k (expanded_opened flags h r (omega arith) ∙ rw (q, eq-eqb h h refl) refl)
-                | inr ne ↦ same_through (header_opened levels flags h) k r (apart h r (omega arith) ne) ∙ open_at flags h k r t (omega arith) c
-              ]
-        ])
-        (λ t r b c. sym (same_through (header_opened levels flags h) k r (apart h r (omega arith) (λ q. omega arith))) ∙ open_at (header_opened levels flags h) p k r t (omega arith) c)
+          | inl low ↦ through_between k r (omega arith) l (omega arith) low
+          | inr high ↦ let q : r ≡ h = omega arith in rw q (open_through levels (header_opened levels flags h) k h (header_expanded flags h inside))
+        ]) in
+        sym (open_apart levels (header_opened levels flags h) p (h + 1) k k (omega arith) (omega arith)
+        ∙ rw up_to (open_agrees (header_opened levels flags h) flags h k (λ r b c. apart h r (omega arith) (λ q. omega arith))))
 
     -- if the inner one was expanded, or does not have the line as a child
     open_from_outer : (k : ℕ) → k < length flags → not (is_expanded flags h) && is_child levels h k ≡ false
         → is_open_between levels flags p k ≡ is_open_between levels (header_opened levels flags h) p k
     open_from_outer k l n =
-        let each : (r : ℕ) → r < k → lets_through levels (header_opened levels flags h) k r ≡ lets_through levels flags k r = λ r c.
+        all_agree (lets_through levels flags k) (lets_through levels (header_opened levels flags h) k) (p + 1) (k - (p + 1))
+        (λ r b c.
         elim (cases_eq r h) [
-          | inl q ↦ rw (q, expanded_opened flags h h inside, eq-eqb h h refl) (open_anyway (is_header levels h) (is_child levels h k) (is_expanded flags h) n)
-          | inr ne ↦ same_through (header_opened levels flags h) k r (apart h r (omega arith) ne)
-        ] in
-        same_open flags (header_opened levels flags h) p p k
-        (λ t r b c. each r c ∙ open_at flags p k r t b c)
-        (λ t r b c. sym (each r c) ∙ open_at (header_opened levels flags h) p k r t b c)
+          | inl q ↦ rw (q, header_expanded flags h inside) (open_anyway (is_header levels h) (is_child levels h k) (is_expanded flags h) n)
+          | inr ne ↦ ap (λ b. not (is_header levels r && is_child levels r k) || b) (sym (apart h r (omega arith) ne))
+        ])
       where
-        open_anyway : (header child free : Bool) → not free && child ≡ false → (not (header && child) || true) ≡ (not (header && child) || free)
+        open_anyway : (header child free : Bool) → not free && child ≡ false → (not (header && child) || free) ≡ (not (header && child) || true)
         open_anyway header child true e = refl
         open_anyway true true false e = absurd (false≢true (sym e))
         open_anyway true false false e = refl
@@ -222,55 +173,25 @@ module _ (levels : List ℕ) where
         swap : (a b e : Bool) → (a || (b || e)) ≡ (b || (a || e))
         swap true true e = refl
         swap true false e = refl
-        swap false true e = refl
-        swap false false e = refl
+        swap false b e = refl
+
+    -- x and y: the one or the other was contracted, and has the line as a child
+    pick : (a b x y inner inner' outer outer' v : Bool) → inner' ≡ inner → (x ≡ true → inner ≡ outer') → (x ≡ false → outer ≡ outer') → (a ≡ true → (b ≡ false) × (outer' ≡ true)) → (b ≡ true → x ≡ false)
+        → cond a true (cond x inner' (cond b true (cond y outer v))) ≡ cond b true (cond y outer' (cond a true (cond x inner v)))
+    pick a b x y inner inner' outer outer' v e both one at_inner at_outer = grind arith
 
     same_visible : (k : ℕ) → k < length flags → is_visible outer_first k ≡ is_visible inner_first k
     same_visible k l =
-        let one = visible_opened (header_opened levels flags p) h k (omega (arith, length-opened flags p)) in
-        let two = visible_opened (header_opened levels flags h) p k (omega (arith, length-opened flags h)) in
-        one
-        ∙ elim (cases_eq k h) [
-          | inl q ↦
-              let inner = visible_opened flags h h inside in
-              let apart_h : eqb h p ≡ false = ne_eqb h p (λ r. omega arith) in
-              rw (q, eq-eqb h h refl)
-              (sym (rw q at two ∙ rw (apart_h, inner_shown, inner, eq-eqb h h refl) (either (not (is_expanded (header_opened levels flags h) p) && is_child levels p h))))
-          | inr ne ↦
-              elim (cases_eq k p) [
-                | inl q ↦
-                    let outer = visible_opened flags p p (omega arith) in
-                    let apart_p : eqb p h ≡ false = ne_eqb p h (λ r. omega arith) in
-                    rw (q, apart_p, not_its_child h p (omega arith), outer, eq-eqb p p refl)
-                    (none (not (is_expanded (header_opened levels flags p) h)) (is_open_between levels (header_opened levels flags p) h p)
-                    ∙ sym (rw q at two ∙ rw (eq-eqb p p refl) refl))
-                | inr ne' ↦
-                    rw (ne_eqb k h ne, visible_opened flags p k l, ne_eqb k p ne', apart p h inside (λ r. omega arith))
-                    (pick (not (is_expanded flags h) && is_child levels h k) (not (is_expanded flags p) && is_child levels p k)
-                    (is_open_between levels (header_opened levels flags p) h k) (is_open_between levels flags h k) (is_open_between levels flags p k)
-                    (is_open_between levels (header_opened levels flags h) p k) (is_visible flags k) (open_from_inner k l)
-                    (λ a b. open_from_either k (child_behind k (and_parts (not (is_expanded flags h)) (is_child levels h k) a).1) l) (λ a b. open_from_outer k l a)
-                    ∙ sym (two ∙ rw (ne_eqb k p ne', visible_opened flags h k l, ne_eqb k h ne, apart h p (omega arith) (λ r. omega arith)) refl))
-              ]
-        ]
-      where
-        either : (b : Bool) → cond b true true ≡ true
-        either true = refl
-        either false = refl
-
-        none : (b o : Bool) → cond (b && false) o true ≡ true
-        none true o = refl
-        none false o = refl
-
-        child_behind : (k : ℕ) → is_child levels h k ≡ true → h < k
-        child_behind k t = ltb-true h k (and_parts (ltb h k) (leb k (last_child levels h)) t).0
-
-        pick : (a b oPh oh op oHp v : Bool) → oPh ≡ oh → (a ≡ true → b ≡ true → oh ≡ oHp) → (a ≡ false → b ≡ true → op ≡ oHp)
-            → cond a oPh (cond b op v) ≡ cond b oHp (cond a oh v)
-        pick true true oPh oh op oHp v e both outer = e ∙ both refl refl
-        pick true false oPh oh op oHp v e both outer = e
-        pick false true oPh oh op oHp v e both outer = outer refl refl
-        pick false false oPh oh op oHp v e both outer = refl
+        visible_opened (header_opened levels flags p) h k (omega (arith, length-opened flags p))
+        ∙ rw (apart p h inside (λ r. omega arith), visible_opened flags p k l)
+        (pick (eqb k h) (eqb k p) (not (is_expanded flags h) && is_child levels h k) (not (is_expanded flags p) && is_child levels p k)
+        (is_open_between levels flags h k) (is_open_between levels (header_opened levels flags p) h k) (is_open_between levels flags p k)
+        (is_open_between levels (header_opened levels flags h) p k) (is_visible flags k) (open_from_inner k l)
+        (λ t. open_from_either k (ltb-true h k (and_parts (ltb h k) (leb k (last_child levels h)) (and_parts (not (is_expanded flags h)) (is_child levels h k) t).1).0) l)
+        (open_from_outer k l)
+        (λ t. let q = eqb-true k h t in (ne_eqb k p (λ r. omega arith), rw q inner_shown))
+        (λ t. let q = eqb-true k p t in rw (not_its_child h k (omega arith)) (and-false (not (is_expanded flags h))))
+        ∙ sym (visible_opened (header_opened levels flags h) p k (omega (arith, length-opened flags h)) ∙ rw (apart h p (omega arith) (λ r. omega arith), visible_opened flags h k l) refl))
 
     pub either_first : outer_first ≡ inner_first
     either_first =
@@ -307,18 +228,27 @@ module _ (levels : List ℕ) where
       later None f found = λ k l. at_last k l f (found k)
       later (Some j) f found = (omega (arith, found.0), λ k a b. at_last k b f (λ c. found.1 k a c))
 
-  -- the flags after the fold parents of the line are opened, the nearest first
+  -- the flags after the fold parents of the line are opened, the nearest first, and the outermost first
   abbrev pub opened_up : ℕ → List Flags → List Flags
   opened_up line flags = fold (header_opened levels) flags (fold_parents levels line)
 
   abbrev pub opened_down : ℕ → List Flags → List Flags
   opened_down line flags = fold (header_opened levels) flags (reverse (fold_parents levels line))
 
+  chain : (line : ℕ) (o : Option ℕ) → o ≡ fold_parent levels line → fold_parents levels line ≡ parents_from levels o
+  chain line o e = parents_are levels line ∙ ap (parents_from levels) (sym e)
+
   pub up_none : (line : ℕ) (flags : List Flags) → None ≡ fold_parent levels line → opened_up line flags ≡ flags
-  up_none line flags e = ap (fold (header_opened levels) flags) (parents_of levels line None e)
+  up_none line flags e = ap (fold (header_opened levels) flags) (chain line None e)
 
   pub up_some : (line parent : ℕ) (flags : List Flags) → Some parent ≡ fold_parent levels line → opened_up line flags ≡ opened_up parent (header_opened levels flags parent)
-  up_some line parent flags e = ap (fold (header_opened levels) flags) (parents_of levels line (Some parent) e)
+  up_some line parent flags e = ap (fold (header_opened levels) flags) (chain line (Some parent) e)
+
+  down_some : (line parent : ℕ) (flags : List Flags) → Some parent ≡ fold_parent levels line → opened_down line flags ≡ header_opened levels (opened_down parent flags) parent
+  down_some line parent flags e =
+      ap (λ l. fold (header_opened levels) flags (reverse l)) (chain line (Some parent) e)
+      ∙ ap (fold (header_opened levels) flags) (reverse-append (parent ∷ []) (fold_parents levels parent))
+      ∙ fold-append (header_opened levels) flags (reverse (fold_parents levels parent)) (parent ∷ [])
 
   -- a line may be opened before its fold parents or after them, if no contracted header between it and the first of these has it as a child
   abbrev pub ClearFrom : List Flags → ℕ → ℕ → Type 0
@@ -348,7 +278,7 @@ module _ (levels : List ℕ) where
       let between = nearest flags line p h le within found.1 clear in
       let from : ClearFrom (header_opened levels flags p) p h = λ r a b t.
       elim (cases_eq r p) [
-        | inl q ↦ expanded_opened flags p r (omega arith) ∙ rw (q, eq-eqb p p refl) refl
+        | inl q ↦ rw q (header_expanded flags p (omega arith))
         | inr ne ↦ still_expanded flags p r (omega arith) (between r (omega arith) b t)
       ] in
       ap (λ fs. header_opened levels fs h) (up_some line p flags e)
@@ -356,29 +286,26 @@ module _ (levels : List ℕ) where
       ∙ ap (opened_up p) (either_first flags p h (omega (arith, found.0)) (omega arith) between)
       ∙ sym (up_some line p (header_opened levels flags h) e)
 
-  last_or_first : (n line h : ℕ) (flags : List Flags) → line ≤ n → line ≤ h → h < length levels → length flags ≡ length levels → ClearFrom flags line h
+  last_or_first : (n line h : ℕ) (flags : List Flags) → line < n → line ≤ h → h < length levels → length flags ≡ length levels → ClearFrom flags line h
       → header_opened levels (opened_up line flags) h ≡ opened_up line (header_opened levels flags h)
-  last_or_first zero line h flags bound le within size clear =
-      last_or_first_by line h flags (fold_parent levels line) refl (found_before (is_parent_of levels line) line) le within size clear (λ p a _. absurd (omega arith))
+  last_or_first zero line h flags bound le within size clear = absurd (omega arith)
   last_or_first (suc n) line h flags bound le within size clear =
       last_or_first_by line h flags (fold_parent levels line) refl (found_before (is_parent_of levels line) line) le within size clear
       (λ p a from. last_or_first n p h (header_opened levels flags p) (omega arith) (omega arith) within (length-opened flags p ∙ size) from)
 
   any_order_by : (line : ℕ) (flags : List Flags) (o : Option ℕ) → o ≡ fold_parent levels line → FoundBefore (is_parent_of levels line) line o
       → line < length levels → length flags ≡ length levels → ((p : ℕ) → p < line → opened_down p flags ≡ opened_up p flags) → opened_down line flags ≡ opened_up line flags
-  any_order_by line flags None e found within size above = none_opened levels line flags e ∙ sym (up_none line flags e)
+  any_order_by line flags None e found within size above = ap (λ l. fold (header_opened levels) flags (reverse l)) (chain line None e) ∙ sym (up_none line flags e)
   any_order_by line flags (Some p) e found within size above =
-      sym (parent_opened levels line p flags (opened_down p flags) (header_opened levels (opened_down p flags) p) e refl refl)
-      ∙ ap (λ fs. header_opened levels fs p) (above p found.0)
-      ∙ last_or_first p p p flags (omega arith) (omega arith) (omega (arith, found.0)) size (λ r a b t. absurd (omega arith))
+      down_some line p flags e ∙ ap (λ fs. header_opened levels fs p) (above p found.0)
+      ∙ last_or_first (suc p) p p flags (omega arith) (omega arith) (omega (arith, found.0)) size (λ r a b t. absurd (omega arith))
       ∙ sym (up_some line p flags e)
 
-  any_order_to : (n line : ℕ) (flags : List Flags) → line ≤ n → line < length levels → length flags ≡ length levels → opened_down line flags ≡ opened_up line flags
-  any_order_to zero line flags bound within size =
-      any_order_by line flags (fold_parent levels line) refl (found_before (is_parent_of levels line) line) within size (λ p a. absurd (omega arith))
+  any_order_to : (n line : ℕ) (flags : List Flags) → line < n → line < length levels → length flags ≡ length levels → opened_down line flags ≡ opened_up line flags
+  any_order_to zero line flags bound within size = absurd (omega arith)
   any_order_to (suc n) line flags bound within size =
       any_order_by line flags (fold_parent levels line) refl (found_before (is_parent_of levels line) line) within size
       (λ p a. any_order_to n p flags (omega arith) (omega arith) size)
 
   pub any_order : (line : ℕ) (flags : List Flags) → line < length levels → length flags ≡ length levels → opened_down line flags ≡ opened_up line flags
-  any_order line flags within size = any_order_to line line flags (omega arith) within size
+  any_order line flags within size = any_order_to (suc line) line flags (omega arith) within size

@@ -1,13 +1,10 @@
 pub mod Names
 pub mod AnyOrder
-pub mod Carried
 pub mod Changed
 pub mod Expanding
 pub mod FoldLines
 pub mod Headings
 pub mod Kept
-pub mod Least
 pub mod LineSets
 pub mod Nesting
 pub mod Outside
-pub mod Revealing

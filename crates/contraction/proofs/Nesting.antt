@@ -1,35 +1,28 @@
 -- The last child of a line, and the nesting of folds.
-use Rattle.contraction.proofs.Names.{◌≡◌, ℕ, zero, suc, ◌+◌, ◌-◌, ◌<◌, ◌≤◌, Bool, true, false, cond, leb, List, length, Option, Some, None, refl, inl, inr, arith, le_refl, find, range_with_len, cases_lt, cases_eq, leb-true, leb-false, number_at, line_before, last_child}
+use Rattle.contraction.proofs.Names.{◌≡◌, ℕ, zero, suc, ◌+◌, ◌-◌, ◌<◌, ◌≤◌, Bool, true, false, leb, List, length, Option, Some, None, inl, inr, arith, le_refl, cases_Bool, find, range_with_len, cases_lt, cases_eq, leb-true, leb-false, number_at, line_before, last_child}
 
 -- the first of a range that passes, or none does
 abbrev pub Found : (ℕ → Bool) → ℕ → ℕ → Option ℕ → Type 0
 Found test a n None = (k : ℕ) → a ≤ k → k < a + n → test k ≡ false
 Found test a n (Some j) = (a ≤ j) × (j < a + n) × (test j ≡ true) × ((k : ℕ) → a ≤ k → k < j → test k ≡ false)
 
-one_later : (test : ℕ → Bool) (a n : ℕ) (o : Option ℕ) → test a ≡ false → Found test (a + 1) n o → Found test a (suc n) o
-one_later test a n None e f = λ k h l.
-    elim (cases_eq k a) [
-      | inl q ↦ rw q e
-      | inr ne ↦ f k (omega arith) (omega arith)
-    ]
-one_later test a n (Some j) e f = (
-  omega (arith, f.0),
-  omega (arith, f.1),
-  f.2,
-  λ k h l.
-      elim (cases_eq k a) [
-        | inl q ↦ rw q e
-        | inr ne ↦ f.3 k (omega arith) l
-      ],
-)
-
-found_at_once : (test : ℕ → Bool) (a n : ℕ) (b : Bool) → test a ≡ b → Found test (a + 1) n (find test (range_with_len (a + 1) n)) → Found test a (suc n) (cond b (Some a) (find test (range_with_len (a + 1) n)))
-found_at_once test a n true e f = (le_refl a, omega arith, e, λ k h l. absurd (omega arith))
-found_at_once test a n false e f = one_later test a n (find test (range_with_len (a + 1) n)) e f
-
 pub found : (test : ℕ → Bool) (a n : ℕ) → Found test a n (find test (range_with_len a n))
 found test a zero = λ k h l. absurd (omega arith)
-found test a (suc n) = found_at_once test a n (test a) refl (found test (a + 1) n)
+found test a (suc n) =
+    elim (cases_Bool (test a)) [
+      | inl t ↦ rw t (le_refl a, omega arith, t, λ k h l. absurd (omega arith))
+      | inr f ↦ rw f (later (find test (range_with_len (a + 1) n)) f (found test (a + 1) n))
+    ]
+  where
+    behind : (k : ℕ) → a ≤ k → test a ≡ false → (a + 1 ≤ k → test k ≡ false) → test k ≡ false
+    behind k h f rest = elim (cases_eq k a) [
+      | inl q ↦ rw q f
+      | inr ne ↦ rest (omega arith)
+    ]
+
+    later : (o : Option ℕ) → test a ≡ false → Found test (a + 1) n o → Found test a (suc n) o
+    later None f none = λ k h l. behind k h f (λ b. none k b (omega arith))
+    later (Some j) f some = (omega (arith, some.0), omega (arith, some.1), some.2, λ k h l. behind k h f (λ b. some.3 k b l))
 
 -- the lines behind the line up to this one have greater numbers, and the next has not
 pub record IsLastChild (levels : List ℕ) (line last : ℕ) : Type 0 where

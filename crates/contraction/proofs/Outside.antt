@@ -2,34 +2,26 @@
 use Rattle.contraction.proofs.Names.{◌≡◌, ℕ, zero, suc, ◌+◌, ◌-◌, ◌<◌, ◌≤◌, Bool, true, false, not, cond, min, List, [], ◌∷◌, ◌++◌, length, get_or, filter, refl, ap, ◌∙◌, inl, inr, arith, zero-add, slice_get, unwrap_or, range_with_len, cases_lt, cases_eq, length-append, get_or_at, get_or_past, range-append, ArePartitions, IsLastAtMost, starts_at, holds, lines_outside}
 use Rattle.std.proofs.lemmas.List.Elements.{filter-append}
 use Rattle.std.proofs.lemmas.Option.{unwrap_or-slice_get}
-use Rattle.contraction.proofs.LineSets.{rising_to, there, not_there}
+use Rattle.contraction.proofs.LineSets.{rising_to, there, not_there, next_behind}
 
--- the place behind is no start
-last_before : (s : List ℕ) (end m i : ℕ) → ArePartitions s end → IsLastAtMost s (m + 1) i → (get_or s i 0 ≡ m + 1 → ⊥) → IsLastAtMost s m i
-last_before s end m i sound last ne = record {
-  within = last.within;
-  at_most = omega (arith, last.at_most);
-  last = λ k a b. omega (arith, last.last k a b);
-}
-
--- the place behind is a start, and the one before it is the last
+-- if the place behind is a start, the one before it is the last
 last_before_start : (s : List ℕ) (end m i : ℕ) → ArePartitions s end → IsLastAtMost s (m + 1) i → get_or s i 0 ≡ m + 1 → (0 < i) × IsLastAtMost s m (i - 1)
 last_before_start s end m i sound last e =
     let some : 0 < i = elim (cases_lt 0 i) [
       | inl h ↦ h
       | inr h ↦ let z : i ≡ 0 = omega arith in let f : get_or s 0 0 ≡ m + 1 = rw z at e in absurd (omega (arith, sound.first))
-    ] in (
+    ] in
+    let back : i - 1 + 1 ≡ i = omega arith in (
       some,
-      record {
-        within = omega (arith, last.within);
-        at_most = omega (arith, rising_to s sound.rising (i - 1) i (omega arith) last.within);
-        last = λ k a b. omega (arith, rising_to s sound.rising i k (omega arith) b);
-      },
+      next_behind s end m (i - 1) sound (omega (arith, last.within)) (omega (arith, rising_to s sound.rising (i - 1) i (omega arith) last.within)) (λ l. rw back (omega arith)),
     )
 
 module _ (s : List ℕ) (end : ℕ) (sound : ArePartitions s end) where
-  outside_one : (m : ℕ) → length (filter (λ line. not (holds s line)) (range_with_len 0 (m + 1)))
-      ≡ length (filter (λ line. not (holds s line)) (range_with_len 0 m)) + length (cond (not (starts_at s (m + 1))) (m ∷ []) [])
+  -- how many of the first m lines are not in the set
+  abbrev pub outside : ℕ → ℕ
+  outside m = length (filter (λ line. not (holds s line)) (range_with_len 0 m))
+
+  outside_one : (m : ℕ) → outside (m + 1) ≡ outside m + length (cond (not (starts_at s (m + 1))) (m ∷ []) [])
   outside_one m =
       let test : ℕ → Bool = λ line. not (holds s line) in
       ap (λ l. length (filter test l)) (range-append 0 m 1) ∙ ap length (filter-append test (range_with_len 0 m) (range_with_len (0 + m) 1))
@@ -37,34 +29,27 @@ module _ (s : List ℕ) (end : ℕ) (sound : ArePartitions s end) where
       ∙ rw (zero-add m) refl
 
   -- each of the lines before one is in the set or outside
-  pub outside_before : (m i : ℕ) → IsLastAtMost s m i → length (filter (λ line. not (holds s line)) (range_with_len 0 m)) + i ≡ m
+  pub outside_before : (m i : ℕ) → IsLastAtMost s m i → outside m + i ≡ m
   outside_before zero i last = omega (arith, last.at_most, rising_to s sound.rising 0 i (omega arith) last.within)
   outside_before (suc m) i last =
       let next : m + 1 ≡ suc m = omega arith in
       let last' : IsLastAtMost s (m + 1) i = rw next last in
-      let all : length (filter (λ line. not (holds s line)) (range_with_len 0 (m + 1))) + i ≡ m + 1 =
+      let all : outside (m + 1) + i ≡ m + 1 =
       elim (cases_eq (get_or s i 0) (m + 1)) [
         | inl e ↦
             let before = last_before_start s end m i sound last' e in
-            let in_set : starts_at s (m + 1) ≡ true = there s i (m + 1) last.within e in
-            let step : length (filter (λ line. not (holds s line)) (range_with_len 0 (m + 1))) ≡ length (filter (λ line. not (holds s line)) (range_with_len 0 m)) + 0
-            = outside_one m ∙ rw in_set refl in
+            let step : outside (m + 1) ≡ outside m + 0 = outside_one m ∙ rw (there s i (m + 1) last.within e) refl in
             omega (arith, step, before.0, outside_before m (i - 1) before.1)
         | inr ne ↦
-            let not_in_set : starts_at s (m + 1) ≡ false = not_there s end (m + 1) i (get_or s i 0) sound last' refl ne in
-            let step : length (filter (λ line. not (holds s line)) (range_with_len 0 (m + 1))) ≡ length (filter (λ line. not (holds s line)) (range_with_len 0 m)) + 1
-            = outside_one m ∙ rw not_in_set refl in
-            omega (arith, step, outside_before m i (last_before s end m i sound last' ne))
+            let before = next_behind s end m i sound last.within (omega (arith, last'.at_most)) (λ l. omega (arith, last'.last (i + 1) (omega arith) l)) in
+            let step : outside (m + 1) ≡ outside m + 1 = outside_one m ∙ rw (not_there s end (m + 1) i sound last' ne) refl in
+            omega (arith, step, outside_before m i before)
       ] in
       rw next at all
 
   -- from the end on, the last start is the last of all
   pub last_of_all : IsLastAtMost s end (length s - 1)
-  last_of_all = record {
-    within = omega (arith, sound.some);
-    at_most = sound.within (length s - 1) (omega (arith, sound.some));
-    last = λ k a b. absurd (omega arith);
-  }
+  last_of_all = next_behind s end end (length s - 1) sound (omega (arith, sound.some)) (sound.within (length s - 1) (omega (arith, sound.some))) (λ l. absurd (omega (arith, sound.some)))
 
   -- the nth of the lines outside, or how many lines there are
   pub nth_outside : (n i : ℕ) → i < length s → get_or s i 0 ≤ n + i → (i + 1 < length s → n + (i + 1) < get_or s (i + 1) 0)
@@ -74,17 +59,9 @@ module _ (s : List ℕ) (end : ℕ) (sound : ArePartitions s end) where
       ∙ elim (cases_lt (n + i) end) [
         | inl inside ↦
             let test : ℕ → Bool = λ line. not (holds s line) in
-            let last : IsLastAtMost s (n + i) i = record {
-              within = h;
-              at_most = low;
-              last = λ k a b. omega (arith, next (omega arith), rising_to s sound.rising (i + 1) k (omega arith) b);
-            } in
-            let last' : IsLastAtMost s (n + i + 1) i = record {
-              within = h;
-              at_most = omega arith;
-              last = λ k a b. omega (arith, next (omega arith), rising_to s sound.rising (i + 1) k (omega arith) b);
-            } in
-            let out : starts_at s (n + i + 1) ≡ false = not_there s end (n + i + 1) i (get_or s i 0) sound last' refl (λ e. omega arith) in
+            let last = next_behind s end (n + i) i sound h low (λ l. omega (arith, next l)) in
+            let last' = next_behind s end (n + i + 1) i sound h (omega arith) (λ l. omega (arith, next l)) in
+            let out = not_there s end (n + i + 1) i sound last' (λ e. omega arith) in
             let count : length (filter test (range_with_len 0 (n + i))) ≡ n = omega (arith, outside_before (n + i) i last) in
             let cut : end ≡ (n + i) + suc (end - (n + i) - 1) = omega arith in
             let parts : lines_outside s end ≡ filter test (range_with_len 0 (n + i)) ++ (n + i) ∷ filter test (range_with_len (n + i + 1) (end - (n + i) - 1)) =

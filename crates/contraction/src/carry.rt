@@ -2,13 +2,14 @@
 
 ghost use Rattle.std.specs.Prelude.{◌≡◌, ◌+◌, ◌≤◌, ◌<◌, [], ◌∷◌, length};
 ghost use Rattle.ed_model.specs.Rows.{flags_together, fresh_flags};
-ghost use Rattle.line_index.specs.Edits.{with_fresh, with_joined, after_edit, after_edits, lines_after_edit, FitsLines, FitLines, fresh_by, fresh_lines};
+ghost use Rattle.line_index.specs.Edits.{with_fresh, with_joined, after_edit, after_edits, FitsLines, FitLines, fresh_by, fresh_lines};
 
 use crate::contraction::Contraction;
 use crate::line_set::{put_lines_in, set_is_sound, take_lines_out};
 use line_index::LineEdit;
 use partitioning::Place;
 
+#[tactic(auto, using(crate::proofs::Kept::kept_length))]
 impl<P: Place> Contraction<P> {
     // Inserts fresh lines before a line.
     fn put_in(&mut self, line: usize, count: usize)

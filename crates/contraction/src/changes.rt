@@ -2,12 +2,13 @@
 
 ghost use Rattle.std.specs.Prelude.{◌≡◌, ◌≤◌, ◌<◌, false, length};
 ghost use Rattle.ed_model.specs.Folding.{lines_shown, lines_hidden, with_expanded};
-ghost use Rattle.contraction.specs.ViewLines.{HasRoomToContract, HasRoomToHide};
+ghost use Rattle.contraction.specs.ViewLines.{contracted_lines};
 
 use crate::contraction::Contraction;
 use crate::line_set::{insert, insert_range, remove_range, set_is_sound};
 use partitioning::Place;
 
+#[tactic(auto, using(crate::proofs::Kept::kept_length))]
 impl<P: Place> Contraction<P> {
     /// Shows the lines from `first` up to `past` (`SCI_SHOWLINES`). Needs no room.
     pub fn show(&mut self, first: usize, past: usize)
@@ -22,7 +23,7 @@ impl<P: Place> Contraction<P> {
     /// to be hidden.
     pub fn hide(&mut self, first: usize, past: usize)
         requires within { past ≤ length self.old.flags }
-        requires room { HasRoomToHide self.old.flags self.old.capacity }
+        requires room { length self.old.flags ≤ self.old.capacity.hidden }
         ensures flags { self.new ≡ record self.old { flags = lines_hidden first past self.old.flags } }
         ensures lines { length self.new.flags ≡ length self.old.flags }
     {
@@ -33,7 +34,7 @@ impl<P: Place> Contraction<P> {
     /// for one more contracted line.
     pub fn set_expanded(&mut self, line: usize, on: bool)
         requires line { line < length self.old.flags }
-        requires room { on ≡ false → HasRoomToContract 1 self.old.flags self.old.capacity }
+        requires room { on ≡ false → contracted_lines self.old.flags < self.old.capacity.contracted }
         ensures flags { self.new ≡ record self.old { flags = with_expanded line on self.old.flags } }
         ensures lines { length self.new.flags ≡ length self.old.flags }
     {

@@ -1,10 +1,11 @@
 //! `Contraction`: how it is made and read, and its capacity.
 
-ghost use Rattle.std.specs.Prelude.{◌≡◌, ◌+◌, ◌*◌, ◌^◌, ◌≤◌, ◌<◌, ℕ, true, false, [], ◌∷◌, length, max, replicate, IfOk, OnOk, OnErr, IsOk};
+ghost use Rattle.std.specs.Prelude.{◌≡◌, ◌^◌, ◌≤◌, ◌<◌, ℕ, true, false, [], ◌∷◌, length, replicate, IfOk, OnErr};
 ghost use Rattle.ed_model.specs.Rows.{fresh_flags};
 ghost use Rattle.ed_model.specs.Folding.{is_visible, is_expanded};
 ghost use Rattle.ed_model.specs.DisplayLines.{display_line, line_shown, all_visible};
-ghost use Rattle.contraction.specs.ViewLines.{contracted_lines, fold_capacity};
+ghost use Rattle.vec_room.specs.Reserved.{IsReserved};
+ghost use Rattle.contraction.specs.ViewLines.{contracted_lines, fold_capacity, FoldsFit, HaveGrown};
 
 use crate::line_set::{
     contains, lines_before_likely, next_inside, nth_line_outside, reserve, set_is_sound,
@@ -27,25 +28,28 @@ pub struct Contraction<P: Place> {
 }
 
 impl<P: Place> Model for Contraction<P> {
-    ghost use Rattle.contraction.specs.ViewLines.{ViewLines, view_lines, AreViewLines};
+    ghost use Rattle.std.specs.Prelude.{◌≡◌};
+    ghost use Rattle.contraction.specs.ViewLines.{ViewLines, view_lines};
 
     ghost Value = { ViewLines };
 
     ghost view = { λ c. view_lines c.hidden c.contracted };
 
-    ghost invariant = { λ c. AreViewLines c.hidden c.contracted };
+    // Both sets have the same number of lines.
+    ghost invariant = { λ c. c.contracted.length ≡ c.hidden.length };
 }
 
 // Returns an empty set of lines, for a text of `lines` lines.
 fn no_lines<P: Place>(alloc: Global, lines: usize) -> Result<Partitioning<P>, AllocError>
     requires { lines ≤ P.GREATEST }
-    ensures { IfOk result (λ s. (s.starts ≡ 0 ∷ []) × (s.length ≡ lines) × (s.room ≡ 0)) }
+    ensures { IfOk result (λ s. (s.starts ≡ 0 ∷ []) × (s.length ≡ lines) × (s.capacity ≡ 1)) }
 {
     let mut set = Partitioning::new(alloc)?;
     set.insert_text(0, lines);
     Ok(set)
 }
 
+#[tactic(auto, using(crate::proofs::Kept::kept_length))]
 impl<P: Place> Contraction<P> {
     /// Returns the flags of `lines` lines, all visible and expanded. Allocates memory for two numbers, and no more.
     ///
@@ -54,8 +58,7 @@ impl<P: Place> Contraction<P> {
     /// `AllocError` if an allocation fails.
     pub fn new(alloc: Global, lines: usize) -> Result<Self, AllocError>
         requires { lines ≤ P.GREATEST }
-        ensures flags { IfOk result (λ c. c.flags ≡ replicate lines fresh_flags) }
-        ensures capacity { IfOk result (λ c. c.capacity ≡ fold_capacity 0 0) }
+        ensures { IfOk result (λ c. c ≡ record { flags = replicate lines fresh_flags; capacity = fold_capacity 0 0 }) }
     {
         let hidden = no_lines(alloc, lines)?;
         let contracted = no_lines(alloc, lines)?;
@@ -76,6 +79,7 @@ impl<P: Place> Contraction<P> {
     }
 
     /// Returns how many lines are contracted, in constant time.
+    #[tactic(auto, using(crate::proofs::Kept::kept_contracted))]
     pub fn contracted_count(&self) -> usize
         ensures count { result ≡ contracted_lines self.now.flags }
         ensures within { contracted_lines self.now.flags < 2 ^ 63 }
@@ -85,6 +89,7 @@ impl<P: Place> Contraction<P> {
     }
 
     /// Returns whether the line is visible (`SCI_GETLINEVISIBLE`).
+    #[tactic(auto, using(crate::proofs::Kept::kept_length, crate::proofs::Kept::kept_visible))]
     #[inline]
     pub fn visible(&self, line: usize) -> bool
         requires { line < length self.now.flags }
@@ -94,6 +99,7 @@ impl<P: Place> Contraction<P> {
     }
 
     /// Returns whether the line is expanded (`SCI_GETFOLDEXPANDED`).
+    #[tactic(auto, using(crate::proofs::Kept::kept_length, crate::proofs::Kept::kept_expanded))]
     #[inline]
     pub fn expanded(&self, line: usize) -> bool
         requires { line < length self.now.flags }
@@ -103,6 +109,7 @@ impl<P: Place> Contraction<P> {
     }
 
     // Returns the first contracted line from `line` on, or the number of lines if there is none.
+    #[tactic(auto, using(crate::proofs::Kept::kept_length, crate::proofs::Kept::kept_expanded))]
     pub(crate) fn next_contracted(&self, line: usize) -> usize
         requires { line ≤ length self.now.flags }
         ensures from { line ≤ result }
@@ -113,6 +120,7 @@ impl<P: Place> Contraction<P> {
     }
 
     /// Returns whether all lines are visible, in constant time (`SCI_GETALLLINESVISIBLE`).
+    #[tactic(auto, using(crate::proofs::Kept::kept_all_visible))]
     pub fn is_all_visible(&self) -> bool
         ensures { result ≡ all_visible self.now.flags }
     {
@@ -121,6 +129,7 @@ impl<P: Place> Contraction<P> {
 
     /// Returns the display line of a line, counted from 0 (`SCI_VISIBLEFROMDOCLINE`). A hidden line has that of the
     /// visible line before it.
+    #[tactic(auto, using(crate::proofs::Kept::kept_length, crate::proofs::Kept::kept_display))]
     #[inline]
     pub fn display_of(&self, line: usize) -> usize
         requires { line < length self.now.flags }
@@ -132,6 +141,7 @@ impl<P: Place> Contraction<P> {
     }
 
     /// Returns the line at a display line, or the number of lines past the last one (`SCI_DOCLINEFROMVISIBLE`).
+    #[tactic(auto, using(crate::proofs::Kept::kept_shown))]
     #[inline]
     pub fn doc_of(&self, display: usize) -> usize
         ensures { result ≡ line_shown self.now.flags display }
@@ -139,35 +149,19 @@ impl<P: Place> Contraction<P> {
         nth_line_outside(&self.hidden, display)
     }
 
-    /// Makes room for `lines` hidden lines in all. Allocates nothing if they fit.
+    /// Makes room for `hidden` hidden lines in all, and for `contracted` contracted ones. Allocates nothing for those
+    /// that fit.
     ///
     /// # Errors
     ///
-    /// `AllocError` if the allocation fails. Nothing has changed then.
-    pub fn reserve_hidden(&mut self, lines: usize) -> Result<(), AllocError>
-        ensures rest { self.new ≡ record self.old { capacity = record self.old.capacity { hidden = self.new.capacity.hidden } } }
-        ensures ok { OnOk result (lines ≤ self.new.capacity.hidden) }
-        ensures room_is_there { lines ≤ self.old.capacity.hidden → IsOk result × (self.new ≡ self.old) }
-        ensures capacity { self.old.capacity.hidden ≤ self.new.capacity.hidden }
-        ensures at_most { self.new.capacity.hidden ≤ max lines (2 * self.old.capacity.hidden + 1) }
-        ensures err { OnErr result (self.new ≡ self.old) }
+    /// `AllocError` if an allocation fails. The flags are then unchanged. Room for hidden lines is made first, so more of
+    /// them may fit than before.
+    pub fn reserve(&mut self, hidden: usize, contracted: usize) -> Result<(), AllocError>
+        ensures reserved { IsReserved (λ v. FoldsFit hidden contracted v.capacity) result self.old self.new }
+        ensures grown { (self.new ≡ record self.old { capacity = self.new.capacity }) × HaveGrown hidden contracted self.old.capacity self.new.capacity }
+        ensures err { OnErr result ((self.new.capacity.contracted ≡ self.old.capacity.contracted) × (contracted ≤ self.old.capacity.contracted → self.new ≡ self.old)) }
     {
-        reserve(&mut self.hidden, lines)
-    }
-
-    /// Makes room for `lines` contracted lines in all. Allocates nothing if they fit.
-    ///
-    /// # Errors
-    ///
-    /// `AllocError` if the allocation fails. Nothing has changed then.
-    pub fn reserve_contracted(&mut self, lines: usize) -> Result<(), AllocError>
-        ensures rest { self.new ≡ record self.old { capacity = record self.old.capacity { contracted = self.new.capacity.contracted } } }
-        ensures ok { OnOk result (lines ≤ self.new.capacity.contracted) }
-        ensures room_is_there { lines ≤ self.old.capacity.contracted → IsOk result × (self.new ≡ self.old) }
-        ensures capacity { self.old.capacity.contracted ≤ self.new.capacity.contracted }
-        ensures at_most { self.new.capacity.contracted ≤ max lines (2 * self.old.capacity.contracted + 1) }
-        ensures err { OnErr result (self.new ≡ self.old) }
-    {
-        reserve(&mut self.contracted, lines)
+        reserve(&mut self.hidden, hidden)?;
+        reserve(&mut self.contracted, contracted)
     }
 }

@@ -3,7 +3,7 @@
 ghost use Rattle.std.specs.Prelude.{◌≡◌, ◌+◌, ◌≤◌, ◌<◌, length};
 ghost use Rattle.ed_model.specs.Folding.{contracted as contracted_at, expanded as expanded_at, header_opened, revealed};
 ghost use Rattle.contraction.specs.Folding.{is_closed as is_closed_at, closed_at, behind_closed, parents_opened};
-ghost use Rattle.contraction.specs.ViewLines.{HasRoomToContract, HasRoomToHide};
+ghost use Rattle.contraction.specs.ViewLines.{contracted_lines, CanFold};
 
 use crate::contraction::Contraction;
 use crate::folds::{fold_parent, is_header, last_child};
@@ -14,9 +14,8 @@ impl<P: Place> Contraction<P> {
     /// Contracts a header, and hides its children. There must be room for all lines to be hidden, and for one more
     /// contracted line.
     pub fn contract(&mut self, levels: &Levels, header: usize)
-        requires lines { length levels.now ≡ length self.old.flags }
-        requires header { header < length self.old.flags }
-        requires room { HasRoomToHide self.old.flags self.old.capacity × HasRoomToContract 1 self.old.flags self.old.capacity }
+        requires can { CanFold levels.now header self.old.flags self.old.capacity }
+        requires room { contracted_lines self.old.flags < self.old.capacity.contracted }
         ensures flags { self.new ≡ record self.old { flags = contracted_at levels.now header self.old.flags } }
         ensures lines { length self.new.flags ≡ length self.old.flags }
     {
@@ -38,9 +37,7 @@ impl<P: Place> Contraction<P> {
     // Hides the children of a line if it is a contracted header, and returns the line behind them. Otherwise returns
     // the next line.
     fn close(&mut self, levels: &Levels, line: usize) -> usize
-        requires lines { length levels.now ≡ length self.old.flags }
-        requires line { line < length self.old.flags }
-        requires room { HasRoomToHide self.old.flags self.old.capacity }
+        requires { CanFold levels.now line self.old.flags self.old.capacity }
         ensures flags { self.new ≡ record self.old { flags = closed_at levels.now line self.old.flags } }
         ensures next { result ≡ behind_closed levels.now line self.old.flags }
         ensures within { result ≤ length self.new.flags }
@@ -57,9 +54,7 @@ impl<P: Place> Contraction<P> {
     /// Expands a header, and shows each of its children that no contracted header between them hides. There must be
     /// room for all lines to be hidden.
     pub fn expand(&mut self, levels: &Levels, header: usize)
-        requires lines { length levels.now ≡ length self.old.flags }
-        requires header { header < length self.old.flags }
-        requires room { HasRoomToHide self.old.flags self.old.capacity }
+        requires { CanFold levels.now header self.old.flags self.old.capacity }
         ensures flags { self.new ≡ record self.old { flags = expanded_at levels.now header self.old.flags } }
         ensures lines { length self.new.flags ≡ length self.old.flags }
     {
@@ -77,9 +72,7 @@ impl<P: Place> Contraction<P> {
 
     // Makes a header visible, and expands it if it is contracted.
     fn open(&mut self, levels: &Levels, header: usize)
-        requires lines { length levels.now ≡ length self.old.flags }
-        requires header { header < length self.old.flags }
-        requires room { HasRoomToHide self.old.flags self.old.capacity }
+        requires { CanFold levels.now header self.old.flags self.old.capacity }
         ensures flags { self.new ≡ record self.old { flags = header_opened levels.now self.old.flags header } }
         ensures lines { length self.new.flags ≡ length self.old.flags }
     {
@@ -94,9 +87,7 @@ impl<P: Place> Contraction<P> {
     // Opens the fold parents of a line, the nearest first: the flags are then the same as with the outermost first. A
     // loop, since there may be thousands of them.
     fn open_parents(&mut self, levels: &Levels, line: usize)
-        requires lines { length levels.now ≡ length self.old.flags }
-        requires line { line < length self.old.flags }
-        requires room { HasRoomToHide self.old.flags self.old.capacity }
+        requires { CanFold levels.now line self.old.flags self.old.capacity }
         ensures flags { self.new ≡ record self.old { flags = parents_opened levels.now line self.old.flags } }
         ensures lines { length self.new.flags ≡ length self.old.flags }
     {
@@ -110,9 +101,7 @@ impl<P: Place> Contraction<P> {
     /// Makes a hidden line visible (`SCI_ENSUREVISIBLE`): its fold parents are made visible and expanded first, the
     /// outermost before the others. There must be room for all lines to be hidden.
     pub fn ensure(&mut self, levels: &Levels, line: usize)
-        requires lines { length levels.now ≡ length self.old.flags }
-        requires line { line < length self.old.flags }
-        requires room { HasRoomToHide self.old.flags self.old.capacity }
+        requires { CanFold levels.now line self.old.flags self.old.capacity }
         ensures flags { self.new ≡ record self.old { flags = revealed levels.now line self.old.flags } }
         ensures lines { length self.new.flags ≡ length self.old.flags }
     {

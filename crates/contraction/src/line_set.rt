@@ -1,9 +1,10 @@
 //! A set of lines, as the starts of partitions: 0, and then one more than each line of the set, in rising order.
 
-ghost use Rattle.std.specs.Prelude.{ℕ, ◌≡◌, ◌+◌, ◌-◌, ◌*◌, ◌^◌, ◌≤◌, ◌<◌, ◌==◌, ◌||◌, true, false, length, max, slice_index, slice_get, unwrap_or, IsOk, OnErr, OnOk};
-ghost use Rattle.ed_model.specs.Folding.{is_between};
-ghost use Rattle.contraction.specs.LineSets.{holds, holds_with_fresh, holds_without, holds_outside, lines_outside, set_capacity};
-ghost use Rattle.partitioning.specs.Partitions.{ArePartitions, IsLastAtMost};
+ghost use Rattle.std.specs.Prelude.{ℕ, ◌≡◌, ◌+◌, ◌-◌, ◌^◌, ◌≤◌, ◌<◌, true, false, length, slice_index, slice_get, unwrap_or, OnErr};
+ghost use Rattle.vec_room.specs.Reserved.{IsReserved};
+ghost use Rattle.contraction.specs.LineSets.{holds, holds_with_fresh, holds_without, holds_after, lines_outside, set_capacity, Becomes};
+ghost use Rattle.contraction.specs.ViewLines.{GrowsFor};
+ghost use Rattle.partitioning.specs.Partitions.{ArePartitions, IsLastAtMost, StartsFit};
 
 use partitioning::{Partitioning, Place, Probes};
 use std::alloc::AllocError;
@@ -110,11 +111,8 @@ pub(crate) fn reserve<P: Place>(
     starts: &mut Partitioning<P>,
     lines: usize,
 ) -> Result<(), AllocError>
-    ensures rest { starts.new ≡ record starts.old { room = starts.new.room } }
-    ensures ok { OnOk result (lines ≤ set_capacity starts.new) }
-    ensures room_is_there { lines ≤ set_capacity starts.old → IsOk result × (starts.new ≡ starts.old) }
-    ensures capacity { set_capacity starts.old ≤ set_capacity starts.new }
-    ensures at_most { set_capacity starts.new ≤ max lines (2 * set_capacity starts.old + 1) }
+    ensures reserved { IsReserved (λ s. lines ≤ set_capacity s) result starts.old starts.new }
+    ensures grown { (starts.new ≡ record starts.old { capacity = starts.new.capacity }) × GrowsFor lines (set_capacity starts.old) (set_capacity starts.new) }
     ensures err { OnErr result (starts.new ≡ starts.old) }
 {
     let inside = starts.count() - 1;
@@ -124,10 +122,8 @@ pub(crate) fn reserve<P: Place>(
 /// Adds the line to the set. There must be room for it, unless it is there already.
 pub(crate) fn insert<P: Place>(starts: &mut Partitioning<P>, line: usize)
     requires line { line < starts.old.length }
-    requires room { holds starts.old.starts line ≡ false → 0 < starts.old.room }
-    ensures lines { (k : ℕ) → holds starts.new.starts k ≡ (k == line || holds starts.old.starts k) }
-    ensures length { starts.new.length ≡ starts.old.length }
-    ensures capacity { set_capacity starts.new ≡ set_capacity starts.old }
+    requires room { holds starts.old.starts line ≡ false → StartsFit 1 starts.old }
+    ensures lines { Becomes starts.old.length (holds_after true starts.old.starts line (line + 1)) starts.old starts.new }
     ensures sound { ArePartitions starts.new.starts starts.new.length }
 {
     set_is_sound(starts);
@@ -142,9 +138,7 @@ pub(crate) fn insert<P: Place>(starts: &mut Partitioning<P>, line: usize)
 pub(crate) fn insert_range<P: Place>(starts: &mut Partitioning<P>, first: usize, past: usize)
     requires range { past ≤ starts.old.length }
     requires room { starts.old.length ≤ set_capacity starts.old }
-    ensures lines { (k : ℕ) → holds starts.new.starts k ≡ (is_between first past k || holds starts.old.starts k) }
-    ensures length { starts.new.length ≡ starts.old.length }
-    ensures capacity { set_capacity starts.new ≡ set_capacity starts.old }
+    ensures { Becomes starts.old.length (holds_after true starts.old.starts first past) starts.old starts.new }
 {
     set_is_sound(starts);
     for line in first..past {
@@ -154,10 +148,8 @@ pub(crate) fn insert_range<P: Place>(starts: &mut Partitioning<P>, first: usize,
 
 /// Removes the lines from `first` up to `past` from the set.
 pub(crate) fn remove_range<P: Place>(starts: &mut Partitioning<P>, first: usize, past: usize)
-    requires range { past ≤ starts.old.length }
-    ensures lines { (k : ℕ) → holds starts.new.starts k ≡ holds_outside starts.old.starts first past k }
-    ensures length { starts.new.length ≡ starts.old.length }
-    ensures capacity { set_capacity starts.new ≡ set_capacity starts.old }
+    requires { past ≤ starts.old.length }
+    ensures { Becomes starts.old.length (holds_after false starts.old.starts first past) starts.old starts.new }
 {
     set_is_sound(starts);
     if past <= first {
@@ -174,9 +166,7 @@ pub(crate) fn remove_range<P: Place>(starts: &mut Partitioning<P>, first: usize,
 pub(crate) fn put_lines_in<P: Place>(starts: &mut Partitioning<P>, line: usize, count: usize)
     requires line { line ≤ starts.old.length }
     requires fits { starts.old.length + count ≤ P.GREATEST }
-    ensures lines { (k : ℕ) → holds starts.new.starts k ≡ holds_with_fresh starts.old.starts line count k }
-    ensures length { starts.new.length ≡ starts.old.length + count }
-    ensures capacity { set_capacity starts.new ≡ set_capacity starts.old }
+    ensures { Becomes (starts.old.length + count) (holds_with_fresh starts.old.starts line count) starts.old starts.new }
 {
     let index = lines_before(starts, line);
     starts.insert_text(index, count);
@@ -185,9 +175,7 @@ pub(crate) fn put_lines_in<P: Place>(starts: &mut Partitioning<P>, line: usize, 
 /// Deletes `count` lines from `line` on, and moves those behind them back.
 pub(crate) fn take_lines_out<P: Place>(starts: &mut Partitioning<P>, line: usize, count: usize)
     requires { line + count ≤ starts.old.length }
-    ensures lines { (k : ℕ) → holds starts.new.starts k ≡ holds_without starts.old.starts line count k }
-    ensures length { starts.new.length + count ≡ starts.old.length }
-    ensures capacity { set_capacity starts.new ≡ set_capacity starts.old }
+    ensures { Becomes (starts.old.length - count) (holds_without starts.old.starts line count) starts.old starts.new }
 {
     set_is_sound(starts);
     remove_range(starts, line, line + count);

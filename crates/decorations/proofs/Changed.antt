@@ -1,5 +1,5 @@
 -- The smallest range that holds all changes is that of the model.
-use Rattle.decorations.proofs.Names.{◌≡◌, ◌≢◌, ℕ, zero, suc, ◌+◌, ◌-◌, ◌<◌, ◌≤◌, ◌==◌, not, Bool, true, false, List, ◌∷◌, length, get_or, filter, Option, Some, None, IfNone, IfSome, sym, ap, ◌∙◌, arith, eq-eqb, add-zero, zero-add, append-nil, range_with_len, last_or, slice_get, slice_get-get_or, get_or-take, get_or-drop, filter-append, ne_eqb, cond_both, changed_range, extent, range-append, filter_range_none, nothing_changed, IsChangedRange}
+use Rattle.decorations.proofs.Names.{◌≡◌, ◌≢◌, ℕ, zero, suc, ◌+◌, ◌-◌, ◌<◌, ◌≤◌, ◌==◌, not, Bool, true, false, List, ◌∷◌, length, get_or, filter, Option, Some, None, IfNone, IfSome, sym, ap, ◌∙◌, arith, eq-eqb, add-zero, zero-add, append-nil, range_with_len, last_or, slice_get, slice_get-get_or, get_or-take, get_or-drop, filter-append, ne_eqb, cond_both, changed_range, extent, range-append, filter_range_none, nothing_changed, filled, length_filled, IsChangedRange}
 
 -- the last number of a range passes, so it is the last that does
 last_passes : (p : ℕ → Bool) (a n x : ℕ) → p (a + n) ≡ true → last_or (Some x) (filter p (range_with_len a (suc n))) ≡ Some (a + n)
@@ -49,6 +49,12 @@ changed_is old new (a, suc n) e range =
     same_place old new k (ap (λ i. get_or old i 0) (sym j) ∙ sym (get_or-drop (a + suc n) old (k - (a + suc n)) 0) ∙ ap (λ xs. get_or xs (k - (a + suc n)) 0) (sym range.behind) ∙ get_or-drop (a + suc n) new (k - (a + suc n)) 0 ∙ ap (λ i. get_or new i 0) j))
 
 -- what a fill of runs returns
-pub answer_is : (answer : Option (ℕ × ℕ)) (old new : List ℕ) → length new ≡ length old → IfNone answer (new ≡ old) → IfSome answer (IsChangedRange old new) → answer ≡ changed_range old new
+answer_is : (answer : Option (ℕ × ℕ)) (old new : List ℕ) → length new ≡ length old → IfNone answer (new ≡ old) → IfSome answer (IsChangedRange old new) → answer ≡ changed_range old new
 answer_is None old new e none some = sym (ap (changed_range old) none ∙ nothing_changed old)
 answer_is (Some range) old new e none some = sym (changed_is old new range e some)
+
+pub fill_answer :
+    (answer : Option (ℕ × ℕ)) (old new before : List ℕ) (start count value : ℕ) → old ≡ before → new ≡ filled start count value before → start + count ≤ length before
+    → IfNone answer (new ≡ old) → IfSome answer (IsChangedRange old new) → answer ≡ changed_range before (filled start count value before)
+fill_answer answer old new before start count value o n inside none some =
+    answer_is answer old new (ap length n ∙ length_filled start count value before inside ∙ ap length (sym o)) none some ∙ ap (λ vs. changed_range vs new) o ∙ ap (changed_range before) n

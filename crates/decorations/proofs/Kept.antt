@@ -1,61 +1,41 @@
 -- The slots stay sound through the steps.
-use Rattle.decorations.proofs.Names.{◌≡◌, ℕ, ◌+◌, ◌-◌, ◌<◌, ◌≤◌, List, length, set, replicate, Option, Some, None, IfSome, refl, sym, ap, ◌∙◌, subst, arith, inl, inr, get_or-set_same, get_or-set_other, length-set, cases_eq, indicator_after, indicators_after, Insert, Delete, Runs, IsClear, slot_at, shown, all_shown, IsKept, AreSpare, AreSlots, InBoth, InEach, HaveGrown, TookIn, GaveAway, WasFilled}
+use Rattle.decorations.proofs.Names.{◌≡◌, ◌≢◌, ℕ, ◌+◌, ◌-◌, ◌<◌, ◌≤◌, List, length, set, replicate, Option, Some, None, refl, sym, ap, ◌∙◌, arith, inl, inr, get_or-set_same, get_or-set_other, length-set, cases_eq, indicator_after, indicators_after, Insert, Delete, decorated, Runs, Stored, seen, slot_at, shown, all_shown, AreKept, IsKept, AreSlots, InBoth, InEach, HaveGrown, TookIn, GaveAway, WasFilled}
 use Rattle.decorations.proofs.Numbered.{numbered_both, numbered_same, numbered_set}
+use Rattle.decorations.proofs.SlotLists.{in_both}
 use Rattle.decorations.proofs.Values.{took_kept, took_shown, gave_shown, clear_zeros}
 
 -- Room was made.
 
-grown_kept : (count size : ℕ) (old new : Option (Runs ℕ)) → IsKept size old → InBoth (HaveGrown count) old new → IsKept size new
-grown_kept count size None None kept grown = tt
-grown_kept count size None (Some new) kept grown = cc
-grown_kept count size (Some old) None kept grown = absurd grown
-grown_kept count size (Some old) (Some new) kept grown = record {
-  sized = ap length grown.values ∙ kept.sized;
-  default = grown.default ∙ kept.default;
-  used = λ clear. kept.used (let Q : List ℕ → Type 0 = IsClear in subst Q grown.values clear);
+grown_keeps : (count size : ℕ) (old new : Runs ℕ) → HaveGrown count old new → AreKept size old → AreKept size new
+grown_keeps count size old new grown kept = record {
+  sized = ap (λ (r : Runs ℕ). length r.values) grown.0 ∙ kept.sized;
+  default = ap (λ (r : Runs ℕ). r.default) grown.0 ∙ kept.default;
+  used = rw (ap (λ (r : Runs ℕ). r.values) grown.0) kept.used;
 }
 
-grown_one : (count size : ℕ) (old new : Option (Runs ℕ)) → InBoth (HaveGrown count) old new → shown size new ≡ shown size old
-grown_one count size None None grown = refl
-grown_one count size None (Some new) grown = cc
-grown_one count size (Some old) None grown = absurd grown
-grown_one count size (Some old) (Some new) grown = grown.values
+grown_shown : (count size : ℕ) (old new : List (Option (Runs ℕ))) → InEach (InBoth (HaveGrown count)) old new → all_shown size new ≡ all_shown size old
+grown_shown count size old new grown =
+    numbered_same (λ k. shown size (slot_at new k)) (λ k. shown size (slot_at old k))
+    (λ k. in_both (HaveGrown count) (λ o n. shown size n ≡ shown size o) refl (λ o n is. ap (λ (r : Runs ℕ). r.values) is.0) (slot_at old k) (slot_at new k) (grown k))
 
-pub grown_shown : (count size : ℕ) (old new : List (Option (Runs ℕ))) → InEach (InBoth (HaveGrown count)) old new → all_shown size new ≡ all_shown size old
-grown_shown count size old new grown = numbered_same (λ k. shown size (slot_at new k)) (λ k. shown size (slot_at old k)) (λ k. grown_one count size (slot_at old k) (slot_at new k) (grown k))
+pub grown_seen : (count size : ℕ) (old new : Stored) → InEach (InBoth (HaveGrown count)) old.slots new.slots → seen size new ≡ record (seen size old) { capacity = (seen size new).capacity }
+grown_seen count size old new grown = ap (λ values. decorated size values (seen size new).capacity) (grown_shown count size old.slots new.slots grown)
 
-pub grown_slots : (count greatest size : ℕ) (old new : List (Option (Runs ℕ))) (spare spare' : Option (Runs ℕ)) → AreSlots greatest size old spare → InEach (InBoth (HaveGrown count)) old new →
-    length new ≡ length old → IfSome spare' AreSpare → AreSlots greatest size new spare'
-grown_slots count greatest size old new spare spare' slots grown same unused = record {
+pub grown_slots : (count greatest size : ℕ) (old new : List (Option (Runs ℕ))) → AreSlots greatest size old → InEach (InBoth (HaveGrown count)) old new → length new ≡ length old → AreSlots greatest size new
+grown_slots count greatest size old new slots grown same = record {
   fits = slots.fits;
   few = omega (arith, slots.few, same);
-  kept = λ k. grown_kept count size (slot_at old k) (slot_at new k) (slots.kept k) (grown k);
-  unused = unused;
+  kept = λ k. in_both (HaveGrown count) (λ o n. IsKept size o → IsKept size n) (λ none. none) (grown_keeps count size) (slot_at old k) (slot_at new k) (grown k) (slots.kept k);
 }
-
--- Slots were added.
-
-pub same_kept : (size : ℕ) (old new : List (Option (Runs ℕ))) → ((k : ℕ) → slot_at new k ≡ slot_at old k) → ((k : ℕ) → IsKept size (slot_at old k)) → (k : ℕ) → IsKept size (slot_at new k)
-same_kept size old new same kept k = let Q : Option (Runs ℕ) → Type 0 = IsKept size in subst Q (sym (same k)) (kept k)
-
-pub same_shown : (size : ℕ) (old new : List (Option (Runs ℕ))) → ((k : ℕ) → slot_at new k ≡ slot_at old k) → all_shown size new ≡ all_shown size old
-same_shown size old new same = numbered_same (λ k. shown size (slot_at new k)) (λ k. shown size (slot_at old k)) (λ k. ap (shown size) (same k))
 
 -- Places were inserted.
 
-took_one : (size place count : ℕ) (old new : Option (Runs ℕ)) → place ≤ size → IsKept size old → InBoth (TookIn place count) old new → IsKept (size + count) new
-took_one size place count None None h kept took = tt
-took_one size place count None (Some new) h kept took = cc
-took_one size place count (Some old) None h kept took = absurd took
-took_one size place count (Some old) (Some new) h kept took = took_kept size place count old new h kept took
-
-pub took_slots : (greatest size place count : ℕ) (old new : List (Option (Runs ℕ))) (spare : Option (Runs ℕ)) → AreSlots greatest size old spare → place ≤ size → size + count ≤ greatest →
-    InEach (InBoth (TookIn place count)) old new → length new ≡ length old → AreSlots greatest (size + count) new spare
-took_slots greatest size place count old new spare are h fits took e = record {
+pub took_slots : (greatest size place count : ℕ) (old new : List (Option (Runs ℕ))) → AreSlots greatest size old → place ≤ size → size + count ≤ greatest →
+    InEach (InBoth (TookIn place count)) old new → length new ≡ length old → AreSlots greatest (size + count) new
+took_slots greatest size place count old new are h fits took e = record {
   fits = fits;
   few = omega (arith, are.few);
-  kept = λ k. took_one size place count (slot_at old k) (slot_at new k) h (are.kept k) (took k);
-  unused = are.unused;
+  kept = λ k. in_both (TookIn place count) (λ o n. IsKept size o → IsKept (size + count) n) (λ none. none) (λ o n took kept. took_kept size place count o n h kept took) (slot_at old k) (slot_at new k) (took k) (are.kept k);
 }
 
 pub took_all : (size place count : ℕ) (bytes : List ℕ) (old new : List (Option (Runs ℕ))) → place ≤ size → length bytes ≡ count → ((k : ℕ) → IsKept size (slot_at old k)) → InEach (InBoth (TookIn place count)) old new →
@@ -74,33 +54,33 @@ gave_all size place count bytes old new h e kept gave =
 
 filled_kept : (size : ℕ) (values : List ℕ) (slot : Option (Runs ℕ)) → length values ≡ size → WasFilled values slot → IsKept size slot
 filled_kept size values None e was = tt
-filled_kept size values (Some runs) e was = record {
-  sized = ap length was.0 ∙ e;
-  default = was.1;
-  used = λ clear. was.2 (let Q : List ℕ → Type 0 = IsClear in subst Q was.0 clear);
-}
+filled_kept size values (Some runs) e was = record { sized = ap length was.0 ∙ e; default = was.1; used = rw was.0 was.2 }
 
 filled_shown : (size : ℕ) (values : List ℕ) (slot : Option (Runs ℕ)) → length values ≡ size → WasFilled values slot → shown size slot ≡ values
 filled_shown size values None e was = sym (clear_zeros values was ∙ ap (λ n. replicate n 0) e)
 filled_shown size values (Some runs) e was = was.0
 
-pub filled_slots : (greatest size indicator : ℕ) (values : List ℕ) (slots : List (Option (Runs ℕ))) (slot spare spare' : Option (Runs ℕ)) → AreSlots greatest size slots spare → indicator < length slots →
-    length values ≡ size → WasFilled values slot → IfSome spare' AreSpare → AreSlots greatest size (set slots indicator slot) spare'
-filled_slots greatest size indicator values slots slot spare spare' are inside e was unused = record {
-  fits = are.fits;
-  few = omega (arith, are.few, length-set slots indicator slot);
-  kept = λ k. let Q : Option (Runs ℕ) → Type 0 = IsKept size in
-      elim (cases_eq k indicator) [
-        | inl same ↦
-            let here : slot_at (set slots indicator slot) k ≡ slot = rw same (get_or-set_same slots indicator slot None inside) in
-            subst Q (sym here) (filled_kept size values slot e was)
-        | inr apart ↦ subst Q (sym (get_or-set_other slots indicator k slot None apart)) (are.kept k)
-      ];
-  unused = unused;
-}
+-- empty slots were added before
+module _ (size indicator : ℕ) (values : List ℕ) (old slots : List (Option (Runs ℕ))) (slot : Option (Runs ℕ)) (same : (k : ℕ) → slot_at slots k ≡ slot_at old k) (inside : indicator < length slots)
+    (full : length values ≡ size) (was : WasFilled values slot) where
+  here : slot_at (set slots indicator slot) indicator ≡ slot
+  here = get_or-set_same slots indicator slot None inside
 
-pub filled_all : (size indicator : ℕ) (values : List ℕ) (slots : List (Option (Runs ℕ))) (slot : Option (Runs ℕ)) → indicator < 32 → indicator < length slots → length values ≡ size → WasFilled values slot →
-    all_shown size (set slots indicator slot) ≡ set (all_shown size slots) indicator values
-filled_all size indicator values slots slot h inside e was =
-    numbered_set (λ k. shown size (slot_at slots k)) (λ k. shown size (slot_at (set slots indicator slot) k)) indicator h (λ k apart. ap (shown size) (get_or-set_other slots indicator k slot None apart))
-    ∙ ap (set (all_shown size slots) indicator) (ap (shown size) (get_or-set_same slots indicator slot None inside) ∙ filled_shown size values slot e was)
+  pub elsewhere : (k : ℕ) → k ≢ indicator → slot_at (set slots indicator slot) k ≡ slot_at old k
+  elsewhere k apart = get_or-set_other slots indicator k slot None apart ∙ same k
+
+  pub filled_slots : (greatest : ℕ) → AreSlots greatest size old → length slots ≤ 32 → AreSlots greatest size (set slots indicator slot)
+  filled_slots greatest are few = record {
+    fits = are.fits;
+    few = omega (arith, few, length-set slots indicator slot);
+    kept = λ k.
+        elim (cases_eq k indicator) [
+          | inl at ↦ rw (at, here) (filled_kept size values slot full was)
+          | inr apart ↦ rw (elsewhere k apart) (are.kept k)
+        ];
+  }
+
+  pub filled_all : indicator < 32 → all_shown size (set slots indicator slot) ≡ set (all_shown size old) indicator values
+  filled_all h =
+      numbered_set (λ k. shown size (slot_at old k)) (λ k. shown size (slot_at (set slots indicator slot) k)) indicator h (λ k apart. ap (shown size) (elsewhere k apart))
+      ∙ ap (set (all_shown size old) indicator) (ap (shown size) here ∙ filled_shown size values slot full was)

@@ -50,9 +50,9 @@ inserted_length values place count v h = simp (length-append, length-take, lengt
 
 pub took_kept : (size place count : ℕ) (old new : Runs ℕ) → place ≤ size → AreKept size old → TookIn place count old new → AreKept (size + count) new
 took_kept size place count old new h kept took = record {
-  sized = ap length took.values ∙ inserted_length old.values place count _ (omega (arith, kept.sized)) ∙ ap (λ n. n + count) kept.sized;
-  default = took.default ∙ kept.default;
-  used = λ clear. kept.used (inserted_clear old.values place count _ (let Q : List ℕ → Type 0 = IsClear in subst Q took.values clear));
+  sized = ap (λ (r : Runs ℕ). length r.values) took.0 ∙ inserted_length old.values place count _ (omega (arith, kept.sized)) ∙ ap (λ n. n + count) kept.sized;
+  default = ap (λ (r : Runs ℕ). r.default) took.0 ∙ kept.default;
+  used = rw (ap (λ (r : Runs ℕ). r.values) took.0) (λ clear. kept.used (inserted_clear old.values place count _ clear));
 }
 
 or_joined : (a b c : Bool) → ((a || b) || c) ≡ (a || (b || c))
@@ -69,7 +69,7 @@ pub took_shown : (size place count : ℕ) (bytes : List ℕ) (old new : Option (
 took_shown size place count bytes None new h e kept took = rw (took, ← e) (sym (zeros_inserted size place bytes h))
 took_shown size place count bytes (Some old) None h e kept took = absurd took
 took_shown size place count bytes (Some old) (Some new) h e kept took =
-    rw (took.values, kept.default, inserted_same old.values place, ← e) (sym (append_assoc (take place old.values) (replicate (length bytes) (inserted_value old.values place)) (drop place old.values)))
+    rw (ap (λ (r : Runs ℕ). r.values) took.0, kept.default, inserted_same old.values place, ← e) (sym (append_assoc (take place old.values) (replicate (length bytes) (inserted_value old.values place)) (drop place old.values)))
 
 -- A deletion.
 
@@ -79,7 +79,7 @@ gave_shown size place count bytes None new h e kept gave = rw (gave, ← e) (sym
 gave_shown size place count bytes (Some old) None h e kept gave =
     let long : length (deleted old.values place count) ≡ size - count = simp (length-append, length-take, length-drop) (omega (arith, kept.sized)) in
     rw e (sym (clear_zeros (deleted old.values place count) gave ∙ ap (λ n. replicate n 0) long))
-gave_shown size place count bytes (Some old) (Some new) h e kept gave = rw (gave.values, ← e)
+gave_shown size place count bytes (Some old) (Some new) h e kept gave = rw (ap (λ (r : Runs ℕ). r.values) gave.0, ← e)
 
 -- A slot.
 
@@ -100,8 +100,15 @@ tells_used size (Some runs) values b kept e f = let Q : List ℕ → Type 0 = Is
 
 -- A fill.
 
-pub filled_same : (values : List ℕ) (start count value : ℕ) → runs_filled values start count value ≡ filled start count value values
+filled_same : (values : List ℕ) (start count value : ℕ) → runs_filled values start count value ≡ filled start count value values
 filled_same values start count value = sym (append_assoc (take start values) (replicate count value) (drop (start + count) values))
+
+-- what a fill of runs leaves
+pub fill_is :
+    (new old : Runs ℕ) (before : List ℕ) (start count value : ℕ) → new ≡ record old { values = runs_filled old.values start count value } → old.values ≡ before
+    → new.values ≡ filled start count value before
+fill_is new old before start count value e f =
+    ap (λ (r : Runs ℕ). r.values) e ∙ ap (λ vs. runs_filled vs start count value) f ∙ filled_same before start count value
 
 pub default_of : (size : ℕ) (slot : Option (Runs ℕ)) → IsKept size slot → IfSome slot (λ (runs : Runs ℕ). runs.default ≡ 0)
 default_of size None kept = tt

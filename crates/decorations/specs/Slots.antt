@@ -1,7 +1,7 @@
 -- How the lists are stored: a slot for each indicator, up to the last that ever had a value, with its runs if it has any.
-use Rattle.std.specs.Prelude.{ℕ, ◌≡◌, ◌+◌, ◌≤◌, nat_eq, List, length, map, replicate, slice_index_or, Option, Some, None, IfSome, MatchOption, Vec}
-use Rattle.run_styles.specs.Runs.{Runs, RunCapacity, HasRoom, IsCapacityFor, KeepsCapacity, run_count, inserted, deleted, inserted_value}
-use Rattle.decorations.specs.Decorated.{DecorationCapacity, no_runs, indicators, IsClear}
+use Rattle.std.specs.Prelude.{ℕ, ◌≡◌, ◌≢◌, ◌+◌, ◌*◌, ◌<◌, ◌≤◌, max, nat_eq, List, length, map, replicate, slice_index_or, Option, Some, None, IfSome, MatchOption, Vec, vec_capacity}
+use Rattle.run_styles.specs.Runs.{Runs, RunCapacity, Fit, GrowsFor, HasRoom, run_count, deleted, with_space}
+use Rattle.decorations.specs.Decorated.{Decorated, decorated, no_runs, indicators, IsClear}
 
 abbrev pub slot_at : List (Option (Runs ℕ)) → ℕ → Option (Runs ℕ)
 slot_at slots k = slice_index_or slots k None
@@ -19,10 +19,19 @@ abbrev pub slot_capacity : Option (Runs ℕ) → RunCapacity
 slot_capacity None = no_runs
 slot_capacity (Some runs) = runs.capacity
 
--- what fits in slots, of which so many fit in, and in spare runs
-abbrev pub capacity_by : List (Option (Runs ℕ)) → ℕ → Option (Runs ℕ) → DecorationCapacity
-capacity_by slots capacity spare =
-    record { runs = map (λ k. slot_capacity (slot_at slots k)) indicators; spare = slot_capacity spare; slots = capacity }
+-- what is stored: the slots, how many slots fit in without an allocation, and how many runs fit in the spare ones
+pub record Stored : Type 0 where
+  pub slots : List (Option (Runs ℕ))
+  pub most : ℕ
+  pub spare : RunCapacity
+
+abbrev pub stored : {A : Type 0} → Vec (Option (Runs ℕ)) A → RunCapacity → Stored
+stored slots spare = record { slots = slots.items; most = vec_capacity slots; spare = spare }
+
+-- what a contract sees of it, in a text of the length
+abbrev pub seen : ℕ → Stored → Decorated
+seen size s =
+    decorated size (all_shown size s.slots) record { runs = map (λ k. slot_capacity (slot_at s.slots k)) indicators; spare = s.spare; slots = s.most }
 
 -- Runs in a slot have a value other than 0 somewhere.
 pub record AreKept (size : ℕ) (runs : Runs ℕ) : Type 0 where
@@ -39,18 +48,25 @@ pub record AreSpare (runs : Runs ℕ) : Type 0 where
   pub default : runs.default ≡ 0
 
 -- the statement holds of the runs in each slot that has runs
-abbrev pub EachSlot : {A : Type 0} → (Runs ℕ → Type 0) → Vec (Option (Runs ℕ)) A → Type 0
-EachSlot P slots = (k : ℕ) → IfSome (slot_at slots.items k) P
+abbrev pub EachSlot : (Runs ℕ → Type 0) → List (Option (Runs ℕ)) → Type 0
+EachSlot P slots = (k : ℕ) → IfSome (slot_at slots k) P
 
--- two more runs fit in the slot, or in the spare runs if it has none
-abbrev pub CanFill : Option (Runs ℕ) → Option (Runs ℕ) → Type 0
-CanFill slot spare = MatchOption slot (MatchOption spare ⊥ (HasRoom nat_eq 2)) (HasRoom nat_eq 2)
+-- so many more runs fit in the slot, if it has runs
+abbrev pub SlotFits : ℕ → Option (Runs ℕ) → Type 0
+SlotFits count slot = IfSome slot (HasRoom nat_eq count)
 
-pub record AreSlots (greatest size : ℕ) (slots : List (Option (Runs ℕ))) (spare : Option (Runs ℕ)) : Type 0 where
+-- two more runs fit in the slot, or three runs in the spare ones if it has none
+abbrev pub CanFill : Option (Runs ℕ) → RunCapacity → Type 0
+CanFill slot spare = MatchOption slot (Fit 3 spare) (HasRoom nat_eq 2)
+
+-- the slot of the indicator fits in, and what a fill brings
+abbrev pub CanFillAt : ℕ → Stored → Type 0
+CanFillAt indicator s = (indicator < s.most) × CanFill (slot_at s.slots indicator) s.spare
+
+pub record AreSlots (greatest size : ℕ) (slots : List (Option (Runs ℕ))) : Type 0 where
   pub fits : size ≤ greatest
   pub few : length slots ≤ 32
   pub kept : (k : ℕ) → IsKept size (slot_at slots k)
-  pub unused : IfSome spare AreSpare
 
 -- The effect of steps on the runs of all indicators.
 
@@ -63,12 +79,28 @@ InBoth R (Some old) new = MatchOption new ⊥ (R old)
 abbrev pub InEach : (Option (Runs ℕ) → Option (Runs ℕ) → Type 0) → List (Option (Runs ℕ)) → List (Option (Runs ℕ)) → Type 0
 InEach R old new = (k : ℕ) → R (slot_at old k) (slot_at new k)
 
--- the capacity has grown for `count` more runs at most
-pub record HaveGrown (count : ℕ) (old new : Runs ℕ) : Type 0 where
-  pub values : new.values ≡ old.values
-  pub default : new.default ≡ old.default
-  pub capacity : IsCapacityFor (run_count nat_eq old.values + count) old.capacity new.capacity
-  pub kept : KeepsCapacity old.capacity new.capacity
+-- each slot has changed so, there are as many slots, and as many fit in
+abbrev pub ChangesEach : {A : Type 0} → (Option (Runs ℕ) → Option (Runs ℕ) → Type 0) → (old new : Vec (Option (Runs ℕ)) A) → Type 0
+ChangesEach R old new = InEach R old.items new.items × (length new.items ≡ length old.items) × (vec_capacity new ≡ vec_capacity old)
+
+-- the capacity alone has grown, for `count` more runs at most
+abbrev pub HaveGrown : ℕ → (old new : Runs ℕ) → Type 0
+HaveGrown count old new =
+    (new ≡ record old { capacity = new.capacity }) × GrowsFor (run_count nat_eq old.values + count) old.capacity new.capacity
+
+-- the capacity of the spare runs has grown for three runs at most, and not at all if the slot has runs
+abbrev pub SpareGrows : Option (Runs ℕ) → (old new : RunCapacity) → Type 0
+SpareGrows slot old new = GrowsFor 3 old new × IfSome slot (λ _. new ≡ old)
+
+-- the capacity alone has grown, for a fill of the indicator at most
+pub record GrowsForFill (indicator : ℕ) (old new : Stored) : Type 0 where
+  pub runs : InEach (InBoth (HaveGrown 2)) old.slots new.slots
+  pub others : (k : ℕ) → k ≢ indicator → slot_at new.slots k ≡ slot_at old.slots k
+  pub count : length new.slots ≡ length old.slots
+  pub spare : SpareGrows (slot_at old.slots indicator) old.spare new.spare
+  pub most : new.most ≤ max (indicator + 1) (2 * old.most)
+  pub kept : old.most ≤ new.most
+  pub there : indicator < old.most → new.most ≡ old.most
 
 -- places can be inserted
 pub record CanTakeIn (greatest place count : ℕ) (runs : Runs ℕ) : Type 0 where
@@ -77,19 +109,14 @@ pub record CanTakeIn (greatest place count : ℕ) (runs : Runs ℕ) : Type 0 whe
   pub room : HasRoom nat_eq 1 runs
 
 -- places were inserted
-pub record TookIn (place count : ℕ) (old new : Runs ℕ) : Type 0 where
-  pub values : new.values ≡ inserted old.values place count (inserted_value nat_eq old.default old.values place)
-  pub default : new.default ≡ old.default
-  pub runs : run_count nat_eq new.values ≤ run_count nat_eq old.values + 1
-  pub capacity : new.capacity ≡ old.capacity
+abbrev pub TookIn : (place count : ℕ) → (old new : Runs ℕ) → Type 0
+TookIn place count old new =
+    (new ≡ record old { values = with_space nat_eq old.default old.values place count }) × (run_count nat_eq new.values ≤ run_count nat_eq old.values + 1)
 
--- the runs from which places were deleted, if the indicator is still used
-pub record IsLeft (place count : ℕ) (old new : Runs ℕ) : Type 0 where
-  pub values : new.values ≡ deleted old.values place count
-  pub default : new.default ≡ old.default
-  pub runs : run_count nat_eq new.values ≤ run_count nat_eq old.values
-  pub capacity : new.capacity ≡ old.capacity
-  pub used : IsClear new.values → ⊥
+-- places were deleted, and the indicator is still used
+abbrev pub IsLeft : (place count : ℕ) → (old new : Runs ℕ) → Type 0
+IsLeft place count old new =
+    (new ≡ record old { values = deleted old.values place count }) × (run_count nat_eq new.values ≤ run_count nat_eq old.values) × (IsClear new.values → ⊥)
 
 -- places were deleted; runs that are all 0 then are dropped
 abbrev pub GaveAway : ℕ → ℕ → Option (Runs ℕ) → Option (Runs ℕ) → Type 0
@@ -101,6 +128,11 @@ abbrev pub WasFilled : List ℕ → Option (Runs ℕ) → Type 0
 WasFilled values slot = MatchOption slot (IsClear values) (λ (runs : Runs ℕ). (runs.values ≡ values) × (runs.default ≡ 0) × (IsClear values → ⊥))
 
 -- the capacity of the runs of a filled slot: its own, or that of the spare runs if it has none
-abbrev pub source_capacity : Option (Runs ℕ) → Option (Runs ℕ) → RunCapacity
-source_capacity None spare = slot_capacity spare
+abbrev pub source_capacity : Option (Runs ℕ) → RunCapacity → RunCapacity
+source_capacity None spare = spare
 source_capacity (Some runs) spare = runs.capacity
+
+-- and that of the spare runs that are left
+abbrev pub spare_left : Option (Runs ℕ) → RunCapacity → RunCapacity
+spare_left None spare = no_runs
+spare_left (Some runs) spare = spare

@@ -1,15 +1,17 @@
 //! `Decorations` and its calls.
 ghost use Rattle.ed_model.specs.Steps.{Delete, Insert};
 ghost use Rattle.ed_model.specs.Indicators.{indicators_after};
-ghost use Rattle.std.specs.Prelude.{List, ◌≡◌, ◌≤◌, ◌<◌, ◌+◌, ◌↔◌, ℕ, [], length, replicate, pos, Option, IsTrue, OnOk, IsOk};
+ghost use Rattle.std.specs.Prelude.{List, ◌≡◌, ◌≤◌, ◌<◌, ◌+◌, ◌↔◌, ℕ, [], length, replicate, pos, Option, IsTrue};
 ghost use Rattle.std.specs.List.{AllByRecursion};
 ghost use Rattle.ed_model.specs.TextPlans.{at_place};
 ghost use Rattle.decorations.specs.Decorated.{decorated, filled_range, mask_of, no_capacity, run_about, values_of, HasRoomForFill, HasRoomForInsertions, IsCapacityForFill, IsCapacityForRuns, IsFilled, IsUsed, KeepsRuns, WereFilledFrom};
+ghost use Rattle.vec_room.specs.Reserved.{IsReserved};
 
 use crate::slots::{
     Slot, add_slots, delete_from_all, fill_slot, insert_into_all, mask_in, reserve_one,
     reserve_runs, runs_in,
 };
+use crate::spare::SpareRuns;
 use partitioning::Place;
 use std::alloc::{AllocError, Global};
 use std::marker::Model;
@@ -22,21 +24,20 @@ pub struct Decorations<P: Place> {
     // One slot for each indicator, up to the last that ever had a value.
     slots: Vec<Slot<P>>,
     // Runs without a place, for an indicator that is filled for the first time.
-    spare: Slot<P>,
+    spare: SpareRuns<P>,
     size: usize,
     alloc: Global,
 }
 
 impl<P: Place> Model for Decorations<P> {
-    ghost use Rattle.decorations.specs.Decorated.{Decorated, decorated};
-    ghost use Rattle.decorations.specs.Slots.{all_shown, capacity_by, AreSlots};
-    ghost use Rattle.std.specs.Prelude.{vec_capacity};
+    ghost use Rattle.decorations.specs.Decorated.{Decorated};
+    ghost use Rattle.decorations.specs.Slots.{seen, stored, AreSlots};
 
     ghost Value = { Decorated };
 
-    ghost view = { λ d. decorated d.size (all_shown d.size d.slots.items) (capacity_by d.slots.items (vec_capacity d.slots) d.spare) };
+    ghost view = { λ d. seen d.size (stored d.slots d.spare) };
 
-    ghost invariant = { λ d. AreSlots P.GREATEST d.size d.slots.items d.spare };
+    ghost invariant = { λ d. AreSlots P.GREATEST d.size d.slots.items };
 }
 
 impl<P: Place> Decorations<P> {
@@ -46,7 +47,7 @@ impl<P: Place> Decorations<P> {
     {
         Decorations {
             slots: Vec::new(alloc),
-            spare: None,
+            spare: SpareRuns::new(),
             size: 0,
             alloc,
         }
@@ -110,10 +111,8 @@ impl<P: Place> Decorations<P> {
     /// `AllocError` if an allocation fails. Nothing has changed then, except that more runs may fit in.
     #[inline(always)]
     pub fn reserve(&mut self, insertions: usize) -> Result<(), AllocError>
-        ensures ok { OnOk result (HasRoomForInsertions insertions self.new) }
-        ensures room_is_there { HasRoomForInsertions insertions self.old → IsOk result × (self.new ≡ self.old) }
-        ensures rest { self.new ≡ record self.old { capacity = self.new.capacity } }
-        ensures at_most { IsCapacityForRuns (insertions + 2) self.old self.new.capacity }
+        ensures reserved { IsReserved (HasRoomForInsertions insertions) result self.old self.new }
+        ensures grown { (self.new ≡ record self.old { capacity = self.new.capacity }) × IsCapacityForRuns (insertions + 2) self.old self.new.capacity }
     {
         if self.slots.len() == 0 {
             return Ok(());
@@ -124,13 +123,10 @@ impl<P: Place> Decorations<P> {
     // The slow path of `reserve`: there are slots.
     #[inline(never)]
     fn make_room(&mut self, insertions: usize) -> Result<(), AllocError>
-        ensures ok { OnOk result (HasRoomForInsertions insertions self.new) }
-        ensures room_is_there { HasRoomForInsertions insertions self.old → IsOk result × (self.new ≡ self.old) }
-        ensures rest { self.new ≡ record self.old { capacity = self.new.capacity } }
-        ensures at_most { IsCapacityForRuns (insertions + 2) self.old self.new.capacity }
+        ensures reserved { IsReserved (HasRoomForInsertions insertions) result self.old self.new }
+        ensures grown { (self.new ≡ record self.old { capacity = self.new.capacity }) × IsCapacityForRuns (insertions + 2) self.old self.new.capacity }
     {
-        reserve_runs(&mut self.slots, insertions)?;
-        Ok(())
+        reserve_runs(&mut self.slots, insertions)
     }
 
     /// Makes room for one fill of an indicator. If the room is there, nothing is allocated, and it cannot fail.
@@ -140,13 +136,10 @@ impl<P: Place> Decorations<P> {
     /// `AllocError` if an allocation fails. Nothing has changed then, except that more slots and runs may fit in.
     pub fn reserve_fill(&mut self, indicator: usize) -> Result<(), AllocError>
         requires { indicator < 32 }
-        ensures ok { OnOk result (HasRoomForFill indicator self.new) }
-        ensures room_is_there { HasRoomForFill indicator self.old → IsOk result × (self.new ≡ self.old) }
-        ensures rest { self.new ≡ record self.old { capacity = self.new.capacity } }
-        ensures at_most { IsCapacityForFill indicator self.old self.new.capacity }
+        ensures reserved { IsReserved (HasRoomForFill indicator) result self.old self.new }
+        ensures grown { (self.new ≡ record self.old { capacity = self.new.capacity }) × IsCapacityForFill indicator self.old self.new.capacity }
     {
-        reserve_one(&mut self.slots, &mut self.spare, indicator, self.alloc)?;
-        Ok(())
+        reserve_one(&mut self.slots, &mut self.spare, indicator, self.alloc)
     }
 
     /// Sets an indicator to a value at `count` places from `start` on. Returns the smallest range that holds all places

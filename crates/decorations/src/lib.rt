@@ -6,5 +6,6 @@
 
 mod decorations;
 mod slots;
+mod spare;
 
 pub use decorations::Decorations;

@@ -1,13 +1,15 @@
 //! The runs of all indicators in use, and the effect of a step on them. A slot without runs stands for an indicator
 //! that is 0 everywhere.
-ghost use Rattle.std.specs.Prelude.{◌≡◌, ◌≤◌, ◌<◌, ◌+◌, ◌≢◌, ◌*◌, ℕ, length, max, nat_eq, pos, Some, None, IfSome, MatchOption, OnOk, IsOk, vec_len, vec_capacity};
+ghost use Rattle.std.specs.Prelude.{◌≡◌, ◌≤◌, ◌<◌, ◌+◌, ℕ, length, nat_eq, pos, Option, Some, None, IfSome, vec_capacity};
 ghost use Rattle.ed_model.specs.Indicators.{filled, changed_range};
 ghost use Rattle.ed_model.specs.TextPlans.{at_place};
 ghost use Rattle.std.specs.Option.{is_some, option_copied};
-ghost use Rattle.run_styles.specs.Runs.{HasRoom, IsCapacityFor, KeepsCapacity};
+ghost use Rattle.run_styles.specs.Runs.{HasRoom, RunCapacity, Runs};
 ghost use Rattle.decorations.specs.Decorated.{mask_of};
-ghost use Rattle.decorations.specs.Slots.{all_shown, slot_at, slot_capacity, source_capacity, shown, AreKept, AreSpare, CanFill, CanTakeIn, EachSlot, GaveAway, HaveGrown, InBoth, InEach, IsKept, TookIn, WasFilled};
+ghost use Rattle.decorations.specs.Slots.{all_shown, slot_at, source_capacity, spare_left, stored, shown, AreKept, CanFill, CanFillAt, CanTakeIn, ChangesEach, EachSlot, GaveAway, GrowsForFill, HaveGrown, InBoth, IsKept, SlotFits, SpareGrows, TookIn, WasFilled};
+ghost use Rattle.vec_room.specs.Reserved.{IsReserved};
 
+use crate::spare::SpareRuns;
 use partitioning::Place;
 use run_styles::RunStyles;
 use std::alloc::{AllocError, Global};
@@ -72,9 +74,8 @@ pub(crate) fn add_slots<P: Place>(slots: &mut Vec<Slot<P>>, count: usize)
 
 /// Makes room for what `insertions` insertions and a fill bring in a slot, if it has runs.
 fn reserve_in<P: Place>(slot: &mut Slot<P>, insertions: usize) -> Result<(), AllocError>
-    ensures same { InBoth (HaveGrown (insertions + 2)) slot.old slot.new }
-    ensures ok { OnOk result (IfSome slot.new (HasRoom nat_eq (insertions + 2))) }
-    ensures room_is_there { IfSome slot.old (HasRoom nat_eq (insertions + 2)) → IsOk result }
+    ensures reserved { IsReserved (SlotFits (insertions + 2)) result slot.old slot.new }
+    ensures grown { InBoth (HaveGrown (insertions + 2)) slot.old slot.new }
 {
     let Some(runs) = slot else {
         return Ok(());
@@ -92,33 +93,12 @@ pub(crate) fn reserve_runs<P: Place>(
     slots: &mut Vec<Slot<P>>,
     insertions: usize,
 ) -> Result<(), AllocError>
-    ensures same { InEach (InBoth (HaveGrown (insertions + 2))) slots.old.items slots.new.items }
-    ensures length { length slots.new.items ≡ length slots.old.items }
-    ensures capacity { vec_capacity slots.new ≡ vec_capacity slots.old }
-    ensures ok { OnOk result (EachSlot (HasRoom nat_eq (insertions + 2)) slots.new) }
-    ensures room_is_there { EachSlot (HasRoom nat_eq (insertions + 2)) slots.old → IsOk result }
+    ensures reserved { IsReserved (EachSlot (HasRoom nat_eq (insertions + 2))) result slots.old.items slots.new.items }
+    ensures grown { ChangesEach (InBoth (HaveGrown (insertions + 2))) slots.old slots.new }
 {
     for slot in slots.iter_mut() {
         reserve_in(slot, insertions)?;
     }
-    Ok(())
-}
-
-/// Makes room for two more runs in the spare runs, which it creates if there are none.
-fn reserve_spare<P: Place>(spare: &mut Slot<P>, alloc: Global) -> Result<(), AllocError>
-    requires { IfSome spare.old AreSpare }
-    ensures ok { OnOk result (MatchOption spare.new ⊥ (HasRoom nat_eq 2)) }
-    ensures unused { IfSome spare.new AreSpare }
-    ensures at_most { IsCapacityFor 3 (slot_capacity spare.old) (slot_capacity spare.new) }
-    ensures kept { KeepsCapacity (slot_capacity spare.old) (slot_capacity spare.new) }
-    ensures room_is_there { MatchOption spare.old ⊥ (HasRoom nat_eq 2) → IsOk result }
-{
-    if let Some(runs) = spare {
-        return runs.reserve(2);
-    }
-    let mut runs = RunStyles::new(alloc, 0)?;
-    runs.reserve(2)?;
-    *spare = Some(runs);
     Ok(())
 }
 
@@ -134,10 +114,8 @@ fn insert_into<P: Place>(slot: &mut Slot<P>, place: usize, count: usize)
 /// Inserts `count` places before `place`, in the runs of each indicator in use. There is usually no slot at all.
 #[inline(always)]
 pub(crate) fn insert_into_all<P: Place>(slots: &mut Vec<Slot<P>>, place: usize, count: usize)
-    requires { (k : ℕ) → IfSome (slot_at slots.old.items k) (CanTakeIn P.GREATEST place count) }
-    ensures runs { InEach (InBoth (TookIn place count)) slots.old.items slots.new.items }
-    ensures length { length slots.new.items ≡ length slots.old.items }
-    ensures capacity { vec_capacity slots.new ≡ vec_capacity slots.old }
+    requires { EachSlot (CanTakeIn P.GREATEST place count) slots.old.items }
+    ensures { ChangesEach (InBoth (TookIn place count)) slots.old slots.new }
 {
     if slots.len() > 0 {
         insert_into_each(slots, place, count);
@@ -147,10 +125,8 @@ pub(crate) fn insert_into_all<P: Place>(slots: &mut Vec<Slot<P>>, place: usize, 
 // The slow path of `insert_into_all`, out of line: there are slots.
 #[inline(never)]
 fn insert_into_each<P: Place>(slots: &mut Vec<Slot<P>>, place: usize, count: usize)
-    requires { (k : ℕ) → IfSome (slot_at slots.old.items k) (CanTakeIn P.GREATEST place count) }
-    ensures runs { InEach (InBoth (TookIn place count)) slots.old.items slots.new.items }
-    ensures length { length slots.new.items ≡ length slots.old.items }
-    ensures capacity { vec_capacity slots.new ≡ vec_capacity slots.old }
+    requires { EachSlot (CanTakeIn P.GREATEST place count) slots.old.items }
+    ensures { ChangesEach (InBoth (TookIn place count)) slots.old slots.new }
 {
     for slot in slots.iter_mut() {
         insert_into(slot, place, count);
@@ -175,10 +151,8 @@ fn delete_from<P: Place>(slot: &mut Slot<P>, place: usize, count: usize)
 /// There is usually no slot at all.
 #[inline(always)]
 pub(crate) fn delete_from_all<P: Place>(slots: &mut Vec<Slot<P>>, place: usize, count: usize)
-    requires { (k : ℕ) → IfSome (slot_at slots.old.items k) (λ runs. place + count ≤ length runs.values) }
-    ensures runs { InEach (GaveAway place count) slots.old.items slots.new.items }
-    ensures length { length slots.new.items ≡ length slots.old.items }
-    ensures capacity { vec_capacity slots.new ≡ vec_capacity slots.old }
+    requires { EachSlot (λ runs. place + count ≤ length runs.values) slots.old.items }
+    ensures { ChangesEach (GaveAway place count) slots.old slots.new }
 {
     if slots.len() > 0 {
         delete_from_each(slots, place, count);
@@ -188,10 +162,8 @@ pub(crate) fn delete_from_all<P: Place>(slots: &mut Vec<Slot<P>>, place: usize, 
 // The slow path of `delete_from_all`, out of line: there are slots.
 #[inline(never)]
 fn delete_from_each<P: Place>(slots: &mut Vec<Slot<P>>, place: usize, count: usize)
-    requires { (k : ℕ) → IfSome (slot_at slots.old.items k) (λ runs. place + count ≤ length runs.values) }
-    ensures runs { InEach (GaveAway place count) slots.old.items slots.new.items }
-    ensures length { length slots.new.items ≡ length slots.old.items }
-    ensures capacity { vec_capacity slots.new ≡ vec_capacity slots.old }
+    requires { EachSlot (λ runs. place + count ≤ length runs.values) slots.old.items }
+    ensures { ChangesEach (GaveAway place count) slots.old slots.new }
 {
     for slot in slots.iter_mut() {
         delete_from(slot, place, count);
@@ -201,80 +173,57 @@ fn delete_from_each<P: Place>(slots: &mut Vec<Slot<P>>, place: usize, count: usi
 /// Makes room for a fill in a slot, or in the spare runs if it has none.
 fn reserve_slot<P: Place>(
     slot: &mut Slot<P>,
-    spare: &mut Slot<P>,
+    spare: &mut SpareRuns<P>,
     alloc: Global,
 ) -> Result<(), AllocError>
-    requires { IfSome spare.old AreSpare }
-    ensures same { InBoth (HaveGrown 2) slot.old slot.new }
-    ensures ok { OnOk result (CanFill slot.new spare.new) }
-    ensures unused { IfSome spare.new AreSpare }
-    ensures spare_at_most { IsCapacityFor 3 (slot_capacity spare.old) (slot_capacity spare.new) }
-    ensures spare_kept { KeepsCapacity (slot_capacity spare.old) (slot_capacity spare.new) }
-    ensures spare_stays { IfSome slot.old (λ _. spare.new ≡ spare.old) }
-    ensures room_is_there { CanFill slot.old spare.old → IsOk result }
+    ensures reserved { IsReserved (λ (both : Option (Runs ℕ) × RunCapacity). CanFill both.0 both.1) result (slot.old, spare.old) (slot.new, spare.new) }
+    ensures grown { InBoth (HaveGrown 2) slot.old slot.new × SpareGrows slot.old spare.old spare.new }
 {
     if let Some(runs) = slot {
         return runs.reserve(2);
     }
-    reserve_spare(spare, alloc)
+    spare.reserve(alloc)
 }
 
 /// Takes the runs out of a slot. If it has none, takes the spare ones, and makes them `size` places of value 0.
-fn taken<P: Place>(slot: &mut Slot<P>, spare: &mut Slot<P>, size: usize) -> RunStyles<P, u32>
+fn taken<P: Place>(slot: &mut Slot<P>, spare: &mut SpareRuns<P>, size: usize) -> RunStyles<P, u32>
     requires fits { size ≤ P.GREATEST }
-    requires unused { IfSome spare.old AreSpare }
     requires room { CanFill slot.old spare.old }
     ensures values { result.values ≡ shown size slot.old }
     ensures default { IfSome slot.old (λ runs. runs.default ≡ 0) → result.default ≡ 0 }
     ensures room { HasRoom nat_eq 2 result }
-    ensures capacity { result.capacity ≡ source_capacity slot.old spare.old }
     ensures slot { slot.new ≡ None }
-    ensures spare { MatchOption slot.old (spare.new ≡ None) (λ _. spare.new ≡ spare.old) }
+    ensures capacity { (result.capacity ≡ source_capacity slot.old spare.old) × (spare.new ≡ spare_left slot.old spare.old) }
 {
     if let Some(runs) = slot.take() {
         return runs;
     }
-    let Some(mut runs) = spare.take() else {
-        unreachable!()
-    };
-    runs.insert_space(0, size);
-    runs
+    spare.take(size)
 }
 
 /// Makes room for a fill of one indicator, and for its slot.
 pub(crate) fn reserve_one<P: Place>(
     slots: &mut Vec<Slot<P>>,
-    spare: &mut Slot<P>,
+    spare: &mut SpareRuns<P>,
     indicator: usize,
     alloc: Global,
 ) -> Result<(), AllocError>
-    requires indicator { indicator < 32 }
-    requires unused { IfSome spare.old AreSpare }
-    ensures same { InEach (InBoth (HaveGrown 2)) slots.old.items slots.new.items }
-    ensures length { length slots.new.items ≡ length slots.old.items }
-    ensures others { (k : ℕ) → k ≢ indicator → slot_at slots.new.items k ≡ slot_at slots.old.items k }
-    ensures ok { OnOk result ((indicator < vec_capacity slots.new) × CanFill (slot_at slots.new.items indicator) spare.new) }
-    ensures unused { IfSome spare.new AreSpare }
-    ensures spare_at_most { IsCapacityFor 3 (slot_capacity spare.old) (slot_capacity spare.new) }
-    ensures spare_kept { KeepsCapacity (slot_capacity spare.old) (slot_capacity spare.new) }
-    ensures spare_stays { IfSome (slot_at slots.old.items indicator) (λ _. spare.new ≡ spare.old) }
-    ensures capacity { vec_capacity slots.new ≤ max (indicator + 1) (2 * vec_capacity slots.old) }
-    ensures capacity_kept { vec_capacity slots.old ≤ vec_capacity slots.new }
-    ensures capacity_stays { (length slots.old.items ≤ indicator → indicator < vec_capacity slots.old) → vec_capacity slots.new ≡ vec_capacity slots.old }
-    ensures room_is_there { (length slots.old.items ≤ indicator → indicator < vec_capacity slots.old) → CanFill (slot_at slots.old.items indicator) spare.old → IsOk result }
+    requires { indicator < 32 }
+    ensures reserved { IsReserved (CanFillAt indicator) result (stored slots.old spare.old) (stored slots.new spare.new) }
+    ensures grown { GrowsForFill indicator (stored slots.old spare.old) (stored slots.new spare.new) }
 {
     vec_room::reserve(slots, (indicator + 1).saturating_sub(slots.len()))?;
     if indicator < slots.len() {
         return reserve_slot(&mut slots[indicator], spare, alloc);
     }
-    reserve_spare(spare, alloc)
+    spare.reserve(alloc)
 }
 
 /// Sets `count` places of an indicator to a value, in its runs, or in the spare ones if it has none. Drops its runs if
 /// they are all 0 then. Returns the smallest range that holds all places that changed.
 pub(crate) fn fill_slot<P: Place>(
     slot: &mut Slot<P>,
-    spare: &mut Slot<P>,
+    spare: &mut SpareRuns<P>,
     size: usize,
     start: usize,
     count: usize,
@@ -283,13 +232,10 @@ pub(crate) fn fill_slot<P: Place>(
     requires fits { size ≤ P.GREATEST }
     requires within { start + count ≤ size }
     requires kept { IfSome slot.old (AreKept size) }
-    requires unused { IfSome spare.old AreSpare }
     requires room { CanFill slot.old spare.old }
     ensures filled { WasFilled (filled start count value (shown size slot.old)) slot.new }
     ensures changed { result ≡ changed_range (shown size slot.old) (filled start count value (shown size slot.old)) }
-    ensures unused { IfSome spare.new AreSpare }
-    ensures spare { MatchOption slot.old (spare.new ≡ None) (λ _. spare.new ≡ spare.old) }
-    ensures capacity { IfSome slot.new (λ runs. runs.capacity ≡ source_capacity slot.old spare.old) }
+    ensures capacity { IfSome slot.new (λ runs. runs.capacity ≡ source_capacity slot.old spare.old) × (spare.new ≡ spare_left slot.old spare.old) }
 {
     let mut runs = taken(slot, spare, size);
     let changed = runs.fill(start, count, value);

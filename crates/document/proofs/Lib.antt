@@ -8,6 +8,5 @@ pub mod SteppedParts
 pub mod LentSteps
 pub mod StyledCells
 pub mod MarkerLines
-pub mod TypeSettings
 pub mod MarkerNumbers
 pub mod Masks

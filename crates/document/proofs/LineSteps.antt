@@ -1,72 +1,11 @@
--- The index of a document's lines, before a step and after it: the facts that it requires of a step, and the room.
-use Rattle.document.proofs.Names.{◌≡◌, ℕ, ◌+◌, ◌≤◌, List, ◌++◌, length, take, drop, slice_range, refl, ap, sym, ◌∙◌, arith, length-append, length-map, length-take, length-drop, map-append, take-map, drop-map, LineEndTypes, Buffer, Cell, bytes_of, line_starts, line_count, end_of_line, end_of, put_in, Step, Insert, Delete, place_of, edited, edited_cells, end_in_range, bytes_of_edited_cells, length_of_range, Index, IsIndexOf, IsInsertion, IsDeletion, FollowsInsertion, FollowsDeletion, bytes_near, lines_for_insertion, lines_for_deletion, InsertionAddsFewLines, DeletionAddsFewLines, change_about, change_of, LinesOf, line_capacity, HasLinesOf, CanPut, InsertionFits, WereEdited, deletion_of}
-use Rattle.ed_model.specs.proved.Lists.{length_slice}
+-- The index of a document's lines, before a step and after it.
+use Rattle.document.proofs.Names.{◌≡◌, ℕ, ◌+◌, ◌≤◌, List, ◌++◌, length, take, drop, slice_range, refl, ap, sym, ◌∙◌, arith, length-append, length-map, length-take, length-drop, LineEndTypes, Buffer, Cell, bytes_of, line_starts, line_count, end_of_line, end_of, put_in, Step, Insert, Delete, place_of, edited, edited_cells, end_in_range, bytes_of_edited_cells, length_of_bytes, length_of_range, Index, IsIndexOf, IsBefore, bytes_near, DeletionAddsFewLines, change_about, change_of, LinesOf, CanTakeOut, WereEdited, WereEditedBy, deletion_of}
+use Rattle.line_index.specs.declared.change.LineChange.{LineChange}
 
 -- The end of a line lies in the text.
 
 pub end_in_cells : (cells : List Cell) (types : LineEndTypes) (text : List ℕ) (line : ℕ) → text ≡ bytes_of cells → end_of_line types text line ≤ length cells
-end_in_cells cells types text line read = omega (arith, end_in_range types text line, ap length read, length-map cells (λ (c : Cell). c.byte))
-
--- An insertion.
-
-bytes_inserted : (cells new : List Cell) (place : ℕ) (bytes text : List ℕ) → new ≡ edited_cells (Insert place bytes) cells → text ≡ bytes_of new → edited (Insert place bytes) (bytes_of cells) ≡ text
-bytes_inserted cells new place bytes text is read = sym (bytes_of_edited_cells (Insert place bytes) cells) ∙ sym (ap bytes_of is) ∙ sym read
-
-place_in_bytes : (cells : List Cell) (place : ℕ) → place ≤ length cells → place ≤ length (bytes_of cells)
-place_in_bytes cells place h = omega (arith, length-map cells (λ (c : Cell). c.byte))
-
--- the facts that the index requires
-pub told_of_insertion : (types : LineEndTypes) (cells new : List Cell) (lines : Index) (place : ℕ) (bytes near text : List ℕ) → HasLinesOf types cells lines → place ≤ length cells → new ≡ edited_cells (Insert place bytes) cells → text ≡ bytes_of new →
-    near ≡ bytes_near place (length bytes) text → line_count types (bytes_of (edited_cells (Insert place bytes) cells)) ≤ length lines.starts + lines.room → IsInsertion place (length bytes) near (bytes_of cells) bytes lines
-told_of_insertion types cells new lines place bytes near text has within is read reads room = record {
-  counted = refl;
-  within = place_in_bytes cells place within;
-  index = has.index;
-  reads = reads ∙ ap (bytes_near place (length bytes)) (sym (bytes_inserted cells new place bytes text is read));
-  room = omega (
-    arith,
-    room,
-    ap (λ t. line_count t (edited (Insert place bytes) (bytes_of cells))) has.types_are,
-    ap (line_count types) (bytes_of_edited_cells (Insert place bytes) cells),
-  );
-}
-
--- the index afterwards
-lines_of_inserted : (types : LineEndTypes) (cells new : List Cell) (old lines : Index) (place : ℕ) (bytes : List ℕ) → HasLinesOf types cells old → new ≡ edited_cells (Insert place bytes) cells → lines.types ≡ old.types → IsIndexOf (edited (Insert place bytes) (bytes_of cells)) lines → HasLinesOf types new lines
-lines_of_inserted types cells new old lines place bytes has is same index =
-    let text : edited (Insert place bytes) (bytes_of cells) ≡ bytes_of new = sym (bytes_of_edited_cells (Insert place bytes) cells) ∙ sym (ap bytes_of is) in
-    record { types_are = same ∙ has.types_are; index = rw text at index }
-
--- A deletion.
-
-bytes_deleted : (cells new : List Cell) (place count : ℕ) (text : List ℕ) → new ≡ take place cells ++ drop (place + count) cells → text ≡ bytes_of new →
-    take place (bytes_of cells) ++ drop (place + count) (bytes_of cells) ≡ text
-bytes_deleted cells new place count text is read =
-    let e : bytes_of (take place cells ++ drop (place + count) cells) ≡ take place (bytes_of cells) ++ drop (place + count) (bytes_of cells) = simp (map-append, take-map, drop-map) in
-    sym e ∙ sym (ap bytes_of is) ∙ sym read
-
--- the facts that the index requires
-pub told_of_deletion : (types : LineEndTypes) (cells new : List Cell) (lines : Index) (place count : ℕ) (near text : List ℕ) → DeletionAddsFewLines → HasLinesOf types cells lines → place + count ≤ length cells → lines_for_deletion ≤ lines.room →
-    new ≡ take place cells ++ drop (place + count) cells → text ≡ bytes_of new → near ≡ bytes_near place 0 text → IsDeletion place count near (bytes_of cells) lines
-told_of_deletion types cells new lines place count near text few has within room is read reads = record {
-  within = place_in_bytes cells (place + count) within;
-  index = has.index;
-  reads = reads ∙ ap (bytes_near place 0) (sym (bytes_deleted cells new place count text is read));
-  room = omega (
-    arith,
-    room,
-    ap length has.index.starts,
-    ap (λ t. line_count t (bytes_of cells)) has.types_are,
-    ap (λ t. line_count t (take place (bytes_of cells) ++ drop (place + count) (bytes_of cells))) has.types_are,
-    few types place count (bytes_of cells) (place_in_bytes cells (place + count) within),
-  );
-}
-
--- the index afterwards
-lines_of_deleted : (types : LineEndTypes) (cells new : List Cell) (old lines : Index) (place count : ℕ) → HasLinesOf types cells old → new ≡ take place cells ++ drop (place + count) cells → lines.types ≡ old.types → IsIndexOf (take place (bytes_of cells) ++ drop (place + count) (bytes_of cells)) lines → HasLinesOf types new lines
-lines_of_deleted types cells new old lines place count has is same index =
-    let text : take place (bytes_of cells) ++ drop (place + count) (bytes_of cells) ≡ bytes_of new = bytes_deleted cells new place count (bytes_of new) is refl in
-    record { types_are = same ∙ has.types_are; index = rw text at index }
+end_in_cells cells types text line read = omega (arith, end_in_range types text line, ap length read, length_of_bytes cells)
 
 -- How many lines and bytes there are.
 
@@ -79,83 +18,54 @@ length_deleted place bytes cells within = simp (length-append, length-take, leng
 pub lines_of_index : (types : LineEndTypes) (text : List ℕ) (i : Index) → IsIndexOf text i → i.types ≡ types → length i.starts ≡ line_count types text
 lines_of_index types text i is same = ap length is.starts ∙ ap (λ t. line_count t text) same
 
--- The effect of a step on the lines.
-
-pub change_of_step :
-    (types : LineEndTypes) (step : Step) (cells new : List Cell) (old lines : Index) → HasLinesOf types cells old → HasLinesOf types new lines → new ≡ edited_cells step cells
-    → change_about (place_of step) (end_of step) (place_of step + length (put_in step)) old.starts lines.starts lines.length ≡ change_of types step (bytes_of cells)
-change_of_step types step cells new old lines has now is =
-    let before : old.starts ≡ line_starts types (bytes_of cells) = has.index.starts ∙ ap (λ t. line_starts t (bytes_of cells)) has.types_are in
-    let text : bytes_of new ≡ edited step (bytes_of cells) = ap bytes_of is ∙ bytes_of_edited_cells step cells in
-    let after : lines.starts ≡ line_starts types (edited step (bytes_of cells)) = now.index.starts ∙ ap (λ t. line_starts t (bytes_of new)) now.types_are ∙ ap (line_starts types) text in
-    let long : lines.length ≡ length (edited step (bytes_of cells)) = now.index.length ∙ ap length text in
-    rw (before, after, long) refl
-
-pub change_of_deletion :
-    (types : LineEndTypes) (cells new : List Cell) (old lines : Index) (place count : ℕ) → place + count ≤ length cells → HasLinesOf types cells old → HasLinesOf types new lines
-    → new ≡ edited_cells (Delete place (slice_range (bytes_of cells) place (place + count))) cells
-    → change_about place (place + count) place old.starts lines.starts lines.length ≡ change_of types (Delete place (slice_range (bytes_of cells) place (place + count))) (bytes_of cells)
-change_of_deletion types cells new old lines place count h has now is =
-    let bytes : List ℕ = slice_range (bytes_of cells) place (place + count) in
-    let counted : length bytes ≡ count = length_of_range cells place count h in
-    let end : place + count ≡ place + length bytes = omega arith in
-    let none : place ≡ place + 0 = omega arith in
-    ap (λ e. change_about place e place old.starts lines.starts lines.length) end
-    ∙ ap (λ n. change_about place (place + length bytes) n old.starts lines.starts lines.length) none
-    ∙ change_of_step types (Delete place bytes) cells new old lines has now is
-
--- there is room for the lines of an insertion
-pub insertion_fits :
-    (types : LineEndTypes) (cells : List Cell) (lines : Index) (place : ℕ) (bytes : List ℕ) → InsertionAddsFewLines → HasLinesOf types cells lines → place ≤ length cells → lines_for_insertion types bytes ≤ lines.room
-    → line_count types (bytes_of (edited_cells (Insert place bytes) cells)) ≤ length lines.starts + lines.room
-insertion_fits types cells lines place bytes few has p room =
-    omega (
-      arith,
-      lines_of_index types (bytes_of cells) lines has.index has.types_are,
-      ap (line_count types) (bytes_of_edited_cells (Insert place bytes) cells),
-      few types place bytes (bytes_of cells) (place_in_bytes cells place p),
-    )
+-- A step.
 
 -- cells from which a range was deleted are those after the deletion of its bytes
-deleted_cells : (cells new : List Cell) (place count : ℕ) → place + count ≤ length cells →
-    new ≡ take place cells ++ drop (place + count) cells → new ≡ edited_cells (Delete place (slice_range (bytes_of cells) place (place + count))) cells
-deleted_cells cells new place count inside e =
-    let as_long : length (bytes_of cells) ≡ length cells = length-map cells (λ (c : Cell). c.byte) in
-    let within : place + count ≤ length (bytes_of cells) = omega (arith, as_long) in
-    e ∙ ap (λ n. take place cells ++ drop (place + n) cells) (sym (length_slice (bytes_of cells) place count within))
+pub deleted_cells : (cells new : List Cell) (place count : ℕ) → place + count ≤ length cells → new ≡ take place cells ++ drop (place + count) cells → new ≡ edited_cells (deletion_of place count (bytes_of cells)) cells
+deleted_cells cells new place count within is = is ∙ ap (λ n. take place cells ++ drop (place + n) cells) (sym (length_of_range cells place count within))
 
--- The cells and the line starts after a step.
+-- the facts that the index requires
+pub told_of_step :
+    (step : Step) (cells new : List Cell) (lines : Index) (near text : List ℕ) → IsIndexOf (bytes_of cells) lines → end_of step ≤ length cells → new ≡ edited_cells step cells → text ≡ bytes_of new
+    → near ≡ bytes_near (place_of step) (length (put_in step)) text → line_count lines.types (edited step (bytes_of cells)) ≤ lines.capacity → IsBefore step near (bytes_of cells) lines
+told_of_step step cells new lines near text indexed within is read reads fits = record {
+  within = omega (arith, within, length_of_bytes cells);
+  index = indexed;
+  reads = reads ∙ ap (bytes_near (place_of step) (length (put_in step))) (read ∙ ap bytes_of is ∙ bytes_of_edited_cells step cells);
+  fits = fits;
+}
 
-pub edited_by_insertion :
-    (place : ℕ) (bytes near text : List ℕ) (cells new : Buffer) (lines new_lines : LinesOf) → CanPut place bytes cells lines → InsertionFits place bytes cells.cells lines.index
-    → new.cells ≡ edited_cells (Insert place bytes) cells.cells → new.keeps_styles ≡ cells.keeps_styles → new.capacity ≡ cells.capacity → text ≡ bytes_of new.cells → near ≡ bytes_near place (length bytes) text
-    → new_lines.index.types ≡ lines.index.types → FollowsInsertion place (length bytes) near lines.index new_lines.index → new_lines.is_large ≡ lines.is_large
-    → line_capacity new_lines.index ≡ line_capacity lines.index → WereEdited (Insert place bytes) cells new lines new_lines
-edited_by_insertion place bytes near text cells new lines new_lines can fits is styles capacity read reads types follows width starts =
-    let has : HasLinesOf lines.index.types cells.cells lines.index = record { types_are = refl; index = can.indexed } in
-    let told = told_of_insertion lines.index.types cells.cells new.cells lines.index place bytes near text has can.within is read reads fits in
-    record {
-      cells = is;
-      keeps_styles = styles;
-      capacity = capacity;
-      lines = lines_of_inserted lines.index.types cells.cells new.cells lines.index new_lines.index place bytes has is types (follows (bytes_of cells.cells) bytes told);
-      width = width;
-      starts = starts;
-    }
+pub told_of_deletion :
+    (cells new : Buffer) (lines : LinesOf) (place count : ℕ) (near text : List ℕ) → DeletionAddsFewLines → CanTakeOut place count cells lines → new.cells ≡ edited_cells (deletion_of place count (bytes_of cells.cells)) cells.cells
+    → text ≡ bytes_of new.cells → near ≡ bytes_near place 0 text → IsBefore (deletion_of place count (bytes_of cells.cells)) near (bytes_of cells.cells) lines.index
+told_of_deletion cells new lines place count near text deletion can is read reads =
+    let step = deletion_of place count (bytes_of cells.cells) in
+    let within : end_of step ≤ length cells.cells = omega (arith, can.within, length_of_range cells.cells place count can.within) in
+    let few = deletion lines.index.types place (length (slice_range (bytes_of cells.cells) place (place + count))) (bytes_of cells.cells) (omega (arith, within, length_of_bytes cells.cells)) in
+    told_of_step step cells.cells new.cells lines.index near text can.indexed within is read reads (omega (arith, can.starts, ap length can.indexed.starts, few))
 
-pub edited_by_deletion :
-    (place count : ℕ) (near text : List ℕ) (cells new : Buffer) (lines new_lines : LinesOf) → DeletionAddsFewLines → place + count ≤ length cells.cells → IsIndexOf (bytes_of cells.cells) lines.index
-    → lines_for_deletion ≤ lines.index.room → new.cells ≡ take place cells.cells ++ drop (place + count) cells.cells → new.keeps_styles ≡ cells.keeps_styles → new.capacity ≡ cells.capacity
-    → text ≡ bytes_of new.cells → near ≡ bytes_near place 0 text → new_lines.index.types ≡ lines.index.types → FollowsDeletion place count near lines.index new_lines.index
-    → new_lines.is_large ≡ lines.is_large → line_capacity new_lines.index ≡ line_capacity lines.index → WereEdited (deletion_of place count (bytes_of cells.cells)) cells new lines new_lines
-edited_by_deletion place count near text cells new lines new_lines few within indexed room is styles capacity read reads types follows width starts =
-    let has : HasLinesOf lines.index.types cells.cells lines.index = record { types_are = refl; index = indexed } in
-    let told = told_of_deletion lines.index.types cells.cells new.cells lines.index place count near text few has within room is read reads in
-    record {
-      cells = deleted_cells cells.cells new.cells place count within is;
-      keeps_styles = styles;
-      capacity = capacity;
-      lines = lines_of_deleted lines.index.types cells.cells new.cells lines.index new_lines.index place count has is types (follows (bytes_of cells.cells) told);
-      width = width;
-      starts = starts;
-    }
+-- the index of the text afterwards is that of the cells
+pub index_after : (step : Step) (cells new : List Cell) (i : Index) → new ≡ edited_cells step cells → IsIndexOf (edited step (bytes_of cells)) i → IsIndexOf (bytes_of new) i
+index_after step cells new i is index = rw (is, bytes_of_edited_cells step cells) index
+
+-- the effect on the lines
+pub edited_by :
+    (step : Step) (change : LineChange) (cells new : Buffer) (lines new_lines : LinesOf) → IsIndexOf (bytes_of cells.cells) lines.index → WereEdited step cells new lines new_lines
+    → change ≡ change_about (place_of step) (end_of step) (place_of step + length (put_in step)) lines.index.starts new_lines.index.starts new_lines.index.length → WereEditedBy step change cells new lines new_lines
+edited_by step change cells new lines new_lines indexed edit told =
+    let text : bytes_of new.cells ≡ edited step (bytes_of cells.cells) = ap bytes_of edit.cells ∙ bytes_of_edited_cells step cells.cells in
+    let after : new_lines.index.starts ≡ line_starts lines.index.types (edited step (bytes_of cells.cells)) =
+    edit.index.starts ∙ ap (λ t. line_starts t (bytes_of new.cells)) edit.lines.1 ∙ ap (line_starts lines.index.types) text in
+    let long : new_lines.index.length ≡ length (edited step (bytes_of cells.cells)) = edit.index.length ∙ ap length text in
+    let same : change_about (place_of step) (end_of step) (place_of step + length (put_in step)) lines.index.starts new_lines.index.starts new_lines.index.length ≡ change_of lines.index.types step (bytes_of cells.cells) =
+    rw (indexed.starts, after, long) refl in
+    record { edit = edit; is = told ∙ same }
+
+-- of a deletion, as the index says it
+pub change_of_deletion :
+    (cells : List Cell) (place count : ℕ) (old new : List ℕ) (size : ℕ) → place + count ≤ length cells
+    → change_about place (place + count) place old new size ≡ change_about place (end_of (deletion_of place count (bytes_of cells))) (place + 0) old new size
+change_of_deletion cells place count old new size within =
+    let end : place + count ≡ place + length (slice_range (bytes_of cells) place (place + count)) = omega (arith, length_of_range cells place count within) in
+    let none : place ≡ place + 0 = omega arith in
+    ap (λ e. change_about place e place old new size) end ∙ ap (λ n. change_about place (end_of (deletion_of place count (bytes_of cells))) n old new size) none

@@ -1,5 +1,7 @@
 -- The numbers of a mask, one after the other, and markers with them.
-use Rattle.document.proofs.Names.{◌≡◌, ◌≢◌, ◌≤◌, ◌<◌, ℕ, zero, suc, ◌+◌, ◌-◌, ◌/◌, ◌%◌, ◌^◌, cond, List, [], ◌∷◌, ◌++◌, length, filter, refl, ap, ◌∙◌, arith, append_assoc, range_with_len, slice_set, eq-eqb, ne_eqb, set-get_or, get_or-set_same, append-nil, has_bit, numbers_in, Marker, Row, fresh_row, with_markers, new_markers, with_new_markers, KeptRows, row_at, numbers_of, with_more_markers, after_change, document_in, kept_in}
+use Rattle.document.proofs.Names.{◌≡◌, ◌≢◌, ◌≤◌, ◌<◌, ℕ, zero, suc, ◌+◌, ◌-◌, ◌/◌, ◌%◌, ◌^◌, cond, List, [], ◌∷◌, ◌++◌, length, filter, refl, ap, sym, ◌∙◌, arith, append_assoc, length-append, length-set, marker_count, range_with_len, slice_set, eq-eqb, ne_eqb, set-get_or, get_or-set_same, append-nil, has_bit, numbers_in, Marker, Row, fresh_row, with_markers, new_markers, with_new_markers, KeptRows, row_at, numbers_of, with_more_markers, after_change, document_in, kept_in}
+use Rattle.std.proofs.lemmas.List.Sums.{sum_by-set}
+use Rattle.line_rows.specs.Kept.{HasRoomForMarkers}
 use Rattle.ed_model.specs.declared.plan.DocumentChange.TheVariants.{AddMarkers}
 use Rattle.document.specs.declared.kept.Document.TheInside.{Inside}
 
@@ -37,6 +39,30 @@ none_from_the_end mask number past =
     let left : 32 - number ≡ 0 = omega arith in
     rw left refl
 
+-- How many markers, lines and handles there are with them.
+
+length_new : (handle : ℕ) (numbers : List ℕ) → length (new_markers handle numbers) ≡ length numbers
+length_new handle [] = refl
+length_new handle (n ∷ ns) = ap suc (length_new (handle + 1) ns)
+
+count_more : (line : ℕ) (numbers : List ℕ) (k : KeptRows) → line < length k.rows → marker_count (with_more_markers line numbers k).rows ≡ marker_count k.rows + length numbers
+count_more line numbers k within =
+    let row : Row = row_at k.rows line in
+    let more : List Marker = row.markers ++ new_markers k.next_handle numbers in
+    omega (arith, sum_by-set (λ (r : Row). length r.markers) k.rows line (record row { markers = more }) fresh_row within, length-append row.markers (new_markers k.next_handle numbers), length_new k.next_handle numbers)
+
+-- what is left of the markers fits where all of them did
+pub still_fit :
+    (line : ℕ) (left all : List ℕ) (now was : KeptRows) → with_more_markers line left now ≡ with_more_markers line all was → line < length was.rows → HasRoomForMarkers (length all) was → was.next_handle + length all < 2 ^ 32
+    → (line < length now.rows) × HasRoomForMarkers (length left) now × (now.next_handle + length left < 2 ^ 32)
+still_fit line left all now was is within room handles =
+    let lines : length now.rows ≡ length was.rows = sym (length-set now.rows line _) ∙ ap (λ (k : KeptRows). length k.rows) is ∙ length-set was.rows line _ in
+    let inside : line < length now.rows = omega arith in
+    let markers = ap (λ (k : KeptRows). marker_count k.rows) is in
+    let capacity = ap (λ (k : KeptRows). k.capacity.markers) is in
+    let next = ap (λ (k : KeptRows). k.next_handle) is in
+    (inside, omega (arith, markers, capacity, room, count_more line left now inside, count_more line all was within), omega (arith, next, handles))
+
 set_twice : (rows : List Row) (line : ℕ) (a b : Row) → slice_set (slice_set rows line a) line b ≡ slice_set rows line b
 set_twice [] line a b = refl
 set_twice (row ∷ rows) zero a b = refl
@@ -69,7 +95,7 @@ none_more line k =
     ∙ ap (λ n. record k { next_handle = n }) handle
 
 -- the document with them
-pub document_with_markers : (d : Inside) (line mask : ℕ) (rows : KeptRows) → rows ≡ with_more_markers line (numbers_of mask) d.rows → kept_in (record d { rows = rows }) ≡ after_change [] (AddMarkers line mask) (kept_in d)
+pub document_with_markers : (d : Inside) (line mask : ℕ) (rows : KeptRows) → rows ≡ with_more_markers line (numbers_of mask) d.parts.rows → kept_in (record d { parts = record d.parts { rows = rows } }) ≡ after_change [] (AddMarkers line mask) (kept_in d)
 document_with_markers d line mask rows is =
-    ap (λ (new : KeptRows). kept_in (record d { rows = new })) is
+    ap (λ (new : KeptRows). kept_in (record d { parts = record d.parts { rows = new } })) is
     ∙ ap (λ (ns : List ℕ). record (kept_in d) { document = with_new_markers line ns (document_in d) }) (numbers_are mask)

@@ -1,13 +1,18 @@
 -- The effect of a step on the parts of a document.
-use Rattle.document.proofs.Names.{◌≡◌, ◌≤◌, ◌<◌, ◌+◌, ◌^◌, ℕ, Bool, true, false, length, refl, sym, ap, ◌∙◌, arith, length-map, bytes_of, line_count, Step, edited, end_of, bytes_of_edited_cells, length_of_bytes, lines_for_step, change_of, meets, bound_of, kept_in, AreParts, IsChange, AreCarried, AreStepped, AreTogether, TextParts, WereEdited, text_parts_in}
-use Rattle.ed_model.specs.Indicators.{indicator_after, indicators_after}
+use Rattle.document.proofs.Names.{◌≡◌, ◌≤◌, ◌<◌, ◌+◌, ◌^◌, ℕ, Bool, true, false, length, refl, sym, ap, ◌∙◌, subst, arith, LineEndTypes, Cell, List, bytes_of, line_count, few_lines, Step, Insert, Delete, edited, edited_cells, end_of, bytes_of_edited_cells, length_of_bytes, Row, rows_together, JoinsRows, lines_for_step, change_of, edits_of, fresh_lines, after_edits, LineEdit, KeptRows, bound_of, kept_in, AreParts, AreStepped, AreTogether, CanCarry, TextParts, WereCarried, WereEditedBy}
+use Rattle.ed_model.specs.CarryLaws.{StepsLeaveARowForEachLine}
+use Rattle.ed_model.specs.Indicators.{indicators_after}
 use Rattle.line_index.specs.declared.change.LineChange.{LineChange}
+use Rattle.line_index.specs.StepEdits.{EditsBringFewLines, EditsCarryRows, EditsFitLines}
 use Rattle.line_rows.specs.Kept.{HasRoomForLines}
+use Rattle.decorations.specs.Decorated.{HasRoomForInsertions, KeepsRuns}
 use Rattle.document.specs.declared.kept.Document.TheInside.{Inside}
+use Rattle.document.specs.declared.need.DocumentNeed.{DocumentNeed}
 use Rattle.document.specs.Memory.{KeepsMemory}
 use Rattle.document.specs.TextSteps.{LeavesTextRoom, need_then}
-use Rattle.document.proofs.LineSteps.{lines_of_index}
-use Rattle.document.proofs.TextRoom.{document_takes, parts_take}
+use Rattle.document.specs.proved.Room.{fewer_lines}
+use Rattle.document.proofs.LineSteps.{length_deleted, length_inserted, lines_of_index}
+use Rattle.document.proofs.TextRoom.{cells_left, document_takes, parts_take}
 
 -- a text that fits places of 32 bits has fewer lines than these can count
 pub narrow_lines : (is_large : Bool) (n lines : ℕ) → n < bound_of is_large → lines ≤ n + 1 → is_large ≡ false → lines < 2 ^ 32
@@ -18,50 +23,105 @@ pub small_bound : (is_large : Bool) → bound_of is_large ≤ 2 ^ 61
 small_bound true = omega arith
 small_bound false = omega arith
 
--- the facts that the rows require
-pub told_rows :
-    (step : Step) (options : ℕ) (p : TextParts) (change : LineChange) → AreTogether options p → change ≡ change_of p.lines.index.types step (bytes_of p.cells.cells)
-    → end_of step ≤ length p.cells.cells → HasRoomForLines (lines_for_step p.lines.index.types step) p.rows
-    → length p.cells.cells + lines_for_step p.lines.index.types step < 2 ^ 62 → IsChange p.rows change p.lines.index.types step (bytes_of p.cells.cells)
-told_rows step options p change parts is within has few = record {
-  is = is;
-  within = omega (arith, within, length_of_bytes p.cells.cells);
-  row_count = parts.row_count ∙ lines_of_index p.lines.index.types (bytes_of p.cells.cells) p.lines.index parts.indexed refl;
-  has_room = has;
-  few = omega (arith, few, length_of_bytes p.cells.cells);
-}
+-- a text has at most as many lines as bytes, and one
+pub few_starts : (options : ℕ) (p : TextParts) → AreTogether options p → length p.lines.index.starts ≤ length p.cells.cells + 1
+few_starts options p are = omega (arith, ap length are.indexed.starts, few_lines p.lines.index.types (bytes_of p.cells.cells), length_of_bytes p.cells.cells)
 
--- the parts after it
-pub parts_after :
-    (step : Step) (options : ℕ) (old new : TextParts) → AreTogether options old → WereEdited step old.cells new.cells old.lines new.lines
-    → AreCarried old.rows new.rows old.lines.index.types step (bytes_of old.cells.cells) → new.indicators.decorated.length ≡ length new.cells.cells
-    → new.indicators.decorated.values ≡ indicators_after step old.indicators.decorated.values → new.indicators.is_large ≡ old.indicators.is_large
-    → length new.cells.cells < bound_of (meets options 0x100) → AreTogether options new
-parts_after step options old new parts put carried marked values indicator_width fits =
-    let types = old.lines.index.types in
-    let text : bytes_of new.cells.cells ≡ edited step (bytes_of old.cells.cells) = ap bytes_of put.cells ∙ bytes_of_edited_cells step old.cells.cells in
-    let starts = lines_of_index types (bytes_of new.cells.cells) new.lines.index put.lines.index put.lines.types_are in
-    record {
-      indexed = put.lines.index;
-      row_count = carried.row_count ∙ ap (line_count types) (sym text) ∙ sym starts;
-      indicator_count = marked;
-      all_indicators = ap length values ∙ length-map old.indicators.decorated.values (indicator_after step) ∙ parts.all_indicators;
-      line_width = put.width ∙ parts.line_width;
-      indicator_width = indicator_width ∙ parts.indicator_width;
-      fits = fits;
-    }
+-- what comes later needs no more of the text and of the lines than what the step leaves
+
+text_left :
+    (step : Step) (types : LineEndTypes) (cells : List Cell) (rest : DocumentNeed) → end_of step ≤ length cells
+    → length (edited_cells step cells) + rest.text ≤ length cells + (need_then types step rest).text
+text_left (Insert place bytes) types cells rest within = omega (arith, length_inserted place bytes cells within)
+text_left (Delete place bytes) types cells rest within = omega (arith, length_deleted place bytes cells within)
+
+lines_left : (step : Step) (types : LineEndTypes) (rest : DocumentNeed) → (need_then types step rest).lines ≡ lines_for_step types step + rest.lines
+lines_left (Insert place bytes) types rest = refl
+lines_left (Delete place bytes) types rest = refl
+
+-- A step at which parts of a document are, with its effect on the lines of their text.
+module _ (step : Step) (change : LineChange) (options : ℕ) (old : TextParts) (are : AreTogether options old) (within : end_of step ≤ length old.cells.cells) (few : EditsBringFewLines) where
+  abbrev types : LineEndTypes
+  types = old.lines.index.types
+
+  abbrev text : List ℕ
+  text = bytes_of old.cells.cells
+
+  inside : end_of step ≤ length text
+  inside = omega (arith, within, length_of_bytes old.cells.cells)
+
+  rows_of_text : length old.rows.rows ≡ line_count types text
+  rows_of_text = are.row_count ∙ ap length are.indexed.starts
+
+  few_fresh : change ≡ change_of types step text → fresh_lines (edits_of change) ≤ lines_for_step types step
+  few_fresh is = rw is (few types step text inside)
+
+  -- the facts that the rows require
+  pub can_carry :
+      EditsFitLines → change ≡ change_of types step text → HasRoomForLines (lines_for_step types step) old.rows → length old.cells.cells + lines_for_step types step < 2 ^ 62 → CanCarry (edits_of change) old.rows
+  can_carry fit is room small = record {
+    lines = rw (is, rows_of_text) (fit types step text inside);
+    fits = omega (arith, small, are.row_count, few_fresh is, few_starts options old are);
+    room = fewer_lines (fresh_lines (edits_of change)) (lines_for_step types step) old.rows (few_fresh is) room;
+  }
+
+  -- the parts after it
+  pub stepped :
+      (new : TextParts) → EditsCarryRows Row → JoinsRows rows_together → StepsLeaveARowForEachLine Row
+      → line_count types (edited step text) ≤ line_count types text + lines_for_step types step
+      → WereEditedBy step change old.cells new.cells old.lines new.lines → WereCarried (edits_of change) old.rows new.rows → length new.cells.cells < bound_of old.lines.is_large
+      → new.indicators.is_large ≡ old.indicators.is_large → new.indicators.decorated.length ≡ length new.cells.cells → new.indicators.decorated.values ≡ indicators_after step old.indicators.decorated.values
+      → KeepsRuns old.indicators.decorated new.indicators.decorated
+      → ((rest : DocumentNeed) → HasRoomForInsertions (need_then types step rest).insertions old.indicators.decorated → HasRoomForInsertions rest.insertions new.indicators.decorated) → AreStepped step change old new
+  stepped new carry joins each lines put carried fits indicator_width indicator_count values runs runs_left =
+      let edit = put.edit in
+      let after : bytes_of new.cells.cells ≡ edited step text = ap bytes_of edit.cells ∙ bytes_of_edited_cells step old.cells.cells in
+      let rows : new.rows.rows ≡ after_edits rows_together (edits_of change) old.rows.rows = ap (λ (k : KeptRows). k.rows) carried.0 in
+      let as_model = rows ∙ ap (λ (es : List LineEdit). after_edits rows_together es old.rows.rows) (ap edits_of put.is) ∙ sym (carry rows_together joins types step text old.rows.rows inside rows_of_text) in
+      let starts : length new.lines.index.starts ≡ line_count types (edited step text) = lines_of_index types (bytes_of new.cells.cells) new.lines.index edit.index edit.lines.1 ∙ ap (line_count types) after in
+      record {
+        together =
+            λ options parts. record {
+              indexed = edit.index;
+              row_count = ap length as_model ∙ each rows_together types step text old.rows.rows ∙ sym starts;
+              indicator_count = indicator_count;
+              line_width = edit.lines.0 ∙ parts.line_width;
+              indicator_width = indicator_width ∙ parts.indicator_width;
+              fits = subst (λ large. length new.cells.cells < bound_of large) parts.line_width fits;
+            };
+        text = put;
+        rows = as_model;
+        next_handle = ap (λ (k : KeptRows). k.next_handle) carried.0;
+        stored_levels = ap (λ (k : KeptRows). k.stored_levels) carried.0;
+        stored_states = ap (λ (k : KeptRows). k.stored_states) carried.0;
+        row_capacity = ap (λ (k : KeptRows). k.capacity) carried.0;
+        values = values;
+        runs = runs;
+        room =
+            λ rest room.
+            let left = text_left step types old.cells.cells rest within in
+            let short : length new.cells.cells + rest.text ≤ length old.cells.cells + (need_then types step rest).text = omega (arith, left, ap (λ (cells : List Cell). length cells) edit.cells) in
+            let many = lines_left step types rest in
+            record {
+              width = subst (λ large. length new.cells.cells + rest.text < bound_of large) (sym edit.lines.0) (omega (arith, short, room.width));
+              cells = cells_left old.cells new.cells rest.text (need_then types step rest).text edit.keeps_styles edit.capacity short room.cells;
+              starts = omega (arith, edit.lines.2, lines, many, room.starts, ap length are.indexed.starts, starts);
+              rows = carried.1 rest.lines (fewer_lines (fresh_lines (edits_of change) + rest.lines) (need_then types step rest).lines old.rows (omega (arith, many, few_fresh put.is)) room.rows);
+              runs = runs_left rest room.runs;
+            };
+      }
 
 -- The document after it, up to whatever place it is styled now.
-module _ (step : Step) (d : Inside) (styled : ℕ) (new : TextParts) (parts : AreParts d) (made : AreStepped step (text_parts_in d) new) where
+module _ (step : Step) (change : LineChange) (d : Inside) (styled : ℕ) (new : TextParts) (parts : AreParts d) (made : AreStepped step change d.parts new) where
   abbrev after : Inside
-  after = record d { cells = new.cells; lines = new.lines; rows = new.rows; indicators = new.indicators; end_styled = styled }
+  after = record d { parts = new; end_styled = styled }
 
   pub text_room_left : LeavesTextRoom step (kept_in d) (kept_in after)
-  text_room_left = λ rest room. document_takes rest after (made.together d.options parts) (made.room rest (parts_take (need_then d.lines.index.types step rest) d parts room))
+  text_room_left = λ rest room. document_takes rest after (made.together d.options parts) (made.room rest (parts_take (need_then d.parts.lines.index.types step rest) d parts room))
 
   pub memory_kept : KeepsMemory (kept_in d) (kept_in after)
   memory_kept = record {
-    others = rw (made.text.capacity, made.text.starts, made.rows.capacity) refl;
+    others = rw (made.text.edit.capacity, made.text.edit.lines.2, made.row_capacity) refl;
     runs = record {
       runs = λ k below. let has = made.runs.runs k below in record { used = has.used; clear = has.clear };
       spare = made.runs.spare;

@@ -1,5 +1,5 @@
 -- Changes of a document that are no steps of its text: their needs, and their results.
-use Rattle.std.specs.Prelude.{◌≡◌, ◌≤◌, ℕ, ℤ, ◌+◌, ◌++◌, ◌==◌, if◌then◌else◌, not, max, Bool, true, false, List, [], ◌∷◌, length, Option, Some, None}
+use Rattle.std.specs.Prelude.{◌≡◌, ℕ, ℤ, ◌+◌, ◌++◌, ◌==◌, if◌then◌else◌, not, max, Bool, true, false, List, [], ◌∷◌, length, Option, Some, None}
 use Rattle.ed_model.specs.declared.plan.DocumentChange.{DocumentChange}
 use Rattle.ed_model.specs.declared.plan.DocumentChange.TheVariants.{SetLevel, SetState}
 use Rattle.ed_model.specs.declared.plan.LineEndTypes.{LineEndTypes}
@@ -8,16 +8,15 @@ use Rattle.ed_model.specs.Indicators.{changed_range}
 use Rattle.ed_model.specs.LinePlans.{numbers_in}
 use Rattle.ed_model.specs.Rows.{Row}
 use Rattle.ed_model.specs.Changes.{changed_document, marker_count, line_with_handle, with_markers, new_markers}
-use Rattle.ed_model.specs.Session.{Document, keeps_no_styles, lines_in, text_of}
+use Rattle.ed_model.specs.Session.{Document, keeps_no_styles, text_of}
 use Rattle.ed_model.specs.Text.{styles_of}
-use Rattle.decorations.specs.Decorated.{values_of}
 use Rattle.line_index.specs.declared.edit.LineEdit.{LineEdit}
-use Rattle.line_index.specs.Edits.{fresh_lines}
 use Rattle.line_index.specs.Settings.{edits_of_setting}
 use Rattle.line_rows.specs.Kept.{KeptRows, row_at}
+use Rattle.line_rows.specs.Values.{stored_after}
 use Rattle.undo_history.specs.Kept.{history_capacity}
 use Rattle.document.specs.declared.need.DocumentNeed.{DocumentNeed}
-use Rattle.document.specs.Kept.{Kept, document_need}
+use Rattle.document.specs.Kept.{Kept, Stored, document_need}
 
 -- the document with this history
 abbrev pub with_history : History → Kept → Kept
@@ -58,18 +57,13 @@ with_state line state k = record (after_change [] (SetState line state) k) { sto
 abbrev pub changed_styles : Kept → Kept → Option (ℕ × ℕ)
 changed_styles old new = changed_range (styles_of old.document.cells) (styles_of new.document.cells)
 
--- the smallest range with all places where the value of the indicator changed
-abbrev pub changed_values : ℕ → Kept → Kept → Option (ℕ × ℕ)
-changed_values indicator old new =
-    changed_range (values_of old.document.indicators indicator) (values_of new.document.indicators indicator)
-
 -- the edits of the document's lines when these line ends count
 abbrev pub line_type_edits : LineEndTypes → Document → List LineEdit
 line_type_edits types d = edits_of_setting d.line_end_types types (text_of d)
 
--- with the fresh lines of the edits there are at most as many lines as the text has bytes, and one
-abbrev pub BringFewLines : List LineEdit → Document → Type 0
-BringFewLines edits d = lines_in d + fresh_lines edits ≤ length d.cells + 1
+-- what is stored after edits of the lines: the levels and the states of fewer lines where lines were joined, and of more where some came between
+abbrev pub stored_by : List LineEdit → Stored → Stored
+stored_by edits s = record s { levels = stored_after edits s.levels; states = stored_after edits s.states }
 
 -- whether there are more markers, or fewer
 abbrev pub markers_changed : List Row → List Row → Bool

@@ -1,15 +1,9 @@
 -- Line starts and indicators of a text by the width of its places.
-use Rattle.std.specs.Prelude.{◌≡◌, ℕ, ◌+◌, ◌≤◌, Bool, true, false, List, [], length, replicate, slice_set}
-use Rattle.ed_model.specs.declared.plan.LineEndTypes.{LineEndTypes}
-use Rattle.ed_model.specs.Indicators.{filled, indicators_after}
-use Rattle.ed_model.specs.Lines.{line_count}
-use Rattle.ed_model.specs.Steps.{Insert, Delete}
-use Rattle.line_index.specs.declared.change.LineChange.{LineChange}
-use Rattle.line_index.specs.declared.edit.LineEdit.{LineEdit}
-use Rattle.line_index.specs.Change.{change_about}
+use Rattle.std.specs.Prelude.{◌≡◌, ℕ, ◌+◌, ◌≤◌, Bool, true, false, length, slice_set}
+use Rattle.ed_model.specs.Indicators.{filled}
 use Rattle.line_index.specs.Index.{Index}
-use Rattle.line_index.specs.Settings.{edits_of_setting}
-use Rattle.decorations.specs.Decorated.{Decorated, decorated, no_capacity, values_of}
+use Rattle.split_vector.specs.Split.{most_held}
+use Rattle.decorations.specs.Decorated.{Decorated, HasRoomForInsertions, KeepsRuns, values_of}
 use Rattle.document.specs.declared.places.LinesByWidth.{LinesByWidth}
 use Rattle.document.specs.declared.places.LinesByWidth.TheVariants as lines
 use Rattle.document.specs.declared.places.IndicatorsByWidth.{IndicatorsByWidth}
@@ -35,43 +29,26 @@ indicators_by_width (indicators.Large decorated) = record { decorated = decorate
 
 -- The line starts.
 
--- how many lines fit into the index in all
-abbrev pub line_capacity : Index → ℕ
-line_capacity i = i.room + length i.starts
+-- nothing but the capacity has changed: it has grown for `count` more lines at most
+abbrev pub GrowsLines : ℕ → LinesOf → LinesOf → Type 0
+GrowsLines count old new =
+    (new ≡ record old { index = record old.index { capacity = new.index.capacity } })
+    × (old.index.capacity ≤ new.index.capacity)
+    × (new.index.capacity ≤ most_held old.index.capacity (length old.index.starts + count))
 
--- there is room for the lines of the text when these line ends count
-abbrev pub LinesFit : LineEndTypes → List ℕ → Index → Type 0
-LinesFit types text i = line_count types text ≤ length i.starts + i.room
-
--- the effect on the lines of a step at `place` that replaced text up to `old_end` by text up to `new_end`
-abbrev pub change_between : ℕ → ℕ → ℕ → Index → Index → LineChange
-change_between place old_end new_end old new = change_about place old_end new_end old.starts new.starts new.length
-
--- the edits of the lines of the text when these line ends count
-abbrev pub type_edits : LineEndTypes → List ℕ → Index → List LineEdit
-type_edits types text i = edits_of_setting i.types types text
+-- the same width, types and capacity
+abbrev pub KeepsLines : LinesOf → LinesOf → Type 0
+KeepsLines old new = (new.is_large ≡ old.is_large) × (new.index.types ≡ old.index.types) × (new.index.capacity ≡ old.index.capacity)
 
 -- The indicators.
-
--- the indicators of the empty text
-abbrev pub no_indicators : Bool → IndicatorsOf
-no_indicators is_large = record { decorated = decorated 0 (replicate 32 []) no_capacity; is_large = is_large }
 
 -- nothing has changed except how many runs fit in
 abbrev pub ChangeCapacity : IndicatorsOf → IndicatorsOf → Type 0
 ChangeCapacity old new = new ≡ record old { decorated = record old.decorated { capacity = new.decorated.capacity } }
 
--- the values are those after the insertion of `count` bytes, whatever they are
-abbrev pub HaveInserted : ℕ → ℕ → IndicatorsOf → IndicatorsOf → Type 0
-HaveInserted place count old new =
-    (bytes : List ℕ) → length bytes ≡ count
-    → new.decorated.values ≡ indicators_after (Insert place bytes) old.decorated.values
-
--- the values are those after the deletion of `count` bytes, whatever they are
-abbrev pub HaveDeleted : ℕ → ℕ → IndicatorsOf → IndicatorsOf → Type 0
-HaveDeleted place count old new =
-    (bytes : List ℕ) → length bytes ≡ count
-    → new.decorated.values ≡ indicators_after (Delete place bytes) old.decorated.values
+-- as many runs fit in, but where an indicator is 0 everywhere now; n insertions fit in if `with_it n` did before
+abbrev pub LeavesRuns : (with_it : ℕ → ℕ) → Decorated → Decorated → Type 0
+LeavesRuns with_it old new = KeepsRuns old new × ((n : ℕ) → HasRoomForInsertions (with_it n) old → HasRoomForInsertions n new)
 
 -- the indicator has the value at `count` places from `start` on, and besides, only how many runs fit in may be another
 abbrev pub AreFilled : ℕ → ℕ → ℕ → ℕ → IndicatorsOf → IndicatorsOf → Type 0

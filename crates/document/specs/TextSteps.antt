@@ -44,14 +44,6 @@ need_then types (model.Insert place bytes) rest =
 need_then types (model.Delete place bytes) rest =
     document_need (rest.text - length bytes) (lines_for_deletion + rest.lines) rest.insertions (1 + rest.steps) (length bytes + rest.bytes)
 
--- the effect on the lines of a text of the step, and of the deletion of `count` bytes from `place` on
-
-abbrev pub step_change : LineEndTypes → TextStep → List ℕ → LineChange
-step_change types step text = change_of types (step_in step text) text
-
-abbrev pub deletion_change : LineEndTypes → ℕ → ℕ → List ℕ → LineChange
-deletion_change types place count text = change_of types (deletion_of place count text) text
-
 -- the effect of the model's step on the lines of the document
 abbrev pub line_change_of : Kept → model.Step → LineChange
 line_change_of k step = change_of k.document.line_end_types step (text_of k.document)

@@ -4,7 +4,6 @@ use Rattle.ed_model.specs.declared.plan.LineEndTypes.{LineEndTypes}
 use Rattle.ed_model.specs.Steps as model
 use Rattle.ed_model.specs.History.{History, Change, TextStep, ContainerStep, at_save_point, undo_changes, redo_changes, undone, redone}
 use Rattle.ed_model.specs.InverseLaws.{Fits}
-use Rattle.ed_model.specs.Performing.{document_after}
 use Rattle.ed_model.specs.Session.{text_of}
 use Rattle.document.specs.declared.need.DocumentNeed.{DocumentNeed}
 use Rattle.document.specs.declared.undoing.Direction.{Direction}
@@ -62,10 +61,6 @@ bytes_in (ContainerStep token coalesce) = []
 abbrev pub need_of_change : LineEndTypes → Change → DocumentNeed
 need_of_change types (TextStep step) = text_part (need_of_step types step)
 need_of_change types (ContainerStep token coalesce) = nothing_needed
-
--- the new document is the old one after the step
-abbrev pub IsDocumentAfter : Kept → Kept → model.Step → Type 0
-IsDocumentAfter old new step = new.document ≡ document_after step old.document
 
 -- it is a step of the document's text, for which there is room
 abbrev pub CanMake : Kept → Change → Type 0

@@ -1,9 +1,11 @@
 //! Changes of a document that allocate nothing, and its list of views.
 
-ghost use Rattle.std.specs.Prelude.{◌≡◌, ◌≤◌, ◌<◌, ◌+◌, ◌-◌, ◌^◌, length, max, OnOk, OnErr, IsOk, vec_capacity};
+ghost use Rattle.std.specs.Prelude.{◌≡◌, ◌≤◌, ◌<◌, ◌+◌, ◌-◌, ◌^◌, length, OnErr};
 ghost use Rattle.ed_model.specs.History.{sealed_outside_groups, saved, group_begun, group_ended};
-ghost use Rattle.ed_model.specs.Session.{without, left_by};
+ghost use Rattle.ed_model.specs.Session.{left_by};
+ghost use Rattle.vec_room.specs.Reserved.{IsReserved};
 ghost use Rattle.document.specs.Kept.{HasViewRoom};
+ghost use Rattle.document.specs.Memory.{ReservesView};
 ghost use Rattle.document.specs.Changes.{with_attached_view, with_held_by_callers, with_history};
 ghost use Rattle.document.specs.Changes.{with_collecting, with_forgotten_history};
 
@@ -99,11 +101,8 @@ impl Document {
     ///
     /// `AllocError` if the allocation fails. The document is then unchanged.
     pub fn reserve_view(&mut self) -> Result<(), AllocError>
-        ensures ok { OnOk result (HasViewRoom self.new) }
-        ensures rest { self.new ≡ record self.old { capacity = record self.old.capacity { views = self.new.capacity.views } } }
-        ensures room_is_there { HasViewRoom self.old → IsOk result × (self.new ≡ self.old) }
-        ensures capacity { self.old.capacity.views ≤ self.new.capacity.views }
-        ensures at_most { self.new.capacity.views ≤ max self.old.capacity.views (length self.old.document.views + max 1 (length self.old.document.views)) }
+        ensures reserved { IsReserved HasViewRoom result self.old self.new }
+        ensures grown { ReservesView self.old self.new }
         ensures err { OnErr result (self.new ≡ self.old) }
     {
         let Ok(()) = vec_room::reserve(&mut self.views, 1) else {
@@ -124,14 +123,6 @@ impl Document {
     pub fn detach(&mut self, view: u32)
         ensures { self.new ≡ record self.old { document = left_by view self.old.document } }
     {
-        leave(&mut self.views, view);
+        self.views.retain(|id| *id != view);
     }
-}
-
-// Removes every copy of the view from the list.
-fn leave(views: &mut Vec<u32>, view: u32)
-    ensures items { views.new.items ≡ without view views.old.items }
-    ensures capacity { vec_capacity views.new ≡ vec_capacity views.old }
-{
-    views.retain(|id| *id != view);
 }

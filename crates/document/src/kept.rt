@@ -6,6 +6,7 @@ ghost use Rattle.ed_model.specs.Session.{text_of, lines_in, references, is_large
 ghost use Rattle.line_index.specs.Index.{IsIndexOf};
 ghost use Rattle.document.specs.Kept.{FitsWidth, new_kept, text_from};
 
+use crate::making::TextParts;
 use crate::places::{Indicators, Lines};
 use cell_buffer::Cells;
 use ed_model::{LineEnd, LineEndTypes};
@@ -21,10 +22,7 @@ use undo_history::UndoHistory;
 pub struct Document {
     pub(crate) id: u32,
     pub(crate) options: u32,
-    pub(crate) cells: Cells,
-    pub(crate) lines: Lines,
-    pub(crate) rows: LineRows,
-    pub(crate) indicators: Indicators,
+    pub(crate) parts: TextParts,
     pub(crate) end_styled: usize,
     pub(crate) history: UndoHistory,
     pub(crate) is_read_only: bool,
@@ -64,10 +62,12 @@ impl Document {
         Ok(Document {
             id,
             options,
-            cells: Cells::new(alloc),
-            lines,
-            rows,
-            indicators: Indicators::new(alloc, is_large),
+            parts: TextParts {
+                cells: Cells::new(alloc),
+                lines,
+                rows,
+                indicators: Indicators::new(alloc, is_large),
+            },
             end_styled: 0,
             history: UndoHistory::new(alloc),
             is_read_only: false,
@@ -104,7 +104,7 @@ impl Document {
         ensures within { FitsWidth self.now.document (length self.now.document.cells) }
         ensures small { length self.now.document.cells < 2 ^ 61 }
     {
-        self.cells.len()
+        self.parts.cells.len()
     }
 
     /// Returns the byte at `place`.
@@ -112,7 +112,7 @@ impl Document {
         requires { place < length self.now.document.cells }
         ensures { slice_get (text_of self.now.document) place ≡ Some result }
     {
-        self.cells.byte(place)
+        self.parts.cells.byte(place)
     }
 
     /// Returns the style of the byte at `place`.
@@ -120,14 +120,14 @@ impl Document {
         requires { place < length self.now.document.cells }
         ensures { slice_get (styles_of self.now.document.cells) place ≡ Some result }
     {
-        self.cells.style(place)
+        self.parts.cells.style(place)
     }
 
     /// Returns the text in two parts, the second behind the first.
     pub fn halves(&self) -> (&[u8], &[u8])
         ensures { result.0.now ++ result.1.now ≡ text_of self.now.document }
     {
-        self.cells.halves()
+        self.parts.cells.halves()
     }
 
     /// Appends the `count` bytes from `start` on to `target`. Its capacity never falls.
@@ -147,7 +147,7 @@ impl Document {
         ensures kept { vec_capacity target.old ≤ vec_capacity target.new }
         ensures err { OnErr result (target.new.items ≡ target.old.items) }
     {
-        self.cells.append_text_to(start, count, target)
+        self.parts.cells.append_text_to(start, count, target)
     }
 
     /// Returns the `count` bytes from `start` on in a new `Vec` with room for `spare` more bytes. Allocates nothing if
@@ -168,7 +168,7 @@ impl Document {
         ensures room { 0 < count → IfOk result (λ text. min (count + spare) (2 ^ 64 - 1) ≤ vec_capacity text) }
         ensures free { count ≡ 0 → IsOk result }
     {
-        self.cells.text_to_vec(alloc, start, count, spare)
+        self.parts.cells.text_to_vec(alloc, start, count, spare)
     }
 
     /// Lends the `count` bytes from `start` on as one slice, without a copy. The document does not change.
@@ -177,7 +177,7 @@ impl Document {
         ensures* back { sem 𝓛 (lent_and_back self.entry) }
         ensures value { result.now ≡ text_from start count self.old.document }
     {
-        self.cells.lend(start, count)
+        self.parts.cells.lend(start, count)
     }
 
     /// Returns the place up to which the document is styled, in bytes from 0 (`SCI_GETENDSTYLED`).
@@ -205,7 +205,7 @@ impl Document {
     pub fn line_end_types(&self) -> LineEndTypes
         ensures { result ≡ self.now.document.line_end_types }
     {
-        self.lines.types()
+        self.parts.lines.types()
     }
 
     /// Lends the starts of the lines.
@@ -213,7 +213,7 @@ impl Document {
         ensures index { IsIndexOf (text_of self.now.document) result.now.index }
         ensures types { result.now.index.types ≡ self.now.document.line_end_types }
     {
-        &self.lines
+        &self.parts.lines
     }
 
     /// Lends the rows of the lines: markers, fold levels and line states.
@@ -222,7 +222,7 @@ impl Document {
         ensures next_handle { result.now.next_handle ≡ self.now.document.next_handle }
         ensures count { length self.now.document.rows ≡ lines_in self.now.document }
     {
-        &self.rows
+        &self.parts.rows
     }
 
     /// Lends the indicators.
@@ -230,7 +230,7 @@ impl Document {
         ensures values { result.now.decorated.values ≡ self.now.document.indicators }
         ensures length { result.now.decorated.length ≡ length self.now.document.cells }
     {
-        &self.indicators
+        &self.parts.indicators
     }
 
     /// Lends the undo history.

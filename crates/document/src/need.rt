@@ -2,7 +2,6 @@
 
 ghost use Rattle.std.specs.Prelude.{◌≡◌};
 ghost use Rattle.document.specs.Kept.{nothing_needed, amounts_added};
-ghost use Rattle.document.specs.Changes.{container_need};
 
 /// How much steps need of a document. Without an allocation they are made where that much more fits in.
 #[derive(Clone, Copy, Debug, PartialEq, Eq)]
@@ -29,19 +28,6 @@ impl DocumentNeed {
             lines: 0,
             insertions: 0,
             steps: 0,
-            bytes: 0,
-        }
-    }
-
-    /// Returns what a container's step needs, which has no bytes.
-    pub fn of_container_step() -> Self
-        ensures { result ≡ container_need }
-    {
-        DocumentNeed {
-            text: 0,
-            lines: 0,
-            insertions: 0,
-            steps: 1,
             bytes: 0,
         }
     }

@@ -1,19 +1,17 @@
 //! Insertion of bytes into a text and of their lines into its index, piece by piece.
 
-ghost use Rattle.std.specs.Prelude.{◌≡◌, ◌≤◌, ◌<◌, ◌+◌, length};
+ghost use Rattle.std.specs.Prelude.{◌≡◌, ◌+◌, length};
+ghost use Rattle.ed_model.specs.Lines.{line_count};
 ghost use Rattle.ed_model.specs.Text.{bytes_of};
-ghost use Rattle.ed_model.specs.Steps.{Insert};
-ghost use Rattle.line_index.specs.RoomLaws.{lines_for_deletion, lines_for_insertion};
-ghost use Rattle.line_index.specs.StepEdits.{SmallLines, change_of};
-ghost use Rattle.line_index.specs.Index.{IsIndexOf};
-ghost use Rattle.document.specs.Kept.{bound_of};
-ghost use Rattle.document.specs.Parts.{AreCarriedBy, CanPut, InsertionFits, WasChanged, WereEdited};
-ghost use Rattle.document.specs.TextSteps.{deletion_change, deletion_of};
+ghost use Rattle.ed_model.specs.Steps.{Insert, edited};
+ghost use Rattle.line_index.specs.RoomLaws.{lines_for_insertion};
+ghost use Rattle.line_index.specs.StepEdits.{edits_of};
+ghost use Rattle.document.specs.Parts.{CanCarry, CanPut, CanTakeOut, WereCarried, WereEditedBy};
+ghost use Rattle.document.specs.TextSteps.{deletion_of};
 
 use crate::places::Lines;
 use cell_buffer::Cells;
-use ed_model::{rows_match_lines, rows_that_meet};
-use line_index::{LineChange, edits_of_steps, near_step, room_for_steps};
+use line_index::{LineChange, near_step, room_for_steps};
 use line_rows::LineRows;
 
 // How many bytes are inserted at once: few enough to be in the processor's cache still when they are searched for line
@@ -24,11 +22,8 @@ const PIECE: usize = 1 << 16;
 // may add.
 #[inline(always)]
 fn put_piece(cells: &mut Cells, lines: &mut Lines, place: usize, bytes: &[u8]) -> LineChange
-    requires can { CanPut place bytes.now cells.old lines.old }
-    requires line_room { InsertionFits place bytes.now cells.old.cells lines.old.index }
-    ensures put { WereEdited (Insert place bytes.now) cells.old cells.new lines.old lines.new }
-    ensures change { result ≡ change_of lines.old.index.types (Insert place bytes.now) (bytes_of cells.old.cells) }
-    ensures small { SmallLines result.old_lines × SmallLines result.new_lines }
+    requires { CanPut place bytes.now (line_count lines.old.index.types (edited (Insert place bytes.now) (bytes_of cells.old.cells))) cells.old lines.old }
+    ensures { WereEditedBy (Insert place bytes.now) result cells.old cells.new lines.old lines.new }
 {
     cells.insert_reserved(place, bytes);
     let (before, after) = cells.halves();
@@ -39,11 +34,8 @@ fn put_piece(cells: &mut Cells, lines: &mut Lines, place: usize, bytes: &[u8]) -
 // Inserts more than one piece. Out of line, since most insertions are short.
 #[inline(never)]
 fn put_pieces(cells: &mut Cells, lines: &mut Lines, place: usize, bytes: &[u8]) -> LineChange
-    requires can { CanPut place bytes.now cells.old lines.old }
-    requires line_room { lines_for_insertion lines.old.index.types bytes.now ≤ lines.old.index.room }
-    ensures put { WereEdited (Insert place bytes.now) cells.old cells.new lines.old lines.new }
-    ensures change { result ≡ change_of lines.old.index.types (Insert place bytes.now) (bytes_of cells.old.cells) }
-    ensures small { SmallLines result.old_lines × SmallLines result.new_lines }
+    requires { CanPut place bytes.now (length lines.old.index.starts + lines_for_insertion lines.old.index.types bytes.now) cells.old lines.old }
+    ensures { WereEditedBy (Insert place bytes.now) result cells.old cells.new lines.old lines.new }
 {
     room_for_steps();
     let about = lines.lines_about(place, place);
@@ -60,11 +52,8 @@ fn put_pieces(cells: &mut Cells, lines: &mut Lines, place: usize, bytes: &[u8]) 
 /// the lines that they may add.
 #[inline(always)]
 pub(crate) fn put_in(cells: &mut Cells, lines: &mut Lines, place: usize, bytes: &[u8]) -> LineChange
-    requires can { CanPut place bytes.now cells.old lines.old }
-    requires line_room { lines_for_insertion lines.old.index.types bytes.now ≤ lines.old.index.room }
-    ensures put { WereEdited (Insert place bytes.now) cells.old cells.new lines.old lines.new }
-    ensures change { result ≡ change_of lines.old.index.types (Insert place bytes.now) (bytes_of cells.old.cells) }
-    ensures small { SmallLines result.old_lines × SmallLines result.new_lines }
+    requires { CanPut place bytes.now (length lines.old.index.starts + lines_for_insertion lines.old.index.types bytes.now) cells.old lines.old }
+    ensures { WereEditedBy (Insert place bytes.now) result cells.old cells.new lines.old lines.new }
 {
     room_for_steps();
     if bytes.len() <= PIECE {
@@ -84,13 +73,8 @@ pub(crate) fn take_out(
     place: usize,
     count: usize,
 ) -> LineChange
-    requires place { place + count ≤ length cells.old.cells }
-    requires width { length cells.old.cells < bound_of lines.old.is_large }
-    requires lines { IsIndexOf (bytes_of cells.old.cells) lines.old.index }
-    requires line_room { lines_for_deletion ≤ lines.old.index.room }
-    ensures taken { WereEdited (deletion_of place count (bytes_of cells.old.cells)) cells.old cells.new lines.old lines.new }
-    ensures change { result ≡ deletion_change lines.old.index.types place count (bytes_of cells.old.cells) }
-    ensures small { SmallLines result.old_lines × SmallLines result.new_lines }
+    requires { CanTakeOut place count cells.old lines.old }
+    ensures { WereEditedBy (deletion_of place count (bytes_of cells.old.cells)) result cells.old cells.new lines.old lines.new }
 {
     room_for_steps();
     cells.delete(place, count);
@@ -103,26 +87,18 @@ pub(crate) fn take_out(
 // `LineChange`, so that other steps keep theirs in registers.
 #[inline(never)]
 fn carry_by_edits(rows: &mut LineRows, change: LineChange)
-    requires was { WasChanged rows.old change }
-    requires small { SmallLines change.old_lines × SmallLines change.new_lines }
-    ensures carried { AreCarriedBy change rows.old rows.new }
+    requires { CanCarry (edits_of change) rows.old }
+    ensures { WereCarried (edits_of change) rows.old rows.new }
 {
-    edits_of_steps();
-    rows_that_meet();
-    rows_match_lines();
     rows.carry(change.edits().as_slice());
 }
 
 /// Carries rows through a step, by its effect on the lines. There must be room for the new lines.
 #[inline(always)]
 pub(crate) fn carry_rows(rows: &mut LineRows, change: &LineChange)
-    requires was { WasChanged rows.old change.now }
-    requires small { SmallLines change.now.old_lines × SmallLines change.now.new_lines }
-    ensures carried { AreCarriedBy change.now rows.old rows.new }
+    requires { CanCarry (edits_of change.now) rows.old }
+    ensures { WereCarried (edits_of change.now) rows.old rows.new }
 {
-    edits_of_steps();
-    rows_that_meet();
-    rows_match_lines();
     if change.is_quiet() {
         return;
     }

@@ -1,18 +1,19 @@
 //! Line starts and indicators of a text whose places are stored in 32 bits, or in 64 if the text may be large.
 
-ghost use Rattle.std.specs.Prelude.{◌≡◌, ℕ, pos, ◌<◌, ◌≤◌, ◌+◌, ◌*◌, ◌^◌, ◌++◌, [], length, slice_index};
-ghost use Rattle.std.specs.Prelude.{IfOk, OnOk, IsOk, vec_len, vec_capacity};
-ghost use Rattle.ed_model.specs.Lines.{line_of, end_of_line};
+ghost use Rattle.std.specs.Prelude.{◌≡◌, ℕ, pos, ◌<◌, ◌≤◌, ◌+◌, ◌*◌, ◌^◌, ◌++◌, [], List, length, replicate, slice_index};
+ghost use Rattle.std.specs.Prelude.{IfOk, IsOk, vec_len, vec_capacity};
+ghost use Rattle.ed_model.specs.Lines.{line_count, line_of, end_of_line};
 ghost use Rattle.std.specs.List.{AllByRecursion};
+ghost use Rattle.ed_model.specs.Indicators.{indicators_after};
+ghost use Rattle.ed_model.specs.Steps.{Insert, Delete};
 ghost use Rattle.ed_model.specs.TextPlans.{at_place};
-ghost use Rattle.line_index.specs.Index.{IsIndexOf, WasInserted, WasDeleted, FollowsInsertion, FollowsDeletion};
-ghost use Rattle.line_index.specs.Change.{change_since, lines_about};
-ghost use Rattle.line_index.specs.StepEdits.{SmallLines};
-ghost use Rattle.cell_buffer.specs.Buffer.{most_held};
-ghost use Rattle.decorations.specs.Decorated.{HasRoomForFill, HasRoomForInsertions, IsCapacityForFill, IsCapacityForRuns, KeepsRuns, WereFilledFrom, filled_range, mask_of, run_about, values_of};
+ghost use Rattle.line_index.specs.Index.{Deletes, Follows, Inserts, IsIndexOf, MoreLinesFit, WasBefore};
+ghost use Rattle.line_index.specs.Change.{change_about, change_since, lines_about};
+ghost use Rattle.line_index.specs.Settings.{edits_of_setting};
+ghost use Rattle.vec_room.specs.Reserved.{IsReserved};
+ghost use Rattle.decorations.specs.Decorated.{HasRoomForFill, HasRoomForInsertions, IsCapacityForFill, IsCapacityForRuns, WereFilledFrom, decorated, filled_range, mask_of, no_capacity, run_about, values_of};
 ghost use Rattle.document.specs.Kept.{bound_of};
-ghost use Rattle.document.specs.Places.{LinesFit, change_between, line_capacity, no_indicators, type_edits};
-ghost use Rattle.document.specs.Places.{AreFilled, ChangeCapacity, HaveDeleted, HaveInserted};
+ghost use Rattle.document.specs.Places.{AreFilled, ChangeCapacity, GrowsLines, IndicatorsOf, KeepsLines, LeavesRuns, LinesOf};
 
 use decorations::Decorations;
 use ed_model::LineEndTypes;
@@ -50,9 +51,7 @@ impl Lines {
     ///
     /// `AllocError` if the allocation fails.
     pub(crate) fn new(alloc: Global, is_large: bool) -> Result<Self, AllocError>
-        ensures index { IfOk result (λ l. (l.index.types ≡ LineEndTypes.Default) × IsIndexOf [] l.index) }
-        ensures room { IfOk result (λ l. l.index.room ≡ 0) }
-        ensures width { IfOk result (λ l. l.is_large ≡ is_large) }
+        ensures { IfOk result (λ l. (l.index.types ≡ LineEndTypes.Default) × IsIndexOf [] l.index × (l.index.capacity ≡ 1) × (l.is_large ≡ is_large)) }
     {
         let kept = if is_large {
             LinesByWidth::Large(LineIndex::new(alloc, LineEndTypes::Default)?)
@@ -76,7 +75,7 @@ impl Lines {
     pub fn count(&self) -> usize
         ensures count { result ≡ length self.now.index.starts }
         ensures some { 0 < length self.now.index.starts }
-        ensures within { length self.now.index.starts + self.now.index.room < 2 ^ 63 }
+        ensures fits { (length self.now.index.starts ≤ self.now.index.capacity) × (self.now.index.capacity < 2 ^ 63) }
     {
         match &self.kept {
             LinesByWidth::Small(lines) => lines.count(),
@@ -138,11 +137,8 @@ impl Lines {
     /// `AllocError` if the allocation fails. Nothing has changed then.
     #[inline(always)]
     pub(crate) fn reserve(&mut self, count: usize) -> Result<(), AllocError>
-        ensures rest { self.new ≡ record self.old { index = record self.old.index { room = self.new.index.room } } }
-        ensures ok { OnOk result (count ≤ self.new.index.room) }
-        ensures room_is_there { count ≤ self.old.index.room → IsOk result × (self.new ≡ self.old) }
-        ensures capacity { self.old.index.room ≤ self.new.index.room }
-        ensures at_most { line_capacity self.new.index ≤ most_held (line_capacity self.old.index) (length self.old.index.starts + count) }
+        ensures reserved { IsReserved (λ (l : LinesOf). MoreLinesFit count l.index) result self.old self.new }
+        ensures grown { GrowsLines count self.old self.new }
     {
         match &mut self.kept {
             LinesByWidth::Small(lines) => lines.reserve(count),
@@ -159,14 +155,11 @@ impl Lines {
         before: &[u8],
         after: &[u8],
     ) -> LineChange
-        requires was { WasInserted place count (before.now ++ after.now) self.old.index }
+        requires was { WasBefore (Inserts place count) (before.now ++ after.now) self.old.index }
         requires fits { self.old.index.length + count < bound_of self.old.is_large }
-        ensures width { self.new.is_large ≡ self.old.is_large }
-        ensures types { self.new.index.types ≡ self.old.index.types }
-        ensures index { FollowsInsertion place count (before.now ++ after.now) self.old.index self.new.index }
-        ensures capacity { line_capacity self.new.index ≡ line_capacity self.old.index }
-        ensures change { result ≡ change_between place place (place + count) self.old.index self.new.index }
-        ensures small { SmallLines result.old_lines × SmallLines result.new_lines }
+        ensures kept { KeepsLines self.old self.new }
+        ensures index { Follows (Inserts place count) (before.now ++ after.now) self.old.index self.new.index }
+        ensures change { result ≡ change_about place place (place + count) self.old.index.starts self.new.index.starts self.new.index.length }
     {
         match &mut self.kept {
             LinesByWidth::Small(lines) => lines.inserted(place, count, before, after),
@@ -183,14 +176,11 @@ impl Lines {
         before: &[u8],
         after: &[u8],
     ) -> LineChange
-        requires was { WasDeleted place count (before.now ++ after.now) self.old.index }
+        requires was { WasBefore (Deletes place count) (before.now ++ after.now) self.old.index }
         requires short { self.old.index.length < 2 ^ 63 }
-        ensures width { self.new.is_large ≡ self.old.is_large }
-        ensures types { self.new.index.types ≡ self.old.index.types }
-        ensures index { FollowsDeletion place count (before.now ++ after.now) self.old.index self.new.index }
-        ensures capacity { line_capacity self.new.index ≡ line_capacity self.old.index }
-        ensures change { result ≡ change_between place (place + count) place self.old.index self.new.index }
-        ensures small { SmallLines result.old_lines × SmallLines result.new_lines }
+        ensures kept { KeepsLines self.old self.new }
+        ensures index { Follows (Deletes place count) (before.now ++ after.now) self.old.index self.new.index }
+        ensures change { result ≡ change_about place (place + count) place self.old.index.starts self.new.index.starts self.new.index.length }
     {
         match &mut self.kept {
             LinesByWidth::Small(lines) => lines.deleted(place, count, before, after),
@@ -208,8 +198,8 @@ impl Lines {
     ) -> Result<Vec<LineEdit>, AllocError>
         requires text { IsIndexOf (before.now ++ after.now) self.now.index }
         requires short { self.now.index.length < 2 ^ 63 }
-        ensures edits { IfOk result (λ edits. edits.items ≡ type_edits types (before.now ++ after.now) self.now.index) }
-        ensures free { type_edits types (before.now ++ after.now) self.now.index ≡ [] → IsOk result }
+        ensures edits { IfOk result (λ edits. edits.items ≡ edits_of_setting self.now.index.types types (before.now ++ after.now)) }
+        ensures free { edits_of_setting self.now.index.types types (before.now ++ after.now) ≡ [] → IsOk result }
         ensures at_most { IfOk result (λ edits. vec_capacity edits ≤ 2 * vec_len edits) }
     {
         match &self.kept {
@@ -221,12 +211,10 @@ impl Lines {
     /// Like `line_index::LineIndex::set_types`.
     pub(crate) fn set_types(&mut self, types: LineEndTypes, before: &[u8], after: &[u8])
         requires text { IsIndexOf (before.now ++ after.now) self.old.index }
-        requires room { LinesFit types (before.now ++ after.now) self.old.index }
+        requires fits { line_count types (before.now ++ after.now) ≤ self.old.index.capacity }
         requires short { self.old.index.length < 2 ^ 63 }
-        ensures width { self.new.is_large ≡ self.old.is_large }
-        ensures types { self.new.index.types ≡ types }
+        ensures set { (self.new.is_large ≡ self.old.is_large) × (self.new.index.types ≡ types) × (self.new.index.capacity ≡ self.old.index.capacity) }
         ensures index { IsIndexOf (before.now ++ after.now) self.new.index }
-        ensures capacity { line_capacity self.new.index ≡ line_capacity self.old.index }
     {
         match &mut self.kept {
             LinesByWidth::Small(lines) => lines.set_types(types, before, after),
@@ -236,8 +224,7 @@ impl Lines {
 
     /// Like `line_index::LineIndex::lines_about`.
     pub(crate) fn lines_about(&self, place: usize, end: usize) -> LinesAbout
-        ensures about { result ≡ lines_about place end self.now.index.starts }
-        ensures small { SmallLines result.old_lines }
+        ensures { result ≡ lines_about place end self.now.index.starts }
     {
         match &self.kept {
             LinesByWidth::Small(lines) => lines.lines_about(place, end),
@@ -247,8 +234,7 @@ impl Lines {
 
     /// Like `line_index::LineIndex::change_since`.
     pub(crate) fn change_since(&self, about: LinesAbout, end: usize) -> LineChange
-        ensures change { result ≡ change_since about end self.now.index.starts self.now.index.length }
-        ensures small { SmallLines result.new_lines }
+        ensures { result ≡ change_since about end self.now.index.starts self.now.index.length }
     {
         match &self.kept {
             LinesByWidth::Small(lines) => lines.change_since(about, end),
@@ -281,7 +267,7 @@ impl Model for Indicators {
 impl Indicators {
     /// Returns the indicators of the empty text. `is_large` selects places of 64 bits. Allocates nothing.
     pub(crate) fn new(alloc: Global, is_large: bool) -> Self
-        ensures { result ≡ no_indicators is_large }
+        ensures { result ≡ record { decorated = decorated 0 (replicate 32 []) no_capacity; is_large = is_large } }
     {
         let kept = if is_large {
             IndicatorsByWidth::Large(Decorations::new(alloc))
@@ -345,10 +331,8 @@ impl Indicators {
     /// `AllocError` if an allocation fails. Nothing has changed then, except that more runs may fit in.
     #[inline(always)]
     pub(crate) fn reserve(&mut self, insertions: usize) -> Result<(), AllocError>
-        ensures rest { ChangeCapacity self.old self.new }
-        ensures ok { OnOk result (HasRoomForInsertions insertions self.new.decorated) }
-        ensures room_is_there { HasRoomForInsertions insertions self.old.decorated → IsOk result × (self.new ≡ self.old) }
-        ensures at_most { IsCapacityForRuns (insertions + 2) self.old.decorated self.new.decorated.capacity }
+        ensures reserved { IsReserved (λ (i : IndicatorsOf). HasRoomForInsertions insertions i.decorated) result self.old self.new }
+        ensures grown { ChangeCapacity self.old self.new × IsCapacityForRuns (insertions + 2) self.old.decorated self.new.decorated.capacity }
     {
         match &mut self.kept {
             IndicatorsByWidth::Small(indicators) => indicators.reserve(insertions),
@@ -363,9 +347,8 @@ impl Indicators {
         requires room { HasRoomForInsertions 1 self.old.decorated }
         ensures width { self.new.is_large ≡ self.old.is_large }
         ensures length { self.new.decorated.length ≡ self.old.decorated.length + count }
-        ensures values { HaveInserted place count self.old self.new }
-        ensures room { (n : ℕ) → HasRoomForInsertions (n + 1) self.old.decorated → HasRoomForInsertions n self.new.decorated }
-        ensures capacity { KeepsRuns self.old.decorated self.new.decorated }
+        ensures values { (bytes : List ℕ) → length bytes ≡ count → self.new.decorated.values ≡ indicators_after (Insert place bytes) self.old.decorated.values }
+        ensures runs { LeavesRuns (λ n. n + 1) self.old.decorated self.new.decorated }
     {
         match &mut self.kept {
             IndicatorsByWidth::Small(indicators) => indicators.insert(place, count),
@@ -378,9 +361,8 @@ impl Indicators {
         requires { place + count ≤ self.old.decorated.length }
         ensures width { self.new.is_large ≡ self.old.is_large }
         ensures length { self.new.decorated.length + count ≡ self.old.decorated.length }
-        ensures values { HaveDeleted place count self.old self.new }
-        ensures room { (n : ℕ) → HasRoomForInsertions n self.old.decorated → HasRoomForInsertions n self.new.decorated }
-        ensures capacity { KeepsRuns self.old.decorated self.new.decorated }
+        ensures values { (bytes : List ℕ) → length bytes ≡ count → self.new.decorated.values ≡ indicators_after (Delete place bytes) self.old.decorated.values }
+        ensures runs { LeavesRuns (λ n. n) self.old.decorated self.new.decorated }
     {
         match &mut self.kept {
             IndicatorsByWidth::Small(indicators) => indicators.delete(place, count),
@@ -395,10 +377,8 @@ impl Indicators {
     /// `AllocError` if an allocation fails. Nothing has changed then, except that more slots and runs may fit in.
     pub(crate) fn reserve_fill(&mut self, indicator: usize) -> Result<(), AllocError>
         requires { indicator < 32 }
-        ensures rest { ChangeCapacity self.old self.new }
-        ensures ok { OnOk result (HasRoomForFill indicator self.new.decorated) }
-        ensures room_is_there { HasRoomForFill indicator self.old.decorated → IsOk result × (self.new ≡ self.old) }
-        ensures at_most { IsCapacityForFill indicator self.old.decorated self.new.decorated.capacity }
+        ensures reserved { IsReserved (λ (i : IndicatorsOf). HasRoomForFill indicator i.decorated) result self.old self.new }
+        ensures grown { ChangeCapacity self.old self.new × IsCapacityForFill indicator self.old.decorated self.new.decorated.capacity }
     {
         match &mut self.kept {
             IndicatorsByWidth::Small(indicators) => indicators.reserve_fill(indicator),

@@ -1,13 +1,14 @@
 //! Changes of the rows of a document's lines: markers, fold levels and line states. Lines are counted from 0.
 
-ghost use Rattle.std.specs.Prelude.{◌≡◌, ◌≤◌, ◌<◌, ◌+◌, ◌-◌, ◌^◌, [], length, OnOk, OnErr, IsOk};
+ghost use Rattle.std.specs.Prelude.{◌≡◌, ◌≤◌, ◌<◌, ◌+◌, ◌-◌, ◌^◌, [], length, OnErr};
 ghost use Rattle.ed_model.specs.declared.plan.DocumentChange.TheVariants.{AddMarker, AddMarkers, DeleteMarker, DeleteMarkers, DeleteHandle};
 ghost use Rattle.ed_model.specs.Changes.{document_row};
 ghost use Rattle.ed_model.specs.LinePlans.{numbers_in};
 ghost use Rattle.ed_model.specs.Session.{lines_in};
+ghost use Rattle.vec_room.specs.Reserved.{IsReserved};
 ghost use Rattle.line_rows.specs.Kept.{HasRoomForMarkers, most_for_level, most_for_markers, most_for_state};
 ghost use Rattle.document.specs.Kept.{HasLevelRoom, HasMarkerRoom, HasStateRoom, rows_in};
-ghost use Rattle.document.specs.Memory.{ChangesRowCapacity, RowsGrowTo};
+ghost use Rattle.document.specs.Memory.{ReservesRows};
 ghost use Rattle.document.specs.Changes.{after_change, line_it_left, markers_changed, numbers_of, with_level, with_more_markers, with_state};
 
 use crate::kept::Document;
@@ -44,12 +45,10 @@ impl Document {
     ///
     /// `AllocError` if an allocation fails. Nothing has changed then, except that the markers of more lines may fit in.
     pub fn reserve_markers(&mut self, count: usize) -> Result<(), AllocError>
-        ensures rest { ChangesRowCapacity self.old self.new }
-        ensures ok { OnOk result (HasMarkerRoom count self.new) }
-        ensures room_is_there { HasMarkerRoom count self.old → IsOk result × (self.new ≡ self.old) }
-        ensures at_most { RowsGrowTo (most_for_markers count (rows_in self.old)) self.old self.new }
+        ensures reserved { IsReserved (HasMarkerRoom count) result self.old self.new }
+        ensures grown { ReservesRows (most_for_markers count (rows_in self.old)) self.old self.new }
     {
-        self.rows.reserve_markers(count)
+        self.parts.rows.reserve_markers(count)
     }
 
     /// Adds a marker with `number` behind those of `line`, and returns its handle (`SCI_MARKERADD`). There must be room
@@ -62,7 +61,7 @@ impl Document {
         ensures handle { result ≡ self.old.document.next_handle }
         ensures document { self.new ≡ after_change [] (AddMarker line number) self.old }
     {
-        self.rows.add_reserved(line, number)
+        self.parts.rows.add_reserved(line, number)
     }
 
     /// Adds a marker for each bit of `mask` behind those of `line`, the lowest bit first (`SCI_MARKERADDSET`). There
@@ -73,7 +72,7 @@ impl Document {
         requires handles { self.old.document.next_handle + length (numbers_in mask) < 2 ^ 32 }
         ensures { self.new ≡ after_change [] (AddMarkers line mask) self.old }
     {
-        add_markers(&mut self.rows, line, mask);
+        add_markers(&mut self.parts.rows, line, mask);
     }
 
     /// Deletes the first marker of `line` with `number`, or all of its markers if `number` is `None`
@@ -83,7 +82,7 @@ impl Document {
         ensures went { result ≡ markers_changed self.old.document.rows self.new.document.rows }
         ensures document { self.new ≡ after_change [] (DeleteMarker line number) self.old }
     {
-        self.rows.delete(line, number)
+        self.parts.rows.delete(line, number)
     }
 
     /// Deletes all markers with `number`, or all markers if it is `None` (`SCI_MARKERDELETEALL`). Returns whether there
@@ -92,7 +91,7 @@ impl Document {
         ensures went { result ≡ markers_changed self.old.document.rows self.new.document.rows }
         ensures document { self.new ≡ after_change [] (DeleteMarkers number) self.old }
     {
-        self.rows.delete_all(number)
+        self.parts.rows.delete_all(number)
     }
 
     /// Deletes the marker with `handle`, and returns its line, or `None` if no marker has it
@@ -101,7 +100,7 @@ impl Document {
         ensures line { result ≡ line_it_left handle self.old.document.rows self.new.document.rows }
         ensures document { self.new ≡ after_change [] (DeleteHandle handle) self.old }
     {
-        self.rows.delete_handle(handle)
+        self.parts.rows.delete_handle(handle)
     }
 
     /// Makes room for the fold level of a line, and of those before it.
@@ -110,13 +109,11 @@ impl Document {
     ///
     /// `AllocError` if the allocation fails. The document is then unchanged.
     pub fn reserve_level(&mut self, line: usize) -> Result<(), AllocError>
-        ensures rest { ChangesRowCapacity self.old self.new }
-        ensures ok { OnOk result (HasLevelRoom line self.new) }
-        ensures room_is_there { HasLevelRoom line self.old → IsOk result × (self.new ≡ self.old) }
-        ensures at_most { RowsGrowTo (most_for_level line (rows_in self.old)) self.old self.new }
+        ensures reserved { IsReserved (HasLevelRoom line) result self.old self.new }
+        ensures grown { ReservesRows (most_for_level line (rows_in self.old)) self.old self.new }
         ensures err { OnErr result (self.new ≡ self.old) }
     {
-        self.rows.reserve_level(line)
+        self.parts.rows.reserve_level(line)
     }
 
     /// Sets the fold level of a line, and returns the old one (`SCI_SETFOLDLEVEL`). There must be room for it.
@@ -126,7 +123,7 @@ impl Document {
         ensures before { result ≡ (document_row self.old.document line).level }
         ensures document { self.new ≡ with_level line level self.old }
     {
-        self.rows.set_level(line, level)
+        self.parts.rows.set_level(line, level)
     }
 
     /// Makes room for the state of a line, and of those before it.
@@ -135,13 +132,11 @@ impl Document {
     ///
     /// `AllocError` if the allocation fails. The document is then unchanged.
     pub fn reserve_state(&mut self, line: usize) -> Result<(), AllocError>
-        ensures rest { ChangesRowCapacity self.old self.new }
-        ensures ok { OnOk result (HasStateRoom line self.new) }
-        ensures room_is_there { HasStateRoom line self.old → IsOk result × (self.new ≡ self.old) }
-        ensures at_most { RowsGrowTo (most_for_state line (rows_in self.old)) self.old self.new }
+        ensures reserved { IsReserved (HasStateRoom line) result self.old self.new }
+        ensures grown { ReservesRows (most_for_state line (rows_in self.old)) self.old self.new }
         ensures err { OnErr result (self.new ≡ self.old) }
     {
-        self.rows.reserve_state(line)
+        self.parts.rows.reserve_state(line)
     }
 
     /// Sets the state of a line, and returns the old one (`SCI_SETLINESTATE`). There must be room for it.
@@ -151,6 +146,6 @@ impl Document {
         ensures before { result ≡ (document_row self.old.document line).state }
         ensures document { self.new ≡ with_state line state self.old }
     {
-        self.rows.set_state(line, state)
+        self.parts.rows.set_state(line, state)
     }
 }

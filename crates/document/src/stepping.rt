@@ -1,11 +1,13 @@
 //! Steps of a document's text, and their room.
 
-ghost use Rattle.std.specs.Prelude.{◌≡◌, ◌+◌, length, OnOk, IsOk};
+ghost use Rattle.std.specs.Prelude.{◌≡◌, ◌+◌, length};
 ghost use Rattle.ed_model.specs.History.{begins_transaction};
 ghost use Rattle.ed_model.specs.Performing.{document_after};
-ghost use Rattle.line_index.specs.StepEdits.{SmallLines};
+ghost use Rattle.line_index.specs.StepEdits.{edits_of};
+ghost use Rattle.vec_room.specs.Reserved.{IsReserved};
 ghost use Rattle.document.specs.Kept.{FitsWidth, HasHistoryRoom, HasRoom, HasTextRoom};
-ghost use Rattle.document.specs.Memory.{GrowsFor, KeepsMemory};
+ghost use Rattle.document.specs.Changes.{stored_by};
+ghost use Rattle.document.specs.Memory.{KeepsMemory, ReservesSteps};
 ghost use Rattle.document.specs.TextSteps.{IsStepOn, LeavesHistoryRoom, LeavesTextRoom, change_on, line_change_of, need_on, step_on, with_appended};
 
 use crate::kept::Document;
@@ -24,7 +26,7 @@ impl Document {
         match step {
             TextStep::Insert { bytes, .. } => DocumentNeed {
                 text: bytes.len(),
-                lines: lines_for_insertion(self.lines.types(), bytes),
+                lines: lines_for_insertion(self.parts.lines.types(), bytes),
                 insertions: 1,
                 steps: 1,
                 bytes: bytes.len(),
@@ -48,21 +50,19 @@ impl Document {
     #[inline(always)]
     pub fn reserve(&mut self, need: DocumentNeed) -> Result<(), AllocError>
         requires wide { FitsWidth self.old.document (length self.old.document.cells + need.text) }
-        ensures rest { self.new ≡ record self.old { capacity = self.new.capacity } }
-        ensures ok { OnOk result (HasRoom need self.new) }
-        ensures room_is_there { HasRoom need self.old → IsOk result × (self.new ≡ self.old) }
-        ensures at_most { GrowsFor need self.old self.new }
+        ensures reserved { IsReserved (HasRoom need) result self.old self.new }
+        ensures grown { ReservesSteps need self.old self.new }
     {
-        let Ok(()) = self.cells.reserve(need.text) else {
+        let Ok(()) = self.parts.cells.reserve(need.text) else {
             return Err(AllocError);
         };
-        let Ok(()) = self.lines.reserve(need.lines) else {
+        let Ok(()) = self.parts.lines.reserve(need.lines) else {
             return Err(AllocError);
         };
-        let Ok(()) = self.rows.reserve_lines(need.lines) else {
+        let Ok(()) = self.parts.rows.reserve_lines(need.lines) else {
             return Err(AllocError);
         };
-        let Ok(()) = self.indicators.reserve(need.insertions) else {
+        let Ok(()) = self.parts.indicators.reserve(need.insertions) else {
             return Err(AllocError);
         };
         let Ok(()) = self.history.reserve(need.steps, need.bytes) else {
@@ -80,18 +80,12 @@ impl Document {
         requires room { HasTextRoom (need_on self.old step) self.old }
         ensures document { self.new.document ≡ document_after (step_on self.old step.entry) self.old.document }
         ensures room { LeavesTextRoom (step_on self.old step.entry) self.old self.new }
+        ensures stored { self.new.stored ≡ stored_by (edits_of result) self.old.stored }
         ensures memory { KeepsMemory self.old self.new }
         ensures lines { result ≡ line_change_of self.old (step_on self.old step.entry) }
-        ensures small { SmallLines result.old_lines × SmallLines result.new_lines }
     {
         self.end_styled = self.end_styled.min(step.place());
-        make_step(
-            &mut self.cells,
-            &mut self.lines,
-            &mut self.rows,
-            &mut self.indicators,
-            step,
-        )
+        make_step(&mut self.parts, step)
     }
 
     /// Appends a step to the history, before it is made, and returns whether it begins a transaction. `later` says that
@@ -109,7 +103,7 @@ impl Document {
                     .append_reserved(later, StepKind::Insert, place, bytes)
             }
             TextStep::Delete { place, count } => {
-                let bytes = self.cells.lend(place, count);
+                let bytes = self.parts.cells.lend(place, count);
                 self.history
                     .append_reserved(later, StepKind::Delete, place, bytes)
             }

@@ -1,13 +1,14 @@
 //! Changes of a document's styles and indicators.
 
-ghost use Rattle.std.specs.Prelude.{◌≡◌, ◌≤◌, ◌<◌, ◌+◌, true, [], length, OnOk, OnErr, IsOk};
+ghost use Rattle.std.specs.Prelude.{◌≡◌, ◌≤◌, ◌<◌, ◌+◌, [], length, OnErr};
 ghost use Rattle.ed_model.specs.declared.plan.DocumentChange.TheVariants.{FillIndicator, StyleBytes, StyleRun};
 ghost use Rattle.ed_model.specs.Session.{keeps_no_styles};
-ghost use Rattle.cell_buffer.specs.Buffer.{most_held};
-ghost use Rattle.decorations.specs.Decorated.{IsCapacityForFill};
-ghost use Rattle.document.specs.Kept.{HasFillRoom, decorated_in};
-ghost use Rattle.document.specs.Changes.{CanStyle, after_change, changed_styles, changed_values};
-ghost use Rattle.document.specs.Memory.{KeepsAllButStyles, KeepsMemoryFilling};
+ghost use Rattle.ed_model.specs.Indicators.{changed_range};
+ghost use Rattle.decorations.specs.Decorated.{values_of};
+ghost use Rattle.vec_room.specs.Reserved.{IsReserved};
+ghost use Rattle.document.specs.Kept.{HasFillRoom};
+ghost use Rattle.document.specs.Changes.{CanStyle, after_change, changed_styles};
+ghost use Rattle.document.specs.Memory.{KeepsMemoryFilling, ReservesFill, ReservesStyles};
 
 use crate::kept::Document;
 use ed_types::document_option;
@@ -27,17 +28,14 @@ impl Document {
     ///
     /// `AllocError` if the allocation fails. The document is then unchanged.
     pub fn reserve_styles(&mut self) -> Result<(), AllocError>
-        ensures ok { OnOk result (CanStyle self.new) }
-        ensures rest { KeepsAllButStyles self.old self.new }
-        ensures room_is_there { CanStyle self.old → IsOk result × (self.new ≡ self.old) }
-        ensures stored { self.old.stored.styles ≡ true → self.new.stored.styles ≡ true }
-        ensures at_most { self.new.capacity.cells.1 ≤ most_held self.old.capacity.cells.1 self.old.capacity.cells.0 }
+        ensures reserved { IsReserved CanStyle result self.old self.new }
+        ensures grown { ReservesStyles self.old self.new }
         ensures err { OnErr result (self.new ≡ self.old) }
     {
         if self.keeps_no_styles() {
             return Ok(());
         }
-        self.cells.keep_styles()
+        self.parts.cells.keep_styles()
     }
 
     /// Sets `style` on the `count` bytes from `end_styled` on, and moves `end_styled` behind them (`SCI_SETSTYLING`).
@@ -55,7 +53,7 @@ impl Document {
         if keeps_none {
             return None;
         }
-        self.cells.set_style_run(start, count, style)
+        self.parts.cells.set_style_run(start, count, style)
     }
 
     /// Sets `styles` on the bytes from `end_styled` on, one on each, and moves `end_styled` behind them
@@ -72,7 +70,7 @@ impl Document {
         if keeps_none {
             return None;
         }
-        self.cells.set_styles(start, styles)
+        self.parts.cells.set_styles(start, styles)
     }
 
     /// Makes room for one fill of an indicator.
@@ -82,12 +80,10 @@ impl Document {
     /// `AllocError` if an allocation fails. The document is then unchanged, and its indicators may have more memory.
     pub fn reserve_fill(&mut self, indicator: usize) -> Result<(), AllocError>
         requires { indicator < 32 }
-        ensures rest { self.new ≡ record self.old { capacity = record self.old.capacity { indicators = self.new.capacity.indicators } } }
-        ensures ok { OnOk result (HasFillRoom indicator self.new) }
-        ensures room_is_there { HasFillRoom indicator self.old → IsOk result × (self.new ≡ self.old) }
-        ensures at_most { IsCapacityForFill indicator (decorated_in self.old) self.new.capacity.indicators }
+        ensures reserved { IsReserved (HasFillRoom indicator) result self.old self.new }
+        ensures grown { ReservesFill indicator self.old self.new }
     {
-        self.indicators.reserve_fill(indicator)
+        self.parts.indicators.reserve_fill(indicator)
     }
 
     /// Sets an indicator to a value at the `count` bytes from `start` on (`SCI_INDICATORFILLRANGE`). Returns the
@@ -105,8 +101,8 @@ impl Document {
         requires room { HasFillRoom indicator self.old }
         ensures document { self.new ≡ record (after_change [] (FillIndicator indicator start count value) self.old) { capacity = self.new.capacity } }
         ensures memory { KeepsMemoryFilling indicator self.old self.new }
-        ensures changed { result ≡ changed_values indicator self.old self.new }
+        ensures changed { result ≡ changed_range (values_of self.old.document.indicators indicator) (values_of self.new.document.indicators indicator) }
     {
-        self.indicators.fill(indicator, start, count, value)
+        self.parts.indicators.fill(indicator, start, count, value)
     }
 }

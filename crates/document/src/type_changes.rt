@@ -1,12 +1,13 @@
 //! The line ends that count in a document, and a container's own steps.
 
-ghost use Rattle.std.specs.Prelude.{◌≡◌, ◌≤◌, ◌-◌, ◌*◌, [], OnOk, IsOk, IfOk, vec_len, vec_capacity};
+ghost use Rattle.std.specs.Prelude.{◌≡◌, ◌≤◌, ◌-◌, ◌*◌, ◌+◌, [], length, IsOk, IfOk, vec_len, vec_capacity};
 ghost use Rattle.ed_model.specs.declared.plan.DocumentChange.TheVariants.{AppendContainer, SetLineEndTypes};
+ghost use Rattle.ed_model.specs.Session.{lines_in};
 ghost use Rattle.line_index.specs.Edits.{fresh_lines};
-ghost use Rattle.undo_history.specs.Kept.{CapacityAtMost, KeepsCapacity};
-ghost use Rattle.document.specs.Kept.{HasHistoryRoom, HasLineRoom, history_in};
-ghost use Rattle.document.specs.Changes.{BringFewLines, after_change, container_need, line_type_edits};
-ghost use Rattle.document.specs.Memory.{ChangesLineCapacity, GrowsForLines};
+ghost use Rattle.vec_room.specs.Reserved.{IsReserved};
+ghost use Rattle.document.specs.Kept.{HasHistoryRoom, HasLineRoom};
+ghost use Rattle.document.specs.Changes.{after_change, container_need, line_type_edits, stored_by};
+ghost use Rattle.document.specs.Memory.{ReservesLines, ReservesStep};
 
 use crate::kept::Document;
 use crate::need::DocumentNeed;
@@ -26,13 +27,15 @@ impl Document {
         types: LineEndTypes,
     ) -> Result<Vec<LineEdit>, AllocError>
         ensures edits { IfOk result (λ edits. edits.items ≡ line_type_edits types self.now.document) }
-        ensures few { IfOk result (λ edits. BringFewLines edits.items self.now.document) }
+        ensures few { IfOk result (λ edits. lines_in self.now.document + fresh_lines edits.items ≤ length self.now.document.cells + 1) }
         ensures free { line_type_edits types self.now.document ≡ [] → IsOk result }
         ensures at_most { IfOk result (λ edits. vec_capacity edits ≤ 2 * vec_len edits) }
     {
         edits_of_settings();
-        let (before, after) = self.cells.halves();
-        self.lines.edits_for_types(alloc, types, before, after)
+        let (before, after) = self.parts.cells.halves();
+        self.parts
+            .lines
+            .edits_for_types(alloc, types, before, after)
     }
 
     /// Makes room for `lines` more lines. The memory for their starts grows to that or to twice its size, and not at
@@ -42,15 +45,13 @@ impl Document {
     ///
     /// `AllocError` if an allocation fails. The document is then unchanged, and may have more memory.
     pub fn reserve_lines(&mut self, lines: usize) -> Result<(), AllocError>
-        ensures rest { ChangesLineCapacity self.old self.new }
-        ensures ok { OnOk result (HasLineRoom lines self.new) }
-        ensures room_is_there { HasLineRoom lines self.old → IsOk result × (self.new ≡ self.old) }
-        ensures at_most { GrowsForLines lines self.old self.new }
+        ensures reserved { IsReserved (HasLineRoom lines) result self.old self.new }
+        ensures grown { ReservesLines lines self.old self.new }
     {
-        let Ok(()) = self.lines.reserve(lines) else {
+        let Ok(()) = self.parts.lines.reserve(lines) else {
             return Err(AllocError);
         };
-        self.rows.reserve_lines(lines)
+        self.parts.rows.reserve_lines(lines)
     }
 
     /// Sets which line ends count (`SCI_SETLINEENDTYPESALLOWED`). `edits` is the effect on the lines
@@ -59,14 +60,14 @@ impl Document {
     pub fn set_line_end_types(&mut self, types: LineEndTypes, edits: &[LineEdit])
         requires edits { edits.now ≡ line_type_edits types self.old.document }
         requires room { HasLineRoom (fresh_lines edits.now) self.old }
-        ensures document { self.new ≡ record (after_change [] (SetLineEndTypes types) self.old) { stored = self.new.stored } }
+        ensures document { self.new ≡ record (after_change [] (SetLineEndTypes types) self.old) { stored = stored_by edits.now self.old.stored } }
     {
         edits_of_settings();
         rows_that_meet();
         rows_match_lines();
-        let (before, after) = self.cells.halves();
-        self.lines.set_types(types, before, after);
-        self.rows.carry(edits);
+        let (before, after) = self.parts.cells.halves();
+        self.parts.lines.set_types(types, before, after);
+        self.parts.rows.carry(edits);
     }
 
     /// Makes room for a container's own step in the history, if that collects steps.
@@ -75,11 +76,8 @@ impl Document {
     ///
     /// `AllocError` if an allocation fails. The document is then unchanged, and its history may have more memory.
     pub fn reserve_container(&mut self) -> Result<(), AllocError>
-        ensures rest { self.new ≡ record self.old { capacity = record self.old.capacity { history = self.new.capacity.history } } }
-        ensures ok { OnOk result (HasHistoryRoom container_need self.new) }
-        ensures room_is_there { HasHistoryRoom container_need self.old → IsOk result × (self.new ≡ self.old) }
-        ensures capacity { KeepsCapacity self.old.capacity.history self.new.capacity.history }
-        ensures at_most { CapacityAtMost 1 0 (history_in self.old) (history_in self.new) }
+        ensures reserved { IsReserved (HasHistoryRoom container_need) result self.old self.new }
+        ensures grown { ReservesStep self.old self.new }
     {
         self.history.reserve(1, 0)
     }

@@ -2,13 +2,14 @@
 
 ghost use Rattle.std.specs.Prelude.{◌≡◌, ◌<◌, ℕ, List, length, Some, IsSomeAnd};
 ghost use Rattle.ed_model.specs.History.{at_save_point, inverse_change};
-ghost use Rattle.line_index.specs.StepEdits.{SmallLines};
+ghost use Rattle.ed_model.specs.Performing.{document_after};
+ghost use Rattle.line_index.specs.StepEdits.{edits_of};
 ghost use Rattle.undo_history.specs.Records.{change_of, HasItsBytes};
-ghost use Rattle.document.specs.Changes.{with_history};
+ghost use Rattle.document.specs.Changes.{stored_by, with_history};
 ghost use Rattle.document.specs.Memory.{KeepsMemory};
 ghost use Rattle.document.specs.TextSteps.{LeavesTextRoom, line_change_of};
 ghost use Rattle.document.specs.Undoing.{changes_of, history_behind, save_point_told, outline_of, bytes_in};
-ghost use Rattle.document.specs.Undoing.{CanMake, IfStep, IsDocumentAfter, IsLentOf, OfChange, need_of_change, performed_at};
+ghost use Rattle.document.specs.Undoing.{CanMake, IfStep, IsLentOf, OfChange, need_of_change, performed_at};
 
 use crate::kept::Document;
 use crate::making::make_step;
@@ -188,7 +189,7 @@ impl Document {
             } => {
                 let need = DocumentNeed {
                     text: count,
-                    lines: lines_for_insertion(self.lines.types(), change.bytes),
+                    lines: lines_for_insertion(self.parts.lines.types(), change.bytes),
                     insertions: 1,
                     ..DocumentNeed::none()
                 };
@@ -214,23 +215,17 @@ impl Document {
     /// Everything but the history changes, as by `step`. There must be room for it.
     pub fn make_change(&mut self, direction: Direction, index: usize) -> LineChange
         requires can { OfChange direction index self.old (CanMake self.old) }
-        ensures document { IfStep direction index self.old (IsDocumentAfter self.old self.new) }
+        ensures document { IfStep direction index self.old (λ step. self.new.document ≡ document_after step self.old.document) }
         ensures room { IfStep direction index self.old (λ step. LeavesTextRoom step self.old self.new) }
+        ensures stored { self.new.stored ≡ stored_by (edits_of result) self.old.stored }
         ensures memory { KeepsMemory self.old self.new }
         ensures lines { IfStep direction index self.old (λ step. result ≡ line_change_of self.old step) }
-        ensures small { SmallLines result.old_lines × SmallLines result.new_lines }
     {
         let Some(step) = step_at(&self.history, direction, index) else {
             unreachable!();
         };
         self.end_styled = self.end_styled.min(step.place());
-        make_step(
-            &mut self.cells,
-            &mut self.lines,
-            &mut self.rows,
-            &mut self.indicators,
-            step,
-        )
+        make_step(&mut self.parts, step)
     }
 
     /// Moves the transaction that was undone or redone to the other side of the history. Its changes were made before.

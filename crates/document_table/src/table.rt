@@ -1,9 +1,10 @@
 //! `DocumentTable` and its calls.
-ghost use Rattle.std.specs.Prelude.{◌≡◌, ◌≢◌, ◌≤◌, ◌<◌, ◌+◌, ◌^◌, ◌∷◌, ◌++◌, ℕ, [], map, IsOk, IfSome, IsSomeAnd, OnOk, option_copied};
+ghost use Rattle.std.specs.Prelude.{◌≡◌, ◌≢◌, ◌≤◌, ◌<◌, ◌+◌, ◌^◌, ◌∷◌, ◌++◌, ℕ, [], map, IfSome, IsSomeAnd, option_copied};
 ghost use Rattle.std.specs.Option.{option_copied_mut};
 ghost use Rattle.std.specs.Borrow.{sem};
 ghost use Rattle.ed_model.specs.Session.{left_by};
 ghost use Rattle.id_table.specs.Entries.{HasRoom, KeepsCapacity, Rise, empty_table, entry, id_of, most_ids, value_at, without_id};
+ghost use Rattle.vec_room.specs.Reserved.{IsReserved};
 ghost use Rattle.document_table.specs.Leaving.{documents_in, let_go, released, KeepsRest};
 
 use document::Document;
@@ -67,11 +68,8 @@ impl DocumentTable {
     ///
     /// `AllocError` if an allocation fails. The table is then unchanged, and its capacity is at least what it was.
     pub fn reserve(&mut self, count: usize) -> Result<(), AllocError>
-        ensures ok { OnOk result (HasRoom count self.new) }
-        ensures room_is_there { HasRoom count self.old → IsOk result × (self.new ≡ self.old) }
-        ensures rest { self.new ≡ record self.old { capacity = self.new.capacity } }
-        ensures capacity { KeepsCapacity self.old.capacity self.new.capacity }
-        ensures ids_at_most { self.new.capacity.ids ≤ most_ids count self.old }
+        ensures reserved { IsReserved (HasRoom count) result self.old self.new }
+        ensures grown { (self.new ≡ record self.old { capacity = self.new.capacity }) × KeepsCapacity self.old.capacity self.new.capacity × (self.new.capacity.ids ≤ most_ids count self.old) }
     {
         self.documents.reserve(count)
     }

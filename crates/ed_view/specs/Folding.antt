@@ -1,12 +1,12 @@
 -- What a change of a view requires: lines that exist, and room to fold.
-use Rattle.std.specs.Prelude.{Bool, true, false, ℕ, ◌+◌, ◌<◌, ◌≤◌, ◌≡◌, if◌then◌else◌, List, length}
+use Rattle.std.specs.Prelude.{Bool, true, false, ℕ, ◌+◌, ◌<◌, ◌≤◌, if◌then◌else◌, List, length}
 use Rattle.ed_model.specs.declared.plan.ViewChange.{ViewChange}
 use Rattle.ed_model.specs.declared.plan.ViewChange.TheVariants.{Select, SetTarget, SetSearchFlags, SetMask, SetIndicator, SetIndicatorValue, SetPasteConversion, SetRecording, ShowLines, HideLines, SetExpanded, Contract, Expand, EnsureVisible}
 use Rattle.ed_model.specs.Rows.{Flags}
 use Rattle.ed_model.specs.Folding.{is_visible}
 use Rattle.ed_model.specs.Requests.{Request, line_total}
 use Rattle.ed_model.specs.PlansFit.{IsFitViewChange}
-use Rattle.contraction.specs.ViewLines.{FoldCapacity, contracted_lines}
+use Rattle.contraction.specs.ViewLines.{FoldCapacity, contracted_lines, FoldsFit}
 use Rattle.ed_view.specs.declared.folding.FoldNeed.{FoldNeed}
 
 -- whether it shows and hides no lines, and so requires nothing
@@ -43,15 +43,7 @@ fold_need flags other = record { hidden = 0; contracted = 0 }
 
 -- the capacity is at least what is needed
 abbrev pub HasFoldRoom : FoldCapacity → FoldNeed → Type 0
-HasFoldRoom capacity need = (need.hidden ≤ capacity.hidden) × (need.contracted ≤ capacity.contracted)
-
--- no capacity is given back
-abbrev pub KeepsCapacity : FoldCapacity → FoldCapacity → Type 0
-KeepsCapacity old new = (old.hidden ≤ new.hidden) × (old.contracted ≤ new.contracted)
-
--- capacity that is enough stays as it is
-abbrev pub StaysIfEnough : (need old new : ℕ) → Type 0
-StaysIfEnough need old new = need ≤ old → new ≡ old
+HasFoldRoom capacity need = FoldsFit need.hidden need.contracted capacity
 
 -- the lines that a fit change names are lines of its document
 abbrev pub FitChangesAreWithin : Type 0

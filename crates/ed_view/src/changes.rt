@@ -113,11 +113,11 @@ impl View {
             return self.set(change);
         }
         match change {
-            ViewChange::ShowLines { first, past } => self.show(first, past),
-            ViewChange::HideLines { first, past } => self.hide(first, past),
-            ViewChange::SetExpanded { line, on } => self.set_expanded(line, on),
-            ViewChange::Contract { line } => self.contract(levels, line),
-            ViewChange::Expand { line } => self.expand(levels, line),
+            ViewChange::ShowLines { first, past } => self.lines.show(first, past),
+            ViewChange::HideLines { first, past } => self.lines.hide(first, past),
+            ViewChange::SetExpanded { line, on } => self.lines.set_expanded(line, on),
+            ViewChange::Contract { line } => self.lines.contract(levels, line),
+            ViewChange::Expand { line } => self.lines.expand(levels, line),
             ViewChange::EnsureVisible { line } => self.ensure_visible(levels, line),
             _ => {}
         }

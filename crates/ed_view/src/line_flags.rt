@@ -1,12 +1,13 @@
 //! The flags of a view's lines, in the width of its document.
 
-ghost use Rattle.std.specs.Prelude.{◌≡◌, ◌<◌, ◌≤◌, ◌+◌, ◌*◌, ◌^◌, false, length, max, replicate, IfOk, OnErr, OnOk, IsOk};
+ghost use Rattle.std.specs.Prelude.{◌≡◌, ◌<◌, ◌≤◌, ◌+◌, ◌^◌, false, length, replicate, IfOk};
 ghost use Rattle.ed_model.specs.DisplayLines.{all_visible, display_line, line_shown};
 ghost use Rattle.ed_model.specs.Folding.{is_expanded, is_visible, lines_hidden, lines_shown, with_expanded};
 ghost use Rattle.ed_model.specs.Folding.{contracted as contracted_at, expanded as expanded_at, revealed};
 ghost use Rattle.ed_model.specs.Rows.{flags_together, fresh_flags};
 ghost use Rattle.line_index.specs.Edits.{after_edits, FitLines, fresh_lines};
-ghost use Rattle.contraction.specs.ViewLines.{contracted_lines, fold_capacity, HasRoomToContract, HasRoomToHide};
+ghost use Rattle.vec_room.specs.Reserved.{IsReserved};
+ghost use Rattle.contraction.specs.ViewLines.{contracted_lines, fold_capacity, CanFold, FoldsFit, HaveGrown};
 ghost use Rattle.ed_view.specs.Flags.{capacities_of, AreFewLines};
 
 use contraction::{Contraction, Levels};
@@ -44,8 +45,7 @@ impl LineFlags {
     /// `AllocError` if an allocation fails.
     pub(crate) fn new(alloc: Global, lines: usize, is_large: bool) -> Result<Self, AllocError>
         requires { AreFewLines is_large lines }
-        ensures flags { IfOk result (λ l. l.flags ≡ replicate lines fresh_flags) }
-        ensures large { IfOk result (λ l. l.large ≡ is_large) }
+        ensures flags { IfOk result (λ l. (l.flags ≡ replicate lines fresh_flags) × (l.large ≡ is_large)) }
         ensures capacity { IfOk result (λ l. (l.capacity ≡ fold_capacity 0 0) × (l.other_capacity ≡ fold_capacity 0 0)) }
     {
         let small = Contraction::new(alloc, if is_large { 1 } else { lines })?;
@@ -144,43 +144,20 @@ impl LineFlags {
         }
     }
 
-    /// Makes room for `lines` hidden lines in all. Allocates nothing if they fit.
+    /// Makes room for `hidden` hidden lines in all, and for `contracted` contracted ones. Allocates nothing for those
+    /// that fit.
     ///
     /// # Errors
     ///
-    /// `AllocError` if the allocation fails. Nothing has changed then.
-    pub(crate) fn reserve_hidden(&mut self, lines: usize) -> Result<(), AllocError>
-        ensures rest { self.new ≡ record self.old { capacity = record self.old.capacity { hidden = self.new.capacity.hidden } } }
-        ensures ok { OnOk result (lines ≤ self.new.capacity.hidden) }
-        ensures room_is_there { lines ≤ self.old.capacity.hidden → IsOk result × (self.new ≡ self.old) }
-        ensures capacity { self.old.capacity.hidden ≤ self.new.capacity.hidden }
-        ensures at_most { self.new.capacity.hidden ≤ max lines (2 * self.old.capacity.hidden + 1) }
-        ensures err { OnErr result (self.new ≡ self.old) }
+    /// `AllocError` if an allocation fails. The flags are then unchanged, and more may fit than before.
+    pub(crate) fn reserve(&mut self, hidden: usize, contracted: usize) -> Result<(), AllocError>
+        ensures reserved { IsReserved (λ l. FoldsFit hidden contracted l.capacity) result self.old self.new }
+        ensures grown { (self.new ≡ record self.old { capacity = self.new.capacity }) × HaveGrown hidden contracted self.old.capacity self.new.capacity }
     {
         if self.is_large {
-            self.large.reserve_hidden(lines)
+            self.large.reserve(hidden, contracted)
         } else {
-            self.small.reserve_hidden(lines)
-        }
-    }
-
-    /// Makes room for `lines` contracted lines in all. Allocates nothing if they fit.
-    ///
-    /// # Errors
-    ///
-    /// `AllocError` if the allocation fails. Nothing has changed then.
-    pub(crate) fn reserve_contracted(&mut self, lines: usize) -> Result<(), AllocError>
-        ensures rest { self.new ≡ record self.old { capacity = record self.old.capacity { contracted = self.new.capacity.contracted } } }
-        ensures ok { OnOk result (lines ≤ self.new.capacity.contracted) }
-        ensures room_is_there { lines ≤ self.old.capacity.contracted → IsOk result × (self.new ≡ self.old) }
-        ensures capacity { self.old.capacity.contracted ≤ self.new.capacity.contracted }
-        ensures at_most { self.new.capacity.contracted ≤ max lines (2 * self.old.capacity.contracted + 1) }
-        ensures err { OnErr result (self.new ≡ self.old) }
-    {
-        if self.is_large {
-            self.large.reserve_contracted(lines)
-        } else {
-            self.small.reserve_contracted(lines)
+            self.small.reserve(hidden, contracted)
         }
     }
 
@@ -200,7 +177,7 @@ impl LineFlags {
     /// to be hidden.
     pub(crate) fn hide(&mut self, first: usize, past: usize)
         requires within { past ≤ length self.old.flags }
-        requires room { HasRoomToHide self.old.flags self.old.capacity }
+        requires room { length self.old.flags ≤ self.old.capacity.hidden }
         ensures { self.new ≡ record self.old { flags = lines_hidden first past self.old.flags } }
     {
         if self.is_large {
@@ -214,7 +191,7 @@ impl LineFlags {
     /// for one more contracted line.
     pub(crate) fn set_expanded(&mut self, line: usize, on: bool)
         requires line { line < length self.old.flags }
-        requires room { on ≡ false → HasRoomToContract 1 self.old.flags self.old.capacity }
+        requires room { on ≡ false → contracted_lines self.old.flags < self.old.capacity.contracted }
         ensures { self.new ≡ record self.old { flags = with_expanded line on self.old.flags } }
     {
         if self.is_large {
@@ -227,9 +204,8 @@ impl LineFlags {
     /// Contracts a header, and hides its children. There must be room for all lines to be hidden, and for one more
     /// contracted line.
     pub(crate) fn contract(&mut self, levels: &Levels, header: usize)
-        requires lines { length levels.now ≡ length self.old.flags }
-        requires header { header < length self.old.flags }
-        requires room { HasRoomToHide self.old.flags self.old.capacity × HasRoomToContract 1 self.old.flags self.old.capacity }
+        requires can { CanFold levels.now header self.old.flags self.old.capacity }
+        requires room { contracted_lines self.old.flags < self.old.capacity.contracted }
         ensures { self.new ≡ record self.old { flags = contracted_at levels.now header self.old.flags } }
     {
         if self.is_large {
@@ -242,9 +218,7 @@ impl LineFlags {
     /// Expands a header, and shows each of its children that no contracted header between them hides. There must be
     /// room for all lines to be hidden.
     pub(crate) fn expand(&mut self, levels: &Levels, header: usize)
-        requires lines { length levels.now ≡ length self.old.flags }
-        requires header { header < length self.old.flags }
-        requires room { HasRoomToHide self.old.flags self.old.capacity }
+        requires { CanFold levels.now header self.old.flags self.old.capacity }
         ensures { self.new ≡ record self.old { flags = expanded_at levels.now header self.old.flags } }
     {
         if self.is_large {
@@ -257,9 +231,7 @@ impl LineFlags {
     /// Makes a hidden line visible (`SCI_ENSUREVISIBLE`): its fold parents are made visible and expanded first, the
     /// outermost before the others. There must be room for all lines to be hidden.
     pub(crate) fn ensure(&mut self, levels: &Levels, line: usize)
-        requires lines { length levels.now ≡ length self.old.flags }
-        requires line { line < length self.old.flags }
-        requires room { HasRoomToHide self.old.flags self.old.capacity }
+        requires { CanFold levels.now line self.old.flags self.old.capacity }
         ensures { self.new ≡ record self.old { flags = revealed levels.now line self.old.flags } }
     {
         if self.is_large {

@@ -5,7 +5,7 @@ use Rattle.ed_model.specs.declared.plan.DocumentChange.TheVariants as change
 use Rattle.ed_model.specs.declared.plan.Plan.TheVariants as plan
 use Rattle.ed_model.specs.proved.Changes.{changed_id}
 use Rattle.std.proofs.lemmas.Bool.Decides.{nat_tests}
-use Rattle.document_changes.specs.Needs.{needs_room, notes_of_change}
+use Rattle.performing.specs.ChangeNeeds.{needs_room, notes_of_change}
 use Rattle.editor_session.proofs.OneDocument.{with_one, with_scene, documents_put, found_is}
 use Rattle.editor_session.proofs.Questions.{IsPlain, plain, found_plain, decoded, unheard}
 use Rattle.editor_session.proofs.TableWay.{has_plan, request_is, is_found}

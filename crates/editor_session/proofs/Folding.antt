@@ -2,7 +2,7 @@
 use Rattle.editor_session.proofs.Names.{◌≡◌, ℕ, true, false, List, subst, sym, arith, not-true, ViewChange, View, KeptView, session_in, SessionState, IsKept, needs_no_fold_room, asked, IsAsked}
 use Rattle.ed_model.specs.declared.plan.ViewChange.TheVariants as change
 use Rattle.ed_view.specs.Folding.{fold_need, HasFoldRoom}
-use Rattle.session_changes.specs.Folding.{takes_fold_room, HasFoldRoomAt}
+use Rattle.performing.specs.Folding.{takes_fold_room, HasFoldRoomAt}
 use Rattle.editor_session.proofs.OneDocument.{for_view}
 
 no_fold_room : (what : ViewChange) (v : KeptView) → takes_fold_room what ≡ false → HasFoldRoom v.capacity (fold_need v.view.flags what)

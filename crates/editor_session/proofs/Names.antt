@@ -13,9 +13,9 @@ pub use Rattle.document.specs.Kept.{Kept, document_of, FitsWidth, bound_of}
 pub use Rattle.ed_view.specs.Kept.{KeptView, view_in}
 pub use Rattle.message_requests.specs.Requested.{session_in, documents_in}
 pub use Rattle.message_requests.specs.declared.state.SessionState.{SessionState}
-pub use Rattle.session_changes.specs.Asked.{document_asked, view_asked, asked, IsAsked}
-pub use Rattle.session_changes.specs.Kept.{IsKept, DocumentsAreNamed}
-pub use Rattle.session_changes.specs.proved.Finding.{id_of_view, id_of_document, found_some, found_none, found, unchanged, named_with, own_at, still_named, IsKeptAs, kept_as, replaced, changed, staying}
+pub use Rattle.performing.specs.Asked.{document_asked, view_asked, asked, IsAsked}
+pub use Rattle.performing.specs.Kept.{IsKept, DocumentsAreNamed}
+pub use Rattle.performing.specs.proved.Finding.{id_of_view, id_of_document, found_some, found_none, found, unchanged, named_with, own_at, still_named, IsKeptAs, kept_as, replaced, changed, staying}
 pub use Rattle.ed_model.specs.declared.plan.Follow.{Follow}
 pub use Rattle.ed_model.specs.Edits.{steps_of, has_steps, source_bytes, stays_within}
 pub use Rattle.ed_model.specs.LineEnds.{converted, after_steps}
@@ -34,7 +34,7 @@ pub use Rattle.ed_model.specs.Changes.{changed_document, session_changed, change
 pub use Rattle.ed_model.specs.declared.plan.DocumentChange.{DocumentChange}
 pub use Rattle.ed_model.specs.declared.plan.Plan.{Plan}
 pub use Rattle.ed_model.specs.Table.{table, request, plan_of, performed, opened, closed, closed_view, with_recording, record_note, table_from_view, table_from_kind, table_from_document, answered}
-pub use Rattle.document_changes.specs.Fit.{IsFitChange, bytes_read}
+pub use Rattle.performing.specs.Fit.{IsFitChange, bytes_read}
 pub use Rattle.message_plans.specs.Frequent.{frequent_changes, frequent_change_of, is_frequent_change, change_planned, change_asked, transactions, transaction_of, performing, is_performed, is_target_message, target_plan_of}
 pub use Rattle.document.specs.Undoing.{changes_of, history_behind}
 pub use Rattle.document.specs.declared.undoing.Direction.{Direction}
@@ -52,9 +52,9 @@ pub use Rattle.message_plans.specs.Asking.{questions, question_of, is_question, 
 pub use Rattle.ed_model.specs.Run.{Running, outcomes, run_to, after_command, after_message, after_opening, loaded, file_at, set_text_message}
 pub use Rattle.ed_model.specs.proved.Steps.{length-inserted, length-deleted_within}
 pub use Rattle.ed_model.specs.Text.{Cell, styles_of, bytes_of}
-pub use Rattle.document_edits.specs.Edits.{MakesEdit}
-pub use Rattle.document_edits.specs.History.{scene_gone}
-pub use Rattle.document_edits.specs.Widths.{StepsFitWidth, ChangesFitWidth}
+pub use Rattle.performing.specs.Edits.{MakesEdit}
+pub use Rattle.performing.specs.History.{scene_gone}
+pub use Rattle.performing.specs.Widths.{StepsFitWidth, ChangesFitWidth}
 pub use Rattle.editor_session.specs.Edits.{IsPastedFor, TakesWithin, is_turned, clipboard_need, taken_along, followed_views, followed_clipboard, IsStoredIn, IsEditWithin, stored_bytes, edit_steps}
 pub use Rattle.editor_session.specs.Plans.{takes_nothing_along, is_free, needs_no_memory, needs_no_fold_room, planned_without_memory, is_free_request, is_free_from_document, is_free_from_kind, is_free_from_view, is_marked_free, is_recorded_by, MarkedMessagesAreFree}
 pub use Rattle.editor_session.specs.Performing.{CanPerform, IsPerformed, going}

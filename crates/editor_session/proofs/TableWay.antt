@@ -12,9 +12,9 @@ use Rattle.ed_model.specs.FreePlans.{IsFreeDocumentChange, IsFreeViewChange, IsF
 use Rattle.ed_model.specs.declared.plan.DocumentChange.TheVariants as document_change
 use Rattle.ed_model.specs.declared.plan.ViewChange.TheVariants as view_change
 use Rattle.ed_model.specs.declared.plan.SessionChange.TheVariants as session_change
-use Rattle.document_changes.specs.Needs.{needs_room, notes_of_change}
-use Rattle.session_changes.specs.Memory.{takes_memory}
-use Rattle.session_changes.specs.proved.Asked.{view_asked_at, document_asked_at}
+use Rattle.performing.specs.ChangeNeeds.{needs_room, notes_of_change}
+use Rattle.performing.specs.SessionMemory.{takes_memory}
+use Rattle.performing.specs.proved.Asked.{view_asked_at, document_asked_at}
 
 pub no_view : (s : Session) (id : ℕ) (m : Message) → view_at s.views id ≡ None → table s id m ≡ Err NoSuchView
 no_view s id m none = ap (table_from_view s m) none

@@ -11,7 +11,7 @@ use Rattle.document.specs.declared.undoing.Direction.{Direction}
 use Rattle.document.specs.declared.undoing.Direction.TheVariants.{Undo, Redo}
 use Rattle.message_requests.specs.Requested.{session_in}
 use Rattle.message_requests.specs.declared.state.SessionState.{SessionState}
-use Rattle.session_changes.specs.Asked.{asked, IsAsked}
+use Rattle.performing.specs.Asked.{asked, IsAsked}
 
 -- the plan can be performed for a message with this text to the view with this id, whose document has that id
 pub record CanPerform (s : Session) (document view : ℕ) (text : List ℕ) (what : Plan) : Type 0 where

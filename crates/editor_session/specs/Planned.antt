@@ -10,7 +10,7 @@ use Rattle.ed_model.specs.PlansFit.{IsSoundRequest}
 use Rattle.ed_model.specs.Requests.{Request}
 use Rattle.ed_model.specs.Table.{table, plan_of, answered}
 use Rattle.ed_model.specs.declared.plan.Plan.{Plan}
-use Rattle.session_changes.specs.Asked.{asked}
+use Rattle.performing.specs.Asked.{asked}
 use Rattle.editor_session.specs.Performing.{CanPerform}
 
 -- the request of a message to the view with this id

@@ -15,9 +15,9 @@ use Rattle.ed_model.specs.Requests.{Request, Planned}
 use Rattle.ed_model.specs.Session.{Session, View, Document, view_at, document_at, watching}
 use Rattle.ed_model.specs.Edits.{steps_of, has_steps}
 use Rattle.ed_model.specs.Table.{request, plan_of}
-use Rattle.document_changes.specs.Needs.{needs_room, notes_of_change}
-use Rattle.session_changes.specs.Folding.{takes_fold_room}
-use Rattle.session_changes.specs.Memory.{takes_memory}
+use Rattle.performing.specs.ChangeNeeds.{needs_room, notes_of_change}
+use Rattle.performing.specs.Folding.{takes_fold_room}
+use Rattle.performing.specs.SessionMemory.{takes_memory}
 
 abbrev pub takes_nothing_along : Follow → Bool
 takes_nothing_along (follow.Clipboard start count) = count == 0

@@ -3,7 +3,7 @@
 ghost use Rattle.std.specs.Prelude.{◌≡◌, Some};
 ghost use Rattle.message_plans.specs.Asking.{question_of};
 ghost use Rattle.message_requests.specs.Requested.{session_in};
-ghost use Rattle.session_changes.specs.Kept.{IsKept};
+ghost use Rattle.performing.specs.Kept.{IsKept};
 ghost use Rattle.editor_session.specs.Asked.{value_to};
 ghost use Rattle.editor_session.specs.Answering.{AnswersWithAnyText};
 

@@ -4,7 +4,7 @@ ghost use Rattle.id_table.specs.Entries.{value_at};
 ghost use Rattle.std.specs.Prelude.{◌≡◌, IfSome, IfNone, Some, None};
 ghost use Rattle.ed_model.specs.Session.{document_at, view_at};
 ghost use Rattle.message_requests.specs.Requested.{request_in, session_in};
-ghost use Rattle.session_changes.specs.Kept.{IsKept};
+ghost use Rattle.performing.specs.Kept.{IsKept};
 
 use document::Document;
 use ed_view::View;

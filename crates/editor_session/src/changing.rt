@@ -11,19 +11,18 @@ ghost use Rattle.ed_model.specs.Table.{performed};
 ghost use Rattle.id_table.specs.Entries.{value_at};
 ghost use Rattle.scene.specs.Scenes.{watchers};
 ghost use Rattle.message_requests.specs.Requested.{session_in};
-ghost use Rattle.session_changes.specs.Folding.{takes_fold_room};
-ghost use Rattle.session_changes.specs.Asked.{asked};
-ghost use Rattle.session_changes.specs.Kept.{IsKept};
+ghost use Rattle.performing.specs.Folding.{takes_fold_room};
+ghost use Rattle.performing.specs.Asked.{asked};
+ghost use Rattle.performing.specs.Kept.{IsKept};
 ghost use Rattle.editor_session.specs.Performing.{CanPerform, IsPerformed};
 ghost use Rattle.editor_session.specs.Plans.{needs_no_memory};
 
-use document_changes::change_document;
 use ed_model::{DocumentChange, SessionChange, ViewChange, plans_are_fit};
 use ed_types::Refusal;
 use message_requests::SessionState;
 use notify::NoteList;
+use performing::{change_document, change_session, change_view};
 use scene::attempt;
-use session_changes::{change_session, change_view};
 use std::alloc::Global;
 
 /// Makes `change` in the document with this id, for a message to `view`.

@@ -8,11 +8,11 @@ ghost use Rattle.ed_model.specs.LineEnds.{converted};
 ghost use Rattle.id_table.specs.Entries.{value_at};
 ghost use Rattle.ed_model.specs.Edits.{steps_of};
 ghost use Rattle.scene.specs.Scenes.{IsWatched};
-ghost use Rattle.document_edits.specs.Edits.{MakesEdit};
-ghost use Rattle.document_edits.specs.Widths.{StepsFitWidth};
+ghost use Rattle.performing.specs.Edits.{MakesEdit};
+ghost use Rattle.performing.specs.Widths.{StepsFitWidth};
 ghost use Rattle.message_requests.specs.Requested.{session_in};
-ghost use Rattle.session_changes.specs.Asked.{asked};
-ghost use Rattle.session_changes.specs.Kept.{IsKept};
+ghost use Rattle.performing.specs.Asked.{asked};
+ghost use Rattle.performing.specs.Kept.{IsKept};
 ghost use Rattle.editor_session.specs.Edits.{taken_along, IsPastedFor, IsEditWithin, TakesWithin, is_turned, clipboard_need, edit_steps};
 ghost use Rattle.editor_session.specs.Documents.{OfDocument, HasDocument};
 ghost use Rattle.editor_session.specs.Performing.{CanPerform, IsPerformed};
@@ -20,7 +20,6 @@ ghost use Rattle.editor_session.specs.Plans.{needs_no_memory};
 
 use crate::edits::{follow_edit, source_bytes};
 use document::Document;
-use document_edits::{convert_with_room, replace_with_room};
 use ed_model::{Edit, Follow, LineEnd, Source, plans_are_fit};
 use ed_types::Refusal;
 use ed_view::View;
@@ -28,6 +27,7 @@ use id_table::IdTable;
 use line_ends::{convert_into, converted_len};
 use message_requests::SessionState;
 use notify::NoteList;
+use performing::{convert_with_room, replace_with_room};
 use std::alloc::{AllocError, Global};
 
 /// Makes room for an edit, and makes its steps. `pasted` is the clipboard with the document's line ends, if the edit

@@ -3,7 +3,7 @@
 ghost use Rattle.std.specs.Prelude.{◌≡◌, length};
 ghost use Rattle.ed_model.specs.declared.plan.Follow.TheVariants.{Caret, Target as follow_target};
 ghost use Rattle.scene.specs.Scenes.{AreNamed};
-ghost use Rattle.session_changes.specs.Kept.{ViewsRise};
+ghost use Rattle.performing.specs.Kept.{ViewsRise};
 ghost use Rattle.editor_session.specs.Edits.{IsStoredIn, stored_bytes, followed_clipboard, FollowsEdit};
 
 use ed_model::{Follow, LineEnd, Source};

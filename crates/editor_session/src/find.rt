@@ -4,7 +4,7 @@ ghost use Rattle.std.specs.Prelude.{◌≡◌, ◌≢◌, Err, IfOk, IfErr};
 ghost use Rattle.ed_types.specs.declared.refusal.Refusal.TheVariants.{OutOfMemory};
 ghost use Rattle.ed_model.specs.Table.{table};
 ghost use Rattle.message_requests.specs.Requested.{session_in};
-ghost use Rattle.session_changes.specs.Kept.{IsKept};
+ghost use Rattle.performing.specs.Kept.{IsKept};
 ghost use Rattle.editor_session.specs.Planned.{IsFound, request_of};
 
 use crate::attached::{look_up, request_to};

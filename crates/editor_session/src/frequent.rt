@@ -7,7 +7,7 @@ ghost use Rattle.ed_model.specs.declared.plan.Plan.TheVariants as plan;
 ghost use Rattle.message_plans.specs.Frequent.{frequent_change_of, transaction_of, performing};
 ghost use Rattle.message_plans.specs.Ways.{frequent_change_in};
 ghost use Rattle.message_requests.specs.Requested.{session_in};
-ghost use Rattle.session_changes.specs.Kept.{IsKept};
+ghost use Rattle.performing.specs.Kept.{IsKept};
 ghost use Rattle.editor_session.specs.Plans.{is_free};
 ghost use Rattle.editor_session.specs.Performing.{going};
 ghost use Rattle.editor_session.specs.Planned.{IsPlannedAs};
@@ -17,13 +17,13 @@ use crate::attached::{look_up, request_to};
 use crate::changing::perform_change;
 use crate::history::perform_transaction;
 use document::Direction;
-use document_changes::change_unheard;
 use ed_model::{DocumentChange, plans_are_fit};
 use ed_types::modification::{CHANGE_FOLD, CHANGE_MARKER, CHANGE_STYLE};
 use ed_types::{Bytes, Kind, Refusal, Reply, kinds_and_numbers};
 use message_plans::{Way, change_of, is_performed};
 use message_requests::{SentMessage, SessionState};
 use notify::NoteList;
+use performing::change_unheard;
 use std::alloc::Global;
 
 /// The bits of a mask by which a view listens for frequent changes.

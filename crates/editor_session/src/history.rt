@@ -4,16 +4,16 @@ ghost use Rattle.std.specs.Prelude.{◌≡◌, pos, [], OnOk, OnErr, IfErr};
 ghost use Rattle.ed_types.specs.declared.refusal.Refusal.TheVariants.{OutOfMemory};
 ghost use Rattle.notify.specs.Gathered.{no_notes};
 ghost use Rattle.message_requests.specs.Requested.{session_in};
-ghost use Rattle.session_changes.specs.Kept.{IsKept};
+ghost use Rattle.performing.specs.Kept.{IsKept};
 ghost use Rattle.editor_session.specs.Performing.{CanPerform, IsPerformed, going};
 
 use crate::edits::set_caret;
 use document::Direction;
-use document_edits::go_with_room;
 use ed_model::plans_are_fit;
 use ed_types::Refusal;
 use message_requests::SessionState;
 use notify::NoteList;
+use performing::go_with_room;
 
 /// Performs UNDO or REDO, sent to `view`, in the document with this id, and then moves the caret of `view` behind the
 /// last step. `most` is the greatest number of notes that it may need.

@@ -6,7 +6,7 @@ ghost use Rattle.ed_types.specs.declared.refusal.Refusal.TheVariants.{NoSuchView
 ghost use Rattle.ed_model.specs.Session.{Document as ModelDocument};
 ghost use Rattle.ed_model.specs.SoundLaws.{Rise};
 ghost use Rattle.message_requests.specs.Requested.{session_in, documents_in};
-ghost use Rattle.session_changes.specs.Kept.{IsKept, DocumentsAreNamed};
+ghost use Rattle.performing.specs.Kept.{IsKept, DocumentsAreNamed};
 ghost use Rattle.editor_session.specs.Lent.{lent_range};
 ghost use Rattle.editor_session.specs.PartLends.{documents_back, state_back};
 ghost use Rattle.editor_session.specs.Documents.{OfDocument, HasDocument};

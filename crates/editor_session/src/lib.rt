@@ -27,7 +27,7 @@ mod laws;
 mod left;
 mod lending;
 mod opening;
-mod performing;
+mod perform;
 mod reading;
 mod recording;
 mod run;

@@ -5,7 +5,7 @@ ghost use Rattle.ed_model.specs.Session.{new_view, new_document, view_at};
 ghost use Rattle.ed_model.specs.Table.{opened, closed};
 ghost use Rattle.message_requests.specs.Requested.{session_in};
 ghost use Rattle.scene.specs.Scenes.{AreNamed};
-ghost use Rattle.session_changes.specs.Kept.{IsKept, DocumentsAreNamed};
+ghost use Rattle.performing.specs.Kept.{IsKept, DocumentsAreNamed};
 ghost use Rattle.editor_session.specs.Opening.{document_for, with_view_on_new};
 
 use document::Document;

@@ -3,7 +3,7 @@
 ghost use Rattle.std.specs.Prelude.{◌≡◌, ◌≤◌, ◌+◌, Some, IsOk, OnOk, OnErr, IfNone, length, slice_range, vec_len, vec_capacity};
 ghost use Rattle.ed_model.specs.Session.{text_of};
 ghost use Rattle.message_plans.specs.Asking.{text_question_of};
-ghost use Rattle.session_changes.specs.Kept.{IsKept};
+ghost use Rattle.performing.specs.Kept.{IsKept};
 ghost use Rattle.editor_session.specs.Answering.{RepliesBytes, AnswersBytesWithAnyText, RepliesIfItFits};
 
 use crate::attached::{look_up, request_to};

@@ -9,7 +9,7 @@ ghost use Rattle.message_plans.specs.Asking.{text_question_of};
 ghost use Rattle.message_plans.specs.Frequent.{frequent_change_of};
 ghost use Rattle.message_plans.specs.Ways.{IsWayOf};
 ghost use Rattle.message_requests.specs.Requested.{session_in};
-ghost use Rattle.session_changes.specs.Kept.{IsKept};
+ghost use Rattle.performing.specs.Kept.{IsKept};
 ghost use Rattle.editor_session.specs.Left.{told, IsLeft};
 ghost use Rattle.editor_session.specs.Answering.{IsAnswer, RefusesAsTable, NeverWantsMemory, AnswersValue};
 
@@ -20,7 +20,7 @@ use crate::frequent::{
     heard_change_of,
 };
 use crate::left::{answer, keep, keep_made};
-use crate::performing::perform_message;
+use crate::perform::perform_message;
 use crate::reading::read_as;
 use crate::target::answer_target_message;
 use ed_model::plans_are_fit;

@@ -35,7 +35,7 @@ pub struct Session {
 impl Model for Session {
     ghost use Rattle.ed_model.specs.Session.{Session};
     ghost use Rattle.message_requests.specs.Requested.{session_in};
-    ghost use Rattle.session_changes.specs.Kept.{IsKept};
+    ghost use Rattle.performing.specs.Kept.{IsKept};
 
     ghost Value = { Session };
 

@@ -3,6 +3,7 @@ ghost use Rattle.std.specs.Prelude.{◌≡◌, ◌≤◌, ◌<◌, ◌+◌, ◌^
 ghost use Rattle.std.specs.Option.{option_copied_mut};
 ghost use Rattle.std.specs.Borrow.{sem};
 ghost use Rattle.id_table.specs.Entries.{HasRoom, KeepsCapacity, Rise, empty_table, id_of, most_ids, value_at, without_id};
+ghost use Rattle.vec_room.specs.Reserved.{IsReserved};
 ghost use Rattle.id_table.specs.Order.{IsOrdered, IsAt, IsNowhere};
 
 use slab::Slab;
@@ -121,11 +122,8 @@ impl<T> IdTable<T> {
     /// `AllocError` if an allocation fails. The table is then unchanged, and its capacity is at least what it was.
     #[tactic(auto, using(crate::proofs::EntryLemmas::length_table))]
     pub fn reserve(&mut self, count: usize) -> Result<(), AllocError>
-        ensures ok { OnOk result (HasRoom count self.new) }
-        ensures room_is_there { HasRoom count self.old → IsOk result × (self.new ≡ self.old) }
-        ensures rest { self.new ≡ record self.old { capacity = self.new.capacity } }
-        ensures capacity { KeepsCapacity self.old.capacity self.new.capacity }
-        ensures ids_at_most { self.new.capacity.ids ≤ most_ids count self.old }
+        ensures reserved { IsReserved (HasRoom count) result self.old self.new }
+        ensures grown { (self.new ≡ record self.old { capacity = self.new.capacity }) × KeepsCapacity self.old.capacity self.new.capacity × (self.new.capacity.ids ≤ most_ids count self.old) }
     {
         self.slab.reserve(count)?;
         vec_room::reserve(&mut self.order, count)

@@ -1,6 +1,6 @@
 -- The lines around a step, as numbers: the effect of its edits on a list with an item for each line, and how many lines
 -- they insert.
-use Rattle.line_index.proofs.Names.{◌≡◌, ℕ, zero, suc, ◌+◌, ◌-◌, ◌<◌, ◌≤◌, cond, List, [], ◌∷◌, ◌++◌, length, map, take, drop, get_or, replicate, fold, eqb, leb, ltb, refl, sym, ap, ap₂, ◌∙◌, inl, inr, arith, subst, append_assoc, length-append, zero-add, length-take, length-drop, range_with_len, cases_lt, cases_eq, eq-eqb, ne_eqb, lt-ltb, le-ltb, le-leb, lt-leb, map-append, take_all, take_more, length-take-le, take-append-drop, length-replicate, fold-append, JoinsRows, range-append, LineChange, LineEdit, line_after, after_edits, FitLines, lines_after_edit, fresh_lines, joined, came, settled, settling, last_at, last_one_behind}
+use Rattle.line_index.proofs.Names.{◌≡◌, ℕ, zero, suc, ◌+◌, ◌-◌, ◌<◌, ◌≤◌, cond, List, [], ◌∷◌, ◌++◌, length, map, take, drop, get_or, replicate, fold, eqb, leb, ltb, refl, sym, ap, ap₂, ◌∙◌, inl, inr, arith, subst, append_assoc, length-append, zero-add, length-take, length-drop, range_with_len, cases_lt, cases_eq, nat_tests, eq-eqb, ne_eqb, lt-ltb, le-ltb, le-leb, lt-leb, map-append, take_all, take_more, length-take-le, take-append-drop, length-replicate, fold-append, JoinsRows, range-append, LineChange, LineEdit, line_after, after_edits, FitLines, lines_after_edit, fresh_lines, joined, came, settled, settling, last_at, last_one_behind}
 use Rattle.line_index.proofs.Settling.{edits_in_turn, settled_is, joined_to_last, none_joined}
 use Rattle.line_index.proofs.Keyed.{Carries, by_keys, carries_both, carries_none, carries_on, carries_same, carries_behind, map_range_same, map_range_moved}
 
@@ -57,62 +57,17 @@ record Lasts (o0 o1 o2 n0 n1 n2 first next : ℕ) : Type 0 where
 
 lasts_are : (o0 o1 o2 n0 n1 n2 : ℕ) → o0 ≤ o1 → o1 ≤ o2 → n0 ≤ n1 → n1 ≤ n2 → Lasts o0 o1 o2 n0 n1 n2 (first_last o0 o1 o2 n0 n1 n2) (next_last o1 o2 n1 n2)
 lasts_are o0 o1 o2 n0 n1 n2 a b c d =
-    elim (cases_eq n2 n0) [
-      | inl all ↦
-          let same : n2 ≡ n1 = omega arith in
-          rw (eq-eqb n2 n0 all, eq-eqb n2 n1 same) record {
-            from = omega arith;
-            order = omega arith;
-            behind = omega arith;
-            upto = omega arith;
-            one = λ _. omega arith;
-            two = λ _. all;
-            next_two = λ _. same;
-            none_one = λ _. refl;
-            none_two = λ _. refl;
-          }
-      | inr some ↦ elim (cases_eq n1 n0) [
-        | inl two ↦
-            let other : n2 ≡ n1 → ⊥ = λ e. some (omega arith) in
-            rw (ne_eqb n2 n0 some, ne_eqb n2 n1 other, eq-eqb n1 n0 two) record {
-              from = omega arith;
-              order = omega arith;
-              behind = omega arith;
-              upto = omega arith;
-              one = λ _. two;
-              two = λ l. absurd (omega arith);
-              next_two = λ l. absurd (omega arith);
-              none_one = λ _. refl;
-              none_two = λ e. absurd (other e);
-            }
-        | inr one ↦ elim (cases_eq n2 n1) [
-          | inl last ↦
-              rw (ne_eqb n2 n0 some, eq-eqb n2 n1 last, ne_eqb n1 n0 one) record {
-                from = omega arith;
-                order = omega arith;
-                behind = omega arith;
-                upto = omega arith;
-                one = λ l. absurd (omega arith);
-                two = λ l. absurd (omega arith);
-                next_two = λ l. last;
-                none_one = λ e. absurd (one e);
-                none_two = λ _. refl;
-              }
-          | inr each ↦
-              rw (ne_eqb n2 n0 some, ne_eqb n2 n1 each, ne_eqb n1 n0 one) record {
-                from = omega arith;
-                order = omega arith;
-                behind = omega arith;
-                upto = omega arith;
-                one = λ l. absurd (omega arith);
-                two = λ l. absurd (omega arith);
-                next_two = λ l. absurd (omega arith);
-                none_one = λ e. absurd (one e);
-                none_two = λ e. absurd (each e);
-              }
-        ]
-      ]
-    ]
+    record {
+      from = grind (arith, nat_tests);
+      order = grind (arith, nat_tests);
+      behind = grind (arith, nat_tests);
+      upto = grind (arith, nat_tests);
+      one = λ l. grind (arith, nat_tests);
+      two = λ l. grind (arith, nat_tests);
+      next_two = λ l. grind (arith, nat_tests);
+      none_one = λ e. grind (arith, nat_tests);
+      none_two = λ e. grind (arith, nat_tests);
+    }
 
 -- lines that move to a new line behind those that are done, or to none
 

@@ -1,6 +1,14 @@
 -- Line starts inserted part by part.
 use Rattle.line_index.proofs.Names.{◌≡◌, ℕ, ◌+◌, ◌-◌, ◌<◌, ◌≤◌, Bool, true, false, List, [], ◌∷◌, ◌++◌, length, get_or, take, drop, insert, refl, sym, ap, ◌∙◌, inl, inr, arith, append_assoc, append-nil, length-append, length-drop, bit_at, cases_lt, cases_order, bit_at-zero, take_at, drop_at, length-take-le, get_or-take, get_or-drop, get_or-append-add, take-append-drop, get_or-append, LineEndTypes, is_line_start, Partitions, IsFree, CanAdd, WereAdded, MarkStarts, starts_near}
-use Rattle.line_index.proofs.StartLists.{near_lie, near_apart, no_near, one_near}
+use Rattle.line_index.proofs.StartLists.{lie_between, passing_apart, none_passing, one_passing}
+
+-- whether a line starts at a place, by the bytes near it
+abbrev near_test : LineEndTypes → List ℕ → ℕ → ℕ → Bool
+near_test types near base k = is_line_start types near (k - base)
+
+near_apart : (types : LineEndTypes) (near : List ℕ) (base from mid to : ℕ) → from ≤ mid → mid ≤ to → length (starts_near types near base from to) ≡ length (starts_near types near base from mid) + length (starts_near types near base mid to)
+near_apart types near base from mid to a b =
+    ap length (passing_apart (near_test types near base) from mid to a b) ∙ length-append (starts_near types near base from mid) (starts_near types near base mid to)
 
 -- more starts can be inserted behind those that were inserted
 module _ (types : LineEndTypes) (text : List ℕ) (base : ℕ) (starts now : List ℕ) (end from mid last to at next : ℕ) (free : IsFree starts end from to at)
@@ -26,7 +34,7 @@ module _ (types : LineEndTypes) (text : List ℕ) (base : ℕ) (starts now : Lis
         | inr m ↦
             let e : k ≡ length (take at starts) + (k - at) = omega (arith, front) in
             rw (e, get_or-append-add (take at starts) (starts_near types text base from mid) (k - at) 0)
-            (near_lie types text base from mid (k - at) a (omega arith)).1
+            (lie_between (near_test types text base) from mid (k - at) a (omega arith)).1
       ])
 
   above_at : (k : ℕ) → next ≤ k → k < length now → last ≤ get_or now k 0
@@ -46,79 +54,76 @@ module _ (types : LineEndTypes) (text : List ℕ) (base : ℕ) (starts now : Lis
         to_end = omega (arith, free.to_end);
       }
 
+added_size :
+    {types : LineEndTypes} {text : List ℕ} {base from to at next : ℕ} {was now : Partitions} → WereAdded types text base from to at next was now → at ≤ length was.starts
+    → length now.starts ≡ length was.starts + length (starts_near types text base from to)
+added_size {types} {text} {base} {from} {to} {at} {next} {was} p w =
+    let found : List ℕ = starts_near types text base from to in
+    omega (arith, ap length p.starts, length-append (take at was.starts ++ found) (drop at was.starts), length-append (take at was.starts) found, length-take-le at was.starts w, length-drop at was.starts)
+
 pub can_go_on :
-    (types : LineEndTypes) (text : List ℕ) (base : ℕ) (from mid last to at next : ℕ) (was now : Partitions) → CanAdd types text base from to at was
-    → WereAdded types text base from mid at next was now → from ≤ mid → mid ≤ last → last ≤ to → CanAdd types text base mid last next now
-can_go_on types text base from mid last to at next was now can added a b d =
+    {types : LineEndTypes} {text : List ℕ} {base from mid to at next : ℕ} {was now : Partitions} → CanAdd types text base from to at was → WereAdded types text base from mid at next was now
+    → (last : ℕ) → from ≤ mid → mid ≤ last → last ≤ to → CanAdd types text base mid last next now
+can_go_on {types} {text} {base} {from} {mid} {to} {at} {next} {was} {now} can added last a b d =
     record {
       free = rw added.end (free_behind types text base was.starts now.starts was.length from mid last to at next can.free a b d added.line added.starts);
-      room =
-          omega (
-            arith,
-            can.room,
-            added.room,
-            ap length (near_apart types text base from mid to a (omega arith)),
-            ap length (near_apart types text base mid last to b d),
-            length-append (starts_near types text base from mid) (starts_near types text base mid to),
-            length-append (starts_near types text base mid last) (starts_near types text base last to),
-          );
+      fits = omega (arith, can.fits, added.capacity, added_size added can.free.within, near_apart types text base from mid to a (omega arith), near_apart types text base mid last to b d);
     }
 
 -- one part and the next
 pub added_both :
-    (types : LineEndTypes) (text : List ℕ) (base : ℕ) (from mid last at next behind : ℕ) (was now later : Partitions) → at ≤ length was.starts → from ≤ mid → mid ≤ last
-    → WereAdded types text base from mid at next was now → WereAdded types text base mid last next behind now later → WereAdded types text base from last at behind was later
-added_both types text base from mid last at next behind was now later w a b p q =
+    {types : LineEndTypes} {text : List ℕ} {base from mid last at next behind : ℕ} {was now later : Partitions} → WereAdded types text base from mid at next was now
+    → WereAdded types text base mid last next behind now later → at ≤ length was.starts → from ≤ mid → mid ≤ last → WereAdded types text base from last at behind was later
+added_both {types} {text} {base} {from} {mid} {last} {at} {next} {behind} {was} p q w a b =
     let first : List ℕ = starts_near types text base from mid in
     let second : List ℕ = starts_near types text base mid last in
     let front : length (take at was.starts ++ first) ≡ next = omega (arith, p.line, length-take-le at was.starts w, length-append (take at was.starts) first) in
-    let apart : starts_near types text base from last ≡ first ++ second = near_apart types text base from mid last a b in
-    let size = ap length apart ∙ length-append first second in
+    let apart : starts_near types text base from last ≡ first ++ second = passing_apart (near_test types text base) from mid last a b in
+    let size = near_apart types text base from mid last a b in
     record {
       starts =
           q.starts
           ∙ rw (p.starts, take_at (take at was.starts ++ first) (drop at was.starts) next front, drop_at (take at was.starts ++ first) (drop at was.starts) next front, apart)
           (simp append_assoc);
       end = q.end ∙ p.end;
-      room = omega (arith, size, p.room, q.room);
+      capacity = q.capacity ∙ p.capacity;
       line = omega (arith, size, p.line, q.line);
     }
 
 -- where no line starts, there is nothing to insert
 pub added_none :
-    (types : LineEndTypes) (text : List ℕ) (base : ℕ) (from to at : ℕ) (was : Partitions) → ((k : ℕ) → from ≤ k → k < to → is_line_start types text (k - base) ≡ false)
+    (types : LineEndTypes) (text : List ℕ) (base from to at : ℕ) (was : Partitions) → ((k : ℕ) → from ≤ k → k < to → is_line_start types text (k - base) ≡ false)
     → WereAdded types text base from to at at was was
 added_none types text base from to at was none =
-    let e : starts_near types text base from to ≡ [] = no_near types text base from to none in
+    let e : starts_near types text base from to ≡ [] = none_passing (near_test types text base) from to none in
     let size = ap length e in
     record {
       starts = rw (e, append-nil (take at was.starts)) (sym (take-append-drop at was.starts));
       end = refl;
-      room = omega (arith, size);
+      capacity = refl;
       line = omega (arith, size);
     }
 
-pub added_nothing : (types : LineEndTypes) (text : List ℕ) (base : ℕ) (place at : ℕ) (was : Partitions) → WereAdded types text base place place at at was was
+pub added_nothing : (types : LineEndTypes) (text : List ℕ) (base place at : ℕ) (was : Partitions) → WereAdded types text base place place at at was was
 added_nothing types text base place at was = added_none types text base place place at was (λ k a b. absurd (omega arith))
 
--- at one place
-pub none_here :
-    (types : LineEndTypes) (text : List ℕ) (base : ℕ) (place at : ℕ) (was : Partitions) (here : Bool) → here ≡ is_line_start types text (place - base) → here ≡ false
-    → WereAdded types text base place (place + 1) at at was was
-none_here types text base place at was here e off =
-    added_none types text base place (place + 1) at was (λ k a b. let same : k ≡ place = omega arith in rw same (sym e ∙ off))
+-- .. and no more behind what was inserted
+pub added_past :
+    {types : LineEndTypes} {text : List ℕ} {base from mid at next : ℕ} {was now : Partitions} → WereAdded types text base from mid at next was now → (last : ℕ)
+    → ((k : ℕ) → mid ≤ k → k < last → is_line_start types text (k - base) ≡ false) → at ≤ length was.starts → from ≤ mid → mid ≤ last → WereAdded types text base from last at next was now
+added_past {types} {text} {base} {from} {mid} {at} {next} {was} {now} p last none w a b = added_both p (added_none types text base mid last next now none) w a b
 
+-- at one place
 pub added_here :
-    (types : LineEndTypes) (text : List ℕ) (base : ℕ) (place at : ℕ) (was now : Partitions) (here : Bool) → here ≡ is_line_start types text (place - base) → here ≡ true
-    → now.starts ≡ insert was.starts at place → now.length ≡ was.length → now.room + 1 ≡ was.room → WereAdded types text base place (place + 1) at (at + 1) was now
-added_here types text base place at was now here h on e f r =
-    let one : starts_near types text base place (place + 1) ≡ place ∷ [] = one_near types text base place (sym h ∙ on) in
-    let size = ap length one in
-    record {
-      starts = e ∙ rw one (simp append_assoc);
-      end = f;
-      room = omega (arith, size);
-      line = omega (arith, size);
+    (types : LineEndTypes) (text : List ℕ) (base place at : ℕ) (was now : Partitions) (step : ℕ) → is_line_start types text (place - base) ≡ true
+    → now ≡ record was { starts = insert was.starts at place; step_at = step } → WereAdded types text base place (place + 1) at (at + 1) was now
+added_here types text base place at was now step on e =
+    let one : starts_near types text base place (place + 1) ≡ place ∷ [] = one_passing (near_test types text base) place on in
+    rw e record {
+      starts = rw one (simp append_assoc);
+      end = refl;
+      capacity = refl;
+      line = omega (arith, ap length one);
     }
 
 -- of 64 places, those up to one are done, and the marks that are left are of later ones
@@ -131,7 +136,7 @@ pub record AreSeen (types : LineEndTypes) (text : List ℕ) (base : ℕ) (place 
   pub marked : (k : ℕ) → k < 64 → seen ≤ place + k → bit_at left k ≡ 0 → is_line_start types text (place + k - base) ≡ false
 
 pub none_seen :
-    (types : LineEndTypes) (text : List ℕ) (base : ℕ) (place first marks : ℕ) (was : Partitions) → base ≤ place → MarkStarts types text (place - base) marks → AreSeen types text base place first first marks was was
+    (types : LineEndTypes) (text : List ℕ) (base place first marks : ℕ) (was : Partitions) → base ≤ place → MarkStarts types text (place - base) marks → AreSeen types text base place first first marks was was
 none_seen types text base place first marks was low marked =
     record {
       seen = place;
@@ -144,27 +149,26 @@ none_seen types text base place first marks was low marked =
 
 -- none starts up to the next mark, or to the end of the 64
 pub added_up_to :
-    (types : LineEndTypes) (text : List ℕ) (base : ℕ) (place first line left bit : ℕ) (was now : Partitions) (s : AreSeen types text base place first line left was now) → first ≤ length was.starts
+    {types : LineEndTypes} {text : List ℕ} {base place first line left : ℕ} {was now : Partitions} (s : AreSeen types text base place first line left was now) (bit : ℕ) → first ≤ length was.starts
     → bit ≤ 64 → s.seen ≤ place + bit → ((k : ℕ) → k < bit → bit_at left k ≡ 0) → WereAdded types text base place (place + bit) first line was now
-added_up_to types text base place first line left bit was now s w l b below =
-    added_both types text base place s.seen (place + bit) first line line was now now w s.low b s.added
-    (added_none types text base s.seen (place + bit) line now (λ k a c.
+added_up_to {types} {text} {base} {place} s bit w l b below =
+    added_past s.added (place + bit)
+    (λ k a c.
     let e : k ≡ place + (k - place) = omega (arith, s.low) in
-    rw e (s.marked (k - place) (omega (arith, s.low)) (omega (arith, s.low)) (below (k - place) (omega (arith, s.low))))))
+    rw e (s.marked (k - place) (omega (arith, s.low)) (omega (arith, s.low)) (below (k - place) (omega (arith, s.low))))) w s.low b
 
 -- one more mark
 pub one_seen :
-    (types : LineEndTypes) (text : List ℕ) (base : ℕ) (place first line next left rest bit : ℕ) (was now later : Partitions) → AreSeen types text base place first line left was now
+    {types : LineEndTypes} {text : List ℕ} {base place first line left : ℕ} {was now : Partitions} → AreSeen types text base place first line left was now → (next rest bit : ℕ) (later : Partitions)
     → first ≤ length was.starts → bit < 64 → bit_at left bit ≡ 1 → ((k : ℕ) → k < bit → bit_at left k ≡ 0)
     → bit_at rest bit ≡ 0 → ((k : ℕ) → k < 64 → (k ≡ bit → ⊥) → bit_at rest k ≡ bit_at left k)
     → WereAdded types text base (place + bit) (place + bit + 1) line next now later → AreSeen types text base place first next rest was later
-one_seen types text base place first line next left rest bit was now later s w l set below gone kept added =
+one_seen {place = place} s next rest bit later w l set below gone kept added =
     record {
       seen = place + bit + 1;
       low = omega arith;
       high = omega arith;
-      added = added_both types text base place (place + bit) (place + bit + 1) first line next was now later w (omega arith) (omega arith)
-          (added_up_to types text base place first line left bit was now s w (omega arith) (s.behind bit l set) below) added;
+      added = added_both (added_up_to s bit w (omega arith) (s.behind bit l set) below) added w (omega arith) (omega arith);
       behind = λ k m here. elim (cases_order k bit) [
         | inl same ↦ absurd (let e : bit_at rest k ≡ 0 = rw same gone in omega arith)
         | inr (inl less) ↦ absurd (let ne : (k ≡ bit → ⊥) = λ e. omega arith in omega (arith, kept k m ne, below k less))
@@ -175,7 +179,12 @@ one_seen types text base place first line next left rest bit was now later s w l
 
 -- no mark is left
 pub all_seen :
-    (types : LineEndTypes) (text : List ℕ) (base : ℕ) (place first line left : ℕ) (was now : Partitions) → AreSeen types text base place first line left was now
+    {types : LineEndTypes} {text : List ℕ} {base place first line left : ℕ} {was now : Partitions} → AreSeen types text base place first line left was now
     → first ≤ length was.starts → left ≡ 0 → WereAdded types text base place (place + 64) first line was now
-all_seen types text base place first line left was now s w none =
-    added_up_to types text base place first line left 64 was now s w (omega arith) s.high (λ k l. rw none (bit_at-zero k))
+all_seen s w none = added_up_to s 64 w (omega arith) s.high (λ k l. rw none (bit_at-zero k))
+
+-- the line behind what was inserted, by how many starts that were
+pub counted :
+    {types : LineEndTypes} {text : List ℕ} {base from to at next : ℕ} {was now : Partitions} → WereAdded types text base from to at next was now
+    → WereAdded types text base from to at (at + length (starts_near types text base from to)) was now
+counted p = rw p.line at p

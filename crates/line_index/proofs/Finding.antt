@@ -18,8 +18,8 @@ near_at a b c = record { at = a; one_behind = b; two_behind = c }
 climbs : (starts : List ℕ) (end : ℕ) → ArePartitions starts end → Climbs 0 starts
 climbs starts end sound = Climbs_from_rises 0 starts (rises_from_increasing 0 starts (λ _. omega arith) sound.rising)
 
-pub line_of_last : (starts : List ℕ) (end place r : ℕ) → ArePartitions starts end → IsLastAtMost starts place r → line_of starts place ≡ r
-line_of_last starts end place r sound last =
+pub line_of_last : {starts : List ℕ} {end place r : ℕ} → ArePartitions starts end → IsLastAtMost starts place r → line_of starts place ≡ r
+line_of_last {starts} {end} {place} {r} sound last =
     let back : r + 1 - 1 ≡ r = omega arith in
     omega (arith, count_is 0 place starts (r + 1) (climbs starts end sound) (omega (arith, last.within)) (λ _. rw back last.at_most) (λ l. last.last (r + 1) (omega arith) l))
 
@@ -28,7 +28,7 @@ pub line_of_last_capped :
     (starts : List ℕ) (end place capped r : ℕ) → ArePartitions starts end → end < 2 ^ 64
     → capped ≡ min place (2 ^ 64 - 1) → IsLastAtMost starts capped r → line_of starts place ≡ r
 line_of_last_capped starts end place capped r sound small e last =
-    line_of_last starts end place r sound
+    line_of_last sound
     record {
       within = last.within;
       at_most = omega (arith, last.at_most);
@@ -73,13 +73,21 @@ holds_between starts first place last line low a b holds = record {
 
 -- the lines of three places
 pub near_lines_are :
-    (starts : List ℕ) (end place one two a b c : ℕ) → ArePartitions starts end → end < 2 ^ 64 → one ≡ min (place + 1) (2 ^ 64 - 1) → two ≡ min (place + 2) (2 ^ 64 - 1)
-    → IsLastAtMost starts place a → IsLastAtMost starts one b → IsLastAtMost starts two c → near_at a b c ≡ near_lines starts place
-near_lines_are starts end place one two a b c sound small e f p q r =
-    three (sym (line_of_last starts end place a sound p)) (sym (line_of_last_capped starts end (place + 1) one b sound small e q)) (sym (line_of_last_capped starts end (place + 2) two c sound small f r))
+    {starts : List ℕ} {end place one two a b c : ℕ} → ArePartitions starts end → end < 2 ^ 64 → IsLastAtMost starts place a → IsLastAtMost starts one b → IsLastAtMost starts two c
+    → one ≡ min (place + 1) (2 ^ 64 - 1) → two ≡ min (place + 2) (2 ^ 64 - 1) → near_at a b c ≡ near_lines starts place
+near_lines_are {starts} {end} {place} {one} {two} {a} {b} {c} sound small p q r e f =
+    three (sym (line_of_last sound p)) (sym (line_of_last_capped starts end (place + 1) one b sound small e q)) (sym (line_of_last_capped starts end (place + 2) two c sound small f r))
   where
     three : {i j k i' j' k' : ℕ} → i ≡ i' → j ≡ j' → k ≡ k' → near_at i j k ≡ near_at i' j' k'
     three {i} {j} {k} {i'} {j'} {k'} e f g = rw (e, f, g) refl
+
+-- one line that holds all places
+pub one_line :
+    {starts : List ℕ} {end last line : ℕ} → ArePartitions starts end → end < 2 ^ 64 → IsLastAtMost starts last line → (front place : ℕ) → slice_index starts line ≤ front → front ≤ place → place < 2 ^ 64
+    → last ≡ min (place + 2) (2 ^ 64 - 1) → near_at line line line ≡ near_lines starts place
+one_line {starts} {end} {last} {line} sound small far front place low order fits e =
+    near_lines_are sound small (holds_between starts place place last line (omega arith) (omega arith) (omega arith) far)
+    (holds_between starts place (min (place + 1) (2 ^ 64 - 1)) last line (omega arith) (omega arith) (omega arith) far) far refl e
 
 below_is_upto : (place s : ℕ) → 0 < place → ltb s place ≡ leb s (place - 1)
 below_is_upto place s h =

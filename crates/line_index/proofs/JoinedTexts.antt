@@ -1,26 +1,10 @@
 -- The lines of two texts, one behind the other.
-use Rattle.line_index.proofs.Names.{◌≡◌, ℕ, zero, suc, ◌+◌, ◌-◌, ◌<◌, ◌≤◌, ◌==◌, ◌||◌, ◌&&◌, not, cond, Bool, true, false, List, [], ◌∷◌, ◌++◌, length, get_or, filter, slice_get, refl, sym, ap, ◌∙◌, arith, length-append, length-map, take_at, ne_eqb, true≢false, range_with_len, LineEndTypes, stands, is_line_start, line_count, knows_unicode, slice_get_append_left, slice_get_append_right, filter_range_moved, moved_start_test, starts_within}
+use Rattle.line_index.proofs.Names.{◌≡◌, ℕ, zero, suc, ◌+◌, ◌-◌, ◌<◌, ◌≤◌, ◌==◌, ◌||◌, ◌&&◌, not, Bool, true, false, List, [], ◌∷◌, ◌++◌, length, get_or, filter, slice_get, refl, sym, ap, ◌∙◌, arith, length-append, length-map, take_at, ne_eqb, true≢false, range_with_len, LineEndTypes, stands, is_line_start, line_count, knows_unicode, slice_get_append_left, slice_get_append_right, filter_range_moved, moved_start_test, starts_within}
 use Rattle.std.proofs.lemmas.Bool.{eqb-true}
 use Rattle.std.proofs.lemmas.Option.{slice_get_past}
 use Rattle.ed_model.specs.Numbers.{is_number}
-use Rattle.ed_model.specs.proved.Lines.{starts_in_range}
-use Rattle.line_index.proofs.StartLists.{starts_apart, one_start, no_starts}
+use Rattle.line_index.proofs.StartLists.{one_if, at_most_one, count_apart, next_up_to, all_up_to}
 use Rattle.line_index.proofs.FirstBytes.{same_in_front, stands_inside}
-
--- how many lines start at a place
-abbrev pub one_if : Bool → ℕ
-one_if b = cond b 1 0
-
-pub at_most_one : (b : Bool) → one_if b ≤ 1
-at_most_one true = omega arith
-at_most_one false = omega arith
-
-pub starts_at : (types : LineEndTypes) (text : List ℕ) (k : ℕ) → length (starts_within types text k (k + 1)) ≡ one_if (is_line_start types text k)
-starts_at types text k = here (is_line_start types text k) refl
-  where
-    here : (b : Bool) → is_line_start types text k ≡ b → length (starts_within types text k (k + 1)) ≡ one_if b
-    here true e = ap length (one_start types text k e)
-    here false e = ap length (no_starts types text k (k + 1) (λ j a b. let same : j ≡ k = omega arith in rw same e))
 
 -- as many or one more
 pub by_gain : (P : Type 0) (a b : Bool) → (a ≡ true → b ≡ false → P) → (one_if a ≤ one_if b → P) → P
@@ -149,16 +133,7 @@ module _ (types : LineEndTypes) (text other : List ℕ) (x y : ℕ)
 
 -- all lines, of which the last may start at the end
 pub all_to_end : (types : LineEndTypes) (text : List ℕ) (n : ℕ) → length text ≡ n → line_count types text ≡ length (starts_within types text 0 n) + one_if (is_line_start types text n)
-all_to_end types text n e =
-    let whole : length text + 1 - 0 ≡ length text + 1 = omega arith in
-    let all : line_count types text ≡ length (starts_within types text 0 (n + 1)) = rw (← e, whole) refl in
-    omega (
-      arith,
-      all,
-      ap length (starts_apart types text 0 n (n + 1) (omega arith) (omega arith)),
-      length-append (starts_within types text 0 n) (starts_within types text n (n + 1)),
-      starts_at types text n,
-    )
+all_to_end types text n e = all_up_to types text (n + 1) 0 (omega arith) ∙ next_up_to types text n (n + 1) refl
 
 -- all lines, those around a place apart
 abbrev Parts : LineEndTypes → List ℕ → ℕ → ℕ → Type 0
@@ -167,26 +142,14 @@ Parts types text x end =
 
 all_apart : (types : LineEndTypes) (text : List ℕ) (x end : ℕ) → end ≡ length text + 4 → x ≤ length text → Parts types text x end
 all_apart types text x end e h =
-    let whole : end - 0 ≡ length text + 1 + 3 = omega arith in
-    let all : length (starts_within types text 0 end) ≡ line_count types text = rw whole (ap length (starts_in_range types text 3)) in
     omega (
       arith,
-      all,
-      ap length (starts_apart types text 0 x end (omega arith) (omega arith)),
-      length-append (starts_within types text 0 x) (starts_within types text x end),
-      ap length (starts_apart types text x (x + 1) end (omega arith) (omega arith)),
-      length-append (starts_within types text x (x + 1)) (starts_within types text (x + 1) end),
-      ap length (starts_apart types text (x + 1) (x + 2) end (omega arith) (omega arith)),
-      length-append (starts_within types text (x + 1) (x + 2)) (starts_within types text (x + 2) end),
-      ap length (starts_apart types text (x + 2) (x + 3) end (omega arith) (omega arith)),
-      length-append (starts_within types text (x + 2) (x + 3)) (starts_within types text (x + 3) end),
-      starts_at types text x,
-      one_of (x + 1) (x + 2) (omega arith),
-      one_of (x + 2) (x + 3) (omega arith),
+      all_up_to types text end 3 (omega arith),
+      count_apart types text 0 (x + 3) end (omega arith) (omega arith),
+      next_up_to types text (x + 2) (x + 3) (omega arith),
+      next_up_to types text (x + 1) (x + 2) (omega arith),
+      next_up_to types text x (x + 1) refl,
     )
-  where
-    one_of : (k next : ℕ) → next ≡ k + 1 → length (starts_within types text k next) ≡ one_if (is_line_start types text k)
-    one_of k next f = rw f (starts_at types text k)
 
 -- the test at the end of the first text, if an LF follows or not
 end_high : (l r n z : Bool) → one_if ((l || (r && not n)) || z) ≤ one_if ((l || (r && not false)) || z)

@@ -2,13 +2,10 @@ pub mod Names
 pub mod Abouts
 pub mod Added
 pub mod Blocks
-pub mod DeletedLines
 pub mod Finding
-pub mod InsertedLines
 pub mod Keyed
 pub mod MarkedBytes
 pub mod MovedLines
-pub mod KeptLines
 pub mod NearBytes
 pub mod RoomLemmas
 pub mod FirstBytes
@@ -18,7 +15,7 @@ pub mod Settling
 pub mod StartLists
 pub mod StepCarries
 pub mod StepLists
+pub mod StepStarts
 pub mod TextBytes
-pub mod TouchedStarts
 pub mod JoinedTexts
 pub mod FreshLines

@@ -1,14 +1,13 @@
 -- The bytes near a step determine where lines start around it.
-use Rattle.line_index.proofs.Names.{◌≡◌, ℕ, ◌+◌, ◌-◌, ◌<◌, ◌≤◌, min, max, List, length, take, drop, slice_get, slice_range, refl, sym, ap, ◌∙◌, inl, inr, arith, ◌++◌, append-nil, length-append, length-take, length-drop, cases_lt, ne_eqb, take_all, take_min, take-append-le, drop-append-le, LineEndTypes, is_line_start, slice_get_take, slice_get_drop, same_start, bytes_near, starts_near, starts_within}
+use Rattle.line_index.proofs.Names.{◌≡◌, ℕ, ◌+◌, ◌-◌, ◌<◌, ◌≤◌, min, max, List, length, take, drop, slice_get, slice_range, refl, sym, ap, ◌∙◌, inl, inr, arith, ◌++◌, append-nil, length-append, length-take, length-drop, cases_lt, ne_eqb, take_all, take_min, take-append-le, drop-append-le, LineEndTypes, is_line_start, slice_get_take, slice_get_drop, same_start, filter_range_agree, bytes_near, starts_near, starts_within}
 use Rattle.std.proofs.Math.Seq.{take-append-add, drop-append-add}
-use Rattle.line_index.proofs.StartLists.{near_is_within}
 
-module _ (types : LineEndTypes) (place count : ℕ) (near text : List ℕ) (same : near ≡ bytes_near place count text) where
+module _ (types : LineEndTypes) (place end : ℕ) (near text : List ℕ) (same : near ≡ slice_range text (place - 3) (end + 3)) where
   -- the byte at a place near the step
-  stands_near : (j k : ℕ) → k ≡ place - 3 + j → j < place + count + 3 - (place - 3) → slice_get near j ≡ slice_get text k
-  stands_near j k e h = rw same (slice_get_take (place + count + 3 - (place - 3)) (drop (place - 3) text) j h ∙ slice_get_drop (place - 3) text j k e)
+  stands_near : (j k : ℕ) → k ≡ place - 3 + j → j < end + 3 - (place - 3) → slice_get near j ≡ slice_get text k
+  stands_near j k e h = rw same (slice_get_take (end + 3 - (place - 3)) (drop (place - 3) text) j h ∙ slice_get_drop (place - 3) text j k e)
 
-  start_near : (k : ℕ) → max place 1 ≤ k → k < place + count + 3 → is_line_start types near (k - (place - 3)) ≡ is_line_start types text k
+  start_near : (k : ℕ) → max place 1 ≤ k → k < end + 3 → is_line_start types near (k - (place - 3)) ≡ is_line_start types text k
   start_near k low high =
       same_start types near text (k - (place - 3)) k
       (ne_eqb (k - (place - 3)) 0 (λ e. omega arith) ∙ sym (ne_eqb k 0 (λ e. omega arith)))
@@ -17,11 +16,12 @@ module _ (types : LineEndTypes) (place count : ℕ) (near text : List ℕ) (same
       (stands_near (k - (place - 3) - 1) (k - 1) (omega arith) (omega arith))
       (stands_near (k - (place - 3)) k (omega arith) (omega arith))
 
-  pub found_near : (base from to : ℕ) → base ≡ place - 3 → from ≡ max place 1 → to ≤ place + count + 3 → starts_near types near base from to ≡ starts_within types text from to
-  found_near base from to b f t = rw b (near_is_within types near text (place - 3) from to (λ k l h. start_near k (omega arith) (omega arith)))
+  pub found_near : (base from to : ℕ) → base ≡ place - 3 → from ≡ max place 1 → to ≤ end + 3 → starts_near types near base from to ≡ starts_within types text from to
+  found_near base from to b f t =
+      rw b (filter_range_agree (is_line_start types text) (λ k. is_line_start types near (k - (place - 3))) from (to - from) (λ k l h. sym (start_near k (omega arith) (omega arith))))
 
-  pub near_reaches : (to : ℕ) → to ≤ place + count + 3 → to ≤ length text + 1 → place ≤ length text → to ≤ place - 3 + length near + 1
-  near_reaches to a b p = omega (arith, ap length same, length-take (place + count + 3 - (place - 3)) (drop (place - 3) text), length-drop (place - 3) text)
+  pub near_reaches : (to : ℕ) → to ≤ end + 3 → to ≤ length text + 1 → place ≤ length text → to ≤ place - 3 + length near + 1
+  near_reaches to a b p = omega (arith, ap length same, length-take (end + 3 - (place - 3)) (drop (place - 3) text), length-drop (place - 3) text)
 
 -- A range of a text, from its halves.
 

@@ -4,12 +4,8 @@ use Rattle.std.proofs.lemmas.List.{length-take, length-drop}
 use Rattle.line_index.proofs.Abouts.{Fits, fits_both, joined_fits, came_fits}
 use Rattle.line_index.proofs.Keyed.{Carries, by_keys, carried_by_keys, carries_both, carries_none, carries_fresh, carries_on}
 use Rattle.line_index.proofs.Settling.{edits_in_turn, joined_is, came_is}
-use Rattle.line_index.proofs.StartLists.{starts_apart, one_start, no_starts}
-use Rattle.line_index.proofs.SettingLists.{AreLines, all_within, lines_from_first, line_within, map_within_same, none_to_itself, starts_on, still_starts}
-
--- how many starts there are up to a place
-abbrev starts_upto : LineEndTypes → List ℕ → ℕ → ℕ
-starts_upto types text place = length (starts_within types text 0 place)
+use Rattle.line_index.proofs.StartLists.{one_if, up_to, count_apart, next_up_to, all_within, no_starts}
+use Rattle.line_index.proofs.SettingLists.{AreLines, lines_from_first, line_within, map_within_same, none_to_itself, starts_on, still_starts}
 
 abbrev all_from : List ℕ → ℕ → List ℕ
 all_from text place = starts_within Unicode text place (length text + 1)
@@ -18,29 +14,20 @@ abbrev count_inside : List ℕ → ℕ → ℕ → ℕ
 count_inside text place next = length (starts_within Unicode text (place + 1) next)
 
 -- by the default setting, the next line is one line further
-next_line : (text : List ℕ) (place next n : ℕ) → is_line_start Default text place ≡ true → place < next → ((k : ℕ) → place < k → k < next → is_line_start Default text k ≡ false) → starts_upto Default text place ≡ n → starts_upto Default text next ≡ n + 1
-next_line text place next n here a none e =
+next_start : (text : List ℕ) (place next n : ℕ) → is_line_start Default text place ≡ true → place < next → ((k : ℕ) → place < k → k < next → is_line_start Default text k ≡ false) → up_to Default text place ≡ n → up_to Default text next ≡ n + 1
+next_start text place next n here a none e =
     omega (
       arith,
-      ap length (starts_apart Default text 0 place next (omega arith) (omega arith)),
-      length-append (starts_within Default text 0 place) (starts_within Default text place next),
-      ap length (starts_apart Default text place (place + 1) next (omega arith) (omega arith)),
-      length-append (starts_within Default text place (place + 1)) (starts_within Default text (place + 1) next),
-      ap length (one_start Default text place here),
+      count_apart Default text 0 (place + 1) next (omega arith) (omega arith),
+      next_up_to Default text place (place + 1) refl,
+      ap one_if here,
       ap length (no_starts Default text (place + 1) next (λ k l m. none k (omega arith) m)),
     )
 
 -- if line ends of Unicode count, it comes after the lines inside this one, too
-next_line_inside : (text : List ℕ) (place next n : ℕ) → is_line_start Default text place ≡ true → place < next → starts_upto Unicode text place ≡ n → starts_upto Unicode text next ≡ n + count_inside text place next + 1
-next_line_inside text place next n here a e =
-    omega (
-      arith,
-      ap length (starts_apart Unicode text 0 place next (omega arith) (omega arith)),
-      length-append (starts_within Unicode text 0 place) (starts_within Unicode text place next),
-      ap length (starts_apart Unicode text place (place + 1) next (omega arith) (omega arith)),
-      length-append (starts_within Unicode text place (place + 1)) (starts_within Unicode text (place + 1) next),
-      ap length (one_start Unicode text place (still_starts text place here)),
-    )
+next_start_inside : (text : List ℕ) (place next n : ℕ) → is_line_start Default text place ≡ true → place < next → up_to Unicode text place ≡ n → up_to Unicode text next ≡ n + count_inside text place next + 1
+next_start_inside text place next n here a e =
+    omega (arith, count_apart Unicode text 0 (place + 1) next (omega arith) (omega arith), next_up_to Unicode text place (place + 1) refl, ap one_if (still_starts text place here))
 
 -- the number of starts from a line's start on
 count_on : (text : List ℕ) (place next : ℕ) → is_line_start Default text place ≡ true → place < next → next ≤ length text + 1 → length (all_from text place) ≡ count_inside text place next + 1 + length (all_from text next)
@@ -62,14 +49,14 @@ abbrev Joined : {R : Type 0} → (List R → R) → List ℕ → List ℕ → �
 Joined t text starts place at rows =
     Regroups t Default at (length starts) (lines_inside text starts) (map (line_of (line_starts Default text)) (all_from text place)) rows
 
-keys_joined : (text : List ℕ) (place next at : ℕ) → is_line_start Default text place ≡ true → place < next → next ≤ length text + 1 → ((k : ℕ) → place < k → k < next → is_line_start Default text k ≡ false) → starts_upto Default text place ≡ at
+keys_joined : (text : List ℕ) (place next at : ℕ) → is_line_start Default text place ≡ true → place < next → next ≤ length text + 1 → ((k : ℕ) → place < k → k < next → is_line_start Default text k ≡ false) → up_to Default text place ≡ at
     → map (line_of (line_starts Default text)) (all_from text place) ≡ replicate (count_inside text place next + 1) at ++ map (line_of (line_starts Default text)) (all_from text next)
 keys_joined text place next at here a b none e =
     let key : ℕ → ℕ = line_of (line_starts Default text) in
     let one : ℕ → ℕ → Type 0 = λ k n. key k ≡ n in
     let first : map key (place ∷ starts_within Unicode text (place + 1) next) ≡ replicate (suc (count_inside text place next)) at =
-    joined_keys (line_within Default text place next place at here none (omega arith) a b e)
-    (map_within_same Unicode text key at (place + 1) next (λ k l m. line_within Default text place next k at here none (omega arith) m b e)) in
+    joined_keys (line_within Default text place next place at here none (omega arith) a e)
+    (map_within_same Unicode text key at (place + 1) next (λ k l m. line_within Default text place next k at here none (omega arith) m e)) in
     let size : count_inside text place next + 1 ≡ suc (count_inside text place next) = omega arith in
     rw (starts_on text place next here a b, map-append key (place ∷ starts_within Unicode text (place + 1) next) (all_from text next), size)
     (ap (λ l. l ++ map key (all_from text next)) first)
@@ -78,7 +65,7 @@ keys_joined text place next at here a b none e =
     joined_keys {x} {y} {xs} {ys} e f = rw (e, f) refl
 
 joined_step :
-    {R : Type 0} (t : List R → R) → JoinsRows t → (text : List ℕ) (start : ℕ) (starts : List ℕ) (place at : ℕ) (r : R) (first later : List R) → AreLines text place (start ∷ starts) → starts_upto Default text place ≡ at
+    {R : Type 0} (t : List R → R) → JoinsRows t → (text : List ℕ) (start : ℕ) (starts : List ℕ) (place at : ℕ) (r : R) (first later : List R) → AreLines text place (start ∷ starts) → up_to Default text place ≡ at
     → length first ≡ count_inside text place (next_of text starts) → Joined t text starts (next_of text starts) (at + 1) later → Joined t text (start ∷ starts) place at ((r ∷ first) ++ later)
 joined_step {R} t j text start starts place at r first later lines e size rest =
     let next : ℕ = next_of text starts in
@@ -101,7 +88,7 @@ joined_step {R} t j text start starts place at r first later lines e size rest =
           ∙ append_assoc done (group ∷ []) rest.out);
     }
 
-all_joined : {R : Type 0} (t : List R → R) → JoinsRows t → (text starts : List ℕ) (place at : ℕ) (rows : List R) → AreLines text place starts → starts_upto Default text place ≡ at → length rows ≡ length (all_from text place) → Joined t text starts place at rows
+all_joined : {R : Type 0} (t : List R → R) → JoinsRows t → (text starts : List ℕ) (place at : ℕ) (rows : List R) → AreLines text place starts → up_to Default text place ≡ at → length rows ≡ length (all_from text place) → Joined t text starts place at rows
 all_joined t j text [] place at [] lines e h =
     rw (lines, none_to_itself Unicode text (length text + 1)) record { out = []; carries = carries_none t at; edits = λ done d. refl }
 all_joined t j text [] place at (r ∷ rows) lines e h =
@@ -114,7 +101,7 @@ all_joined {R} t j text (start ∷ starts) place at (r ∷ rows) lines e h =
     let c : ℕ = count_inside text place next in
     let count = count_on text place next lines.0.here lines.0.more lines.0.high in
     let rest : Joined t text starts next (at + 1) (drop c rows) =
-    all_joined t j text starts next (at + 1) (drop c rows) lines.1 (next_line text place next at lines.0.here lines.0.more lines.0.none e) (omega (arith, length-drop c rows)) in
+    all_joined t j text starts next (at + 1) (drop c rows) lines.1 (next_start text place next at lines.0.here lines.0.more lines.0.none e) (omega (arith, length-drop c rows)) in
     let made : Joined t text (start ∷ starts) place at ((r ∷ take c rows) ++ drop c rows) =
     joined_step t j text start starts place at r (take c rows) (drop c rows) lines e (omega (arith, length-take c rows)) rest in
     rw (take-append-drop c rows) at made
@@ -125,14 +112,14 @@ Came t text starts place at rows =
     Regroups t Unicode at (length (all_from text place)) (lines_inside text starts) (map (line_of (line_starts Unicode text)) starts) rows
 
 came_step :
-    {R : Type 0} (t : List R → R) → JoinsRows t → (text : List ℕ) (start : ℕ) (starts : List ℕ) (place at : ℕ) (r : R) (later : List R) → AreLines text place (start ∷ starts) → starts_upto Unicode text place ≡ at
+    {R : Type 0} (t : List R → R) → JoinsRows t → (text : List ℕ) (start : ℕ) (starts : List ℕ) (place at : ℕ) (r : R) (later : List R) → AreLines text place (start ∷ starts) → up_to Unicode text place ≡ at
     → Came t text starts (next_of text starts) (at + count_inside text place (next_of text starts) + 1) later → Came t text (start ∷ starts) place at (r ∷ later)
 came_step {R} t j text start starts place at r later lines e rest =
     let next : ℕ = next_of text starts in
     let c : ℕ = count_inside text place next in
     let key : ℕ → ℕ = line_of (line_starts Unicode text) in
     let fresh : List R = replicate c (t []) in
-    let here : key start ≡ at = rw lines.0.start_is (line_within Unicode text place (place + 1) place at (still_starts text place lines.0.here) (λ k l m. absurd (omega arith)) (omega arith) (omega arith) (omega (arith, lines.0.more, lines.0.high)) e) in
+    let here : key start ≡ at = rw lines.0.start_is (line_within Unicode text place (place + 1) place at (still_starts text place lines.0.here) (λ k l m. absurd (omega arith)) (omega arith) (omega arith) e) in
     let keys : map key (start ∷ starts) ≡ (replicate 1 at ++ []) ++ map key starts = ap (λ k. k ∷ map key starts) here in
     let same : lines_inside text (start ∷ starts) ≡ c ∷ lines_inside text starts = ap (λ s. length (starts_within Unicode text (s + 1) next) ∷ lines_inside text starts) lines.0.start_is in
     let own : Carries t at 1 (replicate 1 at) (r ∷ []) (r ∷ []) = rw (j.alone r) at (carries_on t at 1 (r ∷ []) refl) in
@@ -156,7 +143,7 @@ came_step {R} t j text start starts place at r later lines e rest =
           ∙ append_assoc done (r ∷ []) (fresh ++ rest.out));
     }
 
-all_came : {R : Type 0} (t : List R → R) → JoinsRows t → (text starts : List ℕ) (place at : ℕ) (rows : List R) → AreLines text place starts → starts_upto Unicode text place ≡ at → length rows ≡ length starts → Came t text starts place at rows
+all_came : {R : Type 0} (t : List R → R) → JoinsRows t → (text starts : List ℕ) (place at : ℕ) (rows : List R) → AreLines text place starts → up_to Unicode text place ≡ at → length rows ≡ length starts → Came t text starts place at rows
 all_came t j text [] place at [] lines e h =
     rw (lines, none_to_itself Unicode text (length text + 1)) record { out = []; carries = carries_none t at; edits = λ done d. refl }
 all_came t j text [] place at (r ∷ rows) lines e h = absurd (omega arith)
@@ -164,13 +151,13 @@ all_came t j text (start ∷ starts) place at [] lines e h = absurd (omega arith
 all_came t j text (start ∷ starts) place at (r ∷ rows) lines e h =
     came_step t j text start starts place at r rows lines e
     (all_came t j text starts (next_of text starts) (at + count_inside text place (next_of text starts) + 1) rows lines.1
-    (next_line_inside text place (next_of text starts) at lines.0.here lines.0.more e) (omega arith))
+    (next_start_inside text place (next_of text starts) at lines.0.here lines.0.more e) (omega arith))
 
 -- a text has as many starts from its beginning on as lines
 all_from_first : (text : List ℕ) → all_from text 0 ≡ line_starts Unicode text
 all_from_first text = sym (all_within Unicode text)
 
-none_upto : (types : LineEndTypes) (text : List ℕ) → starts_upto types text 0 ≡ 0
+none_upto : (types : LineEndTypes) (text : List ℕ) → up_to types text 0 ≡ 0
 none_upto types text = ap length (none_to_itself types text 0)
 
 regrouped_same : {R : Type 0} → RowsOfLinesThatStay R → (t : List R → R) → JoinsRows t → (types : LineEndTypes) (text : List ℕ) (rows : List R) → length rows ≡ line_count types text → regrouped t types types text rows ≡ rows
@@ -197,6 +184,10 @@ setting_edits_carry stay t j Default Unicode text rows h =
 abbrev all_lines : List ℕ → ℕ
 all_lines [] = 0
 all_lines (count ∷ counts) = count + 1 + all_lines counts
+
+at_least : (counts : List ℕ) → length counts ≤ all_lines counts
+at_least [] = omega arith
+at_least (count ∷ counts) = omega (arith, at_least counts)
 
 counted_lines : (text starts : List ℕ) (place : ℕ) → AreLines text place starts → all_lines (lines_inside text starts) ≡ length (all_from text place)
 counted_lines text [] place lines = rw (lines, none_to_itself Unicode text (length text + 1)) refl
@@ -225,10 +216,6 @@ comes_fit lines at fresh (count ∷ counts) e f =
     rw left
     (fits_both lines (lines + count) (at + count + 1 + all_lines counts) count more fresh (came (at + 1) count) (all_inside_edits Unicode (at + count + 1) counts) (omega arith)
     (came_fits lines (at + 1) count (omega arith)) (comes_fit (lines + count) (at + count + 1) more counts (omega arith) (omega arith)))
-  where
-    at_least : (counts : List ℕ) → length counts ≤ all_lines counts
-    at_least [] = omega arith
-    at_least (count ∷ counts) = omega (arith, at_least counts)
 
 -- both settings of a text
 abbrev inside_all : List ℕ → List ℕ
@@ -245,10 +232,6 @@ settings_of text =
     let outer : length counts ≡ line_count Default text = outer_lines text (line_starts Default text) in
     let inner : all_lines counts ≡ line_count Unicode text = rw (← (all_from_first text)) (counted_lines text (line_starts Default text) 0 (lines_from_first text)) in
     record { outer = outer; inner = inner; more = omega (arith, at_least counts) }
-  where
-    at_least : (counts : List ℕ) → length counts ≤ all_lines counts
-    at_least [] = omega arith
-    at_least (count ∷ counts) = omega (arith, at_least counts)
 
 -- what holds of the edits
 record Holds (old new : LineEndTypes) (text : List ℕ) : Type 0 where

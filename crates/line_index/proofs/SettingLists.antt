@@ -1,7 +1,7 @@
 -- The line starts of a text under both settings of line ends: each start of the smaller setting is one of the larger,
 -- and others may lie between.
-use Rattle.line_index.proofs.Names.{◌≡◌, ℕ, zero, suc, ◌+◌, ◌-◌, ◌<◌, ◌≤◌, Bool, true, false, cond, ◌==◌, ◌||◌, ◌&&◌, not, List, [], ◌∷◌, ◌++◌, length, get_or, map, filter, replicate, count_by, leb, refl, sym, ap, ap₂, ◌∙◌, inl, inr, arith, take, drop, append-nil, length-append, range_with_len, true≢false, cases_lt, cases_order, length-take-le, get_or-append, LineEndTypes, Default, Unicode, stands, is_line_start, line_starts, line_of, line_count, unicode_end_before, Climbs_from_rises, count_is, line_starts_rise, first_line_start, some_line, Partitions, CanAdd, IsFree, starts_within, starts_near, LineEdit, all_inside_edits, inside_edits, line_past, lines_inside, next_of}
-use Rattle.line_index.proofs.StartLists.{near_is_within, starts_lie, starts_apart, no_starts, one_start}
+use Rattle.line_index.proofs.Names.{◌≡◌, ℕ, zero, suc, ◌+◌, ◌-◌, ◌<◌, ◌≤◌, Bool, true, false, cond, ◌==◌, ◌||◌, ◌&&◌, not, List, [], ◌∷◌, ◌++◌, length, get_or, map, filter, replicate, refl, sym, ap, ap₂, ◌∙◌, inl, inr, arith, take, drop, append-nil, length-append, length-drop, range_with_len, true≢false, cases_lt, cases_order, length-take-le, LineEndTypes, Default, Unicode, stands, is_line_start, line_starts, line_of, line_count, unicode_end_before, filter_range_agree, first_line_start, some_line, Partitions, CanAdd, IsFree, starts_within, starts_near, LineEdit, all_inside_edits, inside_edits, line_past, lines_inside, next_of}
+use Rattle.line_index.proofs.StartLists.{one_if, up_to, count_apart, next_up_to, line_is_up_to, all_within, starts_apart, no_starts, one_start}
 
 more_ends : (z a b u : Bool) → (z || (a || b || (false && u))) ≡ true → (z || (a || b || (true && u))) ≡ true
 more_ends true a b u h = refl
@@ -22,10 +22,6 @@ still_starts text k h = more_ends (k == 0) (stands 10 text (k - 1)) (stands 13 t
 -- where no line starts then, none does with fewer line ends
 pub none_starts : (text : List ℕ) (k : ℕ) → is_line_start Unicode text k ≡ false → is_line_start Default text k ≡ false
 none_starts text k h = fewer_ends (k == 0) (stands 10 text (k - 1)) (stands 13 text (k - 1) && not (stands 10 text k)) (unicode_end_before text k) h
-
--- all starts of a text
-pub all_within : (types : LineEndTypes) (text : List ℕ) → line_starts types text ≡ starts_within types text 0 (length text + 1)
-all_within types text = let e : length text + 1 - 0 ≡ length text + 1 = omega arith in rw e refl
 
 -- no starts from a place up to itself
 pub none_to_itself : (types : LineEndTypes) (text : List ℕ) (from : ℕ) → starts_within types text from from ≡ []
@@ -99,36 +95,19 @@ starts_on text place next here a b =
     (starts_apart Unicode text place (place + 1) next (omega arith) (omega arith)
     ∙ ap (λ l. l ++ starts_within Unicode text (place + 1) next) (one_start Unicode text place (still_starts text place here)))
 
--- as many lines start up to a place as behind it in order
-pub line_of_start : (types : LineEndTypes) (text : List ℕ) (place n : ℕ) → place ≤ length text → length (starts_within types text 0 (place + 1)) ≡ n + 1 → line_of (line_starts types text) place ≡ n
-line_of_start types text place n h e =
-    let front : List ℕ = starts_within types text 0 (place + 1) in
-    let behind : List ℕ = starts_within types text (place + 1) (length text + 1) in
-    let cut : line_starts types text ≡ front ++ behind = all_within types text ∙ starts_apart types text 0 (place + 1) (length text + 1) (omega arith) (omega arith) in
-    let size = ap length cut ∙ length-append front behind in
-    let back : n + 1 - 1 ≡ n = omega arith in
-    let counted : count_by (λ s. leb s place) (line_starts types text) ≡ n + 1 =
-    count_is 0 place (line_starts types text) (n + 1) (Climbs_from_rises 0 (line_starts types text) (line_starts_rise types text)) (omega arith)
-    (λ _. rw (back, cut, get_or-append front behind 0 n (omega arith)) (omega (arith, (starts_lie types text 0 (place + 1) n (omega arith) (omega arith)).1)))
-    (λ l. rw (cut, ← e, above front behind) (omega (arith, (starts_lie types text (place + 1) (length text + 1) 0 (omega arith) (omega arith)).0))) in
-    omega arith
-  where
-    above : (xs ys : List ℕ) → get_or (xs ++ ys) (length xs) 0 ≡ get_or ys 0 0
-    above [] ys = refl
-    above (x ∷ xs) ys = above xs ys
-
 -- every place from a start up to the next is on its line
 pub line_within : (types : LineEndTypes) (text : List ℕ) (start next place n : ℕ) → is_line_start types text start ≡ true → ((k : ℕ) → start < k → k < next → is_line_start types text k ≡ false)
-    → start ≤ place → place < next → next ≤ length text + 1 → length (starts_within types text 0 start) ≡ n → line_of (line_starts types text) place ≡ n
-line_within types text start next place n here none a b c e =
-    let first : List ℕ = starts_within types text 0 start in
-    let more : List ℕ = starts_within types text start (start + 1) in
-    let up : starts_within types text 0 (place + 1) ≡ first ++ starts_within types text start (place + 1) = starts_apart types text 0 start (place + 1) (omega arith) (omega arith) in
-    let apart : starts_within types text start (place + 1) ≡ more ++ starts_within types text (start + 1) (place + 1) = starts_apart types text start (start + 1) (place + 1) (omega arith) (omega arith) in
-    let one : more ≡ start ∷ [] = one_start types text start here in
-    let rest : starts_within types text (start + 1) (place + 1) ≡ [] = no_starts types text (start + 1) (place + 1) (λ k l m. none k (omega arith) (omega arith)) in
-    line_of_start types text place n (omega arith)
-    (omega (arith, ap length up, length-append first (starts_within types text start (place + 1)), ap length apart, length-append more (starts_within types text (start + 1) (place + 1)), ap length one, ap length rest))
+    → start ≤ place → place < next → up_to types text start ≡ n → line_of (line_starts types text) place ≡ n
+line_within types text start next place n here none a b e =
+    let rest = no_starts types text (start + 1) (place + 1) (λ k l m. none k (omega arith) (omega arith)) in
+    omega (
+      arith,
+      line_is_up_to types text place,
+      count_apart types text 0 (start + 1) (place + 1) (omega arith) (omega arith),
+      next_up_to types text start (start + 1) refl,
+      ap one_if here,
+      ap length rest,
+    )
 
 -- if a function has the same value at each number of a range, it has it at those that pass a test
 pub map_passing_same : (p : ℕ → Bool) (f : ℕ → ℕ) (y a n : ℕ) → ((k : ℕ) → a ≤ k → k < a + n → f k ≡ y) → map f (filter p (range_with_len a n)) ≡ replicate (length (filter p (range_with_len a n))) y
@@ -218,29 +197,28 @@ first_and_others old new text to e =
     rw (only_first old text)
     (ap (λ l. 0 ∷ l)
     (append-nil (starts_near new text 0 1 to)
-    ∙ near_is_within new text text 0 1 to (λ k a b. let s : k - 0 ≡ k = omega arith in rw s refl)
+    ∙ filter_range_agree (is_line_start new text) (λ k. is_line_start new text (k - 0)) 1 (to - 1) (λ k a b. let s : k - 0 ≡ k = omega arith in rw s refl)
     ∙ ap (starts_within new text 1) e)
     ∙ sym (all_within new text ∙ starts_apart new text 0 1 (length text + 1) (omega arith) (omega arith) ∙ ap (λ l. l ++ starts_within new text 1 (length text + 1)) (one_start new text 0 refl)))
 
--- there is room for these starts
-pub others_fit : (old new : LineEndTypes) (text : List ℕ) (to room left : ℕ) → to ≡ length text + 1 → line_count new text ≤ line_count old text + room → left ≡ room + (line_count old text - 1) → length (starts_near new text 0 1 to) ≤ left
-others_fit old new text to room left e h r =
+-- these starts fit in with the first
+others_fit : (old new : LineEndTypes) (text : List ℕ) (to : ℕ) → to ≡ length text + 1 → 1 + length (starts_near new text 0 1 to) ≡ line_count new text
+others_fit old new text to e =
     let all = ap length (first_and_others old new text to e) in
     let one = ap length (only_first old text) in
     let front : List ℕ = take 1 (line_starts old text) ++ drop (length (line_starts old text)) (line_starts old text) in
-    omega (arith, all, one, length-append (take 1 front ++ starts_near new text 0 1 to) (drop 1 front), length-append (take 1 front) (starts_near new text 0 1 to), length-take-le 1 front (omega arith), some_line old text)
+    omega (arith, all, one, length-append (take 1 front ++ starts_near new text 0 1 to) (drop 1 front), length-append (take 1 front) (starts_near new text 0 1 to), length-take-le 1 front (omega arith), length-drop 1 front)
 
 -- So they can be inserted if the index was that of the text.
 pub can_set :
-    (old new : LineEndTypes) (text starts : List ℕ) (count to room : ℕ) (now : Partitions) → starts ≡ line_starts old text → count ≡ length starts → to ≡ length text + 1 → now.starts ≡ take 1 starts ++ drop count starts → now.length ≡ length text
-    → now.room ≡ room + (count - 1) → line_count new text ≤ length starts + room → CanAdd new text 0 1 to 1 now
-can_set old new text starts count to room now s c e cut long left fits =
-    let size : length starts ≡ line_count old text = ap length s in
-    let counted : count ≡ line_count old text = omega arith in
+    (old new : LineEndTypes) (text starts : List ℕ) (count to : ℕ) (now : Partitions) → starts ≡ line_starts old text → count ≡ length starts → to ≡ length text + 1 → now.starts ≡ take 1 starts ++ drop count starts → now.length ≡ length text
+    → line_count new text ≤ now.capacity → CanAdd new text 0 1 to 1 now
+can_set old new text starts count to now s c e cut long fits =
+    let counted : count ≡ line_count old text = omega (arith, ap length s) in
     let first : now.starts ≡ take 1 (line_starts old text) ++ drop (length (line_starts old text)) (line_starts old text) = cut ∙ rw (s, counted) refl in
     record {
       free = rw (first, long) (only_first_free old text to e);
-      room = others_fit old new text to room now.room e (omega arith) (omega arith);
+      fits = omega (arith, fits, others_fit old new text to e, ap length (first ∙ only_first old text));
     }
 
 -- They are then all starts of the text.

@@ -1,40 +1,32 @@
 -- The edits of a step carry rows as the step does.
-use Rattle.line_index.proofs.Names.{◌≡◌, ℕ, suc, ◌+◌, ◌<◌, ◌≤◌, ◌==◌, Bool, true, false, cond, List, [], ◌∷◌, ◌++◌, length, take, drop, map, get_or, refl, ap, ◌∙◌, arith, subst, append_assoc, length-drop, length-take-le, take-append-drop, ne_eqb, range_with_len, LineEndTypes, line_starts, line_of, line_count, Step, Insert, Delete, edited, moved_start, carried, carried_unless_empty, carried_by, JoinsRows, end_of, LineChange, MovesLines, line_after, after_edits, FitLines, fresh_lines, LineEdit, lines_for_step, index, settling, edits_of, change_of, EditsFitLines, EditsBringFewLines}
-use Rattle.std.proofs.lemmas.List.{drop-drop}
+use Rattle.line_index.proofs.Names.{◌≡◌, ℕ, suc, ◌+◌, ◌-◌, ◌<◌, ◌≤◌, ◌==◌, Bool, true, false, cond, List, [], ◌∷◌, length, map, get_or, refl, ap, ◌∙◌, arith, ne_eqb, range_with_len, LineEndTypes, line_starts, line_of, line_count, Step, Insert, Delete, place_of, put_in, line_of_lt, some_line, edited, moved_start, carried, carried_unless_empty, carried_by, JoinsRows, end_of, LineChange, MovesLines, line_after, after_edits, FitLines, fresh_lines, LineEdit, lines_for_step, settling, edits_of, change_of, EditsFitLines, EditsBringFewLines, StepsMoveLines, StepsNameLines}
 use Rattle.line_index.specs.declared.edit.LineEdit.TheVariants.{Restart}
 use Rattle.line_index.proofs.Abouts.{AreAbout, settling_carries, settling_fits}
 use Rattle.line_index.proofs.Keyed.{by_keys, carried_by_keys}
-use Rattle.line_index.proofs.MovedLines.{moves_in_old, moves_out_old, about_in, about_out}
-use Rattle.line_index.proofs.FreshLines.{FewFreshIn, FewFreshOut, few_fresh_in, few_fresh_out}
-use Rattle.line_index.proofs.StepLists.{Insertion, Deletion}
+use Rattle.line_index.proofs.MovedLines.{lines_move, lines_about_step}
+use Rattle.line_index.proofs.FreshLines.{few_fresh_in, few_fresh_out}
+use Rattle.line_index.proofs.StepLists.{Replaces, replaces}
 
 -- what is known of a step's change
 pub record Moves (types : LineEndTypes) (step : Step) (text : List ℕ) : Type 0 where
   pub moves : MovesLines (moved_start step) (line_starts types text) (line_starts types (edited step text)) (change_of types step text)
   pub about : AreAbout (change_of types step text) (line_count types text) (line_count types (edited step text))
 
-abbrev pub insertion_was : (types : LineEndTypes) (p : ℕ) (bytes text : List ℕ) → p ≤ length text → Insertion p (length bytes) (edited (Insert p bytes) text) (index types (line_starts types text) (length text) 0)
-insertion_was types p bytes text h = record { old = text; bytes = bytes; counted = refl; within = h; index = record { starts = refl; length = refl }; edited = refl }
+step_replaces : (types : LineEndTypes) (step : Step) (text : List ℕ) → end_of step ≤ length text
+    → Replaces types (place_of step) (end_of step) (place_of step + length (put_in step)) (λ k. k + (place_of step + length (put_in step)) - end_of step) (moved_start step) text (edited step text)
+step_replaces types step text h = replaces types step text (λ k. k + (place_of step + length (put_in step)) - end_of step) h (λ k l. omega arith)
 
-abbrev pub deletion_was : (types : LineEndTypes) (p : ℕ) (bytes text : List ℕ) → p + length bytes ≤ length text → Deletion p (length bytes) (edited (Delete p bytes) text) (index types (line_starts types text) (length text) 0)
-deletion_was types p bytes text h = record { old = text; bytes = bytes; counted = refl; within = h; index = record { starts = refl; length = refl }; edited = refl }
+step_moves : (types : LineEndTypes) (step : Step) (text : List ℕ) → end_of step ≤ length text → Moves types step text
+step_moves types step text h =
+    let s = step_replaces types step text h in
+    record { moves = lines_move s (length (edited step text)); about = lines_about_step s (length (edited step text)) }
 
-pub step_moves : (types : LineEndTypes) (step : Step) (text : List ℕ) → end_of step ≤ length text → Moves types step text
-step_moves types (Insert p bytes) text h =
-    let new : List ℕ = edited (Insert p bytes) text in
-    let w = insertion_was types p bytes text h in
-    record {
-      moves = moves_in_old types p (length bytes) (length text) 0 new (line_starts types text) w (length new);
-      about = about_in types p (length bytes) (length text) 0 new (line_starts types text) w (length new);
-    }
-step_moves types (Delete p bytes) text h =
-    let new : List ℕ = edited (Delete p bytes) text in
-    let w = deletion_was types p bytes text h in
-    let none : p + 0 ≡ p = omega arith in
-    record {
-      moves = rw none (moves_out_old types p (length bytes) (length text) 0 new (line_starts types text) w (length new));
-      about = rw none (about_out types p (length bytes) (length text) 0 new (line_starts types text) w (length new));
-    }
+pub steps_move : StepsMoveLines
+steps_move types step text h = (step_moves types step text h).moves
+
+pub steps_name : StepsNameLines
+steps_name types step text h =
+    ((step_moves types step text h).about.old_end, line_of_lt (line_starts types (edited step text)) (place_of step + length (put_in step) + 2) (some_line types (edited step text)))
 
 map_by_index : (f g : ℕ → ℕ) (xs : List ℕ) (a : ℕ) → ((k : ℕ) → k < length xs → f (a + k) ≡ g (get_or xs k 0)) → map g xs ≡ map f (range_with_len a (length xs))
 map_by_index f g [] a h = refl
@@ -77,22 +69,8 @@ step_edits_fit types step text h =
     (settling_fits c (line_count types text) (line_count types (edited step text)) (step_moves types step text h).about)
 
 few_settled : (types : LineEndTypes) (step : Step) (text : List ℕ) → end_of step ≤ length text → let c : LineChange = change_of types step text in fresh_lines (settling c.before c.old_lines c.new_lines) ≤ lines_for_step types step
-few_settled types (Insert p bytes) text h =
-    subst (λ t. FewFreshIn types p bytes t (take p text ++ bytes ++ drop p text)) (take-append-drop p text)
-    (few_fresh_in types p (take p text) bytes (drop p text) (length-take-le p text h))
-    (length (edited (Insert p bytes) text)) (line_count types text) (line_count types (edited (Insert p bytes) text)) (step_moves types (Insert p bytes) text h).about
-few_settled types (Delete p bytes) text h =
-    let none : p + 0 ≡ p = omega arith in
-    let front : List ℕ = take p text in
-    let old : List ℕ = take (length bytes) (drop p text) in
-    let behind : List ℕ = drop (p + length bytes) text in
-    let rest : old ++ behind ≡ drop p text = rw (← (drop-drop (length bytes) p text)) (take-append-drop (length bytes) (drop p text)) in
-    let whole : (front ++ old) ++ behind ≡ text = append_assoc front old behind ∙ rw rest (take-append-drop p text) in
-    let size : length old ≡ length bytes = length-take-le (length bytes) (drop p text) (omega (arith, length-drop p text)) in
-    let few : FewFreshOut types p (length bytes) text (front ++ behind) =
-    subst (λ n. FewFreshOut types p n text (front ++ behind)) size
-    (subst (λ t. FewFreshOut types p (length old) t (front ++ behind)) whole (few_fresh_out types p front old behind (length-take-le p text (omega arith)))) in
-    rw none (few (length (edited (Delete p bytes) text)) (line_count types text) (line_count types (edited (Delete p bytes) text)) (rw none at (step_moves types (Delete p bytes) text h).about))
+few_settled types (Insert p bytes) text h = few_fresh_in (step_replaces types (Insert p bytes) text h) (length (edited (Insert p bytes) text)) bytes refl refl refl
+few_settled types (Delete p bytes) text h = few_fresh_out (step_replaces types (Delete p bytes) text h) (length (edited (Delete p bytes) text)) (length bytes) refl (omega arith) refl
 
 some_for_step : (types : LineEndTypes) (step : Step) → 1 ≤ lines_for_step types step
 some_for_step types (Insert p bytes) = omega arith

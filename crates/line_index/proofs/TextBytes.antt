@@ -1,5 +1,5 @@
 -- Bytes of a text in two halves.
-use Rattle.line_index.proofs.Names.{◌≡◌, ℕ, ◌+◌, ◌-◌, ◌<◌, ◌≤◌, Bool, true, false, ◌==◌, ◌||◌, ◌&&◌, not, take, List, ◌++◌, length, get_or, slice_range, inl, inr, refl, ap, arith, length-append, ne_eqb, true≢false, cases_lt, cases_order, get_or-append-add, get_or-append, LineEndTypes, stands, is_line_start, knows_unicode, within_part, read_part, stands_at, bit_at, may_end, MarkStarts}
+use Rattle.line_index.proofs.Names.{◌≡◌, ℕ, ◌+◌, ◌-◌, ◌<◌, ◌≤◌, Bool, true, false, ◌==◌, ◌||◌, ◌&&◌, not, take, List, ◌++◌, length, get_or, slice_range, inl, inr, refl, sym, ap, ◌∙◌, arith, length-append, ne_eqb, true≢false, cases_lt, cases_order, get_or-append-add, get_or-append, LineEndTypes, stands, is_line_start, knows_unicode, within_part, read_part, stands_at, bit_at, may_end, MarkStarts}
 
 -- places without a line end before them
 
@@ -21,52 +21,30 @@ no_start_behind types text p q e h none =
     (no_end_of (get_or text p 0 == 10) (get_or text p 0 == 13) (knows_unicode types) (get_or text p 0 == 0x85) (get_or text p 0 == 0xA8) (get_or text p 0 == 0xA9)
     (not (stands 10 text q)) (stands 0xC2 text (q - 2)) (stands 0x80 text (q - 2)) (stands 0xE2 text (q - 3)) none)
 
--- no byte of the text from one place up to another is the last of a line end
-abbrev pub Quiet : LineEndTypes → List ℕ → ℕ → ℕ → Type 0
-Quiet types text from to = (k : ℕ) → from ≤ k → k < to → may_end types (get_or text k 0) ≡ false
-
 -- no line starts from one place up to another
 abbrev pub NoStart : LineEndTypes → List ℕ → ℕ → ℕ → Type 0
 NoStart types text from to = (k : ℕ) → from ≤ k → k < to → is_line_start types text k ≡ false
 
-none_in_quiet : (types : LineEndTypes) (text : List ℕ) (from to : ℕ) → to ≤ length text → Quiet types text from to → (k : ℕ) → from < k → k < to + 1 → is_line_start types text k ≡ false
-none_in_quiet types text from to w quiet k a b =
-    no_start_behind types text (k - 1) k (omega arith) (omega arith) (quiet (k - 1) (omega arith) (omega arith))
+-- no line starts behind the first bytes of a part of a text, if none of them is the last of a line end
+none_in_part :
+    (types : LineEndTypes) (text part : List ℕ) (place c : ℕ) → ((j : ℕ) → j < length part → (place + j < length text) × (get_or text (place + j) 0 ≡ get_or part j 0))
+    → c ≤ length part → ((k : ℕ) → k < c → may_end types (get_or part k 0) ≡ false) → (k : ℕ) → place < k → k < place + c + 1 → is_line_start types text k ≡ false
+none_in_part types text part place c reads l quiet k a b =
+    let j : ℕ = k - 1 - place in
+    let r = reads j (omega arith) in
+    no_start_behind types text (place + j) k (omega arith) r.0 (rw r.1 (quiet j (omega arith)))
 
--- what stands in a part of the first half stands in the text
-in_first : (types : LineEndTypes) (xs ys : List ℕ) (from to c : ℕ) → c ≤ length (slice_range xs from to) → ((k : ℕ) → k < c → may_end types (get_or (slice_range xs from to) k 0) ≡ false) → Quiet types (xs ++ ys) from (from + c)
-in_first types xs ys from to c l quiet k a b =
-    let i : ℕ = k - from in
-    let e : k ≡ from + i = omega arith in
-    let w : i < length (slice_range xs from to) = omega arith in
-    rw (e, get_or-append xs ys 0 (from + i) (within_part xs from to i w).1, ← (read_part xs from to i w)) (quiet i (omega arith))
-
-in_second : (types : LineEndTypes) (xs ys : List ℕ) (from to c place : ℕ) → place ≡ length xs + from → c ≤ length (slice_range ys from to) → ((k : ℕ) → k < c → may_end types (get_or (slice_range ys from to) k 0) ≡ false) → Quiet types (xs ++ ys) place (place + c)
-in_second types xs ys from to c place p l quiet k a b =
-    let i : ℕ = k - place in
-    let e : k ≡ length xs + (from + i) = omega arith in
-    let w : i < length (slice_range ys from to) = omega arith in
-    rw (e, get_or-append-add xs ys (from + i) 0, ← (read_part ys from to i w)) (quiet i (omega arith))
-
--- no line starts behind the bytes of a part of the first half
+-- .. of a part of the first half
 pub none_in_first : (types : LineEndTypes) (xs ys : List ℕ) (from to c : ℕ) → c ≤ length (slice_range xs from to) → ((k : ℕ) → k < c → may_end types (get_or (slice_range xs from to) k 0) ≡ false) → (k : ℕ) → from < k → k < from + c + 1 → is_line_start types (xs ++ ys) k ≡ false
-none_in_first types xs ys from to c l quiet k a b =
-    elim (cases_lt 0 c) [
-      | inl some ↦
-          let w = within_part xs from to (c - 1) (omega arith) in
-          none_in_quiet types (xs ++ ys) from (from + c) (omega (arith, w.1, length-append xs ys)) (in_first types xs ys from to c l quiet) k a b
-      | inr none ↦ absurd (omega arith)
-    ]
+none_in_first types xs ys from to c =
+    none_in_part types (xs ++ ys) (slice_range xs from to) from c
+    (λ j h. let w = (within_part xs from to j h).1 in (omega (arith, w, length-append xs ys), get_or-append xs ys 0 (from + j) w ∙ sym (read_part xs from to j h)))
 
--- no line starts behind the bytes of a part of the second half
+-- .. and of the second
 pub none_in_second : (types : LineEndTypes) (xs ys : List ℕ) (from to c place : ℕ) → place ≡ length xs + from → c ≤ length (slice_range ys from to) → ((k : ℕ) → k < c → may_end types (get_or (slice_range ys from to) k 0) ≡ false) → (k : ℕ) → place < k → k < place + c + 1 → is_line_start types (xs ++ ys) k ≡ false
-none_in_second types xs ys from to c place p l quiet k a b =
-    elim (cases_lt 0 c) [
-      | inl some ↦
-          let w = within_part ys from to (c - 1) (omega arith) in
-          none_in_quiet types (xs ++ ys) place (place + c) (omega (arith, w.1, length-append xs ys)) (in_second types xs ys from to c place p l quiet) k a b
-      | inr none ↦ absurd (omega arith)
-    ]
+none_in_second types xs ys from to c place p =
+    none_in_part types (xs ++ ys) (slice_range ys from to) place c
+    (λ j h. let w = (within_part ys from to j h).1 in let at : place + j ≡ length xs + (from + j) = omega arith in (omega (arith, w, length-append xs ys), rw at (get_or-append-add xs ys (from + j) 0) ∙ sym (read_part ys from to j h)))
 
 -- no line starts behind the bytes of the rest of the first half and a part of the second
 pub none_across :

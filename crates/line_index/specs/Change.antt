@@ -53,10 +53,6 @@ line_after change line =
     else (if nat_le line change.old_lines.two_behind then change.new_lines.two_behind
     else line - change.old_lines.two_behind + change.new_lines.two_behind)))
 
--- an insertion of `count` bytes moves each start at the place, or behind it
-abbrev pub moved_on : ℕ → ℕ → ℕ → ℕ
-moved_on place count start = if nat_lt start place then start else start + count
-
 -- each old line moves to the new line of its start, moved by the step
 abbrev pub MovesLines : (ℕ → ℕ) → List ℕ → List ℕ → LineChange → Type 0
 MovesLines moved old new change =

@@ -5,22 +5,33 @@ use Rattle.std.specs.Int.{bit_at}
 use Rattle.ed_model.specs.declared.plan.LineEndTypes.{LineEndTypes}
 use Rattle.ed_model.specs.declared.plan.LineEndTypes.TheVariants.{Default, Unicode}
 use Rattle.ed_model.specs.Lines.{is_line_start, line_starts, line_count}
-use Rattle.ed_model.specs.Steps.{Insert, edited}
+use Rattle.ed_model.specs.Steps.{Step, Insert, Delete, place_of, edited}
+use Rattle.ed_model.specs.MergeLaws.{end_of, put_in}
+use Rattle.split_vector.specs.Split.{most_held}
 use Rattle.partitioning.specs.Partitions.{Partitions}
 
--- which line ends count, where the lines start, the length of the text, and how many more lines fit in
+-- which line ends count, where the lines start, the length of the text, and how many lines fit in without an allocation
 pub record Index : Type 0 where
   pub types : LineEndTypes
   pub starts : List ℕ
   pub length : ℕ
-  pub room : ℕ
+  pub capacity : ℕ
 
 abbrev pub index : LineEndTypes → List ℕ → ℕ → ℕ → Index
-index types starts end room = record { types = types; starts = starts; length = end; room = room }
+index types starts end capacity = record { types = types; starts = starts; length = end; capacity = capacity }
+
+-- `count` more lines fit in without an allocation
+abbrev pub MoreLinesFit : ℕ → Index → Type 0
+MoreLinesFit count i = length i.starts + count ≤ i.capacity
+
+-- nothing but the capacity has changed: it is not less, and at most what `count` more lines want
+abbrev pub Grows : ℕ → (old new : Index) → Type 0
+Grows count old new =
+    (new ≡ record old { capacity = new.capacity }) × (old.capacity ≤ new.capacity) × (new.capacity ≤ most_held old.capacity (length old.starts + count))
 
 -- that of the partitions of a text into lines
 abbrev pub index_by : LineEndTypes → Partitions → Index
-index_by types lines = index types lines.starts lines.length lines.room
+index_by types lines = index types lines.starts lines.length lines.capacity
 
 -- the index has the line starts of the text, and its length
 pub record IsIndexOf (text : List ℕ) (i : Index) : Type 0 where
@@ -31,47 +42,47 @@ pub record IsIndexOf (text : List ℕ) (i : Index) : Type 0 where
 abbrev pub bytes_near : ℕ → ℕ → List ℕ → List ℕ
 bytes_near place count text = slice_range text (place - 3) (place + count + 3)
 
--- The index is that of a text into which `count` bytes were inserted at the place. `near` are now the bytes around
--- them, and there is room for the new lines.
-pub record IsInsertion (place count : ℕ) (near old bytes : List ℕ) (i : Index) : Type 0 where
-  pub counted : length bytes ≡ count
-  pub within : place ≤ length old
+-- The index is that of a text before the step. `near` are now the bytes around what the step inserted, and the new lines
+-- fit in.
+pub record IsBefore (step : Step) (near old : List ℕ) (i : Index) : Type 0 where
+  pub within : end_of step ≤ length old
   pub index : IsIndexOf old i
-  pub reads : near ≡ bytes_near place count (edited (Insert place bytes) old)
-  pub room : line_count i.types (edited (Insert place bytes) old) ≤ length i.starts + i.room
+  pub reads : near ≡ bytes_near (place_of step) (length (put_in step)) (edited step old)
+  pub fits : line_count i.types (edited step old) ≤ i.capacity
 
--- there is such a text
-pub record WasInserted (place count : ℕ) (near : List ℕ) (i : Index) : Type 0 where
+-- the index is that of a text before one of these steps
+pub record WasBefore (Steps : Step → Type 0) (near : List ℕ) (i : Index) : Type 0 where
   pub old : List ℕ
-  pub bytes : List ℕ
-  pub is : IsInsertion place count near old bytes i
+  pub step : Step
+  pub made : Steps step
+  pub is : IsBefore step near old i
 
--- whichever text the index was of, it is now that of the text with the bytes
-abbrev pub FollowsInsertion : ℕ → ℕ → List ℕ → Index → Index → Type 0
-FollowsInsertion place count near was now =
-    (old bytes : List ℕ) → IsInsertion place count near old bytes was → IsIndexOf (edited (Insert place bytes) old) now
+-- whichever text and step these were, the index is now that of the text after the step
+abbrev pub Follows : (Step → Type 0) → List ℕ → Index → Index → Type 0
+Follows Steps near was now = (step : Step) (old : List ℕ) → Steps step → IsBefore step near old was → IsIndexOf (edited step old) now
 
--- The index is that of a text from which `count` bytes were deleted from the place on. `near` are now the bytes around
--- it, and there is room for the new lines.
-pub record IsDeletion (place count : ℕ) (near old : List ℕ) (i : Index) : Type 0 where
-  pub within : place + count ≤ length old
-  pub index : IsIndexOf old i
-  pub reads : near ≡ bytes_near place 0 (take place old ++ drop (place + count) old)
-  pub room : line_count i.types (take place old ++ drop (place + count) old) ≤ length i.starts + i.room
+-- the insertions, and the deletions, of `count` bytes at the place
+abbrev pub Inserts : ℕ → ℕ → Step → Type 0
+Inserts place count (Insert p bytes) = (p ≡ place) × (length bytes ≡ count)
+Inserts place count (Delete p bytes) = ⊥
 
--- there is such a text
-pub record WasDeleted (place count : ℕ) (near : List ℕ) (i : Index) : Type 0 where
-  pub old : List ℕ
-  pub is : IsDeletion place count near old i
-
--- whichever text the index was of, it is now that of the text without the bytes
-abbrev pub FollowsDeletion : ℕ → ℕ → List ℕ → Index → Index → Type 0
-FollowsDeletion place count near was now =
-    (old : List ℕ) → IsDeletion place count near old was → IsIndexOf (take place old ++ drop (place + count) old) now
+abbrev pub Deletes : ℕ → ℕ → Step → Type 0
+Deletes place count (Insert p bytes) = ⊥
+Deletes place count (Delete p bytes) = (p ≡ place) × (length bytes ≡ count)
 
 -- the places from one up to another where a line starts
 abbrev pub starts_within : LineEndTypes → List ℕ → ℕ → ℕ → List ℕ
 starts_within types text from to = filter (is_line_start types text) (range_with_len from (to - from))
+
+-- so many lines start there, which are not more than there are places
+pub record AreStarts (types : LineEndTypes) (text : List ℕ) (from to n : ℕ) : Type 0 where
+  pub lines : n ≡ length (starts_within types text from to)
+  pub few : n ≤ to - from
+
+-- so many lines start at the first byte of the text and behind so many bytes
+pub record CountsUpTo (types : LineEndTypes) (text : List ℕ) (seen : ℕ × ℕ) : Type 0 where
+  pub counted : AreStarts types text 0 (seen.1 + 1) seen.0
+  pub within : seen.1 ≤ length text
 
 -- the same places, by the bytes around them alone, of which the first stands at `base`
 abbrev pub starts_near : LineEndTypes → List ℕ → ℕ → ℕ → ℕ → List ℕ
@@ -80,10 +91,6 @@ starts_near types near base from to = filter (λ place. is_line_start types near
 -- how many these are
 abbrev pub count_near : LineEndTypes → List ℕ → ℕ → ℕ → ℕ → ℕ
 count_near types near base from to = length (starts_near types near base from to)
-
--- the starts of the lines with these inserted before line `at`
-abbrev pub with_starts : LineEndTypes → List ℕ → ℕ → ℕ → ℕ → ℕ → Partitions → List ℕ
-with_starts types near base from to at was = take at was.starts ++ starts_near types near base from to ++ drop at was.starts
 
 -- the line is there, and starts at the place or before it
 abbrev pub StartsUpTo : List ℕ → ℕ → ℕ → Type 0
@@ -99,17 +106,16 @@ pub record IsFree (starts : List ℕ) (end from to at : ℕ) : Type 0 where
   pub order : from ≤ to
   pub to_end : to ≤ end + 1
 
--- the line starts from `from` up to `to` can be inserted before line `at`: none is there yet, and there is room for
--- them
+-- the line starts from `from` up to `to` can be inserted before line `at`: none is there yet, and they fit in
 pub record CanAdd (types : LineEndTypes) (near : List ℕ) (base from to at : ℕ) (was : Partitions) : Type 0 where
   pub free : IsFree was.starts was.length from to at
-  pub room : length (starts_near types near base from to) ≤ was.room
+  pub fits : length was.starts + length (starts_near types near base from to) ≤ was.capacity
 
 -- they were inserted there, and `next` is the line behind them
 pub record WereAdded (types : LineEndTypes) (near : List ℕ) (base from to at next : ℕ) (was now : Partitions) : Type 0 where
   pub starts : now.starts ≡ take at was.starts ++ starts_near types near base from to ++ drop at was.starts
   pub end : now.length ≡ was.length
-  pub room : now.room + length (starts_near types near base from to) ≡ was.room
+  pub capacity : now.capacity ≡ was.capacity
   pub line : next ≡ at + length (starts_near types near base from to)
 
 -- of the 64 places from this one on, only those whose bit is set can be line starts

@@ -1,4 +1,6 @@
+pub mod Near
 pub mod Index
+pub mod TextSteps
 pub mod Change
 pub mod Edits
 pub mod StepEdits

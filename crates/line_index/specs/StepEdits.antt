@@ -1,8 +1,8 @@
 -- The effect of a step on lines, as edits: which old lines become which new ones.
-use Rattle.std.specs.Prelude.{◌≡◌, ℕ, ◌+◌, ◌-◌, ◌^◌, ◌<◌, ◌≤◌, ◌==◌, ◌&&◌, ◌||◌, not, Bool, nat_lt, if◌then◌else◌, List, [], ◌∷◌, ◌++◌, length}
+use Rattle.std.specs.Prelude.{◌≡◌, ℕ, ◌+◌, ◌-◌, ◌≤◌, ◌==◌, ◌&&◌, ◌||◌, not, Bool, nat_lt, if◌then◌else◌, List, [], ◌∷◌, ◌++◌, length}
 use Rattle.ed_model.specs.declared.plan.LineEndTypes.{LineEndTypes}
 use Rattle.ed_model.specs.Lines.{line_starts, line_count}
-use Rattle.ed_model.specs.Steps.{Step, place_of, edited}
+use Rattle.ed_model.specs.Steps.{Step, place_of, edited, moved_start}
 use Rattle.ed_model.specs.Carry.{carried_by}
 use Rattle.ed_model.specs.MergeLaws.{JoinsRows, end_of, put_in}
 use Rattle.line_index.specs.declared.change.NearLines.{NearLines}
@@ -10,7 +10,7 @@ use Rattle.line_index.specs.declared.change.LineChange.{LineChange}
 use Rattle.line_index.specs.declared.edit.LineEdit.{LineEdit}
 use Rattle.line_index.specs.declared.edit.LineEdit.TheVariants.{Come, Join, Restart}
 use Rattle.line_index.specs.Edits.{after_edits, FitLines, fresh_lines}
-use Rattle.line_index.specs.Change.{change_about}
+use Rattle.line_index.specs.Change.{change_about, MovesLines, NamesLines}
 use Rattle.line_index.specs.RoomLaws.{lines_for_step}
 
 -- edits of no lines are left out
@@ -63,14 +63,20 @@ leaves_lines change =
     && follows change.old_lines.at change.old_lines.one_behind
     && follows change.old_lines.one_behind change.old_lines.two_behind
 
--- line numbers of an index, small enough to be added to
-abbrev pub SmallLines : NearLines → Type 0
-SmallLines lines = (lines.at < 2 ^ 63) × (lines.one_behind < 2 ^ 63) × (lines.two_behind < 2 ^ 63)
-
 -- the effect of a step on the lines of a text
 abbrev pub change_of : LineEndTypes → Step → List ℕ → LineChange
 change_of types step text =
     change_about (place_of step) (end_of step) (place_of step + length (put_in step)) (line_starts types text) (line_starts types (edited step text)) (length (edited step text))
+
+-- each old line moves to the new line of its start, moved by the step, and the change names lines that exist
+abbrev pub StepsMoveLines : Type 0
+StepsMoveLines =
+    (types : LineEndTypes) (step : Step) (text : List ℕ) → end_of step ≤ length text
+    → MovesLines (moved_start step) (line_starts types text) (line_starts types (edited step text)) (change_of types step text)
+
+abbrev pub StepsNameLines : Type 0
+StepsNameLines =
+    (types : LineEndTypes) (step : Step) (text : List ℕ) → end_of step ≤ length text → NamesLines (line_starts types text) (line_starts types (edited step text)) (change_of types step text)
 
 -- the edits carry what is kept of each line as the step does
 abbrev pub EditsCarryRows : Type 0 → Type 0

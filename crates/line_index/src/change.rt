@@ -3,7 +3,10 @@
 ghost use Rattle.std.specs.Prelude.{◌≡◌, ◌<◌, ◌^◌, ◌-◌, ◌+◌};
 ghost use Rattle.line_index.specs.Change.{line_after};
 
-/// The lines of a place and of the two places behind it, counted from 0.
+use std::marker::Model;
+
+/// The lines of a place and of the two places behind it, counted from 0. They are lines of an index, so each is less
+/// than 2^63.
 #[derive(Clone, Copy, Debug, PartialEq, Eq)]
 pub struct NearLines {
     /// The line of the place.
@@ -12,6 +15,19 @@ pub struct NearLines {
     pub one_behind: usize,
     /// The line of the place two bytes behind it.
     pub two_behind: usize,
+}
+
+impl Model for NearLines {
+    ghost use Rattle.std.specs.Prelude.{◌<◌, ◌^◌};
+    ghost use Rattle.line_index.specs.Near.{Near};
+
+    ghost Value = { Near };
+
+    ghost view = { λ n. record { at = n.at; one_behind = n.one_behind; two_behind = n.two_behind } };
+
+    ghost invariant = { λ n. (n.at < 2 ^ 63) × (n.one_behind < 2 ^ 63) × (n.two_behind < 2 ^ 63) };
+
+    ghost inverse = { λ n. record { at = n.at; one_behind = n.one_behind; two_behind = n.two_behind } };
 }
 
 /// What is looked up before a step.

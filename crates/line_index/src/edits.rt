@@ -1,7 +1,7 @@
 //! The effect of a step on lines, as a short list of edits that needs no allocation.
 
 ghost use Rattle.std.specs.Prelude.{◌≡◌, ◌+◌, ◌-◌, ◌^◌, ◌≤◌, ◌<◌, ◌∷◌, ◌++◌, [], true, length};
-ghost use Rattle.line_index.specs.StepEdits.{SmallLines, edits_of, follows, leaves_lines};
+ghost use Rattle.line_index.specs.StepEdits.{edits_of, follows, leaves_lines};
 ghost use Rattle.line_index.specs.StepEdits.{came, joined, last_at, last_one_behind, settled};
 
 use crate::change::{LineChange, NearLines};
@@ -166,7 +166,6 @@ impl LineChange {
     /// step inside a line.
     #[inline(always)]
     pub fn is_quiet(&self) -> bool
-        requires { SmallLines self.now.old_lines }
         ensures quiet { result ≡ leaves_lines self.now }
         ensures none { result ≡ true → edits_of self.now ≡ [] }
     {
@@ -188,7 +187,6 @@ impl LineChange {
     /// step inside a line has none.
     #[inline]
     pub fn edits(&self) -> LineEdits
-        requires { SmallLines self.now.old_lines × SmallLines self.now.new_lines }
         ensures { result ≡ edits_of self.now }
     {
         if self.is_quiet() {
@@ -203,7 +201,6 @@ impl LineChange {
     // so that a quiet step keeps its `LineChange` in registers.
     #[inline(never)]
     fn edits_about(self) -> FewEdits
-        requires { SmallLines self.old_lines × SmallLines self.new_lines }
         ensures { result ≡ edits_of self }
     {
         let mut edits = FewEdits::none();

@@ -1,13 +1,13 @@
-//! `LineIndex`: how it is made and read, and its room.
+//! `LineIndex`: how it is made and read, and its capacity.
 
 ghost use Rattle.std.specs.Prelude.{◌≡◌, ℕ, ◌+◌, ◌^◌, ◌≤◌, ◌<◌, ◌++◌, [], length, slice_index, IfOk, OnOk, OnErr, IsOk};
 ghost use Rattle.ed_model.specs.Lines.{line_starts, line_of, end_of_line};
-ghost use Rattle.partitioning.specs.Partitions.{IsFloorLog};
-ghost use Rattle.split_vector.specs.Split.{counted, most_room};
-ghost use Rattle.line_index.specs.Index.{IsIndexOf};
+ghost use Rattle.partitioning.specs.Partitions.{CountsReads};
+ghost use Rattle.vec_room.specs.Reserved.{IsReserved};
+ghost use Rattle.line_index.specs.Index.{Grows, IsIndexOf, MoreLinesFit};
 
 use crate::halves::end_length;
-use crate::starts::line_at;
+use crate::starts::starts_are_sound;
 use ed_model::LineEndTypes;
 use partitioning::{Partitioning, Place, Probes};
 use std::alloc::{AllocError, Global};
@@ -27,7 +27,7 @@ impl<P: Place> Model for LineIndex<P> {
 
     ghost Value = { Index };
 
-    ghost view = { λ t. index t.types t.starts.starts t.starts.length t.starts.room };
+    ghost view = { λ t. index t.types t.starts.starts t.starts.length t.starts.capacity };
 }
 
 impl<P: Place> LineIndex<P> {
@@ -38,7 +38,7 @@ impl<P: Place> LineIndex<P> {
     /// `AllocError` if the allocation fails.
     pub fn new(alloc: Global, types: LineEndTypes) -> Result<Self, AllocError>
         ensures index { IfOk result (λ t. (t.types ≡ types) × IsIndexOf [] t) }
-        ensures room { IfOk result (λ t. t.room ≡ 0) }
+        ensures capacity { IfOk result (λ t. t.capacity ≡ 1) }
     {
         let starts = Partitioning::new(alloc)?;
         Ok(LineIndex { starts, types })
@@ -55,7 +55,7 @@ impl<P: Place> LineIndex<P> {
     pub fn count(&self) -> usize
         ensures count { result ≡ length self.now.starts }
         ensures some { 0 < length self.now.starts }
-        ensures within { length self.now.starts + self.now.room < 2 ^ 63 }
+        ensures fits { (length self.now.starts ≤ self.now.capacity) × (self.now.capacity < 2 ^ 63) }
     {
         self.starts.count()
     }
@@ -97,24 +97,21 @@ impl<P: Place> LineIndex<P> {
     pub fn line_of(&self, place: usize, probes: &mut Probes) -> usize
         ensures line { result ≡ line_of self.now.starts place }
         ensures within { result < length self.now.starts }
-        ensures counted { probes.old ≤ probes.new }
-        ensures few { (k : ℕ) → IsFloorLog k (length self.now.starts) → probes.new ≤ probes.old + (2 + k) }
-        ensures many { (k : ℕ) → IsFloorLog k (length self.now.starts) → counted probes.old k ≤ probes.new }
+        ensures reads { CountsReads 2 (length self.now.starts) probes.old probes.new }
     {
-        line_at(&self.starts, place, probes)
+        starts_are_sound(&self.starts);
+        self.starts.partition_of(place, probes)
     }
 
-    /// Makes room for `count` more lines.
+    /// Allocates memory for `count` more lines, unless they fit in.
     ///
     /// # Errors
     ///
     /// `AllocError` if the allocation fails. Nothing has changed then.
     #[inline(always)]
     pub fn reserve(&mut self, count: usize) -> Result<(), AllocError>
-        ensures ok { OnOk result ((count ≤ self.new.room) × (self.new ≡ record self.old { room = self.new.room })) }
-        ensures room_is_there { count ≤ self.old.room → IsOk result × (self.new ≡ self.old) }
-        ensures room_stays { self.old.room ≤ self.new.room }
-        ensures at_most { OnOk result (self.new.room ≤ most_room (length self.old.starts) self.old.room count) }
+        ensures reserved { IsReserved (MoreLinesFit count) result self.old self.new }
+        ensures grown { Grows count self.old self.new }
         ensures err { OnErr result (self.new ≡ self.old) }
     {
         self.starts.reserve(count)

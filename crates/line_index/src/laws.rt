@@ -3,13 +3,17 @@
 ghost use Rattle.ed_model.specs.Rows.{Flags, Row};
 ghost use Rattle.line_index.specs.Settings.{SettingsBringAll, SettingsBringFewLines};
 ghost use Rattle.line_index.specs.Settings.{SettingsCarryRows, SettingsFitLines};
-ghost use Rattle.line_index.specs.StepEdits.{EditsBringFewLines, EditsCarryRows, EditsFitLines};
+ghost use Rattle.line_index.specs.StepEdits.{EditsBringFewLines, EditsCarryRows, EditsFitLines, StepsMoveLines, StepsNameLines};
 
 use ed_model::single_rows;
 
-/// The edits of a step turn the rows of the old lines into those of the new ones, and likewise a view's flags. They
-/// name lines that exist, and insert at most as many fresh lines as room is required for.
+/// A step moves each old line to the new line of its start, and its change names lines that exist. The edits of the step
+/// turn the rows of the old lines into those of the new ones, and likewise a view's flags. They name lines that exist,
+/// and insert at most as many fresh lines as room is required for.
+#[tactic(auto, using(crate::proofs::StepCarries::steps_name, crate::proofs::StepCarries::step_edits_carry, crate::proofs::StepCarries::step_edits_fit, crate::proofs::StepCarries::step_edits_few))]
 pub fn edits_of_steps()
+    ensures moves { StepsMoveLines }
+    ensures names { StepsNameLines }
     ensures rows { EditsCarryRows Row }
     ensures flags { EditsCarryRows Flags }
     ensures fit { EditsFitLines }

@@ -10,7 +10,7 @@
 //! its end. The starts before it stay, and those behind it move with the text. The text itself is kept elsewhere, and
 //! given as two slices, as a gap buffer has it.
 //!
-//! Contracts see the kind of line ends, the starts, the length, and the room for more lines. `ed_model` defines what
+//! Contracts see the kind of line ends, the starts, the length, and how many lines fit in. `ed_model` defines what
 //! the starts are: `line_starts` of the text.
 #![tactic(auto)]
 

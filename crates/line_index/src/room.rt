@@ -3,7 +3,7 @@
 ghost use Rattle.std.specs.Prelude.{◌≡◌, ◌≤◌, ◌<◌, ◌+◌, ◌-◌, ◌==◌, ◌||◌, ◌&&◌, not, if◌then◌else◌, length};
 ghost use Rattle.ed_model.specs.Lines.{line_count};
 ghost use Rattle.ed_model.specs.Text.{carriage_return, line_feed};
-ghost use Rattle.line_index.specs.Index.{starts_within};
+ghost use Rattle.line_index.specs.Index.{AreStarts, CountsUpTo};
 ghost use Rattle.line_index.specs.RoomLaws.{DeletionAddsFewLines, FirstBytesHaveFewLines, InsertionAddsFewLines};
 ghost use Rattle.line_index.specs.RoomLaws.{lines_for_deletion, lines_for_insertion};
 
@@ -39,8 +39,7 @@ fn ends_with(byte: u8, next: u8) -> u8
 // Returns how many lines start behind the bytes of the block from `from` on. Another byte follows the block.
 fn lines_behind_block(bytes: &[u8], from: usize) -> usize
     requires { from + 192 < length bytes.now }
-    ensures lines { result ≡ length (starts_within LineEndTypes.Default bytes.now (from + 1) (from + 192 + 1)) }
-    ensures few { result ≤ 192 }
+    ensures { AreStarts LineEndTypes.Default bytes.now (from + 1) (from + 192 + 1) result }
 {
     let mut lines = 0u8;
     for place in from..from + BLOCK {
@@ -53,8 +52,7 @@ fn lines_behind_block(bytes: &[u8], from: usize) -> usize
 // read side by side, since memory is faster from four places than from one.
 fn lines_behind_rows(bytes: &[u8], from: usize) -> usize
     requires { from + 49152 < length bytes.now }
-    ensures lines { result ≡ length (starts_within LineEndTypes.Default bytes.now (from + 1) (from + 49152 + 1)) }
-    ensures few { result ≤ 49152 }
+    ensures { AreStarts LineEndTypes.Default bytes.now (from + 1) (from + 49152 + 1) result }
 {
     let (mut first, mut second, mut third, mut fourth) = (0, 0, 0, 0);
     for block in 0..BLOCKS {
@@ -70,9 +68,7 @@ fn lines_behind_rows(bytes: &[u8], from: usize) -> usize
 // Returns how many lines start at the first byte and behind the bytes of whole groups of four rows, and how many bytes
 // these groups have.
 fn lines_behind_groups(bytes: &[u8]) -> (usize, usize)
-    ensures lines { result.0 ≡ length (starts_within LineEndTypes.Default bytes.now 0 (result.1 + 1)) }
-    ensures few { result.0 ≤ result.1 + 1 }
-    ensures within { result.1 ≤ length bytes.now }
+    ensures { CountsUpTo LineEndTypes.Default bytes.now result }
 {
     let mut lines = 1;
     let mut place = 0;
@@ -85,9 +81,7 @@ fn lines_behind_groups(bytes: &[u8]) -> (usize, usize)
 
 // Like `lines_behind_groups`, for whole blocks: first in groups, then one by one.
 fn lines_behind_blocks(bytes: &[u8]) -> (usize, usize)
-    ensures lines { result.0 ≡ length (starts_within LineEndTypes.Default bytes.now 0 (result.1 + 1)) }
-    ensures few { result.0 ≤ result.1 + 1 }
-    ensures within { result.1 ≤ length bytes.now }
+    ensures { CountsUpTo LineEndTypes.Default bytes.now result }
 {
     let (mut lines, mut place) = lines_behind_groups(bytes);
     'adding: while bytes.len() - place > BLOCK {
@@ -99,8 +93,7 @@ fn lines_behind_blocks(bytes: &[u8]) -> (usize, usize)
 
 // Returns how many lines start at `place`: 1 or 0.
 fn lines_at(types: LineEndTypes, bytes: &[u8], place: usize) -> usize
-    ensures lines { result ≡ length (starts_within types bytes.now place (place + 1)) }
-    ensures few { result ≤ 1 }
+    ensures { AreStarts types bytes.now place (place + 1) result }
 {
     if starts_at(types, bytes, &[], place) {
         1
@@ -113,8 +106,7 @@ fn lines_at(types: LineEndTypes, bytes: &[u8], place: usize) -> usize
 #[inline(never)]
 fn count_from(types: LineEndTypes, bytes: &[u8], from: usize, to: usize) -> usize
     requires { (from ≤ to) × (to ≤ length bytes.now + 1) }
-    ensures lines { result ≡ length (starts_within types bytes.now from to) }
-    ensures few { result ≤ to - from }
+    ensures { AreStarts types bytes.now from to result }
 {
     let mut lines = 0;
     let mut place = from;
@@ -129,8 +121,7 @@ fn count_from(types: LineEndTypes, bytes: &[u8], from: usize, to: usize) -> usiz
 #[inline(always)]
 pub(crate) fn count_starts(types: LineEndTypes, bytes: &[u8], from: usize, to: usize) -> usize
     requires { (from ≤ to) × (to ≤ length bytes.now + 1) }
-    ensures lines { result ≡ length (starts_within types bytes.now from to) }
-    ensures few { result ≤ to - from }
+    ensures { AreStarts types bytes.now from to result }
 {
     let place = first_place(types, bytes, &[], from, to);
     if place == to {
@@ -146,9 +137,7 @@ pub(crate) fn count_starts(types: LineEndTypes, bytes: &[u8], from: usize, to: u
 // have. There is usually no whole block, and no call is made.
 #[inline(always)]
 fn lines_seen(types: LineEndTypes, bytes: &[u8]) -> (usize, usize)
-    ensures lines { result.0 ≡ length (starts_within types bytes.now 0 (result.1 + 1)) }
-    ensures few { result.0 ≤ result.1 + 1 }
-    ensures within { result.1 ≤ length bytes.now }
+    ensures { CountsUpTo types bytes.now result }
 {
     if bytes.len() <= BLOCK {
         return (1, 0);
@@ -187,6 +176,7 @@ pub const fn lines_for_deletion() -> usize
 }
 
 /// No step adds more lines than that, and the first bytes of a text have no more lines than all of it.
+#[tactic(auto, using(crate::proofs::RoomLemmas::few_inserted, crate::proofs::RoomLemmas::few_deleted, crate::proofs::RoomLemmas::fewer_at_first))]
 pub fn room_for_steps()
     ensures insertion { InsertionAddsFewLines }
     ensures deletion { DeletionAddsFewLines }

@@ -15,6 +15,7 @@ use crate::starts::{add_starts, remove_starts};
 use ed_model::LineEndTypes;
 use partitioning::Place;
 use std::alloc::{AllocError, Global};
+use std::marker::Model;
 
 // A line starts at `start`. Returns how many lines start inside it if line ends of Unicode count, and where the next
 // one starts, or `end`, the place past the end of the text.
@@ -38,17 +39,33 @@ fn count_inside(before: &[u8], after: &[u8], start: usize, end: usize) -> (usize
     (lines, end)
 }
 
+// Edits, in the order in which they are made. At most twice as many fit in as there are.
+#[derive(Drop)]
+struct EditList {
+    edits: Vec<LineEdit>,
+}
+
+impl Model for EditList {
+    ghost use Rattle.std.specs.Prelude.{◌*◌, ◌≤◌, List, vec_len, vec_capacity};
+    ghost use Rattle.line_index.specs.declared.edit.LineEdit.{LineEdit};
+
+    ghost Value = { List LineEdit };
+
+    ghost view = { λ e. e.edits.items };
+
+    ghost invariant = { λ e. vec_capacity e.edits ≤ 2 * vec_len e.edits };
+}
+
 // Appends the edit of a line that has `count` others inside, if `count` is not 0.
 fn push_inside(
-    edits: &mut Vec<LineEdit>,
+    edits: &mut EditList,
     types: LineEndTypes,
     line: usize,
     count: usize,
 ) -> Result<(), AllocError>
     requires { line + count + 1 < 2 ^ 64 }
-    ensures edits { OnOk result (edits.new.items ≡ edits.old.items ++ inside_edits types line count) }
+    ensures edits { OnOk result (edits.new ≡ edits.old ++ inside_edits types line count) }
     ensures free { inside_edits types line count ≡ [] → IsOk result }
-    ensures few { vec_capacity edits.old ≤ 2 * vec_len edits.old → vec_capacity edits.new ≤ 2 * vec_len edits.new }
 {
     if count == 0 {
         return Ok(());
@@ -60,8 +77,8 @@ fn push_inside(
             count,
         },
     };
-    vec_room::reserve(edits, 1)?;
-    edits.push_reserved(edit);
+    vec_room::reserve(&mut edits.edits, 1)?;
+    edits.edits.push_reserved(edit);
     Ok(())
 }
 
@@ -76,30 +93,30 @@ fn line_past(types: LineEndTypes, line: usize, count: usize) -> usize
     }
 }
 
-// Appends the edits of all lines of the text. Reads each line as far as the next one.
-fn push_all_inside(
-    edits: &mut Vec<LineEdit>,
+// Returns the edits of all lines of the text. Reads each line as far as the next one.
+fn all_inside(
+    alloc: Global,
     types: LineEndTypes,
     before: &[u8],
     after: &[u8],
-) -> Result<(), AllocError>
-    requires none { edits.old.items ≡ [] }
-    requires no_room { vec_capacity edits.old ≡ 0 }
-    requires short { length before.now + length after.now < 2 ^ 63 }
-    ensures edits { OnOk result (edits.new.items ≡ edits_to types (before.now ++ after.now)) }
+) -> Result<EditList, AllocError>
+    requires { length before.now + length after.now < 2 ^ 63 }
+    ensures edits { IfOk result (λ edits. edits ≡ edits_to types (before.now ++ after.now)) }
     ensures free { edits_to types (before.now ++ after.now) ≡ [] → IsOk result }
-    ensures few { OnOk result (vec_capacity edits.new ≤ 2 * vec_len edits.new) }
 {
+    let mut edits = EditList {
+        edits: Vec::new(alloc),
+    };
     let end = before.len() + after.len() + 1;
     let mut line = 0;
     let mut start = 0;
     'adding: while start < end {
         let (count, next) = count_inside(before, after, start, end);
-        push_inside(edits, types, line, count)?;
+        push_inside(&mut edits, types, line, count)?;
         line = line_past(types, line, count);
         start = next;
     }
-    Ok(())
+    Ok(edits)
 }
 
 /// Returns how many fresh lines the edits insert.
@@ -139,23 +156,21 @@ impl<P: Place> LineIndex<P> {
         ensures free { edits_for_types types self.now (before.now ++ after.now) ≡ [] → IsOk result }
         ensures at_most { IfOk result (λ edits. vec_capacity edits ≤ 2 * vec_len edits) }
     {
-        let mut edits = Vec::new(alloc);
         if types == self.types {
-            return Ok(edits);
+            return Ok(Vec::new(alloc));
         }
-        push_all_inside(&mut edits, types, before, after)?;
+        let EditList { edits } = all_inside(alloc, types, before, after)?;
         Ok(edits)
     }
 
     /// Sets which line ends count. The starts become those that the text has under `types`. `before` and `after` are
-    /// the halves of the text. There must be room for the fresh lines.
+    /// the halves of the text. The fresh lines must fit in.
     pub fn set_types(&mut self, types: LineEndTypes, before: &[u8], after: &[u8])
         requires text { IsIndexOf (before.now ++ after.now) self.old }
-        requires room { line_count types (before.now ++ after.now) ≤ length self.old.starts + self.old.room }
+        requires fits { line_count types (before.now ++ after.now) ≤ self.old.capacity }
         requires short { self.old.length < 2 ^ 63 }
-        ensures types { self.new.types ≡ types }
+        ensures set { (self.new.types ≡ types) × (self.new.capacity ≡ self.old.capacity) }
         ensures index { IsIndexOf (before.now ++ after.now) self.new }
-        ensures room { self.new.room + length self.new.starts ≡ self.old.room + length self.old.starts }
     {
         if types == self.types {
             return;

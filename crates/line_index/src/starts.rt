@@ -3,11 +3,9 @@
 ghost use Rattle.std.specs.Prelude.{ℕ, ◌≡◌, ◌+◌, ◌-◌, ◌^◌, ◌≤◌, ◌<◌, ◌++◌, IsTrue, IfSome, false, min, length};
 ghost use Rattle.std.specs.Prelude.{take, drop, slice_index};
 ghost use Rattle.ed_model.specs.Lines.{line_of};
-ghost use Rattle.partitioning.specs.Partitions.{ArePartitions, IsFloorLog, IsLastAtMost};
-ghost use Rattle.split_vector.specs.Split.{counted};
-ghost use Rattle.line_index.specs.Index.{CanAdd, StartsUpTo, WereAdded, count_near, with_starts};
+ghost use Rattle.partitioning.specs.Partitions.{ArePartitions, IsLastAtMost};
+ghost use Rattle.line_index.specs.Index.{CanAdd, StartsUpTo, WereAdded, count_near};
 ghost use Rattle.line_index.specs.Change.{near_lines};
-ghost use Rattle.line_index.specs.StepEdits.{SmallLines};
 ghost use Rattle.ed_model.specs.NeighbourLaws.{count_before};
 
 use crate::adding::{add_at, add_marked, marks_near, place_behind};
@@ -19,28 +17,12 @@ use partitioning::{Partitioning, Place, Probes};
 // A law: the starts of lines rise from 0 on up to the end of the text, and there are few. `count` and `length` say so.
 #[inline(always)]
 pub(crate) fn starts_are_sound<P: Place>(starts: &Partitioning<P>)
-    ensures few { length starts.now.starts + starts.now.room < 2 ^ 63 }
+    ensures few { length starts.now.starts < 2 ^ 63 }
     ensures long { starts.now.length < 2 ^ 64 }
     ensures sound { ArePartitions starts.now.starts starts.now.length }
 {
     starts.count();
     starts.length();
-}
-
-// Returns the line that holds `place`.
-pub(crate) fn line_at<P: Place>(
-    starts: &Partitioning<P>,
-    place: usize,
-    probes: &mut Probes,
-) -> usize
-    ensures line { result ≡ line_of starts.now.starts place }
-    ensures within { result < length starts.now.starts }
-    ensures counted { probes.old ≤ probes.new }
-    ensures few { (k : ℕ) → IsFloorLog k (length starts.now.starts) → probes.new ≤ probes.old + (2 + k) }
-    ensures many { (k : ℕ) → IsFloorLog k (length starts.now.starts) → counted probes.old k ≤ probes.new }
-{
-    starts_are_sound(starts);
-    starts.partition_of(place, probes)
 }
 
 // Returns whether `line`, which starts at `place` or before it, holds `place`: it is the last, or the next starts
@@ -125,7 +107,6 @@ fn line_from<P: Place>(starts: &Partitioning<P>, place: usize, likely: usize) ->
 pub(crate) fn likely_line<P: Place>(starts: &Partitioning<P>, place: usize, likely: usize) -> usize
     ensures line { result ≡ line_of starts.now.starts place }
     ensures within { result < length starts.now.starts }
-    ensures small { length starts.now.starts + starts.now.room < 2 ^ 63 }
 {
     starts_are_sound(starts);
     line_from(starts, place, likely)
@@ -223,8 +204,6 @@ pub(crate) fn lines_near<P: Place>(
 ) -> NearLines
     ensures lines { result ≡ near_lines starts.now.starts place }
     ensures within { result.two_behind < length starts.now.starts }
-    ensures small_lines { SmallLines result }
-    ensures small { length starts.now.starts + starts.now.room < 2 ^ 63 }
 {
     starts_are_sound(starts);
     let last = place.saturating_add(2);
@@ -284,8 +263,6 @@ pub(crate) fn lines_at_step<P: Place>(
     ensures at { result.0 < length starts.now.starts }
     ensures lines { result.1 ≡ near_lines starts.now.starts end }
     ensures within { result.1.two_behind < length starts.now.starts }
-    ensures small_lines { SmallLines result.1 }
-    ensures small { length starts.now.starts + starts.now.room < 2 ^ 63 }
 {
     starts_are_sound(starts);
     let last = end.saturating_add(2);
@@ -312,12 +289,10 @@ pub(crate) fn lines_after_step<P: Place>(
     went: usize,
     lines: usize,
 ) -> NearLines
-    requires small { SmallLines about.now.old_lines }
     requires within { about.now.old_lines.two_behind < lines }
     requires kept { went ≡ 0 → length starts.now.starts ≡ lines → about.now.old_lines ≡ near_lines starts.now.starts end }
     ensures lines { result ≡ near_lines starts.now.starts end }
     ensures within { result.two_behind < length starts.now.starts }
-    ensures small_lines { SmallLines result }
 {
     let count = starts.count();
     if went == 0 && count == lines {
@@ -339,8 +314,7 @@ pub(crate) fn lines_after_step<P: Place>(
 pub(crate) fn remove_starts<P: Place>(starts: &mut Partitioning<P>, first: usize, last: usize)
     requires range { (0 < first) × (first ≤ last) × (last ≤ length starts.old.starts) }
     ensures starts { starts.new.starts ≡ take first starts.old.starts ++ drop last starts.old.starts }
-    ensures length { starts.new.length ≡ starts.old.length }
-    ensures room { starts.new.room ≡ starts.old.room + (last - first) }
+    ensures kept { (starts.new.length ≡ starts.old.length) × (starts.new.capacity ≡ starts.old.capacity) }
 {
     for line in first..last {
         starts.remove(first);
@@ -380,7 +354,7 @@ fn add_from<P: Place>(
 }
 
 // Inserts the line starts from `from` up to `to` before line `first`, by the bytes around those places alone, of which
-// the first stands at `base`. There are no such starts yet, and there must be room for them. Usually no line starts
+// the first stands at `base`. There are no such starts yet, and they must fit in. Usually no line starts
 // there, which one look at the bytes decides, or one line starts behind the last of them, as after a line end was
 // typed.
 #[inline(always)]
@@ -397,9 +371,7 @@ pub(crate) fn add_starts<P: Place>(
     requires can { CanAdd types (before.now ++ after.now) base from to first starts.old }
     requires near { (base ≤ from) × (from ≤ to) × (to ≤ base + (length before.now + length after.now) + 1) }
     requires behind { base < from }
-    ensures starts { starts.new.starts ≡ with_starts types (before.now ++ after.now) base from to first starts.old }
-    ensures length { starts.new.length ≡ starts.old.length }
-    ensures room { starts.new.room + count_near types (before.now ++ after.now) base from to ≡ starts.old.room }
+    ensures { WereAdded types (before.now ++ after.now) base from to first (first + count_near types (before.now ++ after.now) base from to) starts.old starts.new }
 {
     let place = base + next_place(types, before, after, from - base - 1, to - base);
     if place == to {

@@ -3,7 +3,7 @@
 ghost use Rattle.std.specs.Prelude.{◌≡◌, ◌≤◌, ◌<◌, ◌+◌, length};
 ghost use Rattle.ed_model.specs.declared.plan.LineEndTypes.TheVariants.{Unicode};
 ghost use Rattle.line_index.specs.Ends.{ends_with};
-ghost use Rattle.line_index.specs.Index.{starts_within};
+ghost use Rattle.line_index.specs.Index.{AreStarts, CountsUpTo};
 
 use crate::room::{BLOCK, count_starts};
 use ed_model::LineEndTypes;
@@ -22,8 +22,7 @@ fn ends_with(third: u8, second: u8, byte: u8, next: u8) -> u8
 // Returns how many lines start behind the bytes of the block from `from` on. Two bytes stand before it and one behind.
 fn lines_behind_block(bytes: &[u8], from: usize) -> usize
     requires { (2 ≤ from) × (from + 192 < length bytes.now) }
-    ensures lines { result ≡ length (starts_within Unicode bytes.now (from + 1) (from + 192 + 1)) }
-    ensures few { result ≤ 192 }
+    ensures { AreStarts Unicode bytes.now (from + 1) (from + 192 + 1) result }
 {
     let mut lines = 0u8;
     for place in from..from + BLOCK {
@@ -40,9 +39,7 @@ fn lines_behind_block(bytes: &[u8], from: usize) -> usize
 /// Returns how many lines start at the first byte and behind the bytes of whole blocks, and how many bytes these blocks
 /// have, with the two before the first block.
 pub(crate) fn lines_behind_blocks(bytes: &[u8]) -> (usize, usize)
-    ensures lines { result.0 ≡ length (starts_within Unicode bytes.now 0 (result.1 + 1)) }
-    ensures few { result.0 ≤ result.1 + 1 }
-    ensures within { result.1 ≤ length bytes.now }
+    ensures { CountsUpTo Unicode bytes.now result }
 {
     let mut place = bytes.len().min(2);
     let mut lines = count_starts(LineEndTypes::Unicode, bytes, 0, place + 1);

@@ -2,7 +2,6 @@
 
 ghost use Rattle.std.specs.Prelude.{◌≡◌};
 ghost use Rattle.line_index.specs.Change.{change_since, lines_about};
-ghost use Rattle.line_index.specs.StepEdits.{SmallLines};
 
 use crate::change::{LineChange, LinesAbout};
 use crate::index::LineIndex;
@@ -13,8 +12,7 @@ impl<P: Place> LineIndex<P> {
     /// Looks up the lines around a step at `place`, before the step is made. The step deletes the bytes up to `end`; of
     /// an insertion, `end` is its place.
     pub fn lines_about(&self, place: usize, end: usize) -> LinesAbout
-        ensures about { result ≡ lines_about place end self.now.starts }
-        ensures small { SmallLines result.old_lines }
+        ensures { result ≡ lines_about place end self.now.starts }
     {
         let edited = self.starts.step_at();
         let line = likely_line(&self.starts, place.saturating_sub(1), edited);
@@ -29,8 +27,7 @@ impl<P: Place> LineIndex<P> {
     /// single pieces do not add up to this: a line whose start the first piece moves on is not joined to anything by
     /// the next.
     pub fn change_since(&self, about: LinesAbout, end: usize) -> LineChange
-        ensures change { result ≡ change_since about end self.now.starts self.now.length }
-        ensures small { SmallLines result.new_lines }
+        ensures { result ≡ change_since about end self.now.starts self.now.length }
     {
         LineChange {
             before: about.before,

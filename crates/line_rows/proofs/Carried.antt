@@ -1,8 +1,14 @@
 -- What is kept of lines, through edits of them.
-use Rattle.line_rows.proofs.Names.{◌≡◌, ◌≤◌, ◌<◌, ◌+◌, ℕ, ℤ, List, [], ◌∷◌, length, sym, ap, ◌∙◌, subst, refl, arith, LineEdit, Come, Join, Restart, FitLines, after_edits, fresh_by, fresh_lines, rows_together, markers_together, MarkedLines, HasLineRoom, KeptRows, AreParts, HasRoomForLines, kept_in, rows_after, first_or, Valued, stored_after, stored_after_edit, values_after}
-use Rattle.line_rows.proofs.MarkerTotals.{edits_add, total_after_edits}
-use Rattle.line_rows.proofs.RowParts.{same_edits, carried}
+use Rattle.line_rows.proofs.Names.{◌≡◌, ◌≤◌, ◌<◌, ◌+◌, ℕ, ℤ, List, [], ◌∷◌, length, sym, ap, ap₂, ◌∙◌, subst, arith, LineEdit, Come, Join, Restart, FitLines, after_edit, after_edits, length_after_edit, edit_adds, fresh_by, fresh_lines, rows_together, rows_of, markers_together, MarkedLines, HasLineRoom, KeptRows, AreParts, HasRoomForLines, kept_in, rows_after, first_or, Valued, stored_after, stored_after_edit, values_after}
+use Rattle.line_rows.proofs.RowParts.{same_edits, rows_carried}
 use Rattle.line_rows.proofs.RowReads.{parts_length}
+
+-- edits of lines add no more lines than are fresh
+edits_add : {R : Type 0} (together : List R → R) (edits : List LineEdit) (rows : List R) → FitLines (length rows) edits → length (after_edits together edits rows) ≤ length rows + fresh_lines edits
+edits_add together [] rows h = omega arith
+edits_add together (edit ∷ edits) rows h =
+    let long = length_after_edit together rows edit h.0 in
+    omega (arith, edits_add together edits (after_edit together rows edit) (rw long h.1), long, edit_adds (length rows) edit)
 
 -- an edit stores no more values than it brings lines, and none where none is stored
 pub room_after_edit : (edit : LineEdit) (stored capacity more : ℕ) → (0 < stored → stored + (fresh_by edit + more) ≤ capacity) → 0 < stored_after_edit stored edit → stored_after_edit stored edit + more ≤ capacity
@@ -34,18 +40,17 @@ module _ (edits : List LineEdit) (markers : MarkedLines) (levels : Valued ℕ) (
       let held = subst (HasRoomForLines (fresh_lines edits)) (sym view) room in
       omega (arith, held.2 some, parts_length markers levels states parts r view, ap (λ (v : KeptRows). length v.rows) view)
 
-  pub carried_parts : FitLines (length r.rows) edits → HasRoomForLines (fresh_lines edits) r → AreParts (record markers { lines = after_edits markers_together edits markers.lines }) (values_after edits levels) (values_after edits states)
-  carried_parts fit room = record {
+  pub carried_parts : AreParts (record markers { lines = after_edits markers_together edits markers.lines }) (values_after edits levels) (values_after edits states)
+  carried_parts = record {
     levelled = same_edits markers_together (first_or levels.default) edits markers.lines levels.values parts.levelled;
     stated = same_edits markers_together (first_or states.default) edits markers.lines states.values parts.stated;
     base = parts.base;
     zero_state = parts.zero_state;
-    markers_fit = omega (arith, total_after_edits edits markers.lines, parts.markers_fit);
-    lines_fit = λ some. omega (arith, room_for_markers room some, edits_add markers_together edits markers.lines (fit_markers fit));
   }
 
   pub carried_view : kept_in (record markers { lines = after_edits markers_together edits markers.lines }) (values_after edits levels) (values_after edits states) ≡ rows_after edits r
   carried_view =
       ap (λ rows. record (rows_after edits (kept_in markers levels states)) { rows = rows })
-      (carried edits markers.lines _ levels.values _ states.values _ levels.default states.default parts.levelled parts.stated parts.base parts.zero_state refl refl refl)
+      (ap₂ (λ (ls : List ℕ) (ss : List ℤ). rows_of (after_edits markers_together edits markers.lines) ls ss) (ap (λ d. after_edits (first_or d) edits levels.values) parts.base) (ap (λ d. after_edits (first_or d) edits states.values) parts.zero_state)
+      ∙ sym (rows_carried edits markers.lines levels.values states.values parts.levelled parts.stated))
       ∙ ap (rows_after edits) view

@@ -1,20 +1,32 @@
 -- The stored values of the first lines, padded with the default, through edits of lines.
-use Rattle.line_rows.proofs.Names.{◌≡◌, ◌≤◌, ◌<◌, ◌+◌, ◌-◌, ℕ, zero, suc, List, [], ◌∷◌, ◌++◌, length, take, drop, replicate, get_or, set, min, refl, ap, sym, ◌∙◌, arith, append_assoc, inl, inr, length-append, length-take, length-take-le, length-drop, length-replicate, take-append-le, drop-append-le, take-replicate, drop-replicate, replicate-append-replicate, drop_all, take_all, replicate_more, append-nil, set-append_left, length-set, drop_more, take_more, slice_range, inserted, deleted, first_or, padded, max, Valued, valued, with_value}
-use Rattle.std.proofs.lemmas.Bool.{cases_lt}
+use Rattle.line_rows.proofs.Names.{◌≡◌, ◌≤◌, ◌<◌, ◌+◌, ◌-◌, ℕ, zero, suc, List, [], ◌∷◌, ◌++◌, length, take, drop, replicate, get_or, set, min, refl, ap, sym, ◌∙◌, arith, append_assoc, inl, inr, length-append, length-take, length-take-le, length-drop, length-replicate, take-replicate, drop-replicate, replicate-append-replicate, drop_all, take_all, replicate_more, append-nil, set-append_left, length-set, drop_more, take_more, slice_range, inserted, deleted, first_or, padded, max, Valued, valued, with_value}
+use Rattle.std.proofs.lemmas.Bool.{cases_lt, cases_eq}
+use Rattle.std.proofs.lemmas.List.{ext_get_or, get_or_append_left, get_or-append_right, get_or-take, get_or-drop, get_or_past, get_or-set_same, get_or-set_other, set_at}
 use Rattle.std.proofs.Math.Seq.{take-append-add, drop-append-add}
 use Rattle.line_index.specs.Edits.{with_fresh, with_joined}
 use Rattle.split_vector.specs.Split.{Split}
-use Rattle.line_rows.specs.Values.{capacity_of, values_in}
+use Rattle.line_rows.specs.Values.{values_in}
 
 module _ {V : Type 0} where
-  set_last : (d : V) (xs : List V) (n : ℕ) (x : V) → length xs ≡ n → set (xs ++ d ∷ []) n x ≡ xs ++ x ∷ []
-  set_last d [] zero x h = refl
-  set_last d [] (suc n) x h = absurd (omega arith)
-  set_last d (y ∷ ys) zero x h = absurd (omega arith)
-  set_last d (y ∷ ys) (suc n) x h = ap (λ t. y ∷ t) (set_last d ys n x (omega arith))
-
   pub padded_length : (d : V) (n : ℕ) (xs : List V) → length xs ≤ n → length (padded d n xs) ≡ n
   padded_length d n xs h = simp (length-append, length-replicate) (omega arith)
+
+  -- the values of all lines are told by those that are stored
+  at_padded : (d : V) (n : ℕ) (xs : List V) (i : ℕ) → get_or (padded d n xs) i d ≡ get_or xs i d
+  at_padded d n xs i = go xs i (n - length xs)
+    where
+      none : (m i : ℕ) → get_or (replicate m d) i d ≡ d
+      none zero i = refl
+      none (suc m) zero = refl
+      none (suc m) (suc i) = none m i
+
+      go : (xs : List V) (i m : ℕ) → get_or (xs ++ replicate m d) i d ≡ get_or xs i d
+      go [] i m = none m i
+      go (x ∷ xs) zero m = refl
+      go (x ∷ xs) (suc i) m = go xs i m
+
+  same_padded : (d : V) (n : ℕ) (xs ys : List V) → length xs ≤ n → length ys ≡ n → ((i : ℕ) → get_or xs i d ≡ get_or ys i d) → padded d n xs ≡ ys
+  same_padded d n xs ys h e same = ext_get_or d (padded d n xs) ys (padded_length d n xs h ∙ sym e) (λ i inside. at_padded d n xs i ∙ same i)
 
   -- defaults inserted among defaults
   defaults_in : (d : V) (q n k : ℕ) → q ≤ n → take q (replicate n d) ++ (replicate k d ++ drop q (replicate n d)) ≡ replicate (n + k) d
@@ -47,71 +59,54 @@ module _ {V : Type 0} where
       ap (λ m. first_or d (take m (drop p xs))) wide ∙ first_of d (drop p xs) k ∙ ap (λ l. get_or l 0 d) (drop_more xs p d inside) in
       rw (first, take_more xs p d inside, end) (simp append_assoc)
 
-  -- deleted lines that are all stored
-  gone_inside : (d : V) (xs : List V) (n m p k : ℕ) → m + k ≡ n → p + k ≤ length xs → padded d m (deleted xs p (min k (length xs - p))) ≡ deleted (padded d n xs) p k
-  gone_inside d xs n m p k e l =
-      let all : min k (length xs - p) ≡ k = omega arith in
-      let rest = replicate {A = V} (n - length xs) d in
-      let before : p ≤ length xs = omega arith in
-      let left : m - length (deleted xs p k) ≡ n - length xs = simp (length-append, length-take, length-drop) (omega arith) in
-      rw (all, left, take-append-le p xs rest before, drop-append-le (p + k) xs rest l) (simp append_assoc)
+  -- deleted lines
+  at_deleted : (xs : List V) (p k : ℕ) (d : V) (i : ℕ) → p ≤ length xs → (i < p → get_or (deleted xs p k) i d ≡ get_or xs i d) × (p ≤ i → get_or (deleted xs p k) i d ≡ get_or xs (i + k) d)
+  at_deleted xs p k d i l = (
+    λ near. get_or_append_left (take p xs) (drop (p + k) xs) d i (omega (arith, length-take-le p xs l)) ∙ get_or-take p xs i d near,
+    λ far.
+        let place : p + k + (i - p) ≡ i + k = omega arith in
+        get_or-append_right (take p xs) (drop (p + k) xs) p i d (length-take-le p xs l) far ∙ get_or-drop (p + k) xs (i - p) d ∙ ap (λ j. get_or xs j d) place,
+  )
 
-  -- deleted lines from a stored one on, past the last of these
-  gone_past : (d : V) (xs : List V) (n m p k : ℕ) → length xs ≤ n → p ≤ length xs → m + k ≡ n → p + k ≤ n → length xs ≤ p + k → padded d m (deleted xs p (min k (length xs - p))) ≡ deleted (padded d n xs) p k
-  gone_past d xs n m p k h l e w past =
-      let all : p + min k (length xs - p) ≡ length xs = omega arith in
-      let rest = replicate {A = V} (n - length xs) d in
-      let end : p + k ≡ length xs + (p + k - length xs) = omega arith in
-      let back : drop (p + k) (xs ++ rest) ≡ replicate (n - length xs - (p + k - length xs)) d =
-      ap (λ j. drop j (xs ++ rest)) end ∙ drop-append-add xs rest (p + k - length xs) ∙ drop-replicate (p + k - length xs) (n - length xs) d in
-      let none : drop (length xs) xs ≡ [] = drop_all (length xs) xs (omega arith) in
-      let left : m - length (take p xs) ≡ n - length xs - (p + k - length xs) = omega (arith, length-take-le p xs l) in
-      rw (all, none, append-nil (take p xs), left, take-append-le p xs rest l, back)
-
-  gone : (d : V) (xs : List V) (n m p k : ℕ) → length xs ≤ n → p ≤ length xs → m + k ≡ n → p + k ≤ n → padded d m (deleted xs p (min k (length xs - p))) ≡ deleted (padded d n xs) p k
-  gone d xs n m p k h l e w =
-      elim (cases_lt (length xs) (p + k)) [ inl past ↦ gone_past d xs n m p k h l e w (omega arith) | inr inside ↦ gone_inside d xs n m p k e inside ]
-
-  -- deleted lines behind the stored ones
-  gone_behind : (d : V) (xs : List V) (n m p k : ℕ) → length xs ≤ p → m + k ≡ n → p + k ≤ n → padded d m xs ≡ deleted (padded d n xs) p k
-  gone_behind d xs n m p k h e w =
-      let place : p ≡ length xs + (p - length xs) = omega arith in
-      let end : p + k ≡ length xs + (p - length xs + k) = omega arith in
-      let rest = replicate {A = V} (n - length xs) d in
-      let inside : p - length xs ≤ n - length xs = omega arith in
-      let count : p - length xs + (n - length xs - (p - length xs + k)) ≡ m - length xs = omega arith in
-      let front : take p (xs ++ rest) ≡ xs ++ replicate (p - length xs) d =
-      ap (λ j. take j (xs ++ rest)) place ∙ take-append-add xs rest (p - length xs) ∙ ap (λ t. xs ++ t) (take-replicate {X = V} (p - length xs) (n - length xs) d inside) in
-      let back : drop (p + k) (xs ++ rest) ≡ replicate (n - length xs - (p - length xs + k)) d =
-      ap (λ j. drop j (xs ++ rest)) end ∙ drop-append-add xs rest (p - length xs + k) ∙ drop-replicate (p - length xs + k) (n - length xs) d in
-      rw (front, back, append_assoc, replicate-append-replicate {A = V} (p - length xs) (n - length xs - (p - length xs + k)) d, count)
+  gone : (d : V) (xs ys : List V) (n p k : ℕ) → length xs ≤ n → p + k ≤ n → length ys ≤ n - k → ((i : ℕ) → i < p → get_or ys i d ≡ get_or xs i d) → ((i : ℕ) → p ≤ i → get_or ys i d ≡ get_or xs (i + k) d) → padded d (n - k) ys ≡ deleted (padded d n xs) p k
+  gone d xs ys n p k h w few near far =
+      let long = padded_length d n xs h in
+      let all = λ (i : ℕ). at_deleted (padded d n xs) p k d i (omega (arith, long)) in
+      let whole = padded d n xs in
+      same_padded d (n - k) ys (deleted whole p k) few
+      (omega (arith, long, length-append (take p whole) (drop (p + k) whole), length-take-le p whole (omega (arith, long)), length-drop (p + k) whole))
+      (λ i. elim (cases_lt i p) [
+        | inl low ↦ near i low ∙ sym ((all i).0 low ∙ at_padded d n xs i)
+        | inr high ↦ far i high ∙ sym ((all i).1 high ∙ at_padded d n xs (i + k))
+      ])
 
   -- lines are joined to a stored one
   pub padded_joined : (d : V) (xs : List V) (n p k behind : ℕ) → length xs ≤ n → p + 1 ≤ length xs → p + k < n → behind ≡ length xs - (p + 1) → padded d (n - k) (deleted xs (p + 1) (min k behind)) ≡ with_joined (first_or d) p k (padded d n xs)
   padded_joined d xs n p k behind h l w e =
-      let full : p + k < length (padded d n xs) = omega (arith, padded_length d n xs h) in
-      let left : n - k + k ≡ n = omega arith in
-      let within : p + 1 + k ≤ n = omega arith in
-      rw e (gone d xs n (n - k) (p + 1) k h l left within ∙ sym (joined_is d (padded d n xs) p k full))
+      let at = λ (i : ℕ). at_deleted xs (p + 1) (min k behind) d i l in
+      gone d xs (deleted xs (p + 1) (min k behind)) n (p + 1) k h (omega arith) (simp (length-append, length-take, length-drop) (omega arith)) (λ i low. (at i).0 low)
+      (λ i high. (at i).1 high ∙ elim (cases_lt behind k) [
+        | inl past ↦ get_or_past xs (i + min k behind) d (omega arith) ∙ sym (get_or_past xs (i + k) d (omega arith))
+        | inr inside ↦ let all : min k behind ≡ k = omega arith in ap (λ j. get_or xs (i + j) d) all
+      ])
+      ∙ sym (joined_is d (padded d n xs) p k (omega (arith, padded_length d n xs h)))
 
   -- lines are joined to one behind the stored ones
   pub padded_joined_behind : (d : V) (xs : List V) (n p k : ℕ) → length xs ≤ n → length xs ≤ p + 1 → p + k < n → padded d (n - k) xs ≡ with_joined (first_or d) p k (padded d n xs)
   padded_joined_behind d xs n p k h l w =
-      let full : p + k < length (padded d n xs) = omega (arith, padded_length d n xs h) in
-      let left : n - k + k ≡ n = omega arith in
-      let within : p + 1 + k ≤ n = omega arith in
-      gone_behind d xs n (n - k) (p + 1) k l left within ∙ sym (joined_is d (padded d n xs) p k full)
+      gone d xs xs n (p + 1) k h (omega arith) (omega arith) (λ i low. refl) (λ i high. get_or_past xs i d (omega arith) ∙ sym (get_or_past xs (i + k) d (omega arith)))
+      ∙ sym (joined_is d (padded d n xs) p k (omega (arith, padded_length d n xs h)))
 
   -- the value of a line is set, once it is stored
   pub padded_set : (d : V) (xs : List V) (n end line : ℕ) (x : V) → length xs ≤ n → length xs ≤ end → end ≤ n → line < end → padded d n (set (padded d end xs) line x) ≡ set (padded d n xs) line x
   padded_set d xs n end line x h l w i =
-      let long : length (padded d end xs) ≡ end = padded_length d end xs l in
-      let inside : line < length (padded d end xs) = omega arith in
-      let left : n - length (set (padded d end xs) line x) ≡ n - end = omega (arith, length-set (padded d end xs) line x) in
-      let count : end - length xs + (n - end) ≡ n - length xs = omega arith in
-      let split : padded d end xs ++ replicate (n - end) d ≡ padded d n xs =
-      append_assoc xs (replicate (end - length xs) d) (replicate (n - end) d) ∙ ap (λ t. xs ++ t) (replicate-append-replicate {A = V} (end - length xs) (n - end) d ∙ ap (λ m. replicate m d) count) in
-      rw left (sym (set-append_left (padded d end xs) (replicate (n - end) d) line x inside) ∙ ap (λ l. set l line x) split)
+      let short = padded_length d end xs l in
+      let long = padded_length d n xs h in
+      same_padded d n (set (padded d end xs) line x) (set (padded d n xs) line x) (omega (arith, short, length-set (padded d end xs) line x)) (length-set (padded d n xs) line x ∙ long)
+      (λ k. elim (cases_eq k line) [
+        | inl e ↦ rw e (get_or-set_same (padded d end xs) line x d (omega (arith, short)) ∙ sym (get_or-set_same (padded d n xs) line x d (omega (arith, long))))
+        | inr ne ↦ get_or-set_other (padded d end xs) line k x d ne ∙ at_padded d end xs k ∙ sym (get_or-set_other (padded d n xs) line k x d ne ∙ at_padded d n xs k)
+      ])
 
   -- the line right behind the stored ones gets its value
   pub padded_put : (d : V) (xs : List V) (line : ℕ) (x : V) → length xs ≤ line → inserted (padded d line xs) line (x ∷ []) ≡ set (padded d (line + 1) xs) line x
@@ -126,7 +121,7 @@ module _ {V : Type 0} where
       ap (λ t. t ++ x ∷ [] ++ drop line P) front
       ∙ ap (λ t. P ++ x ∷ [] ++ t) back
       ∙ append-nil (P ++ x ∷ [])
-      ∙ sym (ap (λ t. set t line x) more ∙ set_last d P line x long)
+      ∙ sym (ap (λ t. set t line x) more ∙ set_at P d [] x line long)
 
   -- a stored line gets another value
   pub padded_set_stored : (d : V) (xs : List V) (n line : ℕ) (x : V) → length xs ≤ n → line < length xs → padded d n (set xs line x) ≡ set (padded d n xs) line x
@@ -142,9 +137,9 @@ module _ {V : Type 0} where
 
   -- the value of a line is set, and the values of the lines up to it are stored
   pub value_set : (old new : Split V) (d : V) (lines line : ℕ) (x : V) (v : Valued V) → values_in old d lines ≡ v →
-      padded d lines new.items ≡ set (padded d lines old.items) line x → length new.items ≡ max (length old.items) (line + 1) → capacity_of new ≡ capacity_of old → values_in new d lines ≡ with_value v line x
+      padded d lines new.items ≡ set (padded d lines old.items) line x → length new.items ≡ max (length old.items) (line + 1) → new.capacity ≡ old.capacity → values_in new d lines ≡ with_value v line x
   value_set old new d lines line x v view values reached kept =
-      ap (λ vs. valued d vs (length new.items) (capacity_of new)) values
-      ∙ ap (λ n. valued d (set (padded d lines old.items) line x) n (capacity_of new)) reached
+      ap (λ vs. valued d vs (length new.items) new.capacity) values
+      ∙ ap (λ n. valued d (set (padded d lines old.items) line x) n new.capacity) reached
       ∙ ap (λ n. valued d (set (padded d lines old.items) line x) (max (length old.items) (line + 1)) n) kept
       ∙ ap (λ v. with_value v line x) view

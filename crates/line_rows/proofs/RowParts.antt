@@ -1,5 +1,5 @@
 -- Rows of lines, and the lists of their parts.
-use Rattle.line_rows.proofs.Names.{◌≡◌, ◌+◌, ◌-◌, ℕ, zero, suc, ℤ, pos, List, [], ◌∷◌, ◌++◌, length, take, drop, replicate, flat_map, refl, sym, ap, ◌∙◌, arith, slice_range, length-append, length-take, length-drop, length-replicate, Marker, Row, base_level, fresh_row, rows_together, LineEdit, Come, Join, Restart, after_edit, after_edits, first_or, rows_of, markers_together, PartsCarryRows}
+use Rattle.line_rows.proofs.Names.{◌≡◌, ◌+◌, ◌-◌, ℕ, zero, suc, ℤ, pos, List, [], ◌∷◌, ◌++◌, length, take, drop, replicate, flat_map, refl, sym, ap, ◌∙◌, arith, slice_range, length-append, length-take, length-drop, length-replicate, Marker, Row, base_level, fresh_row, rows_together, LineEdit, Come, Join, Restart, after_edit, after_edits, first_or, rows_of, markers_together}
 
 rows-take : (n : ℕ) (ms : List (List Marker)) (ls : List ℕ) (ss : List ℤ) → take n (rows_of ms ls ss) ≡ rows_of (take n ms) (take n ls) (take n ss)
 rows-take zero ms ls ss = refl
@@ -84,7 +84,10 @@ rows_edited (Join line count) ms ls ss e f =
     ∙ ap (λ front. front ++ (rows_together (slice_range (rows_of ms ls ss) line end) ∷ drop end (rows_of ms ls ss))) (sym (rows-take line ms ls ss)))
 rows_edited Restart ms ls ss e f = refl
 
-pub rows_carried : PartsCarryRows
+-- rows are carried as their markers, levels and states are, each by itself
+pub rows_carried :
+    (edits : List LineEdit) (ms : List (List Marker)) (ls : List ℕ) (ss : List ℤ) → length ms ≡ length ls → length ms ≡ length ss
+    → after_edits rows_together edits (rows_of ms ls ss) ≡ rows_of (after_edits markers_together edits ms) (after_edits (first_or base_level) edits ls) (after_edits (first_or (pos 0)) edits ss)
 rows_carried [] ms ls ss e f = refl
 rows_carried (edit ∷ edits) ms ls ss e f =
     ap (after_edits rows_together edits) (rows_edited edit ms ls ss e f)
@@ -94,12 +97,3 @@ rows_carried (edit ∷ edits) ms ls ss e f =
 pub same_edits : {A B : Type 0} (t : List A → A) (u : List B → B) (edits : List LineEdit) (xs : List A) (ys : List B) → length xs ≡ length ys → length (after_edits t edits xs) ≡ length (after_edits u edits ys)
 same_edits t u [] xs ys e = e
 same_edits t u (edit ∷ edits) xs ys e = same_edits t u edits (after_edit t xs edit) (after_edit u ys edit) (same_edit t u edit xs ys e)
-
--- the rows, once each part was carried
-pub carried : (edits : List LineEdit) (ms ms' : List (List Marker)) (ls ls' : List ℕ) (ss ss' : List ℤ) (level : ℕ) (state : ℤ) → length ms ≡ length ls → length ms ≡ length ss → level ≡ base_level → state ≡ pos 0 →
-    ms' ≡ after_edits markers_together edits ms → ls' ≡ after_edits (first_or level) edits ls → ss' ≡ after_edits (first_or state) edits ss → rows_of ms' ls' ss' ≡ after_edits rows_together edits (rows_of ms ls ss)
-carried edits ms ms' ls ls' ss ss' level state e f base zeros em el es =
-    ap (λ m. rows_of m ls' ss') em
-    ∙ ap (λ l. rows_of (after_edits markers_together edits ms) l ss') (el ∙ ap (λ d. after_edits (first_or d) edits ls) base)
-    ∙ ap (rows_of (after_edits markers_together edits ms) (after_edits (first_or base_level) edits ls)) (es ∙ ap (λ d. after_edits (first_or d) edits ss) zeros)
-    ∙ sym (rows_carried edits ms ls ss e f)

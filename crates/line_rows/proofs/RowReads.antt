@@ -1,9 +1,9 @@
 -- Reads and changes of rows, part by part.
 use Rattle.std.proofs.lemmas.Bool.{cases_lt}
-use Rattle.split_vector.specs.Split.{most_room}
+use Rattle.split_vector.specs.Split.{most_held}
 use Rattle.marker_store.specs.Lines.{HasRoom}
-use Rattle.line_rows.specs.Values.{most_held, wanted_if}
-use Rattle.line_rows.proofs.Names.{inl, inr, ◌*◌, ◌≤◌, length-append, length-set, sum_by-set, AreParts, HasRoomForMarkers, MarkedLines, Valued, kept_in, with_level, with_state, with_marker, with_value, with_marker_on, without_marker_on, store_without, ◌≡◌, ◌≢◌, ◌↔◌, IsTrue, min, max, reverse, ◌<◌, ◌+◌, ◌-◌, ℕ, zero, suc, ℤ, pos, Bool, not, cond, List, [], ◌∷◌, ◌++◌, length, filter, get_or, set, Option, Some, refl, sym, ap, ◌∙◌, arith, range_with_len, find, set-get_or, get_or_read, sum_by-cons, Marker, Row, base_level, with_markers, without_markers, new_markers, without_marker, marker_count, markers_of, marker_total, without, KeptRows, row_at, levels_of, rows_of}
+use Rattle.line_rows.specs.Values.{wanted_if}
+use Rattle.line_rows.proofs.Names.{inl, inr, ◌≤◌, length-append, length-set, sum_by-set, AreParts, HasRoomForMarkers, MarkedLines, Valued, kept_in, with_level, with_state, with_marker, with_value, with_marker_on, without_marker_on, store_without, ◌≡◌, ◌≢◌, ◌↔◌, IsTrue, min, max, reverse, ◌<◌, ◌+◌, ◌-◌, ℕ, zero, suc, ℤ, pos, Bool, not, cond, List, [], ◌∷◌, ◌++◌, length, filter, get_or, set, Option, Some, refl, sym, ap, ◌∙◌, arith, range_with_len, find, set-get_or, get_or_read, sum_by-cons, Marker, Row, base_level, with_markers, without_markers, new_markers, without_marker, marker_count, markers_of, marker_total, without, KeptRows, row_at, levels_of, rows_of}
 
 abbrev pub row : List Marker → ℕ → ℤ → Row
 row m l s = record { markers = m; level = l; state = s }
@@ -81,60 +81,25 @@ pub one_more : (lines : List (List Marker)) (k : ℕ) (m : Marker) → k < lengt
 one_more lines k m inside =
     omega (arith, sum_by-set length lines k (markers_of k lines ++ m ∷ []) [] inside, length-append (markers_of k lines) (m ∷ []))
 
--- memory stays or grows
-pub held_at_least : (capacity wanted : ℕ) → capacity ≤ most_held capacity wanted
-held_at_least capacity wanted = grind arith
-
--- memory that stays where it needs to hold no more
-grew : (some held wanted new : ℕ) → ((0 < some → wanted ≤ held) → new ≡ held) → new ≤ max wanted (0 + 2 * held) → new ≤ most_held held (wanted_if some wanted)
-grew some held wanted new same most =
-    elim (cases_lt 0 some) [
-      | inr none ↦ omega (arith, same (λ h. absurd (omega arith)), held_at_least held (wanted_if some wanted))
-      | inl more ↦ elim (cases_lt held wanted) [
-        | inr fits ↦ omega (arith, same (λ h. omega arith), held_at_least held (wanted_if some wanted))
-        | inl less ↦ grind arith
-      ]
-    ]
-
 -- Of the parts of a `LineRows`.
 module _ (markers : MarkedLines) (levels : Valued ℕ) (states : Valued ℤ) (parts : AreParts markers levels states) where
-  -- there are other markers, no more than before
-  pub fewer_parts : (lines : List (List Marker)) → length lines ≡ length markers.lines → marker_total lines ≤ marker_total markers.lines → AreParts (record markers { lines = lines }) levels states
-  fewer_parts lines long fewer = record {
-    levelled = long ∙ parts.levelled;
-    stated = long ∙ parts.stated;
-    base = parts.base;
-    zero_state = parts.zero_state;
-    markers_fit = omega (arith, fewer, parts.markers_fit);
-    lines_fit = λ some. omega (arith, parts.lines_fit some, long);
-  }
-
-  -- a line has one more marker
-  pub added_parts : (k n : ℕ) → k < length markers.lines → marker_total markers.lines + 1 ≤ markers.capacity → AreParts (record markers { lines = with_marker_on k n markers; next_handle = markers.next_handle + 1 }) levels states
-  added_parts k n inside room =
-      let new = new_markers markers.next_handle (n ∷ []) in
-      let long = length-set {A = List Marker} markers.lines k (markers_of k markers.lines ++ new) in
-      record {
-        levelled = long ∙ parts.levelled;
-        stated = long ∙ parts.stated;
-        base = parts.base;
-        zero_state = parts.zero_state;
-        markers_fit = omega (arith, room, one_more markers.lines k (record { handle = markers.next_handle; number = n }) inside);
-        lines_fit = λ some. omega (arith, parts.lines_fit some, long);
-      }
+  -- other markers stand on as many lines
+  pub same_parts : (new : MarkedLines) → length new.lines ≡ length markers.lines → AreParts new levels states
+  same_parts new long = record { levelled = long ∙ parts.levelled; stated = long ∙ parts.stated; base = parts.base; zero_state = parts.zero_state }
 
   module _ (r : KeptRows) (view : kept_in markers levels states ≡ r) where
     pub parts_length : length markers.lines ≡ length r.rows
     parts_length = sym (rows_length markers.lines levels.values states.values parts.levelled parts.stated) ∙ ap (λ (v : KeptRows). length v.rows) view
 
     -- memory for the markers of more lines, which grew only if it had to
-    pub line_memory : (new : MarkedLines) (count : ℕ) → (HasRoom 0 count markers → new ≡ markers) → new.line_capacity ≤ most_room 0 markers.line_capacity (length markers.lines + count) →
+    pub line_memory : (new : MarkedLines) (count : ℕ) → (HasRoom 0 count markers → new ≡ markers) → marker_total markers.lines ≤ markers.capacity → new.line_capacity ≤ most_held markers.line_capacity (length markers.lines + count) →
         new.line_capacity ≤ most_held r.capacity.marker_lines (wanted_if r.capacity.markers (length r.rows + count))
-    line_memory new count there most =
+    line_memory new count there fits most =
         rw (← ap (λ (v : KeptRows). v.capacity.marker_lines) view, ← ap (λ (v : KeptRows). v.capacity.markers) view, ← parts_length) (
-        grew markers.capacity markers.line_capacity (length markers.lines + count) new.line_capacity
-        (λ h. ap (λ (m : MarkedLines). m.line_capacity) (there (omega (arith, parts.markers_fit), h))) most
-        )
+        elim (cases_lt 0 markers.capacity) [
+          | inl some ↦ grind arith
+          | inr none ↦ rw (ap (λ (m : MarkedLines). m.line_capacity) (there (omega arith, λ some. absurd (omega arith)))) (grind arith)
+        ])
 
     pub parts_count : marker_total markers.lines ≡ marker_count r.rows
     parts_count = rows_count markers.lines levels.values states.values parts.levelled parts.stated ∙ ap (λ (v : KeptRows). marker_count v.rows) view

@@ -5,11 +5,11 @@ use Rattle.ed_model.specs.Numbers.{meets}
 use Rattle.ed_model.specs.Rows.{Marker, Row, fresh_row, base_level, rows_together}
 use Rattle.ed_model.specs.LinePlans.{mask_of}
 use Rattle.ed_model.specs.Changes.{with_markers, new_markers, without_marker, marker_count}
-use Rattle.split_vector.specs.Split.{most_room}
+use Rattle.split_vector.specs.Split.{most_held}
 use Rattle.line_index.specs.declared.edit.LineEdit.{LineEdit}
 use Rattle.line_index.specs.Edits.{after_edits}
-use Rattle.marker_store.specs.Lines.{MarkedLines, HasLineRoom, marker_total}
-use Rattle.line_rows.specs.Values.{Valued, most_held, stored_after, wanted_if}
+use Rattle.marker_store.specs.Lines.{MarkedLines}
+use Rattle.line_rows.specs.Values.{Valued, stored_after, wanted_if}
 use Rattle.line_rows.specs.Rows.{rows_of}
 
 -- For how many levels, states and markers there is memory, and for the markers of how many lines. As long as there is no
@@ -83,8 +83,12 @@ most_for_state line r = record r.capacity { states = most_held r.capacity.states
 abbrev pub most_for_markers : ℕ → KeptRows → RowCapacity
 most_for_markers count r = record r.capacity {
   markers = most_held r.capacity.markers (marker_count r.rows + count);
-  marker_lines = most_room 0 r.capacity.marker_lines (length r.rows);
+  marker_lines = most_held r.capacity.marker_lines (length r.rows);
 }
+
+-- nothing but the capacities has changed, each of which is no less, and no more than this
+abbrev pub GrowsTo : RowCapacity → KeptRows → KeptRows → Type 0
+GrowsTo most old new = (new ≡ record old { capacity = new.capacity }) × IsAtMost old.capacity new.capacity × IsAtMost new.capacity most
 
 -- the kept rows after edits of lines
 abbrev pub rows_after : List LineEdit → KeptRows → KeptRows
@@ -137,12 +141,9 @@ first_from test rows line = find test (range_with_len line (length rows - line))
 abbrev pub last_up_to : (ℕ → Bool) → List Row → ℕ → Option ℕ
 last_up_to test rows line = find test (reverse (range_with_len 0 (min (line + 1) (length rows))))
 
--- As many levels and states as lines with markers, with the defaults of a fresh row; the markers fit in, and so do their
--- lines.
+-- as many levels and states as lines with markers, with the defaults of a fresh row
 pub record AreParts (markers : MarkedLines) (levels : Valued ℕ) (states : Valued ℤ) : Type 0 where
   pub levelled : length markers.lines ≡ length levels.values
   pub stated : length markers.lines ≡ length states.values
   pub base : levels.default ≡ base_level
   pub zero_state : states.default ≡ pos 0
-  pub markers_fit : marker_total markers.lines ≤ markers.capacity
-  pub lines_fit : HasLineRoom 0 markers

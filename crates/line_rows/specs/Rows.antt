@@ -1,10 +1,8 @@
 -- Rows of lines, whose markers, levels and states are stored separately.
-use Rattle.std.specs.Prelude.{◌≡◌, ℕ, ℤ, pos, List, [], ◌∷◌, length, flat_map}
-use Rattle.ed_model.specs.Rows.{Marker, Row, base_level, rows_together}
-use Rattle.line_index.specs.declared.edit.LineEdit.{LineEdit}
-use Rattle.line_index.specs.Edits.{after_edits}
+use Rattle.std.specs.Prelude.{◌≡◌, ℕ, ℤ, List, [], ◌∷◌, flat_map}
+use Rattle.ed_model.specs.Rows.{Marker, Row, base_level}
 use Rattle.contraction.specs.Headings.{HeadFrom}
-use Rattle.line_rows.specs.Values.{Valued, first_or}
+use Rattle.line_rows.specs.Values.{Valued}
 
 -- the row of each line, from its markers, its level and its state
 abbrev pub rows_of : List (List Marker) → List ℕ → List ℤ → List Row
@@ -20,10 +18,3 @@ markers_together markers = flat_map (λ ms. ms) markers
 -- a line without a level has the base level, and no header has a smaller number than this one
 abbrev pub AreLevels : Valued ℕ → ℕ → Type 0
 AreLevels levels number = record { base : levels.default ≡ base_level; least : HeadFrom number levels.values }
-
--- rows are carried as their markers, levels and states are, each by itself
-abbrev pub PartsCarryRows : Type 0
-PartsCarryRows =
-    (edits : List LineEdit) (markers : List (List Marker)) (levels : List ℕ) (states : List ℤ) → length markers ≡ length levels → length markers ≡ length states
-    → after_edits rows_together edits (rows_of markers levels states)
-    ≡ rows_of (after_edits markers_together edits markers) (after_edits (first_or base_level) edits levels) (after_edits (first_or (pos 0)) edits states)

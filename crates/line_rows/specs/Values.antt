@@ -1,7 +1,7 @@
 -- What a contract sees of `LineValues`.
-use Rattle.std.specs.Prelude.{◌≡◌, ℕ, ◌+◌, ◌-◌, ◌*◌, ◌<◌, ◌≤◌, ◌==◌, nat_le, if◌then◌else◌, min, max, List, [], ◌∷◌, ◌++◌, length, replicate, fold, slice_set, refl}
+use Rattle.std.specs.Prelude.{◌≡◌, ℕ, ◌+◌, ◌-◌, ◌<◌, ◌≤◌, ◌==◌, nat_le, if◌then◌else◌, min, max, List, [], ◌∷◌, ◌++◌, length, replicate, fold, slice_set, refl}
 use Rattle.std.specs.Coded.{Coded, code_by, coded×, coded_list, coded_ℕ}
-use Rattle.split_vector.specs.Split.{Split}
+use Rattle.split_vector.specs.Split.{Split, most_held}
 use Rattle.line_index.specs.Edits.{with_fresh, with_joined, after_edits}
 use Rattle.line_index.specs.declared.edit.LineEdit.{LineEdit}
 use Rattle.line_index.specs.declared.edit.LineEdit.TheVariants.{Come, Join, Restart}
@@ -17,11 +17,6 @@ pub record Valued (V : Type 0) : Type 0 where
 -- so many values need memory, or none as long as none is stored
 abbrev pub wanted_if : (stored all : ℕ) → ℕ
 wanted_if stored all = if stored == 0 then 0 else all
-
--- for how many there is memory at most after room was made for these: for as many as before if they fit in, otherwise for
--- these or for twice as many as before
-abbrev pub most_held : (capacity wanted : ℕ) → ℕ
-most_held capacity wanted = if nat_le wanted capacity then capacity else max wanted (2 * capacity)
 
 module _ {V : Type 0} where
   abbrev pub valued : V → List V → ℕ → ℕ → Valued V
@@ -40,39 +35,28 @@ module _ {V : Type 0} where
   abbrev pub padded : V → ℕ → List V → List V
   padded value lines stored = stored ++ replicate (lines - length stored) value
 
-  -- the same if they are stored in two halves
-  abbrev pub padded_halves : V → ℕ → List V → List V → List V
-  padded_halves value lines first second = first ++ second ++ replicate (lines - (length first + length second)) value
-
   -- the values of all lines are those of the two halves, and the default of the lines behind them
   abbrev pub AreInHalves : Valued V → List V → List V → Type 0
-  AreInHalves v first second = v.values ≡ padded_halves v.default (length v.values) first second
-
-  -- for how many values the vector has memory
-  abbrev pub capacity_of : Split V → ℕ
-  capacity_of stored = length stored.items + stored.spare
+  AreInHalves v first second = v.values ≡ first ++ second ++ replicate (length v.values - (length first + length second)) v.default
 
   -- what a contract sees of the stored values, the default and the number of lines
   abbrev pub values_in : Split V → V → ℕ → Valued V
-  values_in stored value lines = valued value (padded value lines stored.items) (length stored.items) (capacity_of stored)
+  values_in stored value lines = valued value (padded value lines stored.items) (length stored.items) stored.capacity
+
+  -- the vector has these items, and its capacity is as before
+  abbrev pub HasItems : List V → Split V → Split V → Type 0
+  HasItems items old new = (new.items ≡ items) × (new.capacity ≡ old.capacity)
 
   -- the values of all lines, however many there are, get `count` defaults before the line
-  abbrev pub GainsLines : Split V → Split V → V → (line count : ℕ) → Type 0
-  GainsLines old new value line count =
-      (lines : ℕ) → length old.items ≤ lines → line ≤ lines
-      → padded value (lines + count) new.items ≡ with_fresh (first_or value) line count (padded value lines old.items)
+  abbrev pub HaveFresh : V → (old new : List V) → (line count : ℕ) → Type 0
+  HaveFresh value old new line count =
+      (lines : ℕ) → length old ≤ lines → line ≤ lines → padded value (lines + count) new ≡ with_fresh (first_or value) line count (padded value lines old)
 
-  -- the values of all lines, however many there are and whatever the default is, lose those of the `count` lines behind
-  -- the line
-  abbrev pub LosesLines : Split V → Split V → (line count : ℕ) → Type 0
-  LosesLines old new line count =
-      (value : V) (lines : ℕ) → length old.items ≤ lines → line + count < lines
-      → padded value (lines - count) new.items ≡ with_joined (first_or value) line count (padded value lines old.items)
-
-  -- no more values are stored than lines are left after the `count` lines behind the line are deleted
-  abbrev pub FitsLinesLeft : Split V → Split V → (line count : ℕ) → Type 0
-  FitsLinesLeft old new line count =
-      (lines : ℕ) → length old.items ≤ lines → line + count < lines → length new.items ≤ lines - count
+  -- the values of all lines, however many there are and whatever the default is, lose those of the `count` lines behind the
+  -- line
+  abbrev pub AreJoined : (old new : List V) → (line count : ℕ) → Type 0
+  AreJoined old new line count =
+      (value : V) (lines : ℕ) → length old ≤ lines → line + count < lines → padded value (lines - count) new ≡ with_joined (first_or value) line count (padded value lines old)
 
   -- The values of `count` more lines fit in. As long as no value is stored, none of theirs is.
   abbrev pub HasRoomForLines : ℕ → Valued V → Type 0
@@ -81,6 +65,16 @@ module _ {V : Type 0} where
   -- the value of the line fits in, with those of the lines before it
   abbrev pub HasRoomForValue : ℕ → Valued V → Type 0
   HasRoomForValue line v = line < v.capacity
+
+  -- Nothing but the capacity has changed, which is no less, and no more than what is asked for. Memory for the value of a line
+  -- is asked for with that of all lines.
+  abbrev pub GrowsForLines : ℕ → Valued V → Valued V → Type 0
+  GrowsForLines count old new =
+      (new ≡ record old { capacity = new.capacity }) × (old.capacity ≤ new.capacity) × (new.capacity ≤ most_held old.capacity (wanted_if old.stored (old.stored + count)))
+
+  abbrev pub GrowsForValue : ℕ → Valued V → Valued V → Type 0
+  GrowsForValue line old new =
+      (new ≡ record old { capacity = new.capacity }) × (old.capacity ≤ new.capacity) × (new.capacity ≤ most_held old.capacity (max (line + 1) (length old.values)))
 
   -- the values after that of a line was set: those of the lines up to it are stored
   abbrev pub with_value : Valued V → ℕ → V → Valued V

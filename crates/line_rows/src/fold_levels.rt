@@ -1,8 +1,9 @@
 //! `FoldLevels`: the fold level of each line, and a bound for the numbers of all headers.
-ghost use Rattle.std.specs.Prelude.{◌≡◌, ℕ, ◌≤◌, ◌<◌, ◌+◌, ◌^◌, ◌∷◌, [], length, max, slice_index_or, OnOk, OnErr, IsOk};
+ghost use Rattle.std.specs.Prelude.{◌≡◌, ℕ, ◌≤◌, ◌<◌, ◌+◌, ◌^◌, ◌∷◌, [], length, slice_index_or, OnOk, OnErr};
 ghost use Rattle.ed_model.specs.Rows.{base_level};
 ghost use Rattle.line_index.specs.Edits.{FitLines, fresh_lines};
-ghost use Rattle.line_rows.specs.Values.{valued, HasRoomForLines, HasRoomForValue, most_held, wanted_if, with_value, values_after};
+ghost use Rattle.line_rows.specs.Values.{valued, HasRoomForLines, HasRoomForValue, GrowsForLines, GrowsForValue, with_value, values_after};
+ghost use Rattle.vec_room.specs.Reserved.{IsReserved};
 
 use crate::values::LineValues;
 use contraction::Levels;
@@ -81,11 +82,8 @@ impl FoldLevels {
     /// `AllocError` if the allocation fails. Nothing has changed then.
     #[inline(always)]
     pub(crate) fn reserve_lines(&mut self, count: usize) -> Result<(), AllocError>
-        ensures rest { self.new ≡ record self.old { capacity = self.new.capacity } }
-        ensures ok { OnOk result (HasRoomForLines count self.new) }
-        ensures room_is_there { HasRoomForLines count self.old → IsOk result × (self.new ≡ self.old) }
-        ensures capacity { self.old.capacity ≤ self.new.capacity }
-        ensures at_most { self.new.capacity ≤ most_held self.old.capacity (wanted_if self.old.stored (self.old.stored + count)) }
+        ensures reserved { IsReserved (HasRoomForLines count) result self.old self.new }
+        ensures grown { GrowsForLines count self.old self.new }
         ensures err { OnErr result (self.new ≡ self.old) }
     {
         self.values.reserve_lines(count)
@@ -97,12 +95,8 @@ impl FoldLevels {
     ///
     /// `AllocError` if the allocation fails. Nothing has changed then.
     pub(crate) fn reserve_value(&mut self, line: usize) -> Result<(), AllocError>
-        ensures rest { self.new ≡ record self.old { capacity = self.new.capacity } }
-        ensures ok { OnOk result (HasRoomForValue line self.new) }
-        ensures room_is_there { HasRoomForValue line self.old → IsOk result × (self.new ≡ self.old) }
-        ensures capacity { self.old.capacity ≤ self.new.capacity }
-        ensures each_line { OnOk result (self.old.capacity ≤ line → length self.old.values ≤ self.new.capacity) }
-        ensures at_most { self.new.capacity ≤ most_held self.old.capacity (max (line + 1) (length self.old.values)) }
+        ensures reserved { IsReserved (HasRoomForValue line) result self.old self.new }
+        ensures grown { GrowsForValue line self.old self.new × OnOk result (self.old.capacity ≤ line → length self.old.values ≤ self.new.capacity) }
         ensures err { OnErr result (self.new ≡ self.old) }
     {
         self.values.reserve_value(line)

@@ -1,10 +1,11 @@
 //! `LineRows` and its calls.
-ghost use Rattle.std.specs.Prelude.{◌≡◌, ◌≢◌, ◌↔◌, IsTrue, ℕ, ◌≤◌, ◌<◌, ◌+◌, ◌-◌, ◌^◌, ◌==◌, ◌∷◌, [], length, OnOk, OnErr, IsOk};
+ghost use Rattle.std.specs.Prelude.{◌≡◌, ◌≢◌, ◌↔◌, IsTrue, ℕ, ◌≤◌, ◌<◌, ◌+◌, ◌-◌, ◌^◌, ◌==◌, ◌∷◌, [], length, OnOk, OnErr};
+ghost use Rattle.vec_room.specs.Reserved.{IsReserved};
 ghost use Rattle.ed_model.specs.Changes.{without_markers, is_of_number, marker_count};
 ghost use Rattle.ed_model.specs.LinePlans.{mask_of};
 ghost use Rattle.ed_model.specs.Rows.{base_level, fresh_row};
 ghost use Rattle.line_index.specs.Edits.{after_edit, after_edits, FitsLines, FitLines, fresh_by, fresh_lines};
-ghost use Rattle.line_rows.specs.Kept.{kept_rows, row_capacity, HasRoomForLines, HasRoomForLevel, HasRoomForState, HasRoomForMarkers, IsAtMost, most_for_lines, most_for_level, most_for_state, most_for_markers, rows_after, row_at, with_level, with_state, with_marker, without_marker_on, levels_of, is_marked, has_handle, first_from, last_up_to};
+ghost use Rattle.line_rows.specs.Kept.{kept_rows, row_capacity, HasRoomForLines, HasRoomForLevel, HasRoomForState, HasRoomForMarkers, GrowsTo, most_for_lines, most_for_level, most_for_state, most_for_markers, rows_after, row_at, with_level, with_state, with_marker, without_marker_on, levels_of, is_marked, has_handle, first_from, last_up_to};
 ghost use Rattle.marker_store.specs.Lines.{HasLineRoom};
 ghost use Rattle.line_rows.specs.Rows.{markers_together};
 
@@ -84,9 +85,11 @@ impl LineRows {
     /// What the rows hold fits in.
     #[tactic(auto, using(crate::proofs::RowReads::parts_length, crate::proofs::RowReads::parts_count, crate::proofs::RowReads::rows_length, crate::proofs::RowReads::rows_count))]
     pub fn fits_in(&self)
-        ensures lines { HasRoomForLines 0 self.now }
-        ensures markers { HasRoomForMarkers 0 self.now }
+        ensures { HasRoomForLines 0 self.now × HasRoomForMarkers 0 self.now }
     {
+        // A use of each part brings what always holds of it.
+        let _ = self.markers.lines();
+        let _ = self.markers.markers();
         self.levels.fits_in();
         self.states.fits_in();
     }
@@ -102,11 +105,8 @@ impl LineRows {
     #[inline]
     #[tactic(auto, using(crate::proofs::RowReads::parts_length, crate::proofs::RowReads::rows_length))]
     pub fn reserve_lines(&mut self, count: usize) -> Result<(), AllocError>
-        ensures rest { self.new ≡ record self.old { capacity = self.new.capacity } }
-        ensures ok { OnOk result (HasRoomForLines count self.new) }
-        ensures room_is_there { HasRoomForLines count self.old → IsOk result × (self.new ≡ self.old) }
-        ensures capacity { IsAtMost self.old.capacity self.new.capacity }
-        ensures at_most { IsAtMost self.new.capacity (most_for_lines count self.old) }
+        ensures reserved { IsReserved (HasRoomForLines count) result self.old self.new }
+        ensures grown { GrowsTo (most_for_lines count self.old) self.old self.new }
         ensures err { OnErr result (self.new.capacity.levels ≡ self.old.capacity.levels) }
     {
         self.states.reserve_lines(count)?;
@@ -123,12 +123,8 @@ impl LineRows {
     /// `AllocError` if the allocation fails. Nothing has changed then.
     #[tactic(auto, using(crate::proofs::RowReads::parts_length))]
     pub fn reserve_level(&mut self, line: usize) -> Result<(), AllocError>
-        ensures rest { self.new ≡ record self.old { capacity = self.new.capacity } }
-        ensures ok { OnOk result (HasRoomForLevel line self.new) }
-        ensures room_is_there { HasRoomForLevel line self.old → IsOk result × (self.new ≡ self.old) }
-        ensures capacity { IsAtMost self.old.capacity self.new.capacity }
-        ensures each_line { OnOk result (self.old.capacity.levels ≤ line → length self.old.rows ≤ self.new.capacity.levels) }
-        ensures at_most { IsAtMost self.new.capacity (most_for_level line self.old) }
+        ensures reserved { IsReserved (HasRoomForLevel line) result self.old self.new }
+        ensures grown { GrowsTo (most_for_level line self.old) self.old self.new × OnOk result (self.old.capacity.levels ≤ line → length self.old.rows ≤ self.new.capacity.levels) }
         ensures err { OnErr result (self.new ≡ self.old) }
     {
         self.levels.reserve_value(line)
@@ -143,12 +139,8 @@ impl LineRows {
     /// `AllocError` if the allocation fails. Nothing has changed then.
     #[tactic(auto, using(crate::proofs::RowReads::parts_length))]
     pub fn reserve_state(&mut self, line: usize) -> Result<(), AllocError>
-        ensures rest { self.new ≡ record self.old { capacity = self.new.capacity } }
-        ensures ok { OnOk result (HasRoomForState line self.new) }
-        ensures room_is_there { HasRoomForState line self.old → IsOk result × (self.new ≡ self.old) }
-        ensures capacity { IsAtMost self.old.capacity self.new.capacity }
-        ensures each_line { OnOk result (self.old.capacity.states ≤ line → length self.old.rows ≤ self.new.capacity.states) }
-        ensures at_most { IsAtMost self.new.capacity (most_for_state line self.old) }
+        ensures reserved { IsReserved (HasRoomForState line) result self.old self.new }
+        ensures grown { GrowsTo (most_for_state line self.old) self.old self.new × OnOk result (self.old.capacity.states ≤ line → length self.old.rows ≤ self.new.capacity.states) }
         ensures err { OnErr result (self.new ≡ self.old) }
     {
         self.states.reserve_value(line)
@@ -163,19 +155,16 @@ impl LineRows {
     /// more lines.
     #[tactic(auto, using(crate::proofs::RowReads::parts_length, crate::proofs::RowReads::rows_count))]
     pub fn reserve_markers(&mut self, count: usize) -> Result<(), AllocError>
-        ensures rest { self.new ≡ record self.old { capacity = self.new.capacity } }
-        ensures ok { OnOk result (HasRoomForMarkers count self.new) }
-        ensures room_is_there { HasRoomForMarkers count self.old → IsOk result × (self.new ≡ self.old) }
-        ensures capacity { IsAtMost self.old.capacity self.new.capacity }
-        ensures at_most { IsAtMost self.new.capacity (most_for_markers count self.old) }
+        ensures reserved { IsReserved (HasRoomForMarkers count) result self.old self.new }
+        ensures grown { GrowsTo (most_for_markers count self.old) self.old self.new }
         ensures err { OnErr result (self.new.capacity.markers ≡ self.old.capacity.markers) }
     {
-        self.markers.reserve(count, 0)?;
-        Ok(())
+        self.markers.reserve(count, 0)
     }
 
     /// Carries the rows through edits of lines. There must be room for the fresh lines.
     #[inline(always)]
+    #[tactic(auto, using(crate::proofs::RowReads::parts_length, crate::proofs::Carried::fit_markers, crate::proofs::Carried::room_for_markers, crate::proofs::Carried::carried_view))]
     pub fn carry(&mut self, edits: &[LineEdit])
         requires lines { FitLines (length self.old.rows) edits.now }
         requires fits { length self.old.rows + fresh_lines edits.now ≤ 2 ^ 62 }
@@ -183,21 +172,9 @@ impl LineRows {
         ensures rows { self.new ≡ rows_after edits.now self.old }
         ensures room { (count : ℕ) → HasRoomForLines (fresh_lines edits.now + count) self.old → HasRoomForLines count self.new }
     {
-        if !edits.is_empty() {
-            self.carry_some(edits);
+        if edits.is_empty() {
+            return;
         }
-    }
-
-    // Carries the rows through at least one edit.
-    #[tactic(auto, using(crate::proofs::RowReads::parts_length, crate::proofs::Carried::fit_markers, crate::proofs::Carried::room_for_markers, crate::proofs::Carried::carried_view))]
-    #[inline(never)]
-    fn carry_some(&mut self, edits: &[LineEdit])
-        requires lines { FitLines (length self.old.rows) edits.now }
-        requires fits { length self.old.rows + fresh_lines edits.now ≤ 2 ^ 62 }
-        requires room { HasRoomForLines (fresh_lines edits.now) self.old }
-        ensures rows { self.new ≡ rows_after edits.now self.old }
-        ensures room { (count : ℕ) → HasRoomForLines (fresh_lines edits.now + count) self.old → HasRoomForLines count self.new }
-    {
         carry_markers(&mut self.markers, edits);
         self.levels.carry(edits);
         self.states.carry(edits);
@@ -290,7 +267,7 @@ impl LineRows {
 
     /// Deletes the first marker of `line` with `number`, or all of its markers if `number` is `None`
     /// (`SCI_MARKERDELETE`). Returns whether there was one.
-    #[tactic(auto, using(crate::proofs::RowReads::parts_length, crate::proofs::RowReads::marker_deleted, crate::proofs::RowReads::fewer_parts))]
+    #[tactic(auto, using(crate::proofs::RowReads::parts_length, crate::proofs::RowReads::marker_deleted, crate::proofs::RowReads::same_parts))]
     pub fn delete(&mut self, line: usize, number: Option<u32>) -> bool
         requires { line < length self.old.rows }
         ensures went { IsTrue result ↔ (marker_count self.new.rows ≢ marker_count self.old.rows) }
@@ -301,7 +278,7 @@ impl LineRows {
 
     /// Deletes all markers with `number`, or all markers if it is `None` (`SCI_MARKERDELETEALL`). Returns whether there
     /// was one.
-    #[tactic(auto, using(crate::proofs::RowReads::markers_dropped, crate::proofs::RowReads::fewer_parts))]
+    #[tactic(auto, using(crate::proofs::RowReads::markers_dropped, crate::proofs::RowReads::same_parts))]
     pub fn delete_all(&mut self, number: Option<u32>) -> bool
         ensures went { IsTrue result ↔ (marker_count self.new.rows ≢ marker_count self.old.rows) }
         ensures rows { self.new ≡ record self.old { rows = without_markers (is_of_number number) self.old.rows } }
@@ -311,7 +288,7 @@ impl LineRows {
 
     /// Deletes the marker with `handle`, and returns its line, or `None` if no marker has it
     /// (`SCI_MARKERDELETEHANDLE`).
-    #[tactic(auto, using(crate::proofs::RowReads::markers_dropped, crate::proofs::RowReads::fewer_parts))]
+    #[tactic(auto, using(crate::proofs::RowReads::markers_dropped, crate::proofs::RowReads::same_parts))]
     pub fn delete_handle(&mut self, handle: u32) -> Option<usize>
         ensures line { result ≡ first_from (has_handle handle self.old.rows) self.old.rows 0 }
         ensures rows { self.new ≡ record self.old { rows = without_markers (λ m. m.handle == handle) self.old.rows } }

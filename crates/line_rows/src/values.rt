@@ -1,8 +1,10 @@
 //! `LineValues`: a value for each line, such as a fold level or a line state.
-ghost use Rattle.std.specs.Prelude.{◌≡◌, ℕ, ◌≤◌, ◌<◌, ◌+◌, ◌^◌, ◌∷◌, [], length, max, slice_set, slice_index_or, OnOk, OnErr, IsOk};
+ghost use Rattle.std.specs.Prelude.{◌≡◌, ℕ, ◌≤◌, ◌<◌, ◌+◌, ◌-◌, ◌^◌, ◌∷◌, [], length, slice_set, slice_index_or, OnOk, OnErr};
 ghost use Rattle.line_index.specs.Edits.{FitsLines, FitLines, fresh_by, fresh_lines};
 ghost use Rattle.line_index.specs.declared.edit.LineEdit.TheVariants.{Come, Join};
-ghost use Rattle.line_rows.specs.Values.{valued, padded, AreInHalves, capacity_of, GainsLines, LosesLines, FitsLinesLeft, HasRoomForLines, HasRoomForValue, most_held, wanted_if, with_value, stored_after_edit, values_after};
+ghost use Rattle.split_vector.specs.Split.{ItemsFit};
+ghost use Rattle.vec_room.specs.Reserved.{IsReserved};
+ghost use Rattle.line_rows.specs.Values.{valued, padded, AreInHalves, HasItems, HaveFresh, AreJoined, HasRoomForLines, HasRoomForValue, GrowsForLines, GrowsForValue, with_value, stored_after_edit, values_after};
 
 use line_index::LineEdit;
 use split_vector::SplitVector;
@@ -35,9 +37,8 @@ impl<T: Copy> Model for LineValues<T> {
 // Appends defaults up to `len` values, if there are fewer. Out of line, since values are usually set line after line.
 #[inline(never)]
 fn pad<T: Copy>(stored: &mut SplitVector<T>, default: T, len: usize)
-    requires { len ≤ capacity_of stored.old }
-    ensures items { stored.new.items ≡ padded default len stored.old.items }
-    ensures capacity { capacity_of stored.new ≡ capacity_of stored.old }
+    requires { len ≤ stored.old.capacity }
+    ensures { HasItems (padded default len stored.old.items) stored.old stored.new }
 {
     let before = stored.len();
     stored.insert_fill_reserved(before, len.saturating_sub(before), default);
@@ -46,9 +47,8 @@ fn pad<T: Copy>(stored: &mut SplitVector<T>, default: T, len: usize)
 // Appends the value of a line to the stored ones, with defaults between.
 fn put_behind<T: Copy>(stored: &mut SplitVector<T>, default: T, line: usize, value: T)
     requires behind { length stored.old.items ≤ line }
-    requires room { line < capacity_of stored.old }
-    ensures items { stored.new.items ≡ slice_set (padded default (line + 1) stored.old.items) line value }
-    ensures capacity { capacity_of stored.new ≡ capacity_of stored.old }
+    requires room { line < stored.old.capacity }
+    ensures { HasItems (slice_set (padded default (line + 1) stored.old.items) line value) stored.old stored.new }
 {
     if line > stored.len() {
         pad(stored, default, line);
@@ -58,11 +58,11 @@ fn put_behind<T: Copy>(stored: &mut SplitVector<T>, default: T, line: usize, val
 
 // Inserts `count` fresh lines before a line.
 fn put_in<T: Copy>(stored: &mut SplitVector<T>, default: T, line: usize, count: usize)
-    requires { 0 < length stored.old.items → length stored.old.items + count ≤ capacity_of stored.old }
-    ensures values { GainsLines stored.old stored.new default line count }
+    requires { 0 < length stored.old.items → ItemsFit count stored.old }
+    ensures values { HaveFresh default stored.old.items stored.new.items line count }
     ensures few { length stored.new.items ≤ length stored.old.items + count }
     ensures stored { length stored.new.items ≡ stored_after_edit (length stored.old.items) (Come line count) }
-    ensures capacity { capacity_of stored.new ≡ capacity_of stored.old }
+    ensures capacity { stored.new.capacity ≡ stored.old.capacity }
 {
     if stored.len() <= line {
         return;
@@ -70,25 +70,12 @@ fn put_in<T: Copy>(stored: &mut SplitVector<T>, default: T, line: usize, count: 
     stored.insert_fill_reserved(line, count, default);
 }
 
-// Makes room for `count` more values.
-fn reserve_more<T: Copy>(stored: &mut SplitVector<T>, count: usize) -> Result<(), AllocError>
-    ensures items { stored.new.items ≡ stored.old.items }
-    ensures ok { OnOk result (length stored.new.items + count ≤ capacity_of stored.new) }
-    ensures room_is_there { length stored.old.items + count ≤ capacity_of stored.old → IsOk result × (stored.new ≡ stored.old) }
-    ensures capacity { capacity_of stored.old ≤ capacity_of stored.new }
-    ensures at_most { capacity_of stored.new ≤ most_held (capacity_of stored.old) (length stored.old.items + count) }
-    ensures err { OnErr result (stored.new ≡ stored.old) }
-    ensures within { capacity_of stored.new < 2 ^ 63 }
-{
-    stored.reserve(count)
-}
-
 // Deletes the `count` lines behind a line.
 fn take_behind<T: Copy>(stored: &mut SplitVector<T>, line: usize, count: usize)
-    ensures values { LosesLines stored.old stored.new line count }
-    ensures few { FitsLinesLeft stored.old stored.new line count }
+    ensures values { AreJoined stored.old.items stored.new.items line count }
+    ensures few { (lines : ℕ) → length stored.old.items ≤ lines → line + count < lines → length stored.new.items ≤ lines - count }
     ensures stored { length stored.new.items ≡ stored_after_edit (length stored.old.items) (Join line count) }
-    ensures capacity { capacity_of stored.new ≡ capacity_of stored.old }
+    ensures capacity { stored.new.capacity ≡ stored.old.capacity }
 {
     let before = stored.len();
     if before <= line || before - line <= 1 {
@@ -155,17 +142,14 @@ impl<T: Copy> LineValues<T> {
     /// `AllocError` if the allocation fails. Nothing has changed then.
     #[inline(always)]
     pub fn reserve_lines(&mut self, count: usize) -> Result<(), AllocError>
-        ensures rest { self.new ≡ record self.old { capacity = self.new.capacity } }
-        ensures ok { OnOk result (HasRoomForLines count self.new) }
-        ensures room_is_there { HasRoomForLines count self.old → IsOk result × (self.new ≡ self.old) }
-        ensures capacity { self.old.capacity ≤ self.new.capacity }
-        ensures at_most { self.new.capacity ≤ most_held self.old.capacity (wanted_if self.old.stored (self.old.stored + count)) }
+        ensures reserved { IsReserved (HasRoomForLines count) result self.old self.new }
+        ensures grown { GrowsForLines count self.old self.new }
         ensures err { OnErr result (self.new ≡ self.old) }
     {
         if self.stored.is_empty() {
             return Ok(());
         }
-        reserve_more(&mut self.stored, count)
+        self.stored.reserve(count)
     }
 
     /// Makes room for the value of a line, and for those of the lines before it. Allocates nothing if they fit in.
@@ -176,22 +160,16 @@ impl<T: Copy> LineValues<T> {
     ///
     /// `AllocError` if the allocation fails. Nothing has changed then.
     pub fn reserve_value(&mut self, line: usize) -> Result<(), AllocError>
-        ensures rest { self.new ≡ record self.old { capacity = self.new.capacity } }
-        ensures ok { OnOk result (HasRoomForValue line self.new) }
-        ensures room_is_there { HasRoomForValue line self.old → IsOk result × (self.new ≡ self.old) }
-        ensures capacity { self.old.capacity ≤ self.new.capacity }
-        ensures each_line { OnOk result (self.old.capacity ≤ line → length self.old.values ≤ self.new.capacity) }
-        ensures at_most { self.new.capacity ≤ most_held self.old.capacity (max (line + 1) (length self.old.values)) }
+        ensures reserved { IsReserved (HasRoomForValue line) result self.old self.new }
+        ensures grown { GrowsForValue line self.old self.new × OnOk result (self.old.capacity ≤ line → length self.old.values ≤ self.new.capacity) }
         ensures err { OnErr result (self.new ≡ self.old) }
     {
-        let stored = self.stored.len();
-        if line < stored + self.stored.spare() {
+        if line < self.stored.capacity() {
             return Ok(());
         }
-        reserve_more(
-            &mut self.stored,
-            line.saturating_add(1).max(self.lines) - stored,
-        )
+        let stored = self.stored.len();
+        self.stored
+            .reserve(line.saturating_add(1).max(self.lines) - stored)
     }
 
     /// Sets the value of a line. There must be room for it.
@@ -236,8 +214,7 @@ impl<T: Copy> LineValues<T> {
         requires lines { FitLines (length self.old.values) edits.now }
         requires fits { length self.old.values + fresh_lines edits.now < 2 ^ 63 }
         requires room { HasRoomForLines (fresh_lines edits.now) self.old }
-        ensures values { self.new ≡ values_after edits.now self.old }
-        ensures room { (count : ℕ) → HasRoomForLines (fresh_lines edits.now + count) self.old → HasRoomForLines count self.new }
+        ensures { self.new ≡ values_after edits.now self.old }
     {
         for edit in edits {
             self.carry_one(*edit);

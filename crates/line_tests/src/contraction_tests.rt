@@ -10,8 +10,7 @@ use std::process::Abort;
 fn contract_the_second<P: Place>(rt: &impl Abort, view: &mut Contraction<P>) {
     let stored = [0x400, 0x2400, 0x401, 0x400];
     let levels = Levels::new(&stored, &[], 4);
-    view.reserve_hidden(4).expect(rt, "memory");
-    view.reserve_contracted(view.contracted_count() + 1)
+    view.reserve(4, view.contracted_count() + 1)
         .expect(rt, "memory");
     assert!(rt; levels.count() == view.count() && view.count() == 4);
     view.contract(&levels, 1);

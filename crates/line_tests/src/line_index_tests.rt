@@ -1,6 +1,7 @@
 //! Which line ends count is changed, and a refused growth. `insert` builds the new text, and passes it in two halves.
-ghost use Rattle.std.specs.Prelude.{◌≡◌, ◌+◌, ◌≤◌, ◌++◌, length, []};
-ghost use Rattle.line_index.specs.Index.{IsIndexOf};
+ghost use Rattle.std.specs.Prelude.{◌≡◌, ◌+◌, ◌≤◌, ◌<◌, ◌^◌, ◌++◌, length, []};
+ghost use Rattle.ed_model.specs.Steps.{Insert, edited};
+ghost use Rattle.line_index.specs.Index.{IsBefore, IsIndexOf};
 
 use ed_model::LineEndTypes;
 use line_index::{
@@ -10,6 +11,23 @@ use line_index::{
 use partitioning::Place;
 use std::alloc::Global;
 use std::process::Abort;
+
+// Updates the index after these bytes were put into the old text.
+fn follow<P: Place>(
+    index: &mut LineIndex<P>,
+    _old: &[u8],
+    place: usize,
+    bytes: &[u8],
+    before: &[u8],
+    after: &[u8],
+) -> LineChange
+    requires was { IsBefore (Insert place bytes.now) (before.now ++ after.now) _old.now index.old }
+    requires fits { index.old.length + length bytes.now ≤ P.GREATEST }
+    requires short { index.old.length + length bytes.now < 2 ^ 63 }
+    ensures { IsIndexOf (edited (Insert place bytes.now) _old.now) index.new }
+{
+    index.inserted(place, bytes.len(), before, after)
+}
 
 pub(crate) fn insert<P: Place>(
     rt: &impl Abort,
@@ -38,7 +56,7 @@ pub(crate) fn insert<P: Place>(
     assert!(rt; cut <= text.len());
     let (before, after) = text.split_at(cut);
     let (before, after) = near_step(before, after, place, bytes.len());
-    let change = index.inserted(place, bytes.len(), before, after);
+    let change = follow(index, old, place, bytes, before, after);
     (new, change)
 }
 

@@ -1,115 +1,46 @@
 -- Changes of the markers of one line, link by link.
 use Rattle.split_vector.specs.Split.{deleted}
-use Rattle.marker_store.proofs.Joins.{joined_parts}
-use Rattle.marker_store.proofs.Names.{Bool, not, take, drop, map, take_at, drop_at, set_at, drop_more, take-append-drop, length-take-le, length-map, get_or-set_other, with_joined, ◌≢◌, eq-eqb, ne_eqb, ◌≡◌, ℕ, ◌+◌, ◌<◌, ◌≤◌, ◌==◌, true, false, zero, suc, List, [], ◌∷◌, ◌++◌, length, get_or, set, refl, sym, ap, ◌∙◌, arith, append_assoc, append-nil, length-set, length-append, get_or-set_same, set-set, set-get_or, nil_from_length, Marker, Chained, IsLaid, IsBack, IsFreed}
-use Rattle.ed_model.specs.Changes.{without_first}
-use Rattle.marker_store.specs.Dropping.{is_dropped, kept}
-use Rattle.marker_store.specs.declared.drops.Drops.{Drops}
+use Rattle.marker_store.specs.Chains.{all_laid, all_put}
+use Rattle.marker_store.specs.Dropping.{kept}
 use Rattle.marker_store.specs.declared.drops.Drops.TheVariants.{Nothing}
+use Rattle.marker_store.proofs.Joins.{joined, joined_are}
+use Rattle.marker_store.proofs.Names.{Bool, not, take, drop, map, take_all, drop_all, take_more_set, drop-set-lt, drop_more, append_assoc, append-nil, get_or-set_same, get_or-set_other, set-set, set-get_or, nil_from_length, ne_eqb, ap₂, ◌≡◌, ℕ, ◌+◌, ◌<◌, ◌≤◌, ◌==◌, false, zero, suc, List, [], ◌∷◌, ◌++◌, length, get_or, set, refl, sym, ap, ◌∙◌, arith, Marker, Chained, IsLaid, IsBack, IsFreed, with_joined}
 
 abbrev pub row_at : ℕ → Chained → List Marker
 row_at line c = get_or c.rows line []
 
-abbrev pub changed : Chained → ℕ → List Marker → List Marker → Chained
-changed c line front aside = record c { rows = set c.rows line front; aside = aside }
+-- What is left to be laid aside, or to be put back, leads to the same chains.
 
--- the last markers of the line are laid aside
-pub record HasLaid (line : ℕ) (old now : Chained) : Type 0 where
-  pub front : List Marker
-  pub back : List Marker
-  pub parted : row_at line old ≡ front ++ back
-  pub is : now ≡ changed old line front (back ++ old.aside)
+module _ (line : ℕ) (now new : Chained) (h : line < length now.rows) where
+  pub laid_more : IsLaid line now new → all_laid line new ≡ all_laid line now
+  laid_more l =
+      ap (all_laid line) l.is
+      ∙ ap₂ (λ (rs : List (List Marker)) (r : List Marker). record now { rows = rs; aside = r ++ l.last ∷ now.aside }) (set-set now.rows line l.front []) (get_or-set_same now.rows line l.front [] h)
+      ∙ ap (λ a. record now { rows = set now.rows line []; aside = a }) (sym (append_assoc l.front (l.last ∷ []) now.aside) ∙ ap (λ r. r ++ now.aside) (sym l.row))
 
--- markers that were laid aside are back, but for those that are dropped
-pub record HasPut (line : ℕ) (after : List Marker → List Marker) (old now : Chained) : Type 0 where
-  pub front : List Marker
-  pub rest : List Marker
-  pub is : now ≡ changed old line front rest
-  pub same : front ++ after rest ≡ row_at line old ++ after old.aside
+  pub put_more : (left : List Marker → List Marker) (b : IsBack line now new) → ((rest : List Marker) → left (b.first ∷ rest) ≡ b.first ∷ left rest) → all_put line left new ≡ all_put line left now
+  put_more left b keeps =
+      let row = row_at line now ++ b.first ∷ [] in
+      ap (all_put line left) b.is
+      ∙ ap (λ (rs : List (List Marker)). record now { rows = rs; aside = [] })
+      (ap (λ r. set (set now.rows line row) line (r ++ left b.rest)) (get_or-set_same now.rows line row [] h) ∙ set-set now.rows line row (row ++ left b.rest))
+      ∙ ap (λ r. record now { rows = set now.rows line r; aside = [] })
+      (append_assoc (row_at line now) (b.first ∷ []) (left b.rest) ∙ ap (λ r. row_at line now ++ r) (sym (keeps b.rest) ∙ ap left (sym b.was)))
 
-module _ (line : ℕ) (old : Chained) (h : line < length old.rows) where
-  row_of_changed : (front aside : List Marker) → row_at line (changed old line front aside) ≡ front
-  row_of_changed front aside = get_or-set_same old.rows line front [] h
+pub put_freed : (line : ℕ) (now new : Chained) (left left' : List Marker → List Marker) (f : IsFreed now new) → left' f.rest ≡ left (f.first ∷ f.rest) → all_put line left' new ≡ all_put line left now
+put_freed line now new left left' f drops =
+    ap (all_put line left') f.is ∙ ap (λ r. record now { rows = set now.rows line (row_at line now ++ r); aside = [] }) (drops ∙ ap left (sym f.was))
 
-  again : (front aside front' aside' : List Marker) → changed (changed old line front aside) line front' aside' ≡ changed old line front' aside'
-  again front aside front' aside' = ap (λ rs. record old { rows = rs; aside = aside' }) (set-set old.rows line front front')
+pub laid_all : (line : ℕ) (now : Chained) → length (row_at line now) ≡ 0 → now ≡ all_laid line now
+laid_all line now e =
+    let none : row_at line now ≡ [] = nil_from_length (row_at line now) e in
+    sym (ap₂ (λ (rs : List (List Marker)) (r : List Marker). record now { rows = rs; aside = r ++ now.aside }) (ap (set now.rows line) (sym none) ∙ set-get_or now.rows line []) none)
 
-  same_row : changed old line (row_at line old) old.aside ≡ old
-  same_row = ap (λ rs. record old { rows = rs }) (set-get_or old.rows line [])
-
-  pub laid_none : HasLaid line old old
-  laid_none = record { front = row_at line old; back = []; parted = sym (append-nil (row_at line old)); is = sym same_row }
-
-  pub laid_within : (now : Chained) → HasLaid line old now → line < length now.rows
-  laid_within now w = omega (arith, h, ap (λ (c : Chained). length c.rows) w.is, length-set old.rows line w.front)
-
-  pub laid_more : (now new : Chained) → HasLaid line old now → IsLaid line now new → HasLaid line old new
-  laid_more now new w l =
-      let front : w.front ≡ l.front ++ l.last ∷ [] = sym (row_of_changed w.front (w.back ++ old.aside)) ∙ ap (row_at line) (sym w.is) ∙ l.row in
-      record {
-        front = l.front;
-        back = l.last ∷ w.back;
-        parted = w.parted ∙ ap (λ f. f ++ w.back) front ∙ append_assoc l.front (l.last ∷ []) w.back;
-        is = l.is ∙ ap (λ (c : Chained). changed c line l.front (l.last ∷ c.aside)) w.is ∙ again w.front (w.back ++ old.aside) l.front (l.last ∷ (w.back ++ old.aside));
-      }
-
-  pub laid_all : (now : Chained) → HasLaid line old now → length (row_at line now) ≡ 0 → now ≡ changed old line [] (row_at line old ++ old.aside)
-  laid_all now w e =
-      let none : w.front ≡ [] = nil_from_length w.front (ap length (sym (row_of_changed w.front (w.back ++ old.aside)) ∙ ap (row_at line) (sym w.is)) ∙ e) in
-      w.is ∙ ap (λ f. changed old line f (w.back ++ old.aside)) none ∙ ap (λ b. changed old line [] (b ++ old.aside)) (sym (w.parted ∙ ap (λ f. f ++ w.back) none))
-
-  module _ (after : List Marker → List Marker) where
-    pub put_none : HasPut line after old old
-    put_none = record { front = row_at line old; rest = old.aside; is = sym same_row; same = refl }
-
-    pub put_within : (now : Chained) → HasPut line after old now → line < length now.rows
-    put_within now w = omega (arith, h, ap (λ (c : Chained). length c.rows) w.is, length-set old.rows line w.front)
-
-    pub put_more : (now new : Chained) → HasPut line after old now → (b : IsBack line now new) → ((rest : List Marker) → after (b.first ∷ rest) ≡ b.first ∷ after rest) → HasPut line after old new
-    put_more now new w b keeps =
-        let rest : w.rest ≡ b.first ∷ b.rest = ap (λ (c : Chained). c.aside) (sym w.is) ∙ b.was in
-        record {
-          front = w.front ++ b.first ∷ [];
-          rest = b.rest;
-          is =
-              b.is ∙ ap (λ (c : Chained). changed c line (row_at line c ++ b.first ∷ []) b.rest) w.is
-              ∙ ap (λ f. changed (changed old line w.front w.rest) line (f ++ b.first ∷ []) b.rest) (row_of_changed w.front w.rest) ∙ again w.front w.rest (w.front ++ b.first ∷ []) b.rest;
-          same =
-              append_assoc w.front (b.first ∷ []) (after b.rest) ∙ ap (λ r. w.front ++ r) (sym (keeps b.rest) ∙ ap after (sym rest)) ∙ w.same;
-        }
-
-    pub put_freed : (now new : Chained) → HasPut line after old now → (f : IsFreed now new) → ((rest : List Marker) → after (f.first ∷ rest) ≡ after rest) → HasPut line after old new
-    put_freed now new w f drops =
-        let rest : w.rest ≡ f.first ∷ f.rest = ap (λ (c : Chained). c.aside) (sym w.is) ∙ f.was in
-        record {
-          front = w.front;
-          rest = f.rest;
-          is = f.is ∙ ap (λ (c : Chained). record c { aside = f.rest }) w.is;
-          same = ap (λ r. w.front ++ r) (sym (drops f.rest) ∙ ap after (sym rest)) ∙ w.same;
-        }
-
-    pub put_all : (now : Chained) → HasPut line after old now → after [] ≡ [] → length now.aside ≡ 0 → now ≡ changed old line (row_at line old ++ after old.aside) []
-    put_all now w none e =
-        let empty : w.rest ≡ [] = nil_from_length w.rest (ap (λ (c : Chained). length c.aside) (sym w.is) ∙ e) in
-        w.is ∙ ap (λ r. changed old line w.front r) empty
-        ∙ ap (λ f. changed old line f []) (sym (append-nil w.front) ∙ ap (λ r. w.front ++ r) (sym none ∙ ap after (sym empty)) ∙ w.same)
-
--- The first of the markers that are laid aside.
-
-pub first_of : (m first : Marker) (aside rest : List Marker) → m ≡ get_or aside 0 m → aside ≡ first ∷ rest → m ≡ first
-first_of m first aside rest e is = e ∙ ap (λ ms. get_or ms 0 m) is
-
-pub keeps_first : (drops : Drops) (m : Marker) → is_dropped drops m ≡ false → (rest : List Marker) → kept drops (m ∷ rest) ≡ m ∷ kept drops rest
-keeps_first drops m e rest = rw e refl
-
-pub drops_first : (drops : Drops) (m : Marker) → is_dropped drops m ≡ true → (rest : List Marker) → kept drops (m ∷ rest) ≡ kept drops rest
-drops_first drops m e rest = rw e refl
-
-pub passes_number : (number : ℕ) (m : Marker) → m.number ≢ number → (rest : List Marker) → without_first number (m ∷ rest) ≡ m ∷ without_first number rest
-passes_number number m ne rest = rw (ne_eqb m.number number ne) refl
-
-pub finds_number : (number : ℕ) (m : Marker) → m.number ≡ number → (rest : List Marker) → without_first number (m ∷ rest) ≡ rest
-finds_number number m e rest = rw (eq-eqb m.number number e) refl
+pub put_all : (line : ℕ) (now : Chained) (left : List Marker → List Marker) → left [] ≡ [] → length now.aside ≡ 0 → now ≡ all_put line left now
+put_all line now left z e =
+    let none : now.aside ≡ [] = nil_from_length now.aside e in
+    sym (ap₂ (λ (rs : List (List Marker)) (a : List Marker). record now { rows = rs; aside = a })
+    (ap (λ r. set now.rows line (row_at line now ++ r)) (ap left none ∙ z) ∙ ap (set now.rows line) (append-nil (row_at line now)) ∙ set-get_or now.rows line []) (sym none))
 
 pub kept_nothing : (ms : List Marker) → kept Nothing ms ≡ ms
 kept_nothing [] = refl
@@ -117,115 +48,65 @@ kept_nothing (m ∷ ms) = ap (λ r. m ∷ r) (kept_nothing ms)
 
 -- A line whose markers were laid aside and put back.
 
-pub deleted_row :
-    (line : ℕ) (old : Chained) → line < length old.rows → old.aside ≡ [] → (after : List Marker → List Marker)
-    → (let x = changed old line [] (row_at line old ++ old.aside) in changed x line (row_at line x ++ after x.aside) []) ≡ record old { rows = set old.rows line (after (row_at line old)) }
-deleted_row line old h none after =
-    ap (λ r. changed (changed old line [] (row_at line old ++ old.aside)) line (r ++ after (row_at line old ++ old.aside)) []) (get_or-set_same old.rows line [] [] h)
-    ∙ ap (λ rs. record old { rows = rs; aside = [] }) (set-set old.rows line [] (after (row_at line old ++ old.aside)))
-    ∙ ap (λ a. changed old line (after (row_at line old ++ a)) []) none
-    ∙ ap (λ r. changed old line (after r) []) (append-nil (row_at line old))
-    ∙ ap (λ a. changed old line (after (row_at line old)) a) (sym none)
+pub deleted_row : (line : ℕ) (old : Chained) → line < length old.rows → old.aside ≡ [] → (left : List Marker → List Marker) → all_put line left (all_laid line old) ≡ record old { rows = set old.rows line (left (row_at line old)) }
+deleted_row line old h none left =
+    ap (λ r. record old { rows = set (set old.rows line []) line (r ++ left (row_at line old ++ old.aside)); aside = [] }) (get_or-set_same old.rows line [] [] h)
+    ∙ ap₂ (λ (rs : List (List Marker)) (a : List Marker). record old { rows = rs; aside = a }) (set-set old.rows line [] (left (row_at line old ++ old.aside))) (sym none)
+    ∙ ap (λ r. record old { rows = set old.rows line (left r) }) (ap (λ a. row_at line old ++ a) none ∙ append-nil (row_at line old))
 
--- All lines, one after another.
+-- All lines, one after another: what is left leads to the same rows.
 
-pub kept_step :
-    (f : List Marker → List Marker) (k : ℕ) (xs : List (List Marker)) → k < length xs
-    → set (map f (take k xs) ++ drop k xs) k (f (get_or (map f (take k xs) ++ drop k xs) k [])) ≡ map f (take (k + 1) xs) ++ drop (k + 1) xs
-kept_step f k xs h = let e : k + 1 ≡ suc k = omega arith in rw e (go k xs h)
-  where
-    go : (k : ℕ) (xs : List (List Marker)) → k < length xs
-        → set (map f (take k xs) ++ drop k xs) k (f (get_or (map f (take k xs) ++ drop k xs) k [])) ≡ map f (take (suc k) xs) ++ drop (suc k) xs
-    go k [] h = absurd (omega arith)
-    go zero (x ∷ xs) h = refl
-    go (suc k) (x ∷ xs) h = ap (λ rs. f x ∷ rs) (go k xs (omega arith))
+module _ (f : List Marker → List Marker) where
+  abbrev pub done_from : ℕ → List (List Marker) → List (List Marker)
+  done_from k rows = take k rows ++ map f (drop k rows)
 
--- lines without markers stay as they are
-pub kept_past :
-    (f : List Marker → List Marker) (n k : ℕ) (xs : List (List Marker)) → f [] ≡ [] → k + n ≤ length xs
-    → ((i : ℕ) → k ≤ i → i < k + n → get_or (map f (take k xs) ++ drop k xs) i [] ≡ [])
-    → map f (take k xs) ++ drop k xs ≡ map f (take (k + n) xs) ++ drop (k + n) xs
-kept_past f zero k xs z h bare = let e : k + 0 ≡ k = omega arith in rw e refl
-kept_past f (suc n) k xs z h bare =
-    let now = map f (take k xs) ++ drop k xs in
-    let none : get_or now k [] ≡ [] = bare k (omega arith) (omega arith) in
-    let one : now ≡ map f (take (k + 1) xs) ++ drop (k + 1) xs
-    = sym (set-get_or now k []) ∙ ap (λ r. set now k r) (none ∙ sym z ∙ ap f (sym none)) ∙ kept_step f k xs (omega arith) in
-    let e : k + 1 + n ≡ k + suc n = omega arith in
-    one ∙ kept_past f n (k + 1) xs z (omega arith) (λ i low high. ap (λ l. get_or l i []) (sym one) ∙ bare i (omega arith) (omega arith))
-    ∙ ap (λ j. map f (take j xs) ++ drop j xs) e
+  pub done_more : (k : ℕ) (rows : List (List Marker)) → k < length rows → done_from (k + 1) (set rows k (f (get_or rows k []))) ≡ done_from k rows
+  done_more k rows h =
+      let r = f (get_or rows k []) in
+      ap₂ (λ (a b : List (List Marker)). a ++ map f b) (take_more_set rows k r h) (drop-set-lt (k + 1) rows k r (omega arith))
+      ∙ append_assoc (take k rows) (r ∷ []) (map f (drop (k + 1) rows)) ∙ ap (λ d. take k rows ++ map f d) (sym (drop_more rows k [] h))
 
-pub kept_length : (f : List Marker → List Marker) (k : ℕ) (xs : List (List Marker)) {now : List (List Marker)} → now ≡ map f (take k xs) ++ drop k xs → length now ≡ length xs
-kept_length f k xs e =
-    ap length e ∙ length-append (map f (take k xs)) (drop k xs)
-    ∙ omega (arith, length-map (take k xs) f, length-append (take k xs) (drop k xs), ap length (take-append-drop k xs))
+  -- lines without markers stay as they are
+  pub done_past : (n k : ℕ) (rows : List (List Marker)) → f [] ≡ [] → k + n ≤ length rows → ((i : ℕ) → k ≤ i → i < k + n → get_or rows i [] ≡ []) → done_from (k + n) rows ≡ done_from k rows
+  done_past zero k rows z h bare = let e : k + 0 ≡ k = omega arith in rw e refl
+  done_past (suc n) k rows z h bare =
+      let e : k + suc n ≡ k + 1 + n = omega arith in
+      let none : get_or rows k [] ≡ f (get_or rows k []) = bare k (omega arith) (omega arith) ∙ sym z ∙ ap f (sym (bare k (omega arith) (omega arith))) in
+      ap (λ i. done_from i rows) e ∙ done_past n (k + 1) rows z (omega arith) (λ i low high. bare i (omega arith) (omega arith))
+      ∙ ap (done_from (k + 1)) (sym (set-get_or rows k []) ∙ ap (set rows k) none) ∙ done_more k rows (omega arith)
+
+  pub done_all : (k : ℕ) (rows : List (List Marker)) → length rows ≤ k → done_from k rows ≡ rows
+  done_all k rows h = rw (take_all k rows h, drop_all k rows h) (append-nil rows)
 
 -- Two lines become one.
 
-module _ (line : ℕ) (rows : List (List Marker)) (h : line + 1 < length rows) where
-  abbrev ps : List (List Marker)
-  ps = take line rows
-
-  abbrev rs : List (List Marker)
-  rs = drop (line + 1 + 1) rows
-
-  abbrev a : List Marker
-  a = get_or rows line []
-
-  abbrev b : List Marker
-  b = get_or rows (line + 1) []
-
-  all : rows ≡ ps ++ (a ∷ (b ∷ rs))
-  all = sym (take-append-drop line rows) ∙ ap (λ l. ps ++ l) (drop_more rows line [] (omega arith) ∙ ap (λ l. a ∷ l) (drop_more rows (line + 1) [] h))
-
-  before : length ps ≡ line
-  before = length-take-le line rows (omega arith)
-
-  emptied : set rows (line + 1) [] ≡ ps ++ (a ∷ ([] ∷ rs))
-  emptied =
-      ap (λ l. set l (line + 1) []) (all ∙ sym (append_assoc ps (a ∷ []) (b ∷ rs)))
-      ∙ set_at (ps ++ (a ∷ [])) b rs [] (line + 1) (length-append ps (a ∷ []) ∙ omega (arith, before)) ∙ append_assoc ps (a ∷ []) ([] ∷ rs)
-
-  filled : (m : List Marker) → set (set rows (line + 1) []) line m ≡ ps ++ (m ∷ ([] ∷ rs))
-  filled m = ap (λ l. set l line m) emptied ∙ set_at ps a ([] ∷ rs) m line before
-
-  shorter : (m : List Marker) → deleted (ps ++ (m ∷ ([] ∷ rs))) (line + 1) 1 ≡ ps ++ (m ∷ rs)
-  shorter m =
-      let one : length (ps ++ (m ∷ [])) ≡ line + 1 = length-append ps (m ∷ []) ∙ omega (arith, before) in
-      let two : length (ps ++ (m ∷ ([] ∷ []))) ≡ line + 1 + 1 = length-append ps (m ∷ ([] ∷ [])) ∙ omega (arith, before) in
-      ap (λ l. take (line + 1) l ++ drop (line + 1 + 1) (ps ++ (m ∷ ([] ∷ rs)))) (sym (append_assoc ps (m ∷ []) ([] ∷ rs)))
-      ∙ ap (λ l. l ++ drop (line + 1 + 1) (ps ++ (m ∷ ([] ∷ rs)))) (take_at (ps ++ (m ∷ [])) ([] ∷ rs) (line + 1) one)
-      ∙ ap (λ l. (ps ++ (m ∷ [])) ++ l) (ap (λ l. drop (line + 1 + 1) l) (sym (append_assoc ps (m ∷ ([] ∷ [])) rs)) ∙ drop_at (ps ++ (m ∷ ([] ∷ []))) rs (line + 1 + 1) two)
-      ∙ append_assoc ps (m ∷ []) rs
-
-  pub joined_rows : deleted (set (set rows (line + 1) []) line (a ++ b)) (line + 1) 1 ≡ with_joined line 1 rows
-  joined_rows =
-      ap (λ l. deleted l (line + 1) 1) (filled (a ++ b)) ∙ shorter (a ++ b)
-      ∙ ap (λ m. ps ++ (m ∷ rs)) (ap (λ m. a ++ m) (sym (append-nil b)))
-      ∙ sym (joined_parts line 1 ps (a ∷ (b ∷ [])) rs before refl) ∙ ap (with_joined line 1) (sym all)
-
-  row_still : get_or (set rows (line + 1) []) line [] ≡ a
-  row_still = get_or-set_other rows (line + 1) line [] [] (omega arith)
+joined_rows : (line : ℕ) (rows : List (List Marker)) → line + 1 < length rows → deleted (set (set rows (line + 1) []) line (get_or rows line [] ++ get_or rows (line + 1) [])) (line + 1) 1 ≡ with_joined line 1 rows
+joined_rows line rows h =
+    let e : line + 1 ≡ suc line = omega arith in
+    let f : suc line + 1 ≡ suc (suc line) = omega arith in
+    rw (joined_are line 1 rows, e, f) (go line rows (omega arith))
+  where
+    go : (line : ℕ) (rows : List (List Marker)) → suc line < length rows →
+        take (suc line) (set (set rows (suc line) []) line (get_or rows line [] ++ get_or rows (suc line) [])) ++ drop (suc (suc line)) (set (set rows (suc line) []) line (get_or rows line [] ++ get_or rows (suc line) []))
+        ≡ joined line 2 rows
+    go line [] h = absurd (omega arith)
+    go line (a ∷ []) h = absurd (omega arith)
+    go zero (a ∷ b ∷ rows) h = ap (λ r. (a ++ r) ∷ rows) (sym (append-nil b))
+    go (suc line) (a ∷ b ∷ rows) h = ap (λ rs. a ∷ rs) (go line (b ∷ rows) (omega arith))
 
 -- the line behind was laid aside, was put behind the line, and is removed
 pub joined_line :
     (line : ℕ) (old : Chained) → line + 1 < length old.rows → old.aside ≡ []
-    → (let x = changed old (line + 1) [] (row_at (line + 1) old ++ old.aside) in
-    let y = changed x line (row_at line x ++ kept Nothing x.aside) [] in record y { rows = deleted y.rows (line + 1) 1 })
-    ≡ record old { rows = with_joined line 1 old.rows }
+    → (let y = all_put line (kept Nothing) (all_laid (line + 1) old) in record y { rows = deleted y.rows (line + 1) 1 }) ≡ record old { rows = with_joined line 1 old.rows }
 joined_line line old h none =
-    let put = λ (m : List Marker). record old { rows = deleted (set (set old.rows (line + 1) []) line m) (line + 1) 1; aside = [] } in
-    ap (λ r. put (r ++ kept Nothing (row_at (line + 1) old ++ old.aside))) (row_still line old.rows h)
-    ∙ ap (λ r. put (row_at line old ++ r)) (kept_nothing (row_at (line + 1) old ++ old.aside) ∙ ap (λ r. row_at (line + 1) old ++ r) none ∙ append-nil (row_at (line + 1) old))
-    ∙ ap (λ rs. record old { rows = rs; aside = [] }) (joined_rows line old.rows h)
-    ∙ ap (λ a. record old { rows = with_joined line 1 old.rows; aside = a }) (sym none)
+    let put = λ (m a : List Marker). record old { rows = deleted (set (set old.rows (line + 1) []) line m) (line + 1) 1; aside = a } in
+    ap₂ put
+    (ap₂ (λ (a b : List Marker). a ++ b) (get_or-set_other old.rows (line + 1) line [] [] (omega arith))
+    (kept_nothing (row_at (line + 1) old ++ old.aside) ∙ ap (λ r. row_at (line + 1) old ++ r) none ∙ append-nil (row_at (line + 1) old))) (sym none)
+    ∙ ap (λ rs. record old { rows = rs }) (joined_rows line old.rows h)
 
 pub bare_behind : (line : ℕ) (old : Chained) (m : List Marker) → line + 1 < length old.rows → get_or (set (set old.rows (line + 1) []) line m) (line + 1) [] ≡ []
 bare_behind line old m h = get_or-set_other (set old.rows (line + 1) []) line (line + 1) m [] (omega arith) ∙ get_or-set_same old.rows (line + 1) [] [] h
-
-pub zero_told : (n : ℕ) (b : Bool) → b ≡ (n == 0) → b ≡ true → n ≡ 0
-zero_told zero b e t = refl
-zero_told (suc n) b e t = absurd (cc (ne_eqb (suc n) 0 (omega arith), e, t))
 
 pub zero_denied : (n : ℕ) (b : Bool) → b ≡ not (n == 0) → b ≡ false → n ≡ 0
 zero_denied zero b e t = refl

@@ -1,264 +1,249 @@
--- The calls that move one link, and what a contract sees of them.
-use Rattle.marker_store.proofs.Names.{subst, ◌≡◌, ℕ, ◌+◌, ◌-◌, ◌^◌, ◌<◌, ◌≤◌, suc, List, [], ◌∷◌, ◌++◌, length, get_or, set, drop, refl, sym, ap, ◌∙◌, arith, map, length-set, length-append, Marker, Link, link, link_at, relinked, IsChain, AreLinked, AreSound, Chained, chained, chains_in, IsLaid, IsBack, IsFreed}
-use Rattle.marker_store.proofs.LinkMoves.{row, laid, chain_of, moved, moved_rows, moved_laid, cut_laid, other_laid}
-use Rattle.marker_store.proofs.NewLinks.{new_linked, new_rows, laid_longer}
-use Rattle.marker_store.proofs.LinkViews.{seen, row_of, length-row, length-laid, begins, Begins}
+-- What a contract sees of the fields of `Chains`, and of the calls that move one link.
+use Rattle.split_vector.specs.Split.{Split, inserted, deleted, with_inserted, with_deleted}
+use Rattle.marker_store.proofs.Names.{nil_from_length, eq-eqb, ne_eqb, Bool, true, zero, ◌≡◌, ◌==◌, ℕ, ◌+◌, ◌-◌, ◌^◌, ◌<◌, ◌≤◌, suc, List, [], ◌∷◌, ◌++◌, length, get_or, set, take, drop, subst, replicate, refl, sym, ap, ◌∙◌, arith, length-map, length-set, length-append, length-reverse, reverse, reverse-append, sum_by-cons, Marker, Link, link, link_at, relinked, row_from, rows_in, AreLinked, Chained, chained, held, IsLaid, IsBack, IsFreed, all_heads, chains_in, AreSound, Inside}
+use Rattle.marker_store.proofs.Chaining.{IsMoved, move, bare_is, total_seen, added, added_linked, added_rows, wider, wider_rows, narrower, fewer_rows}
 
-module _ (links : List Link) (heads : List ℕ) (spare aside unused capacity line_capacity : ℕ) (s : AreSound links heads spare aside unused) where
-  abbrev hs : List ℕ
-  hs = spare ∷ (aside ∷ heads)
+-- what a contract sees of the rows of all chains: those of the spare links, of those laid aside, and of the lines
+abbrev told : List (List Marker) → (capacity line_capacity : ℕ) → Chained
+told rows capacity line_capacity = chained (drop 2 rows) (reverse (get_or rows 1 [])) capacity line_capacity
 
-  abbrev cs : List (List ℕ)
-  cs = s.spares ∷ (s.asides ∷ s.chains)
+pub zero_told : (n : ℕ) (b : Bool) → b ≡ (n == 0) → b ≡ true → n ≡ 0
+zero_told zero b e t = refl
+zero_told (suc n) b e t = absurd (cc (ne_eqb (suc n) 0 (omega arith), e, t))
 
-  abbrev pub now : Chained
-  now = chains_in links heads aside capacity line_capacity
+module _ {A : Type 0} (c : Inside A) (s : AreSound c) (now : Chained) (view : chains_in c ≡ now) where
+  pub lines_seen : length c.heads.items ≡ length now.rows
+  lines_seen = sym (length-map c.heads.items (λ at. row_from (length c.links.items) c.links.items at)) ∙ ap (λ (n : Chained). length n.rows) view
 
-  pub now_is : now ≡ chained (map (row links) s.chains) (laid links s.asides) capacity line_capacity
-  now_is = seen links heads spare aside capacity line_capacity s.spares s.asides s.chains s.linked
+  pub held_is : held now + c.unused ≡ length c.links.items
+  held_is =
+      omega (
+        arith,
+        ap held view,
+        s.counted,
+        total_seen c.links.items (all_heads c) s.chains s.linked,
+        length-reverse (row_from (length c.links.items) c.links.items c.aside),
+        sum_by-cons length (row_from (length c.links.items) c.links.items c.spare) (rows_in c.links.items (c.aside ∷ c.heads.items)),
+        sum_by-cons length (row_from (length c.links.items) c.links.items c.aside) (rows_in c.links.items c.heads.items),
+      )
 
-  pub row_is : (line : ℕ) → get_or now.rows line [] ≡ row links (get_or s.chains line [])
-  row_is line = ap (λ (c : Chained). get_or c.rows line []) now_is ∙ row_of links line s.chains
+  pub bare_line : (line : ℕ) → line < length now.rows → (get_or c.heads.items line 0 == 0) ≡ (length (get_or now.rows line []) == 0)
+  bare_line line h =
+      bare_is c.links.items (all_heads c) s.chains s.linked (suc (suc line)) (omega (arith, lines_seen)) ∙ ap (λ (n : Chained). length (get_or n.rows line []) == 0) view
 
-  pub bare_row : (line : ℕ) → line < length heads → get_or heads line 0 ≡ 0 → get_or now.rows line [] ≡ []
-  bare_row line h none = row_is line ∙ go (get_or s.chains line []) (chain_of links line heads s.chains s.linked.linked.1.1 h)
-    where
-      go : (c : List ℕ) → IsChain links (get_or heads line 0) c → row links c ≡ []
-      go [] i = refl
-      go (k ∷ ks) i = absurd (omega (arith, i.0, i.1, none))
+  pub bare_row : (line : ℕ) → line < length now.rows → get_or c.heads.items line 0 ≡ 0 → get_or now.rows line [] ≡ []
+  bare_row line h none = nil_from_length (get_or now.rows line []) (zero_told (length (get_or now.rows line [])) (get_or c.heads.items line 0 == 0) (bare_line line h) (eq-eqb (get_or c.heads.items line 0) 0 none))
 
-  module _ (line at : ℕ) (h : line < length heads) (head : at ≡ get_or heads line 0) (some : 0 < length (get_or now.rows line [])) where
-    abbrev m : Marker
-    m = (link_at links at).marker
+  pub larger : (links : Split Link) → links ≡ record c.links { capacity = links.capacity } → chains_in (record c { links = links }) ≡ record now { capacity = links.capacity }
+  larger links is =
+      ap (λ (s : Split Link). record (chains_in (record c { links = s })) { capacity = links.capacity }) is ∙ ap (λ (n : Chained). record n { capacity = links.capacity }) view
 
-    b : Begins (get_or s.chains line [])
-    b = begins (get_or s.chains line []) (omega (arith, length-row links (get_or s.chains line []), ap length (row_is line)))
+  pub bare_aside : (c.aside == 0) ≡ (length now.aside == 0)
+  bare_aside =
+      bare_is c.links.items (all_heads c) s.chains s.linked 1 (omega arith) ∙ ap (λ n. n == 0) (sym (length-reverse (row_from (length c.links.items) c.links.items c.aside)))
+      ∙ ap (λ (n : Chained). length n.aside == 0) view
 
-    front : IsChain links (get_or heads line 0) (b.k ∷ b.ks)
-    front = subst (λ c. IsChain links (get_or heads line 0) c) b.is (chain_of links line heads s.chains s.linked.linked.1.1 h)
+  -- The last link of a line is laid aside.
 
-    is : get_or s.chains line [] ≡ at ∷ b.ks
-    is = b.is ∙ ap (λ k. k ∷ b.ks) (sym (head ∙ front.0))
+  module _ (line at : ℕ) (h : line < length now.rows) (first : at ≡ get_or c.heads.items line 0) (some : 0 < length (get_or now.rows line [])) where
+    pub lays : IsMoved c.links.items (all_heads c) (suc (suc line)) 1 at (link_at c.links.items at).marker
+    lays =
+        move c.links.items (all_heads c) s.chains s.linked (suc (suc line)) 1 at (link_at c.links.items at).marker (omega (arith, lines_seen)) (omega arith) (omega arith) first
+        (omega (arith, some, ap (λ (n : Chained). length (get_or n.rows line [])) view))
 
-    pub laid_at : (0 < at) × (at ≤ length links)
-    laid_at = (omega (arith, head, front.0, front.1), omega (arith, head, front.0, front.2))
+    abbrev pub laid : Inside A
+    laid = record c {
+      links = record c.links { items = relinked c.links.items at (link_at c.links.items at).marker c.aside };
+      heads = record c.heads { items = set c.heads.items line (link_at c.links.items at).next };
+      aside = at;
+    }
 
-    abbrev laid_links : List Link
-    laid_links = relinked links at m aside
-
-    abbrev laid_heads : List ℕ
-    laid_heads = set heads line (link_at links at).next
-
-    laid_linked : AreLinked laid_links (spare ∷ (at ∷ laid_heads)) (s.spares ∷ ((at ∷ s.asides) ∷ set s.chains line b.ks))
-    laid_linked = moved links hs cs (suc (suc line)) 1 at b.ks m s.linked (omega arith) (omega arith) (omega arith) is
-
-    pub laid_sound : AreSound laid_links laid_heads spare at unused
+    pub laid_sound : AreSound laid
     laid_sound = record {
-      spares = s.spares;
-      asides = at ∷ s.asides;
-      chains = set s.chains line b.ks;
-      linked = laid_linked;
-      counted = s.counted;
-      small = omega (arith, s.small, length-set links (at - 1) (link m aside));
+      chains = lays.chains;
+      linked = lays.linked;
+      counted = s.counted ∙ ap (λ (rs : List (List Marker)). length (get_or rs 0 [])) (sym lays.is);
+      small = omega (arith, s.small, length-set c.links.items (at - 1) (link (link_at c.links.items at).marker c.aside));
     }
 
-    laid_rows : map (row laid_links) (set s.chains line b.ks) ≡ set (map (row links) s.chains) line (row links b.ks)
-    laid_rows = ap (drop 2) (moved_rows links hs cs (suc (suc line)) 1 at b.ks m s.linked (omega arith) (omega arith) (omega arith) is)
-
-    laid_asides : laid laid_links (at ∷ s.asides) ≡ m ∷ laid links s.asides
-    laid_asides = moved_laid links hs cs (suc (suc line)) 1 at b.ks m s.linked (omega arith) (omega arith) (omega arith) is
-
-    pub is_laid : IsLaid line now (chains_in laid_links laid_heads at capacity line_capacity)
+    pub is_laid : IsLaid line now (chains_in laid)
     is_laid = record {
-      front = row links b.ks;
-      last = m;
-      row = row_is line ∙ ap (row links) is;
+      front = lays.front;
+      last = (link_at c.links.items at).marker;
+      row = ap (λ (n : Chained). get_or n.rows line []) (sym view) ∙ lays.was;
       is =
-          seen laid_links laid_heads spare at capacity line_capacity s.spares (at ∷ s.asides) (set s.chains line b.ks) laid_linked
-          ∙ ap (λ rs. chained rs (laid laid_links (at ∷ s.asides)) capacity line_capacity) laid_rows
-          ∙ ap (λ ms. chained (set (map (row links) s.chains) line (row links b.ks)) ms capacity line_capacity) laid_asides
-          ∙ ap (λ (c : Chained). record c { rows = set c.rows line (row links b.ks); aside = m ∷ c.aside }) (sym now_is);
+          ap (λ rs. told rs c.links.capacity c.heads.capacity) lays.is
+          ∙ ap (λ ms. record (chains_in c) { rows = set (rows_in c.links.items c.heads.items) line lays.front; aside = ms })
+          (reverse-append (row_from (length c.links.items) c.links.items c.aside) ((link_at c.links.items at).marker ∷ []))
+          ∙ ap (λ (n : Chained). record n { rows = set n.rows line lays.front; aside = (link_at c.links.items at).marker ∷ n.aside }) view;
     }
+
+  -- The link that was laid aside last goes back to a line, or becomes spare.
 
   module _ (some : 0 < length now.aside) where
-    abbrev a : Marker
-    a = (link_at links aside).marker
+    abbrev m : Marker
+    m = (link_at c.links.items c.aside).marker
 
-    c : Begins s.asides
-    c = begins s.asides (omega (arith, some, length-laid links s.asides, ap (λ (x : Chained). length x.aside) now_is))
+    some' : 0 < length (row_from (length c.links.items) c.links.items c.aside)
+    some' = omega (arith, some, length-reverse (row_from (length c.links.items) c.links.items c.aside), ap (λ (n : Chained). length n.aside) view)
 
-    first : IsChain links aside (c.k ∷ c.ks)
-    first = subst (λ x. IsChain links aside x) c.is s.linked.linked.1.0
+    frees : IsMoved c.links.items (all_heads c) 1 0 c.aside m
+    frees = move c.links.items (all_heads c) s.chains s.linked 1 0 c.aside m (omega arith) (omega arith) (omega arith) refl some'
 
-    first_is : s.asides ≡ aside ∷ c.ks
-    first_is = c.is ∙ ap (λ k. k ∷ c.ks) (sym first.0)
+    pub aside_at : (0 < c.aside) × (c.aside ≤ length c.links.items)
+    aside_at = frees.within
 
-    pub aside_at : (0 < aside) × (aside ≤ length links)
-    aside_at = (omega (arith, first.0, first.1), omega (arith, first.0, first.2))
+    first_then : (front : List Marker) → row_from (length c.links.items) c.links.items c.aside ≡ front ++ m ∷ [] → now.aside ≡ m ∷ reverse front
+    first_then front was = ap (λ (n : Chained). n.aside) (sym view) ∙ ap reverse was ∙ reverse-append front (m ∷ [])
 
-    aside_is : now.aside ≡ a ∷ laid links c.ks
-    aside_is = ap (λ (x : Chained). x.aside) now_is ∙ ap (laid links) first_is
+    pub first_marker : get_or now.aside 0 m ≡ m
+    first_marker = ap (λ ms. get_or ms 0 m) (first_then frees.front frees.was)
 
-    pub first_marker : get_or now.aside 0 a ≡ a
-    first_marker = ap (λ ms. get_or ms 0 a) aside_is
+    abbrev pub freed : Inside A
+    freed = record c {
+      links = record c.links { items = relinked c.links.items c.aside m c.spare };
+      spare = c.aside;
+      aside = (link_at c.links.items c.aside).next;
+      unused = c.unused + 1;
+    }
 
-    module _ (line : ℕ) (h : line < length heads) where
-      abbrev back_links : List Link
-      back_links = relinked links aside a (get_or heads line 0)
-
-      abbrev back_heads : List ℕ
-      back_heads = set heads line aside
-
-      abbrev back_chains : List (List ℕ)
-      back_chains = set s.chains line (aside ∷ get_or s.chains line [])
-
-      back_linked : AreLinked back_links (spare ∷ ((link_at links aside).next ∷ back_heads)) (s.spares ∷ (c.ks ∷ back_chains))
-      back_linked = moved links hs cs 1 (suc (suc line)) aside c.ks a s.linked (omega arith) (omega arith) (omega arith) first_is
-
-      pub back_sound : AreSound back_links back_heads spare (link_at links aside).next unused
-      back_sound = record {
-        spares = s.spares;
-        asides = c.ks;
-        chains = back_chains;
-        linked = back_linked;
-        counted = s.counted;
-        small = omega (arith, s.small, length-set links (aside - 1) (link a (get_or heads line 0)));
-      }
-
-      back_rows : map (row back_links) back_chains ≡ set (map (row links) s.chains) line (row links (get_or s.chains line []) ++ a ∷ [])
-      back_rows = ap (drop 2) (moved_rows links hs cs 1 (suc (suc line)) aside c.ks a s.linked (omega arith) (omega arith) (omega arith) first_is)
-
-      back_asides : laid back_links c.ks ≡ laid links c.ks
-      back_asides = cut_laid links hs cs 1 (suc (suc line)) aside c.ks a s.linked (omega arith) (omega arith) (omega arith) first_is
-
-      pub is_back : IsBack line now (chains_in back_links back_heads (link_at links aside).next capacity line_capacity)
-      is_back = record {
-        first = a;
-        rest = laid links c.ks;
-        was = aside_is;
-        is =
-            seen back_links back_heads spare (link_at links aside).next capacity line_capacity s.spares c.ks back_chains back_linked
-            ∙ ap (λ rs. chained rs (laid back_links c.ks) capacity line_capacity) (back_rows ∙ ap (λ r. set (map (row links) s.chains) line (r ++ a ∷ [])) (sym (row_of links line s.chains)))
-            ∙ ap (λ ms. chained (set (map (row links) s.chains) line (get_or (map (row links) s.chains) line [] ++ a ∷ [])) ms capacity line_capacity) back_asides
-            ∙ ap (λ (x : Chained). record x { rows = set x.rows line (get_or x.rows line [] ++ a ∷ []); aside = laid links c.ks }) (sym now_is);
-      }
-
-    abbrev freed_links : List Link
-    freed_links = relinked links aside a spare
-
-    freed_linked : AreLinked freed_links (aside ∷ ((link_at links aside).next ∷ heads)) ((aside ∷ s.spares) ∷ (c.ks ∷ s.chains))
-    freed_linked = moved links hs cs 1 0 aside c.ks a s.linked (omega arith) (omega arith) (omega arith) first_is
-
-    pub freed_sound : AreSound freed_links heads aside (link_at links aside).next (unused + 1)
+    pub freed_sound : AreSound freed
     freed_sound = record {
-      spares = aside ∷ s.spares;
-      asides = c.ks;
-      chains = s.chains;
-      linked = freed_linked;
-      counted = omega (arith, s.counted);
-      small = omega (arith, s.small, length-set links (aside - 1) (link a spare));
+      chains = frees.chains;
+      linked = frees.linked;
+      counted =
+          omega
+          (arith, s.counted, ap (λ (rs : List (List Marker)). length (get_or rs 0 [])) frees.is, length-append (row_from (length c.links.items) c.links.items c.spare) (m ∷ []));
+      small = omega (arith, s.small, length-set c.links.items (c.aside - 1) (link m c.spare));
     }
 
-    freed_rows : map (row freed_links) s.chains ≡ map (row links) s.chains
-    freed_rows = ap (drop 2) (moved_rows links hs cs 1 0 aside c.ks a s.linked (omega arith) (omega arith) (omega arith) first_is)
-
-    freed_asides : laid freed_links c.ks ≡ laid links c.ks
-    freed_asides = cut_laid links hs cs 1 0 aside c.ks a s.linked (omega arith) (omega arith) (omega arith) first_is
-
-    pub is_freed : IsFreed now (chains_in freed_links heads (link_at links aside).next capacity line_capacity)
+    pub is_freed : IsFreed now (chains_in freed)
     is_freed = record {
-      first = a;
-      rest = laid links c.ks;
-      was = aside_is;
-      is =
-          seen freed_links heads aside (link_at links aside).next capacity line_capacity (aside ∷ s.spares) c.ks s.chains freed_linked
-          ∙ ap (λ rs. chained rs (laid freed_links c.ks) capacity line_capacity) freed_rows
-          ∙ ap (λ ms. chained (map (row links) s.chains) ms capacity line_capacity) freed_asides
-          ∙ ap (λ (x : Chained). record x { aside = laid links c.ks }) (sym now_is);
+      first = m;
+      rest = reverse frees.front;
+      was = first_then frees.front frees.was;
+      is = ap (λ rs. told rs c.links.capacity c.heads.capacity) frees.is ∙ ap (λ (n : Chained). record n { aside = reverse frees.front }) view;
     }
 
-  -- A spare link goes to a line.
+    module _ (line : ℕ) (h : line < length now.rows) where
+      puts : IsMoved c.links.items (all_heads c) 1 (suc (suc line)) c.aside m
+      puts = move c.links.items (all_heads c) s.chains s.linked 1 (suc (suc line)) c.aside m (omega arith) (omega (arith, lines_seen)) (omega arith) refl some'
 
-  module _ (line : ℕ) (h : line < length heads) (m : Marker) (some : 0 < unused) where
-    d : Begins s.spares
-    d = begins s.spares (omega (arith, s.counted))
+      abbrev pub back : Inside A
+      back = record c {
+        links = record c.links { items = relinked c.links.items c.aside m (get_or c.heads.items line 0) };
+        heads = record c.heads { items = set c.heads.items line c.aside };
+        aside = (link_at c.links.items c.aside).next;
+      }
 
-    spare_chain : IsChain links spare (d.k ∷ d.ks)
-    spare_chain = subst (λ x. IsChain links spare x) d.is s.linked.linked.0
+      pub back_sound : AreSound back
+      back_sound = record {
+        chains = puts.chains;
+        linked = puts.linked;
+        counted = s.counted ∙ ap (λ (rs : List (List Marker)). length (get_or rs 0 [])) (sym puts.is);
+        small = omega (arith, s.small, length-set c.links.items (c.aside - 1) (link m (get_or c.heads.items line 0)));
+      }
 
-    spare_is : s.spares ≡ spare ∷ d.ks
-    spare_is = d.is ∙ ap (λ k. k ∷ d.ks) (sym spare_chain.0)
+      pub is_back : IsBack line now (chains_in back)
+      is_back = record {
+        first = m;
+        rest = reverse puts.front;
+        was = first_then puts.front puts.was;
+        is =
+            ap (λ rs. told rs c.links.capacity c.heads.capacity) puts.is
+            ∙ ap (λ (n : Chained). record n { rows = set n.rows line (get_or n.rows line [] ++ m ∷ []); aside = reverse puts.front }) view;
+      }
 
-    pub spare_at : (0 < spare) × (spare ≤ length links)
-    spare_at = (omega (arith, spare_chain.0, spare_chain.1), omega (arith, spare_chain.0, spare_chain.2))
+  -- A spare link, or a new one, goes to a line.
 
-    abbrev taken_links : List Link
-    taken_links = relinked links spare m (get_or heads line 0)
+  module _ (line : ℕ) (m : Marker) (h : line < length now.rows) where
+    module _ (some : 0 < c.unused) where
+      takes : IsMoved c.links.items (all_heads c) 0 (suc (suc line)) c.spare m
+      takes = move c.links.items (all_heads c) s.chains s.linked 0 (suc (suc line)) c.spare m (omega arith) (omega (arith, lines_seen)) (omega arith) refl (omega (arith, s.counted))
 
-    abbrev taken_heads : List ℕ
-    taken_heads = set heads line spare
+      pub spare_at : (0 < c.spare) × (c.spare ≤ length c.links.items)
+      spare_at = takes.within
 
-    abbrev taken_chains : List (List ℕ)
-    taken_chains = set s.chains line (spare ∷ get_or s.chains line [])
+      abbrev pub taken : Inside A
+      taken = record c {
+        links = record c.links { items = relinked c.links.items c.spare m (get_or c.heads.items line 0) };
+        heads = record c.heads { items = set c.heads.items line c.spare };
+        spare = (link_at c.links.items c.spare).next;
+        unused = c.unused - 1;
+      }
 
-    taken_linked : AreLinked taken_links ((link_at links spare).next ∷ (aside ∷ taken_heads)) (d.ks ∷ (s.asides ∷ taken_chains))
-    taken_linked = moved links hs cs 0 (suc (suc line)) spare d.ks m s.linked (omega arith) (omega arith) (omega arith) spare_is
+      pub taken_sound : AreSound taken
+      taken_sound = record {
+        chains = takes.chains;
+        linked = takes.linked;
+        counted =
+            omega (
+              arith,
+              s.counted,
+              ap (λ (rs : List (List Marker)). length (get_or rs 0 [])) takes.is,
+              ap length takes.was,
+              length-append takes.front ((link_at c.links.items c.spare).marker ∷ []),
+            );
+        small = omega (arith, s.small, length-set c.links.items (c.spare - 1) (link m (get_or c.heads.items line 0)));
+      }
 
-    pub taken_sound : AreSound taken_links taken_heads (link_at links spare).next aside (unused - 1)
-    taken_sound = record {
-      spares = d.ks;
-      asides = s.asides;
-      chains = taken_chains;
-      linked = taken_linked;
-      counted = omega (arith, s.counted, ap length spare_is);
-      small = omega (arith, s.small, length-set links (spare - 1) (link m (get_or heads line 0)));
-    }
+      pub is_taken : chains_in taken ≡ record now { rows = set now.rows line (get_or now.rows line [] ++ m ∷ []) }
+      is_taken =
+          ap (λ rs. told rs c.links.capacity c.heads.capacity) takes.is ∙ ap (λ (n : Chained). record n { rows = set n.rows line (get_or n.rows line [] ++ m ∷ []) }) view
 
-    taken_rows : map (row taken_links) taken_chains ≡ set (map (row links) s.chains) line (row links (get_or s.chains line []) ++ m ∷ [])
-    taken_rows = ap (drop 2) (moved_rows links hs cs 0 (suc (suc line)) spare d.ks m s.linked (omega arith) (omega arith) (omega arith) spare_is)
+    module _ (links : List Link) (is : links ≡ c.links.items ++ link m (get_or c.heads.items line 0) ∷ []) (gap moved : ℕ) where
+      in' : suc (suc line) < length (all_heads c)
+      in' = omega (arith, lines_seen)
 
-    taken_asides : laid taken_links s.asides ≡ laid links s.asides
-    taken_asides = other_laid links hs cs 0 (suc (suc line)) spare d.ks m s.linked (omega arith) (omega arith) (omega arith) spare_is 1 (omega arith) (omega arith)
+      abbrev pub longer : Inside A
+      longer = record c {
+        links = record { items = links; capacity = c.links.capacity; gap = gap; moved = moved };
+        heads = record c.heads { items = set c.heads.items line (length c.links.items + 1) };
+      }
 
-    pub is_taken : chains_in taken_links taken_heads aside capacity line_capacity ≡ record now { rows = set now.rows line (get_or now.rows line [] ++ m ∷ []) }
-    is_taken =
-        seen taken_links taken_heads (link_at links spare).next aside capacity line_capacity d.ks s.asides taken_chains taken_linked
-        ∙ ap (λ rs. chained rs (laid taken_links s.asides) capacity line_capacity) (taken_rows ∙ ap (λ r. set (map (row links) s.chains) line (r ++ m ∷ [])) (sym (row_of links line s.chains)))
-        ∙ ap (λ ms. chained (set (map (row links) s.chains) line (get_or (map (row links) s.chains) line [] ++ m ∷ [])) ms capacity line_capacity) taken_asides
-        ∙ ap (λ (x : Chained). record x { rows = set x.rows line (get_or x.rows line [] ++ m ∷ []) }) (sym now_is)
+      pub longer_sound : length c.links.items + 1 < 2 ^ 32 → AreSound longer
+      longer_sound few = rw is (record {
+        chains = added c.links.items (all_heads c) s.chains s.linked (suc (suc line)) m in';
+        linked = added_linked c.links.items (all_heads c) s.chains s.linked (suc (suc line)) m in';
+        counted = s.counted ∙ ap (λ (rs : List (List Marker)). length (get_or rs 0 [])) (sym (added_rows c.links.items (all_heads c) s.chains s.linked (suc (suc line)) m in'));
+        small = omega (arith, few, length-append c.links.items (link m (get_or c.heads.items line 0) ∷ []));
+      })
 
-  -- A new link goes to a line.
+      pub is_longer : chains_in longer ≡ record now { rows = set now.rows line (get_or now.rows line [] ++ m ∷ []) }
+      is_longer =
+          rw is (
+          ap (λ rs. told rs c.links.capacity c.heads.capacity) (added_rows c.links.items (all_heads c) s.chains s.linked (suc (suc line)) m in')
+          ∙ ap (λ (n : Chained). record n { rows = set n.rows line (get_or n.rows line [] ++ m ∷ []) }) view
+          )
 
-  module _ (line : ℕ) (h : line < length heads) (m : Marker) (few : length links + 1 < 2 ^ 32) where
-    abbrev added_links : List Link
-    added_links = links ++ (link m (get_or heads line 0) ∷ [])
+  -- Lines without markers come, and go.
 
-    abbrev added_heads : List ℕ
-    added_heads = set heads line (length links + 1)
-
-    abbrev added_chains : List (List ℕ)
-    added_chains = set s.chains line ((length links + 1) ∷ get_or s.chains line [])
-
-    added_linked : AreLinked added_links (spare ∷ (aside ∷ added_heads)) (s.spares ∷ (s.asides ∷ added_chains))
-    added_linked = new_linked links hs cs (suc (suc line)) m s.linked (omega arith)
-
-    pub new_sound : AreSound added_links added_heads spare aside unused
-    new_sound = record {
-      spares = s.spares;
-      asides = s.asides;
-      chains = added_chains;
-      linked = added_linked;
+  module _ (line count : ℕ) where
+    pub wider_sound : AreSound (record c { heads = with_inserted line count (replicate count 0) c.heads })
+    wider_sound = record {
+      chains = inserted s.chains (suc (suc line)) (replicate count []);
+      linked = wider c.links.items (all_heads c) s.chains s.linked (suc (suc line)) count;
       counted = s.counted;
-      small = omega (arith, few, length-append links (link m (get_or heads line 0) ∷ []));
+      small = s.small;
     }
 
-    added_rows : map (row added_links) added_chains ≡ set (map (row links) s.chains) line (row links (get_or s.chains line []) ++ m ∷ [])
-    added_rows = ap (drop 2) (new_rows links hs cs (suc (suc line)) m s.linked (omega arith))
+    pub is_wider : chains_in (record c { heads = with_inserted line count (replicate count 0) c.heads }) ≡ record now { rows = inserted now.rows line (replicate count []) }
+    is_wider =
+        ap (λ rows. record (chains_in c) { rows = rows }) (wider_rows c.links.items c.heads.items line count)
+        ∙ ap (λ (n : Chained). record n { rows = inserted n.rows line (replicate count []) }) view
 
-    pub is_new : chains_in added_links added_heads aside capacity line_capacity ≡ record now { rows = set now.rows line (get_or now.rows line [] ++ m ∷ []) }
-    is_new =
-        seen added_links added_heads spare aside capacity line_capacity s.spares s.asides added_chains added_linked
-        ∙ ap (λ rs. chained rs (laid added_links s.asides) capacity line_capacity) (added_rows ∙ ap (λ r. set (map (row links) s.chains) line (r ++ m ∷ [])) (sym (row_of links line s.chains)))
-        ∙ ap (λ ms. chained (set (map (row links) s.chains) line (get_or (map (row links) s.chains) line [] ++ m ∷ [])) ms capacity line_capacity)
-        (laid_longer links (link m (get_or heads line 0) ∷ []) aside s.asides s.linked.linked.1.0)
-        ∙ ap (λ (x : Chained). record x { rows = set x.rows line (get_or x.rows line [] ++ m ∷ []) }) (sym now_is)
+  module _ (line : ℕ) where
+    pub fewer_sound : line < length now.rows → get_or now.rows line [] ≡ [] → AreSound (record c { heads = with_deleted line 1 c.heads })
+    fewer_sound h bare = record {
+      chains = deleted s.chains (suc (suc line)) 1;
+      linked =
+          let e : suc (suc line) + 1 ≡ suc (suc (line + 1)) = omega arith in
+          subst (λ n. AreLinked c.links.items (take (suc (suc line)) (all_heads c) ++ drop n (all_heads c)) (deleted s.chains (suc (suc line)) 1)) e
+          (narrower c.links.items (all_heads c) s.chains s.linked (suc (suc line)) (omega (arith, lines_seen)) (ap (λ (n : Chained). length (get_or n.rows line [])) view ∙ ap length bare));
+      counted = s.counted;
+      small = s.small;
+    }
+
+    pub is_fewer : chains_in (record c { heads = with_deleted line 1 c.heads }) ≡ record now { rows = deleted now.rows line 1 }
+    is_fewer =
+        ap (λ rows. record (chains_in c) { rows = rows }) (fewer_rows c.links.items c.heads.items line) ∙ ap (λ (n : Chained). record n { rows = deleted n.rows line 1 }) view

@@ -1,69 +1,43 @@
--- Lines that are joined a few at a time are joined.
-use Rattle.marker_store.proofs.Names.{◌≡◌, ℕ, ◌+◌, ◌-◌, ◌<◌, List, [], ◌∷◌, ◌++◌, length, take, drop, sym, ap, ◌∙◌, arith, append_assoc, append-nil, take_at, drop_at, length-append, flat_map, slice_range, take-append-drop, length-take-le, length-drop, Marker, with_joined}
+-- Lines that are joined, as their first one and the others.
+use Rattle.marker_store.proofs.Names.{◌≡◌, ℕ, zero, suc, ◌+◌, ◌-◌, ◌<◌, ◌≤◌, List, [], ◌∷◌, ◌++◌, length, get_or, take, drop, sym, ap, ap₂, ◌∙◌, arith, append-nil, drop-drop, drop_more, take_more, flat_map, length-drop, sum_by-cons, sum_by-take-drop, Marker, marker_total, with_joined}
 use Rattle.std.proofs.lemmas.Grind.{flat_map-append}
+use Rattle.std.proofs.lemmas.List.Concat.{length-flat_map}
 
-abbrev Lists : Type 0
+abbrev pub Lists : Type 0
 Lists = List (List Marker)
 
 abbrev flat : Lists → List Marker
 flat lists = flat_map (λ (ms : List Marker). ms) lists
 
-pub joined_parts : (line c : ℕ) (ps qs rs : Lists) → length ps ≡ line → length qs ≡ c + 1 → with_joined line c (ps ++ (qs ++ rs)) ≡ ps ++ (flat qs ∷ rs)
-joined_parts line c ps qs rs hp hq =
-    let wide : line + (c + 1) - line ≡ c + 1 = omega arith in
-    let near : take line (ps ++ (qs ++ rs)) ≡ ps = take_at ps (qs ++ rs) line hp in
-    let range : slice_range (ps ++ (qs ++ rs)) line (line + (c + 1)) ≡ qs
-    = ap (λ l. take (line + (c + 1) - line) l) (drop_at ps (qs ++ rs) line hp) ∙ ap (λ n. take n (qs ++ rs)) wide ∙ take_at qs rs (c + 1) hq in
-    let both : length (ps ++ qs) ≡ line + (c + 1) = length-append ps qs ∙ omega arith in
-    let far : drop (line + (c + 1)) (ps ++ (qs ++ rs)) ≡ rs
-    = ap (λ l. drop (line + (c + 1)) l) (sym (append_assoc ps qs rs)) ∙ drop_at (ps ++ qs) rs (line + (c + 1)) both in
-    ap (λ l. l ++ (flat (slice_range (ps ++ (qs ++ rs)) line (line + (c + 1))) ∷ drop (line + (c + 1)) (ps ++ (qs ++ rs)))) near
-    ∙ ap (λ l. ps ++ (flat l ∷ drop (line + (c + 1)) (ps ++ (qs ++ rs)))) range
-    ∙ ap (λ l. ps ++ (flat qs ∷ l)) far
+-- `c` lines from the line on are one
+abbrev pub joined : (line c : ℕ) → Lists → Lists
+joined line c rows = take line rows ++ (flat (take c (drop line rows)) ∷ drop c (drop line rows))
 
-joined_twice :
-    (line a b : ℕ) (ps qs xs rs : Lists) → length ps ≡ line → length qs ≡ b + 1 → length xs ≡ a
-    → with_joined line a (with_joined line b (ps ++ (qs ++ (xs ++ rs)))) ≡ with_joined line (b + a) (ps ++ (qs ++ (xs ++ rs)))
-joined_twice line a b ps qs xs rs hp hq ha =
-    let wide : length (qs ++ xs) ≡ b + a + 1 = length-append qs xs ∙ omega arith in
-    let one : length (flat qs ∷ xs) ≡ a + 1 = omega arith in
-    ap (λ l. with_joined line a l) (joined_parts line b ps qs (xs ++ rs) hp hq)
-    ∙ joined_parts line a ps (flat qs ∷ xs) rs hp one
-    ∙ ap (λ l. ps ++ (l ∷ rs)) (sym (flat_map-append (λ (ms : List Marker). ms) qs xs))
-    ∙ sym (joined_parts line (b + a) ps (qs ++ xs) rs hp wide)
-    ∙ ap (λ l. with_joined line (b + a) (ps ++ l)) (append_assoc qs xs rs)
+pub joined_are : (line count : ℕ) (rows : Lists) → with_joined line count rows ≡ joined line (count + 1) rows
+joined_are line count rows =
+    let wide : line + (count + 1) - line ≡ count + 1 = omega arith in
+    ap₂ (λ (n : ℕ) (rest : Lists). take line rows ++ (flat (take n (drop line rows)) ∷ rest)) wide (sym (drop-drop (count + 1) line rows))
 
-pub joined_more :
-    (line a b : ℕ) (rows : Lists) → line + (b + a) < length rows → with_joined line a (with_joined line b rows) ≡ with_joined line (b + a) rows
-joined_more line a b rows h =
-    let ps = take line rows in
-    let tail = drop line rows in
-    let qs = take (b + 1) tail in
-    let rest = drop (b + 1) tail in
-    let xs = take a rest in
-    let rs = drop a rest in
-    let hp : length ps ≡ line = length-take-le line rows (omega arith) in
-    let ht : length tail + line ≡ length rows = omega (arith, length-drop line rows) in
-    let hq : length qs ≡ b + 1 = length-take-le (b + 1) tail (omega arith) in
-    let hr : length rest + (b + 1) ≡ length tail = omega (arith, length-drop (b + 1) tail) in
-    let ha : length xs ≡ a = length-take-le a rest (omega arith) in
-    let all : ps ++ (qs ++ (xs ++ rs)) ≡ rows
-    = ap (λ l. ps ++ (qs ++ l)) (take-append-drop a rest) ∙ ap (λ l. ps ++ l) (take-append-drop (b + 1) tail) ∙ take-append-drop line rows in
-    ap (λ l. with_joined line a (with_joined line b l)) (sym all) ∙ joined_twice line a b ps qs xs rs hp hq ha ∙ ap (λ l. with_joined line (b + a) l) all
+pub length-joined : (line c : ℕ) (rows : Lists) → line + c ≤ length rows → length (joined line c rows) + c ≡ length rows + 1
+length-joined zero c rows h = omega (arith, length-drop c rows)
+length-joined (suc line) c [] h = absurd (omega arith)
+length-joined (suc line) c (r ∷ rows) h = omega (arith, length-joined line c rows (omega arith))
 
-pub joined_none : (line : ℕ) (rows : Lists) → line < length rows → with_joined line 0 rows ≡ rows
-joined_none line rows h =
-    let ps = take line rows in
-    let tail = drop line rows in
-    let qs = take 1 tail in
-    let rest = drop 1 tail in
-    let hp : length ps ≡ line = length-take-le line rows (omega arith) in
-    let ht : length tail + line ≡ length rows = omega (arith, length-drop line rows) in
-    let hq : length qs ≡ 0 + 1 = length-take-le 1 tail (omega arith) in
-    let all : ps ++ (qs ++ rest) ≡ rows = ap (λ l. ps ++ l) (take-append-drop 1 tail) ∙ take-append-drop line rows in
-    ap (λ l. with_joined line 0 l) (sym all) ∙ joined_parts line 0 ps qs rest hp hq ∙ ap (λ l. ps ++ l) (one qs rest hq) ∙ all
-  where
-    one : (qs rs : Lists) → length qs ≡ 0 + 1 → flat qs ∷ rs ≡ qs ++ rs
-    one [] rs e = absurd (omega arith)
-    one (q ∷ []) rs e = ap (λ l. l ∷ rs) (append-nil q)
-    one (q ∷ p ∷ qs) rs e = absurd (omega arith)
+pub total_joined : (line c : ℕ) (rows : Lists) → line ≤ length rows → marker_total (joined line c rows) ≡ marker_total rows
+total_joined zero c rows h =
+    omega (arith, sum_by-cons length (flat (take c rows)) (drop c rows), length-flat_map (λ (ms : List Marker). ms) (take c rows), sum_by-take-drop length rows c)
+total_joined (suc line) c [] h = absurd (omega arith)
+total_joined (suc line) c (r ∷ rows) h = omega (arith, total_joined line c rows (omega arith), sum_by-cons length r (joined line c rows), sum_by-cons length r rows)
+
+-- lines are joined one by one
+pub joined_one : (line : ℕ) (rows : Lists) → line < length rows → joined line 1 rows ≡ rows
+joined_one line [] h = absurd (omega arith)
+joined_one zero (r ∷ rows) h = ap (λ l. l ∷ rows) (append-nil r)
+joined_one (suc line) (r ∷ rows) h = ap (λ rs. r ∷ rs) (joined_one line rows (omega arith))
+
+pub joined_next : (line c : ℕ) (rows : Lists) → line + c < length rows → joined line 2 (joined line c rows) ≡ joined line (c + 1) rows
+joined_next zero c rows h =
+    ap (λ rest. (flat (take c rows) ++ flat (take 1 rest)) ∷ drop 1 rest) (drop_more rows c [] (omega arith))
+    ∙ ap (λ l. l ∷ drop (c + 1) rows) (sym (flat_map-append (λ (ms : List Marker). ms) (take c rows) (get_or rows c [] ∷ [])) ∙ ap flat (sym (take_more rows c [] (omega arith))))
+joined_next (suc line) c [] h = absurd (omega arith)
+joined_next (suc line) c (r ∷ rows) h = ap (λ rs. r ∷ rs) (joined_next line c rows (omega arith))

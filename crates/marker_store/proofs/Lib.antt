@@ -1,9 +1,6 @@
 pub mod Names
-pub mod LinkMoves
-pub mod LinkViews
+pub mod Chaining
 pub mod Deeds
-pub mod NewLinks
-pub mod LineChains
 pub mod Walks
 pub mod Changes
 pub mod Joins

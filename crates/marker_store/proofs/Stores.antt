@@ -1,6 +1,6 @@
 -- The lines of a store, of which the first have chains.
-use Rattle.marker_store.proofs.Names.{◌≡◌, ◌≢◌, ◌⊎◌, ℕ, ◌+◌, ◌-◌, ◌<◌, ◌≤◌, ◌==◌, inl, inr, zero, suc, Bool, true, false, not, List, [], ◌∷◌, ◌++◌, length, get_or, set, take, drop, replicate, filter, refl, sym, ap, ◌∙◌, arith, append_assoc, append-nil, length-set, length-append, length-map, length-take-le, length-drop, take-append-drop, take_at, drop_at, set-get_or, nil_from_length, sum_by-cons, sum_by-append, flat_map, find, reverse, range_with_len, min, Some, None, IsTrue, eqb, eq-eqb, ne_eqb, bit_and, mask_of, Marker, Chained, without, with_fresh, with_joined, marker_total, first_from, last_up_to}
-use Rattle.std.specs.Prelude.{Option}
+use Rattle.marker_store.proofs.Names.{◌≡◌, ◌≢◌, ◌⊎◌, ℕ, ◌+◌, ◌-◌, ◌<◌, ◌≤◌, ◌==◌, inl, inr, zero, suc, Bool, true, false, not, List, [], ◌∷◌, ◌++◌, length, get_or, set, take, drop, replicate, filter, refl, sym, ap, ◌∙◌, arith, append_assoc, append-nil, length-set, length-append, length-map, length-take-le, length-drop, sum_by-take-drop, ap₂, length-replicate, set-get_or, nil_from_length, sum_by-cons, sum_by-append, min, Some, None, IsTrue, eqb, eq-eqb, ne_eqb, bit_and, mask_of, Marker, Chained, held, MarkedLines, marked_lines, without, with_fresh, with_joined, marker_total, first_from, last_up_to}
+use Rattle.std.specs.Prelude.{Option, ◌↔◌}
 use Rattle.std.proofs.lemmas.List.Sums.{length-filter, count_by-le-length}
 use Rattle.std.specs.Int.Bits.{and_zero_l}
 use Rattle.ed_model.specs.Changes.{without_first, without_marker, is_of_number}
@@ -8,12 +8,10 @@ use Rattle.split_vector.specs.Split.{inserted}
 use Rattle.marker_store.specs.Dropping.{is_dropped, kept, kept_rows, of_number}
 use Rattle.marker_store.specs.declared.drops.Drops.{Drops}
 use Rattle.marker_store.specs.declared.drops.Drops.TheVariants.{Each}
+use Rattle.marker_store.specs.Lines.{HasLineRoom}
 use Rattle.marker_store.specs.Store.{all_lines, IsStore}
-use Rattle.marker_store.proofs.Joins.{joined_parts, joined_more}
+use Rattle.marker_store.proofs.Joins.{Lists, joined, joined_are, length-joined, total_joined}
 use Rattle.marker_store.proofs.Finds.{find_none, last_none}
-
-abbrev Lists : Type 0
-Lists = List (List Marker)
 
 abbrev none : ℕ → Lists
 none n = replicate n []
@@ -21,12 +19,7 @@ none n = replicate n []
 -- Lines without markers behind others.
 
 length-none : (n : ℕ) → length (none n) ≡ n
-length-none zero = refl
-length-none (suc n) = ap suc (length-none n)
-
-none-append : (a b : ℕ) → none (a + b) ≡ none a ++ none b
-none-append zero b = let e : 0 + b ≡ b = omega arith in rw e refl
-none-append (suc a) b = let e : suc a + b ≡ suc (a + b) = omega arith in rw e (ap (λ l. [] ∷ l) (none-append a b))
+length-none n = length-replicate n []
 
 at_none : (n k : ℕ) → get_or (none n) k [] ≡ []
 at_none zero k = refl
@@ -56,9 +49,13 @@ without_padded p (r ∷ rows) m = ap (λ l. filter (λ x. not (p x)) r ∷ l) (w
 pub without_all : (p : Marker → Bool) (n : ℕ) (rows : Lists) → all_lines n (without p rows) ≡ without p (all_lines n rows)
 without_all p n rows = ap (λ k. without p rows ++ none (n - k)) (length-map rows (λ (ms : List Marker). filter (λ x. not (p x)) ms)) ∙ sym (without_padded p rows (n - length rows))
 
-flat_none : (n : ℕ) → flat_map (λ (ms : List Marker). ms) (none n) ≡ []
-flat_none zero = refl
-flat_none (suc n) = flat_none n
+-- lines that have no marker among them
+all_bare : (n : ℕ) (rows : Lists) → length rows ≡ n → marker_total rows ≡ 0 → none n ≡ rows
+all_bare n [] e z = ap none (sym e)
+all_bare zero (r ∷ rows) e z = absurd (omega arith)
+all_bare (suc n) (r ∷ rows) e z =
+    let sum = sum_by-cons length r rows in
+    ap₂ (λ (m : List Marker) (ms : Lists). m ∷ ms) (sym (nil_from_length r (omega arith))) (all_bare n rows (omega arith) (omega arith))
 
 -- All lines have a chain, or none has.
 
@@ -75,21 +72,15 @@ lines_length n rows (inr e) = omega (arith, length-append rows (none (n - length
 pub set_all :
     (f : List Marker → List Marker) (n line : ℕ) (rows : Lists) → f [] ≡ [] → (rows ≡ []) ⊎ (length rows ≡ n)
     → all_lines n (set rows line (f (get_or rows line []))) ≡ set (all_lines n rows) line (f (get_or (all_lines n rows) line []))
-set_all f n line rows z (inl e) =
-    ap (λ (rs : Lists). all_lines n (set rs line (f (get_or rs line [])))) e
-    ∙ bare n ∙ sym (set-get_or (none n) line [])
-    ∙ ap (λ r. set (none n) line r) (at_none n line ∙ sym z ∙ ap f (sym (at_none n line)))
-    ∙ ap (λ l. set l line (f (get_or l line []))) (sym (bare n))
-    ∙ ap (λ (rs : Lists). set (all_lines n rs) line (f (get_or (all_lines n rs) line []))) (sym e)
-set_all f n line rows z (inr e) =
-    full n (set rows line (f (get_or rows line []))) (length-set rows line (f (get_or rows line [])) ∙ e) ∙ ap (λ l. set l line (f (get_or l line []))) (sym (full n rows e))
+set_all f n line rows z (inl e) = rw (e, bare n, at_none n line, z) (sym (ap (set (none n) line) (sym (at_none n line)) ∙ set-get_or (none n) line []))
+set_all f n line rows z (inr e) = rw (full n rows e) (full n (set rows line (f (get_or rows line []))) (length-set rows line (f (get_or rows line [])) ∙ e))
 
 -- Fewer markers.
 
 kept_few : (drops : Drops) (ms : List Marker) → length (kept drops ms) ≤ length ms
 kept_few drops ms = omega (arith, length-filter (λ m. not (is_dropped drops m)) ms, count_by-le-length (λ m. not (is_dropped drops m)) ms)
 
-pub kept_fewer : (drops : Drops) (rows : Lists) → marker_total (kept_rows drops rows) ≤ marker_total rows
+kept_fewer : (drops : Drops) (rows : Lists) → marker_total (kept_rows drops rows) ≤ marker_total rows
 kept_fewer drops [] = omega arith
 kept_fewer drops (r ∷ rows) = omega (arith, sum_by-cons length (kept drops r) (kept_rows drops rows), sum_by-cons length r rows, kept_few drops r, kept_fewer drops rows)
 
@@ -109,7 +100,7 @@ pub marker_nil : (number : Option ℕ) → without_marker number [] ≡ []
 marker_nil None = refl
 marker_nil (Some number) = refl
 
-pub marker_fewer : (number : Option ℕ) (line : ℕ) (rows : Lists) → marker_total (set rows line (without_marker number (get_or rows line []))) ≤ marker_total rows
+marker_fewer : (number : Option ℕ) (line : ℕ) (rows : Lists) → marker_total (set rows line (without_marker number (get_or rows line []))) ≤ marker_total rows
 marker_fewer number line [] = omega arith
 marker_fewer number zero (r ∷ rows) = omega (arith, sum_by-cons length (without_marker number r) rows, sum_by-cons length r rows, marker_few number r)
 marker_fewer number (suc line) (r ∷ rows) = omega (arith, sum_by-cons length r (set rows line (without_marker number (get_or rows line []))), sum_by-cons length r rows, marker_fewer number line rows)
@@ -130,96 +121,43 @@ differs a b x y ea eb = (
 
 -- Lines come.
 
+length-fresh : (line count : ℕ) (rows : Lists) → line ≤ length rows → length (with_fresh line count rows) ≡ length rows + count
+length-fresh line count rows h = simp (length-append, length-drop) (omega (arith, length-take-le line rows h, length-none count))
+
+total_fresh : (line count : ℕ) (rows : Lists) → marker_total (with_fresh line count rows) ≡ marker_total rows
+total_fresh line count rows =
+    omega
+    (arith, sum_by-append length (take line rows) (none count ++ drop line rows), sum_by-append length (none count) (drop line rows), total_none count, sum_by-take-drop length rows line)
+
 pub fresh_none : (n line count : ℕ) → line ≤ n → all_lines (n + count) [] ≡ with_fresh line count (all_lines n [])
 fresh_none n line count h =
-    let rest = n - line in
-    let whole : n ≡ line + rest = omega arith in
-    let sum : n + count ≡ line + (count + rest) = omega arith in
-    let parted : none n ≡ none line ++ none rest = ap none whole ∙ none-append line rest in
-    bare (n + count) ∙ ap none sum ∙ none-append line (count + rest) ∙ ap (λ l. none line ++ l) (none-append count rest)
-    ∙ ap (λ l. l ++ (none count ++ none rest)) (sym (take_at (none line) (none rest) line (length-none line)) ∙ ap (take line) (sym parted))
-    ∙ ap (λ l. take line (none n) ++ (none count ++ l)) (sym (drop_at (none line) (none rest) line (length-none line)) ∙ ap (drop line) (sym parted))
+    bare (n + count)
+    ∙ all_bare (n + count) (with_fresh line count (none n)) (omega (arith, length-fresh line count (none n) (omega (arith, length-none n)), length-none n)) (total_fresh line count (none n) ∙ total_none n)
     ∙ ap (with_fresh line count) (sym (bare n))
 
-pub length-wider : (line count : ℕ) (rows : Lists) → length (inserted rows line (none count)) ≡ length rows + count
-length-wider line count rows =
-    omega (arith, length-append (take line rows ++ none count) (drop line rows), length-append (take line rows) (none count), length-append (take line rows) (drop line rows), ap length (take-append-drop line rows), length-none count)
+-- lines with chains
+wider_is : (line count : ℕ) (rows : Lists) → inserted rows line (none count) ≡ with_fresh line count rows
+wider_is line count rows = append_assoc (take line rows) (none count) (drop line rows)
 
-pub fresh_full : (n line count : ℕ) (rows : Lists) → length rows ≡ n → all_lines (n + count) (inserted rows line (none count)) ≡ with_fresh line count (all_lines n rows)
-fresh_full n line count rows e =
-    full (n + count) (inserted rows line (none count)) (length-wider line count rows ∙ ap (λ k. k + count) e)
-    ∙ append_assoc (take line rows) (none count) (drop line rows) ∙ ap (with_fresh line count) (sym (full n rows e))
+pub length-wider : (line count : ℕ) (rows : Lists) → line ≤ length rows → length (inserted rows line (none count)) ≡ length rows + count
+length-wider line count rows h = ap length (wider_is line count rows) ∙ length-fresh line count rows h
+
+pub fresh_full : (n line count : ℕ) (rows : Lists) → line ≤ n → length rows ≡ n → all_lines (n + count) (inserted rows line (none count)) ≡ with_fresh line count (all_lines n rows)
+fresh_full n line count rows h e =
+    full (n + count) (inserted rows line (none count)) (length-wider line count rows (omega arith) ∙ ap (λ k. k + count) e)
+    ∙ wider_is line count rows ∙ ap (with_fresh line count) (sym (full n rows e))
 
 pub total_wider : (line count : ℕ) (rows : Lists) → marker_total (inserted rows line (none count)) ≡ marker_total rows
-total_wider line count rows =
-    omega (
-      arith,
-      sum_by-append length (take line rows ++ none count) (drop line rows),
-      sum_by-append length (take line rows) (none count),
-      total_none count,
-      sum_by-append length (take line rows) (drop line rows),
-      ap marker_total (take-append-drop line rows),
-    )
+total_wider line count rows = ap marker_total (wider_is line count rows) ∙ total_fresh line count rows
 
 -- Lines are joined.
 
 pub joined_bare : (n line count : ℕ) → line + count < n → all_lines (n - count) [] ≡ with_joined line count (all_lines n [])
 joined_bare n line count h =
-    let rest = n - line - (count + 1) in
-    let whole : n ≡ line + ((count + 1) + rest) = omega arith in
-    let left : n - count ≡ line + (1 + rest) = omega arith in
-    let parted : none n ≡ none line ++ (none (count + 1) ++ none rest) = ap none whole ∙ none-append line ((count + 1) + rest) ∙ ap (λ l. none line ++ l) (none-append (count + 1) rest) in
-    bare (n - count) ∙ ap none left ∙ none-append line (1 + rest) ∙ ap (λ l. none line ++ l) (none-append 1 rest)
-    ∙ ap (λ m. none line ++ (m ∷ none rest)) (sym (flat_none (count + 1)))
-    ∙ sym (joined_parts line count (none line) (none (count + 1)) (none rest) (length-none line) (length-none (count + 1)))
-    ∙ ap (with_joined line count) (sym parted ∙ sym (bare n))
-
-flat_total : (rows : Lists) → length (flat_map (λ (ms : List Marker). ms) rows) ≡ marker_total rows
-flat_total [] = refl
-flat_total (r ∷ rows) = length-append r (flat_map (λ (ms : List Marker). ms) rows) ∙ omega (arith, flat_total rows, sum_by-cons length r rows)
-
-module _ (line count : ℕ) (rows : Lists) (h : line + count < length rows) where
-  abbrev ps : Lists
-  ps = take line rows
-
-  abbrev qs : Lists
-  qs = take (count + 1) (drop line rows)
-
-  abbrev rs : Lists
-  rs = drop (count + 1) (drop line rows)
-
-  whole : ps ++ (qs ++ rs) ≡ rows
-  whole = ap (λ l. ps ++ l) (take-append-drop (count + 1) (drop line rows)) ∙ take-append-drop line rows
-
-  near : length ps ≡ line
-  near = length-take-le line rows (omega arith)
-
-  wide : length qs ≡ count + 1
-  wide = length-take-le (count + 1) (drop line rows) (omega (arith, length-drop line rows))
-
-  is : with_joined line count rows ≡ ps ++ (flat_map (λ (ms : List Marker). ms) qs ∷ rs)
-  is = ap (with_joined line count) (sym whole) ∙ joined_parts line count ps qs rs near wide
-
-  pub length-joined : length (with_joined line count rows) + count ≡ length rows
-  length-joined =
-      omega
-      (arith, ap length is, length-append ps (flat_map (λ (ms : List Marker). ms) qs ∷ rs), ap length whole, length-append ps (qs ++ rs), length-append qs rs, near, wide)
-
-  pub total_joined : marker_total (with_joined line count rows) ≡ marker_total rows
-  total_joined =
-      omega (
-        arith,
-        ap marker_total is,
-        sum_by-append length ps (flat_map (λ (ms : List Marker). ms) qs ∷ rs),
-        sum_by-cons length (flat_map (λ (ms : List Marker). ms) qs) rs,
-        flat_total qs,
-        ap marker_total whole,
-        sum_by-append length ps (qs ++ rs),
-        sum_by-append length qs rs,
-      )
-
-pub joined_next : (line i : ℕ) (rows : Lists) → line + (i + 1) < length rows → with_joined line 1 (with_joined line i rows) ≡ with_joined line (i + 1) rows
-joined_next line i rows h = joined_more line 1 i rows h
+    bare (n - count)
+    ∙ all_bare (n - count) (joined line (count + 1) (none n)) (omega (arith, length-joined line (count + 1) (none n) (omega (arith, length-none n)), length-none n))
+    (total_joined line (count + 1) (none n) (omega (arith, length-none n)) ∙ total_none n)
+    ∙ sym (ap (with_joined line count) (bare n) ∙ joined_are line count (none n))
 
 -- Searches.
 
@@ -236,18 +174,14 @@ module _ (q : List Marker → Bool) (z : q [] ≡ false) (n : ℕ) (rows : Lists
   pub first_all : (from : ℕ) → (rows ≡ []) ⊎ (length rows ≡ n) → first_from (test rows) rows from ≡ first_from (test (all_lines n rows)) (all_lines n rows) from
   first_all from (inl e) =
       let no : 0 - from ≡ 0 = omega arith in
-      ap (λ (l : Lists). first_from (test l) l from) e ∙ ap (λ k. find (test []) (range_with_len from k)) no
-      ∙ sym (find_none (test (none n)) from (length (none n) - from) (λ k a b. bare_test k))
-      ∙ ap (λ (l : Lists). first_from (test l) l from) (sym (bare n)) ∙ ap (λ (l : Lists). first_from (test (all_lines n l)) (all_lines n l) from) (sym e)
-  first_all from (inr e) = ap (λ (l : Lists). first_from (test l) l from) (sym (full n rows e))
+      rw (e, no, bare n) (sym (find_none (test (none n)) from (length (none n) - from) (λ k a b. bare_test k)))
+  first_all from (inr e) = rw (full n rows e) refl
 
   pub last_all : (from : ℕ) → (rows ≡ []) ⊎ (length rows ≡ n) → last_up_to (test rows) rows from ≡ last_up_to (test (all_lines n rows)) (all_lines n rows) from
   last_all from (inl e) =
       let no : min (from + 1) 0 ≡ 0 = omega arith in
-      ap (λ (l : Lists). last_up_to (test l) l from) e ∙ ap (λ k. find (test []) (reverse (range_with_len 0 k))) no
-      ∙ sym (last_none (test (none n)) (min (from + 1) (length (none n))) (λ k a. bare_test k))
-      ∙ ap (λ (l : Lists). last_up_to (test l) l from) (sym (bare n)) ∙ ap (λ (l : Lists). last_up_to (test (all_lines n l)) (all_lines n l) from) (sym e)
-  last_all from (inr e) = ap (λ (l : Lists). last_up_to (test l) l from) (sym (full n rows e))
+      rw (e, no, bare n) (sym (last_none (test (none n)) (min (from + 1) (length (none n))) (λ k a. bare_test k)))
+  last_all from (inr e) = rw (full n rows e) refl
 
 -- Which of the two it is.
 
@@ -255,21 +189,60 @@ pub is_full : (n : ℕ) (rows : Lists) → (rows ≡ []) ⊎ (length rows ≡ n)
 is_full n rows (inl e) h = absurd (omega (arith, ap length e))
 is_full n rows (inr e) h = e
 
-pub no_more : (n : ℕ) (rows : Lists) → (rows ≡ []) ⊎ (length rows ≡ n) → length rows ≤ n
-no_more n rows (inl e) = omega (arith, ap length e)
-no_more n rows (inr e) = omega (arith, e)
-
 pub same_shape : (n : ℕ) (rows rows' : Lists) → (rows ≡ []) ⊎ (length rows ≡ n) → length rows' ≡ length rows → (rows' ≡ []) ⊎ (length rows' ≡ n)
 same_shape n rows rows' (inl e) s = inl (nil_from_length rows' (s ∙ ap length e))
 same_shape n rows rows' (inr e) s = inr (s ∙ e)
 
--- a store with other markers on the same lines, of which there are no more
-pub same_store : (chains : Chained) (rows : Lists) (lines next_handle : ℕ) → IsStore chains lines next_handle → length rows ≡ length chains.rows → marker_total rows ≤ marker_total chains.rows → IsStore (record chains { rows = rows }) lines next_handle
-same_store chains rows lines next_handle s size few = record {
-  some = s.some;
-  few = s.few;
-  headed = same_shape lines chains.rows rows s.headed size;
-  held = λ h. s.held (omega (arith, size));
-  fewer = omega (arith, s.fewer, few);
-  none_aside = s.none_aside;
-}
+total_of : (n : ℕ) (c : Chained) → c.aside ≡ [] → marker_total (all_lines n c.rows) ≡ held c
+total_of n c none = total_padded c.rows (n - length c.rows) ∙ omega (arith, ap length none)
+
+-- other markers stand on the same lines, no more than before
+pub record IsLess (chains new : Chained) : Type 0 where
+  pub rows : Lists
+  pub is : new ≡ record chains { rows = rows }
+  pub size : length rows ≡ length chains.rows
+  pub fewer : marker_total rows ≤ marker_total chains.rows
+
+pub less_kept : (chains new : Chained) (drops : Drops) → new ≡ record chains { rows = kept_rows drops chains.rows } → IsLess chains new
+less_kept chains new drops is = record { rows = kept_rows drops chains.rows; is = is; size = length-map chains.rows (kept drops); fewer = kept_fewer drops chains.rows }
+
+pub less_on : (chains new : Chained) (number : Option ℕ) (line : ℕ) → new ≡ record chains { rows = set chains.rows line (without_marker number (get_or chains.rows line [])) } → IsLess chains new
+less_on chains new number line is = record { rows = _; is = is; size = length-set chains.rows line _; fewer = marker_fewer number line chains.rows }
+
+abbrev store_in : Chained → (lines next_handle : ℕ) → MarkedLines
+store_in c lines next_handle = marked_lines (all_lines lines c.rows) next_handle c.capacity c.line_capacity
+
+module _ (chains : Chained) (lines next_handle : ℕ) (s : IsStore chains lines next_handle) (v : MarkedLines) (view : store_in chains lines next_handle ≡ v) where
+  pub lines_are : length v.lines ≡ lines
+  lines_are = ap (λ (v : MarkedLines). length v.lines) (sym view) ∙ lines_length lines chains.rows s.headed
+
+  pub total_is : marker_total v.lines ≡ held chains
+  total_is = ap (λ (v : MarkedLines). marker_total v.lines) (sym view) ∙ total_of lines chains s.none_aside
+
+  pub room_is : (count : ℕ) → HasLineRoom count v → 0 < chains.capacity → lines + count ≤ chains.line_capacity
+  room_is count room some = omega (arith, room (omega (arith, some, ap (λ (v : MarkedLines). v.capacity) view)), lines_are, ap (λ (v : MarkedLines). v.line_capacity) view)
+
+  module _ (new : Chained) (l : IsLess chains new) where
+    pub less_sound : IsStore new lines next_handle
+    less_sound = rw l.is (record {
+      some = s.some;
+      few = s.few;
+      headed = same_shape lines chains.rows l.rows s.headed l.size;
+      held = λ h. s.held (omega (arith, h, l.size));
+      fits = s.fits;
+      fewer = omega (arith, s.fewer, l.fewer);
+      none_aside = s.none_aside;
+    })
+
+    less_total : marker_total (all_lines lines new.rows) ≡ held new
+    less_total = total_of lines new (ap (λ (c : Chained). c.aside) l.is ∙ s.none_aside)
+
+    pub less_fewer : marker_total (all_lines lines new.rows) ≤ marker_total v.lines
+    less_fewer = omega (arith, less_total, total_is, ap held l.is, l.fewer)
+
+    pub less_went : (a b : ℕ) → a ≡ held new → b ≡ held chains → (IsTrue (not (eqb a b)) ↔ (marker_total (all_lines lines new.rows) ≢ marker_total v.lines))
+    less_went a b ea eb = differs a b _ _ (ea ∙ sym less_total) (eb ∙ sym total_is)
+
+    pub less_lines : (F : Lists → Lists) → all_lines lines new.rows ≡ F (all_lines lines chains.rows) → store_in new lines next_handle ≡ record v { lines = F v.lines }
+    less_lines F same =
+        ap₂ (λ (ls : Lists) (c : Chained). marked_lines ls next_handle c.capacity c.line_capacity) same l.is ∙ ap (λ (v : MarkedLines). record v { lines = F v.lines }) view

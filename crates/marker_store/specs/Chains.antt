@@ -1,6 +1,7 @@
 -- The storage of markers: links, each with a marker and the number of the next one. Links that follow one another are a
 -- chain. Links have numbers from 1 on, and 0 ends a chain.
-use Rattle.std.specs.Prelude.{◌≡◌, ℕ, zero, suc, ◌+◌, ◌-◌, ◌^◌, ◌<◌, ◌≤◌, ◌==◌, if◌then◌else◌, List, [], ◌∷◌, ◌++◌, length, map, sum_by, slice_index_or, slice_set, refl}
+use Rattle.std.specs.Prelude.{◌≡◌, ℕ, zero, suc, ◌+◌, ◌-◌, ◌<◌, ◌≤◌, ◌==◌, if◌then◌else◌, List, [], ◌∷◌, ◌++◌, length, map, sum_by, slice_index_or, slice_set, refl}
+use Rattle.std.specs.List.{All}
 use Rattle.std.specs.Coded.{Coded, code_by, coded×, coded_list, coded_ℕ}
 use Rattle.ed_model.specs.Rows.{Marker}
 use Rattle.marker_store.specs.Lines.{marker, marker_code}
@@ -47,30 +48,31 @@ chained_code =
 abbrev pub held : Chained → ℕ
 held c = sum_by length c.rows + length c.aside
 
--- the markers of the chain from a number on, which has at most n links: from its end on, and from its front on
+-- `count` more markers fit in, and the chains of `count` more lines
+abbrev pub MarkersFit : ℕ → Chained → Type 0
+MarkersFit count c = held c + count ≤ c.capacity
+
+abbrev pub LinesFit : ℕ → Chained → Type 0
+LinesFit count c = length c.rows + count ≤ c.line_capacity
+
+-- the markers of the chain from a number on, which has at most n links, from its end on
 abbrev pub row_from : ℕ → List Link → ℕ → List Marker
 row_from zero links at = []
 row_from (suc n) links at = if at == 0 then [] else row_from n links (link_at links at).next ++ ((link_at links at).marker ∷ [])
 
-abbrev pub laid_from : ℕ → List Link → ℕ → List Marker
-laid_from zero links at = []
-laid_from (suc n) links at = if at == 0 then [] else ((link_at links at).marker ∷ laid_from n links (link_at links at).next)
+-- those of each chain, from these numbers on
+abbrev pub rows_in : List Link → List ℕ → List (List Marker)
+rows_in links heads = map (λ at. row_from (length links) links at) heads
 
--- what a contract sees of the links, the first numbers of the lines' chains, and that of what is laid aside
-abbrev pub chains_in : List Link → List ℕ → ℕ → ℕ → ℕ → Chained
-chains_in links heads aside capacity line_capacity =
-    chained (map (λ at. row_from (length links) links at) heads) (laid_from (length links) links aside) capacity line_capacity
+-- the first number of a chain, or 0
+abbrev pub head : List ℕ → ℕ
+head [] = 0
+head (k ∷ ks) = k
 
--- from a number on, the links have these numbers
-abbrev pub IsChain : List Link → ℕ → List ℕ → Type 0
-IsChain links at [] = at ≡ 0
-IsChain links at (k ∷ ks) = (at ≡ k) × (0 < k) × (k ≤ length links) × IsChain links (link_at links k).next ks
-
-abbrev pub AreChains : List Link → List ℕ → List (List ℕ) → Type 0
-AreChains links [] [] = Unit {0}
-AreChains links [] (c ∷ cs) = ⊥
-AreChains links (h ∷ hs) [] = ⊥
-AreChains links (h ∷ hs) (c ∷ cs) = IsChain links h c × AreChains links hs cs
+-- the links with these numbers follow one another
+abbrev pub IsChain : List Link → List ℕ → Type 0
+IsChain links [] = Unit {0}
+IsChain links (k ∷ ks) = (0 < k) × (k ≤ length links) × ((link_at links k).next ≡ head ks) × IsChain links ks
 
 -- how often a number is in a list
 abbrev pub times : ℕ → List ℕ → ℕ
@@ -82,19 +84,10 @@ uses k chains = sum_by (times k) chains
 
 -- From each first number on there is a chain, no link is in two of them, and each link is in one.
 pub record AreLinked (links : List Link) (heads : List ℕ) (chains : List (List ℕ)) : Type 0 where
-  pub linked : AreChains links heads chains
+  pub firsts : heads ≡ map head chains
+  pub linked : All (IsChain links) chains
   pub once : (k : ℕ) → uses k chains ≤ 1
   pub full : sum_by length chains ≡ length links
-
--- What the fields keep: the chain of spare links, that of those laid aside, and that of each line; their numbers are
--- small.
-pub record AreSound (links : List Link) (heads : List ℕ) (spare aside unused : ℕ) : Type 0 where
-  pub spares : List ℕ
-  pub asides : List ℕ
-  pub chains : List (List ℕ)
-  pub linked : AreLinked links (spare ∷ (aside ∷ heads)) (spares ∷ (asides ∷ chains))
-  pub counted : unused ≡ length spares
-  pub small : length links < 2 ^ 32
 
 -- the last marker of the line is laid aside
 pub record IsLaid (line : ℕ) (old new : Chained) : Type 0 where
@@ -109,6 +102,14 @@ pub record IsBack (line : ℕ) (old new : Chained) : Type 0 where
   pub rest : List Marker
   pub was : old.aside ≡ first ∷ rest
   pub is : new ≡ record old { rows = slice_set old.rows line (slice_index_or old.rows line [] ++ (first ∷ [])); aside = rest }
+
+-- all markers of the line are laid aside, so that the first one is in front
+abbrev pub all_laid : (line : ℕ) → Chained → Chained
+all_laid line c = record c { rows = slice_set c.rows line []; aside = slice_index_or c.rows line [] ++ c.aside }
+
+-- what is left of the markers laid aside goes behind those of the line
+abbrev pub all_put : (line : ℕ) → (List Marker → List Marker) → Chained → Chained
+all_put line left c = record c { rows = slice_set c.rows line (slice_index_or c.rows line [] ++ left c.aside); aside = [] }
 
 -- the first marker that was laid aside is deleted
 pub record IsFreed (old new : Chained) : Type 0 where

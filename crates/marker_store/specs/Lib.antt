@@ -1,4 +1,5 @@
 pub mod Chains
 pub mod Dropping
+pub mod Fields
 pub mod Lines
 pub mod Store

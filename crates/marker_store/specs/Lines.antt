@@ -2,6 +2,7 @@
 use Rattle.std.specs.Prelude.{ℕ, ◌+◌, ◌-◌, ◌<◌, ◌≤◌, ◌==◌, not, Bool, List, [], ◌∷◌, ◌++◌, length, map, filter, take, drop, replicate, slice_range, slice_index_or, slice_set, sum_by, Option, find, reverse, min, refl}
 use Rattle.std.specs.List.{range_with_len, flat_map, list_any}
 use Rattle.std.specs.Coded.{Coded, code_by, coded×, coded_list, coded_ℕ}
+use Rattle.split_vector.specs.Split.{most_held}
 use Rattle.ed_model.specs.Rows.{Marker}
 use Rattle.ed_model.specs.Numbers.{meets}
 use Rattle.ed_model.specs.LinePlans.{mask_of}
@@ -44,6 +45,10 @@ HasLineRoom count s = 0 < s.capacity → length s.lines + count ≤ s.line_capac
 -- there is room for `markers` more markers, and for `lines` more lines
 abbrev pub HasRoom : ℕ → ℕ → MarkedLines → Type 0
 HasRoom markers lines s = (marker_total s.lines + markers ≤ s.capacity) × HasLineRoom lines s
+
+-- a capacity is no less than before, and no more than what is wanted asks for
+abbrev pub GrowsFor : (wanted old new : ℕ) → Type 0
+GrowsFor wanted old new = (old ≤ new) × (new ≤ most_held old wanted)
 
 -- the lists with a new marker behind those of the line
 abbrev pub with_marker_on : ℕ → ℕ → MarkedLines → List (List Marker)

@@ -7,12 +7,13 @@ use Rattle.marker_store.specs.Chains.{Chained}
 abbrev pub all_lines : ℕ → List (List Marker) → List (List Marker)
 all_lines n rows = rows ++ replicate (n - length rows) []
 
--- What a store keeps: the number of lines is within its limit, all lines have a chain or none has, there are fewer
--- markers than handles were given, and none is laid aside.
+-- What a store keeps: the number of lines is within its limit, all lines have a chain or none has, there is memory for all
+-- once there is some for a marker, there are fewer markers than handles were given, and none is laid aside.
 pub record IsStore (chains : Chained) (lines next_handle : ℕ) : Type 0 where
   pub some : 0 < lines
   pub few : lines ≤ 2 ^ 62
   pub headed : (chains.rows ≡ []) ⊎ (length chains.rows ≡ lines)
   pub held : 0 < length chains.rows → 0 < chains.capacity
+  pub fits : 0 < chains.capacity → lines ≤ chains.line_capacity
   pub fewer : sum_by length chains.rows < next_handle
   pub none_aside : chains.aside ≡ []

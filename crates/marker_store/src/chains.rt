@@ -1,9 +1,11 @@
 //! The markers of lines as chains of links.
-ghost use Rattle.std.specs.Prelude.{ℕ, ◌≡◌, ◌≤◌, ◌<◌, ◌+◌, ◌-◌, ◌^◌, ◌==◌, ◌++◌, [], ◌∷◌, length, not, replicate, slice_index_or, slice_set, sum_by, OnOk, OnErr, IsOk};
+ghost use Rattle.std.specs.Prelude.{ℕ, ◌≡◌, ◌≤◌, ◌<◌, ◌+◌, ◌-◌, ◌^◌, ◌==◌, ◌++◌, [], ◌∷◌, length, not, replicate, slice_index_or, slice_set, OnErr};
 ghost use Rattle.std.specs.List.{list_any};
 ghost use Rattle.ed_model.specs.LinePlans.{mask_of};
-ghost use Rattle.split_vector.specs.Split.{inserted, deleted, most_room};
-ghost use Rattle.marker_store.specs.Chains.{chained, held, link_at, relinked, IsLaid, IsBack, IsFreed};
+ghost use Rattle.split_vector.specs.Split.{inserted, deleted};
+ghost use Rattle.marker_store.specs.Lines.{GrowsFor};
+ghost use Rattle.marker_store.specs.Chains.{chained, held, link_at, relinked, MarkersFit, LinesFit, IsLaid, IsBack, IsFreed};
+ghost use Rattle.vec_room.specs.Reserved.{IsReserved};
 
 use crate::links::Link;
 use crate::markers::Marker;
@@ -26,16 +28,17 @@ pub struct Chains<A: Allocator = Global> {
 }
 
 impl<A: Allocator> Model for Chains<A> {
-    ghost use Rattle.std.specs.Prelude.{length, ◌+◌};
-    ghost use Rattle.marker_store.specs.Chains.{Chained, chained_code, chains_in, AreSound};
+    ghost use Rattle.marker_store.specs.Chains.{Chained, chained_code};
 
     ghost Value = { Chained };
 
     ghost coded = { chained_code };
 
-    ghost view = { λ c. chains_in c.links.items c.heads.items c.aside (length c.links.items + c.links.spare) (length c.heads.items + c.heads.spare) };
+    ghost use Rattle.marker_store.specs.Fields.{chains_in, AreSound};
 
-    ghost invariant = { λ c. AreSound c.links.items c.heads.items c.spare c.aside c.unused };
+    ghost view = { chains_in };
+
+    ghost invariant = { AreSound };
 }
 
 // Lets the link with the number stand before another one, and returns what it stood before.
@@ -43,8 +46,7 @@ impl<A: Allocator> Model for Chains<A> {
 fn relink<A: Allocator>(links: &mut SplitVector<Link, A>, at: u32, next: u32) -> u32
     requires { (0 < at) × (at ≤ length links.old.items) }
     ensures next { result ≡ (link_at links.old.items at).next }
-    ensures links { links.new.items ≡ relinked links.old.items at (link_at links.old.items at).marker next }
-    ensures spare { links.new.spare ≡ links.old.spare }
+    ensures links { links.new ≡ record links.old { items = relinked links.old.items at (link_at links.old.items at).marker next } }
 {
     let index = at as usize - 1;
     let link = links.get(index);
@@ -69,10 +71,10 @@ impl<A: Allocator + Copy> Chains<A> {
 
 impl<A: Allocator> Chains<A> {
     /// Returns how many lines have a chain.
+    #[tactic(auto, using(crate::proofs::Deeds::lines_seen))]
     pub(crate) fn lines(&self) -> usize
         ensures lines { result ≡ length self.now.rows }
-        ensures within { length self.now.rows ≤ self.now.line_capacity }
-        ensures small { self.now.line_capacity < 2 ^ 63 }
+        ensures fits { LinesFit 0 self.now × (self.now.line_capacity < 2 ^ 63) }
     {
         self.heads.len()
     }
@@ -80,8 +82,7 @@ impl<A: Allocator> Chains<A> {
     /// Returns how many links have a marker.
     pub(crate) fn len(&self) -> usize
         ensures len { result ≡ held self.now }
-        ensures fit { held self.now ≤ self.now.capacity }
-        ensures small { self.now.capacity < 2 ^ 63 }
+        ensures fits { MarkersFit 0 self.now × (self.now.capacity < 2 ^ 63) }
     {
         self.links.len() - self.unused
     }
@@ -90,43 +91,42 @@ impl<A: Allocator> Chains<A> {
     pub(crate) fn capacity(&self) -> usize
         ensures { result ≡ self.now.capacity }
     {
-        self.links.len() + self.links.spare()
+        self.links.capacity()
     }
 
     /// Makes room for `count` more markers.
     pub(crate) fn reserve(&mut self, count: usize) -> Result<(), AllocError>
-        ensures same { self.new ≡ record self.old { capacity = self.new.capacity } }
-        ensures ok { OnOk result (held self.old + count ≤ self.new.capacity) }
-        ensures room_is_there { held self.old + count ≤ self.old.capacity → IsOk result × (self.new ≡ self.old) }
-        ensures at_most { self.new.capacity ≤ most_room 0 self.old.capacity (held self.old + count) }
-        ensures stays { self.old.capacity ≤ self.new.capacity }
+        ensures reserved { IsReserved (MarkersFit count) result self.old self.new }
+        ensures grown { (self.new ≡ record self.old { capacity = self.new.capacity }) × GrowsFor (held self.old + count) self.old.capacity self.new.capacity }
         ensures err { OnErr result (self.new ≡ self.old) }
     {
+        // A use of the field brings what always holds of it: its items fit in.
+        let _ = self.links.len();
         self.links.reserve(count.saturating_sub(self.unused))
     }
 
     /// Makes room for the chains of `count` more lines.
+    #[tactic(auto, using(crate::proofs::Deeds::lines_seen))]
     pub(crate) fn reserve_lines(&mut self, count: usize) -> Result<(), AllocError>
-        ensures same { self.new ≡ record self.old { line_capacity = self.new.line_capacity } }
-        ensures ok { OnOk result (length self.old.rows + count ≤ self.new.line_capacity) }
-        ensures room_is_there { length self.old.rows + count ≤ self.old.line_capacity → IsOk result × (self.new ≡ self.old) }
-        ensures at_most { self.new.line_capacity ≤ most_room 0 self.old.line_capacity (length self.old.rows + count) }
-        ensures stays { self.old.line_capacity ≤ self.new.line_capacity }
+        ensures reserved { IsReserved (LinesFit count) result self.old self.new }
+        ensures grown { (self.new ≡ record self.old { line_capacity = self.new.line_capacity }) × GrowsFor (length self.old.rows + count) self.old.line_capacity self.new.line_capacity }
         ensures err { OnErr result (self.new ≡ self.old) }
     {
         self.heads.reserve(count)
     }
 
     /// Inserts `count` lines without markers before the line, or at the end. There must be room for them.
+    #[tactic(auto, using(crate::proofs::Deeds::lines_seen))]
     pub(crate) fn insert(&mut self, line: usize, count: usize)
         requires line { line ≤ length self.old.rows }
-        requires room { length self.old.rows + count ≤ self.old.line_capacity }
+        requires room { LinesFit count self.old }
         ensures { self.new ≡ record self.old { rows = inserted self.old.rows line (replicate count []) } }
     {
         self.heads.insert_fill_reserved(line, count, 0);
     }
 
     /// Removes a line without markers.
+    #[tactic(auto, using(crate::proofs::Deeds::lines_seen))]
     pub(crate) fn remove(&mut self, line: usize)
         requires line { line < length self.old.rows }
         requires bare { slice_index_or self.old.rows line [] ≡ [] }
@@ -147,9 +147,10 @@ impl<A: Allocator> Chains<A> {
     }
 
     /// Adds a marker behind those of the line. There must be room for it.
+    #[tactic(auto, using(crate::proofs::Deeds::lines_seen))]
     pub(crate) fn push(&mut self, line: usize, marker: Marker)
         requires line { line < length self.old.rows }
-        requires room { held self.old < self.old.capacity }
+        requires room { MarkersFit 1 self.old }
         requires few { held self.old + 1 < 2 ^ 32 }
         ensures { self.new ≡ record self.old { rows = slice_set self.old.rows line (slice_index_or self.old.rows line [] ++ (marker ∷ [])) } }
     {
@@ -170,6 +171,7 @@ impl<A: Allocator> Chains<A> {
 
     /// Returns whether the line has no marker.
     #[inline]
+    #[tactic(auto, using(crate::proofs::Deeds::lines_seen))]
     pub(crate) fn is_bare(&self, line: usize) -> bool
         requires { line < length self.now.rows }
         ensures { result ≡ (length (slice_index_or self.now.rows line []) == 0) }
@@ -210,6 +212,7 @@ impl<A: Allocator> Chains<A> {
     }
 
     /// Lays the last marker of the line aside.
+    #[tactic(auto, using(crate::proofs::Deeds::lines_seen))]
     pub(crate) fn lay(&mut self, line: usize)
         requires line { line < length self.old.rows }
         requires some { 0 < length (slice_index_or self.old.rows line []) }
@@ -239,6 +242,7 @@ impl<A: Allocator> Chains<A> {
     }
 
     /// Puts the marker that was laid aside last behind those of the line.
+    #[tactic(auto, using(crate::proofs::Deeds::lines_seen))]
     pub(crate) fn put_back(&mut self, line: usize)
         requires line { line < length self.old.rows }
         requires some { 0 < length self.old.aside }

@@ -1,6 +1,7 @@
 //! Changes of the markers of one line, and of all lines.
-ghost use Rattle.std.specs.Prelude.{◌≡◌, ◌⊎◌, ◌≤◌, ◌<◌, ◌+◌, ◌++◌, [], length, slice_index_or, slice_set};
+ghost use Rattle.std.specs.Prelude.{◌≡◌, ◌⊎◌, ◌≤◌, ◌<◌, ◌+◌, [], length, slice_index_or, slice_set};
 ghost use Rattle.ed_model.specs.Changes.{without_first, without_marker};
+ghost use Rattle.marker_store.specs.Chains.{all_laid, all_put};
 ghost use Rattle.marker_store.specs.Dropping.{kept, kept_rows};
 ghost use Rattle.marker_store.specs.Lines.{with_joined};
 ghost use Rattle.marker_store.specs.Store.{all_lines};
@@ -13,7 +14,7 @@ impl<A: Allocator> Chains<A> {
     // Lays the markers of the line aside, so that the first one is in front.
     fn lay_all(&mut self, line: usize)
         requires { line < length self.old.rows }
-        ensures { self.new ≡ record self.old { rows = slice_set self.old.rows line []; aside = slice_index_or self.old.rows line [] ++ self.old.aside } }
+        ensures { self.new ≡ all_laid line self.old }
     {
         'laying: while !self.is_bare(line) {
             self.lay(line);
@@ -23,7 +24,7 @@ impl<A: Allocator> Chains<A> {
     // Puts the markers that are laid aside behind those of the line, but for those that `drops` names.
     fn put_all_back(&mut self, line: usize, drops: Drops)
         requires { line < length self.old.rows }
-        ensures { self.new ≡ record self.old { rows = slice_set self.old.rows line (slice_index_or self.old.rows line [] ++ kept drops self.old.aside); aside = [] } }
+        ensures { self.new ≡ all_put line (kept drops) self.old }
     {
         'putting: while self.has_aside() {
             let marker = self.first();
@@ -38,7 +39,7 @@ impl<A: Allocator> Chains<A> {
     // Puts the markers that are laid aside behind those of the line, but for the first with the number.
     fn put_back_but_first(&mut self, line: usize, number: u32)
         requires { line < length self.old.rows }
-        ensures { self.new ≡ record self.old { rows = slice_set self.old.rows line (slice_index_or self.old.rows line [] ++ without_first number self.old.aside); aside = [] } }
+        ensures { self.new ≡ all_put line (without_first number) self.old }
     {
         'putting: while self.has_aside() {
             let marker = self.first();

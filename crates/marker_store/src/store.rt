@@ -1,10 +1,10 @@
 //! `MarkerStore` and its calls. A contract sees it as the list of markers of each line, the next handle, and for how many
 //! markers and lines there is memory.
-ghost use Rattle.std.specs.Prelude.{◌≡◌, ◌≢◌, ◌≤◌, ◌<◌, ◌+◌, ◌-◌, ◌^◌, ◌==◌, ◌↔◌, [], ◌∷◌, length, IsTrue, OnOk, OnErr, IsOk};
-ghost use Rattle.split_vector.specs.Split.{most_room};
+ghost use Rattle.std.specs.Prelude.{◌≡◌, ◌≢◌, ◌≤◌, ◌<◌, ◌+◌, ◌-◌, ◌^◌, ◌==◌, ◌↔◌, [], ◌∷◌, length, IsTrue, OnErr};
+ghost use Rattle.vec_room.specs.Reserved.{IsReserved};
 ghost use Rattle.ed_model.specs.Changes.{is_of_number};
 ghost use Rattle.ed_model.specs.LinePlans.{mask_of};
-ghost use Rattle.marker_store.specs.Lines.{marked_lines, markers_of, marker_total, HasLineRoom, HasRoom, with_marker_on, without_marker_on, with_fresh, with_joined, without, is_met, has_handle, first_from, last_up_to};
+ghost use Rattle.marker_store.specs.Lines.{marked_lines, markers_of, marker_total, HasLineRoom, HasRoom, GrowsFor, with_marker_on, without_marker_on, with_fresh, with_joined, without, is_met, has_handle, first_from, last_up_to};
 
 use crate::chains::Chains;
 use crate::drops::Drops;
@@ -55,19 +55,21 @@ impl<A: Allocator + Copy> MarkerStore<A> {
 
 impl<A: Allocator> MarkerStore<A> {
     /// Returns the number of lines.
+    #[tactic(auto, using(crate::proofs::Stores::lines_are))]
     pub fn lines(&self) -> usize
         ensures lines { result ≡ length self.now.lines }
         ensures within { (0 < length self.now.lines) × (length self.now.lines ≤ GREATEST_LINES) }
+        ensures fits { HasLineRoom 0 self.now }
     {
         self.lines
     }
 
     /// Returns the number of markers on all lines.
+    #[tactic(auto, using(crate::proofs::Stores::total_is))]
     pub fn markers(&self) -> usize
         ensures markers { result ≡ marker_total self.now.lines }
         ensures fewer { marker_total self.now.lines < self.now.next_handle }
-        ensures fit { marker_total self.now.lines ≤ self.now.capacity }
-        ensures small { self.now.capacity < 2 ^ 63 }
+        ensures fits { (marker_total self.now.lines ≤ self.now.capacity) × (self.now.capacity < 2 ^ 63) }
     {
         self.chains.len()
     }
@@ -86,16 +88,16 @@ impl<A: Allocator> MarkerStore<A> {
     /// # Errors
     ///
     /// `AllocError` if an allocation fails. Nothing has changed then, except that there may be memory for more lines.
+    #[tactic(auto, using(crate::proofs::Stores::lines_are, crate::proofs::Stores::total_is))]
     pub fn reserve(&mut self, count: usize, lines: usize) -> Result<(), AllocError>
-        ensures same { self.new ≡ record self.old { capacity = self.new.capacity; line_capacity = self.new.line_capacity } }
-        ensures ok { OnOk result (HasRoom count lines self.new) }
-        ensures room_is_there { HasRoom count lines self.old → IsOk result × (self.new ≡ self.old) }
-        ensures markers_fit { marker_total self.old.lines + count ≤ self.old.capacity → self.new.capacity ≡ self.old.capacity }
-        ensures at_most { self.new.capacity ≤ most_room 0 self.old.capacity (marker_total self.old.lines + count) }
-        ensures lines_at_most { self.new.line_capacity ≤ most_room 0 self.old.line_capacity (length self.old.lines + lines) }
-        ensures stays { (self.old.capacity ≤ self.new.capacity) × (self.old.line_capacity ≤ self.new.line_capacity) }
+        ensures reserved { IsReserved (HasRoom count lines) result self.old self.new }
+        ensures rest { self.new ≡ record self.old { capacity = self.new.capacity; line_capacity = self.new.line_capacity } }
+        ensures grown { GrowsFor (marker_total self.old.lines + count) self.old.capacity self.new.capacity × (marker_total self.old.lines ≤ self.old.capacity) }
+        ensures grown_lines { GrowsFor (length self.old.lines + lines) self.old.line_capacity self.new.line_capacity × HasLineRoom 0 self.old }
         ensures err { OnErr result (self.new ≡ record self.old { line_capacity = self.new.line_capacity }) }
     {
+        // A use of the chains brings what always holds of them: their markers fit in.
+        let _ = self.chains.len();
         if count == 0 && self.chains.capacity() == 0 {
             return Ok(());
         }
@@ -109,10 +111,11 @@ impl<A: Allocator> MarkerStore<A> {
     }
 
     /// Adds a marker with `number` behind those of `line`, and returns its handle. There must be room for it.
+    #[tactic(auto, using(crate::proofs::Stores::lines_are, crate::proofs::Stores::total_is))]
     pub fn add_reserved(&mut self, line: usize, number: u32) -> u32
         requires line { line < length self.old.lines }
         requires number { number < 32 }
-        requires room { HasRoom 1 0 self.old }
+        requires room { marker_total self.old.lines + 1 ≤ self.old.capacity }
         requires handles { self.old.next_handle < 2 ^ 32 - 1 }
         ensures handle { result ≡ self.old.next_handle }
         ensures lines { self.new ≡ record self.old { lines = with_marker_on line number self.old; next_handle = self.old.next_handle + 1 } }
@@ -192,6 +195,7 @@ impl<A: Allocator> MarkerStore<A> {
     }
 
     /// Inserts `count` lines without markers before `line`, or at the end. There must be room for them.
+    #[tactic(auto, using(crate::proofs::Stores::room_is))]
     pub fn shift(&mut self, line: usize, count: usize)
         requires line { line ≤ length self.old.lines }
         requires fits { length self.old.lines + count ≤ GREATEST_LINES }

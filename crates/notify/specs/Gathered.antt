@@ -1,5 +1,5 @@
 -- What a contract sees of a `NoteList`.
-use Rattle.std.specs.Prelude.{ℕ, ◌+◌, ◌-◌, ◌≤◌, ◌==◌, max, Bool, List, [], ◌∷◌, ◌++◌, length}
+use Rattle.std.specs.Prelude.{ℕ, ◌+◌, ◌≤◌, ◌==◌, max, Bool, List, [], ◌∷◌, ◌++◌, length}
 use Rattle.ed_types.specs.declared.reply.Note.{Note}
 use Rattle.ed_types.specs.Notices.{Notice}
 use Rattle.ed_types.specs.Heard.{with_text}
@@ -33,13 +33,6 @@ CanPut count g = length g.notes + count ≤ g.capacity.notes
 -- so many more bytes of texts fit in
 abbrev pub CanShare : ℕ → Gathered → Type 0
 CanShare bytes g = g.held + bytes ≤ g.capacity.bytes
-
--- how many more notes, and how many more bytes of texts, fit in
-abbrev pub spare_notes : Gathered → ℕ
-spare_notes g = g.capacity.notes - length g.notes
-
-abbrev pub spare_bytes : Gathered → ℕ
-spare_bytes g = g.capacity.bytes - g.held
 
 -- whether no more notes fit in
 abbrev pub is_full : Gathered → Bool

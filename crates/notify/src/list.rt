@@ -3,7 +3,7 @@
 ghost use Rattle.std.specs.Prelude.{◌≡◌, List, ℕ, ◌+◌, ◌≤◌, [], ◌++◌, length, OnOk, OnErr, IsOk, vec_len, vec_capacity};
 ghost use Rattle.ed_model.specs.Notes.{blank};
 ghost use Rattle.ed_types.specs.Heard.{with_text};
-ghost use Rattle.notify.specs.Gathered.{CanPut, CanShare, is_full, no_notes, spare_bytes, spare_notes, with_room, with_shared, with_note, with_own_text, with_own_halves};
+ghost use Rattle.notify.specs.Gathered.{CanPut, CanShare, is_full, no_notes, with_room, with_shared, with_note, with_own_text, with_own_halves};
 
 use ed_types::{Bytes, Note, Reply};
 use std::alloc::{AllocError, Global};
@@ -64,7 +64,7 @@ impl NoteList {
     /// `AllocError` if an allocation fails. Nothing has changed then.
     pub fn reserve(&mut self, notes: usize, bytes: usize) -> Result<(), AllocError>
         ensures ok { OnOk result (self.new ≡ with_room notes bytes self.old) }
-        ensures room_is_there { notes ≤ spare_notes self.old → bytes ≤ spare_bytes self.old → IsOk result × (self.new ≡ self.old) }
+        ensures room_is_there { CanPut notes self.old → CanShare bytes self.old → IsOk result × (self.new ≡ self.old) }
         ensures err { OnErr result (self.new ≡ self.old) }
     {
         if notes <= self.notes.capacity() - self.notes.len()

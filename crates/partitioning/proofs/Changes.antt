@@ -1,8 +1,8 @@
 -- The stored numbers when a start is inserted or removed at the step, and when the end moves.
-use Rattle.partitioning.proofs.Names.{◌≡◌, ℕ, ◌+◌, ◌-◌, ◌<◌, ◌≤◌, min, List, [], ◌∷◌, length, get_or, map, insert, remove, sym, ap, ◌∙◌, ◌⊎◌, inl, inr, arith, add-one, append_assoc, ext_get_or, get_or_past, map-append, take-map, drop-map, cases_lt, cases_order, length-insert, get_or-insert_below, get_or-insert_at, get_or-insert_above, length-remove, get_or-remove_below, get_or-remove_above, inserted, deleted, CanStart, CanLose, raised_behind, lowered_behind, AreWithin, IsSound, starts_of}
-use Rattle.partitioning.proofs.Lists.{length-map_from, map_from_before, map_from_behind}
+use Rattle.partitioning.proofs.Names.{◌≡◌, ℕ, ◌+◌, ◌-◌, ◌<◌, ◌≤◌, min, List, [], ◌∷◌, length, get_or, map, insert, remove, sym, ap, ◌∙◌, ◌⊎◌, inl, inr, arith, add-one, append_assoc, ext_get_or, get_or_past, map-append, take-map, drop-map, cases_lt, cases_order, length-insert, get_or-insert_below, get_or-insert_at, get_or-insert_above, length-remove, get_or-remove_below, get_or-remove_above, inserted, deleted, CanStart, CanLose, raised_behind, lowered_behind, AreWithin, IsSound, starts_of, map_from}
+use Rattle.partitioning.proofs.Lists.{length_map_from, map_from_before, map_from_behind}
 use Rattle.partitioning.proofs.Parts.{sound_raised, sound_lowered, sound_inserted, sound_removed, rising_or_same, past_loss}
-use Rattle.partitioning.proofs.Steps.{starts_of_near, starts_of_far, length-starts_of}
+use Rattle.partitioning.proofs.Steps.{starts_of_near, starts_of_far, length_starts_of}
 
 pub map_inserted : {X : Type 0} (f : X → ℕ) (xs : List X) (i : ℕ) (x : X) → map f (inserted xs i (x ∷ [])) ≡ insert (map f xs) i (f x)
 map_inserted f xs i x = simp (map-append, take-map, drop-map, append_assoc)
@@ -17,61 +17,20 @@ within_all_at e xs k w (inr h) = omega (arith, get_or_past xs k 0 h)
 within_all : (e : ℕ) (xs : List ℕ) → ((k : ℕ) → k < length xs → get_or xs k 0 ≤ e) → AreWithin e xs
 within_all e xs w k = within_all_at e xs k w (cases_lt k (length xs))
 
--- text was inserted into the partition at the step
-module _ (greatest e i n : ℕ) (xs : List ℕ) (sound : IsSound greatest e i xs) (l : i < length xs) where
-  raised_at : (k : ℕ) → k < length xs → (i < k) ⊎ (k ≤ i) → get_or (starts_of (e + n) i xs) k 0 ≡ get_or (raised_behind (starts_of e i xs) i n) k 0
-  raised_at k b (inl h) =
-      let m : k < length (starts_of e i xs) = omega (arith, length-starts_of e i xs) in
-      omega (arith, starts_of_far (e + n) i xs k h b, map_from_behind (λ x. x + n) (i + 1) (starts_of e i xs) k (omega arith) m, starts_of_far e i xs k h b, sound.within k)
-  raised_at k b (inr h) =
-      starts_of_near (e + n) i xs k h ∙ sym (starts_of_near e i xs k h) ∙ sym (map_from_before (λ x. x + n) (i + 1) (starts_of e i xs) k (omega arith))
+-- the end moved, and with it the starts behind the step
+module _ (f : ℕ → ℕ) (e e' i : ℕ) (xs : List ℕ) (far : (k : ℕ) → k < length xs → i < k → e' - get_or xs k 0 ≡ f (e - get_or xs k 0)) where
+  moved_at : (k : ℕ) → k < length xs → (i < k) ⊎ (k ≤ i) → get_or (starts_of e' i xs) k 0 ≡ get_or (map_from f (i + 1) (starts_of e i xs)) k 0
+  moved_at k b (inl h) =
+      let m : k < length (starts_of e i xs) = omega (arith, length_starts_of e i xs) in
+      starts_of_far e' i xs k h b ∙ far k b h ∙ ap f (sym (starts_of_far e i xs k h b)) ∙ sym (map_from_behind f (i + 1) (starts_of e i xs) k (omega arith) m)
+  moved_at k b (inr h) =
+      starts_of_near e' i xs k h ∙ sym (starts_of_near e i xs k h) ∙ sym (map_from_before f (i + 1) (starts_of e i xs) k (omega arith))
 
-  pub starts_of_raised : starts_of (e + n) i xs ≡ raised_behind (starts_of e i xs) i n
-  starts_of_raised =
-      ext_get_or 0 (starts_of (e + n) i xs) (raised_behind (starts_of e i xs) i n)
-      (length-starts_of (e + n) i xs ∙ sym (length-starts_of e i xs) ∙ sym (length-map_from (λ x. x + n) (i + 1) (starts_of e i xs)))
-      (λ k h. raised_at k (omega (arith, length-starts_of (e + n) i xs)) (cases_lt i k))
-
-  pub stored_raised : e + n ≤ greatest → IsSound greatest (e + n) i xs
-  stored_raised fits =
-      record {
-        within = λ k. omega (arith, sound.within k);
-        step_within = sound.step_within;
-        fits = fits;
-        sound = rw starts_of_raised (sound_raised (starts_of e i xs) e i n sound.sound (omega (arith, length-starts_of e i xs)));
-      }
-
--- text was deleted from the partition at the step
-module _ (greatest e i n : ℕ) (xs : List ℕ) (sound : IsSound greatest e i xs) (l : i < length xs) (can : CanLose (starts_of e i xs) e i n) where
-  lowered_at : (k : ℕ) → k < length xs → (i < k) ⊎ (k ≤ i) → get_or (starts_of (e - n) i xs) k 0 ≡ get_or (lowered_behind (starts_of e i xs) i n) k 0
-  lowered_at k b (inl h) =
-      let m : k < length (starts_of e i xs) = omega (arith, length-starts_of e i xs) in
-      omega (arith, starts_of_far (e - n) i xs k h b, map_from_behind (λ x. x - n) (i + 1) (starts_of e i xs) k (omega arith) m, starts_of_far e i xs k h b)
-  lowered_at k b (inr h) =
-      starts_of_near (e - n) i xs k h ∙ sym (starts_of_near e i xs k h) ∙ sym (map_from_before (λ x. x - n) (i + 1) (starts_of e i xs) k (omega arith))
-
-  pub starts_of_lowered : starts_of (e - n) i xs ≡ lowered_behind (starts_of e i xs) i n
-  starts_of_lowered =
-      ext_get_or 0 (starts_of (e - n) i xs) (lowered_behind (starts_of e i xs) i n)
-      (length-starts_of (e - n) i xs ∙ sym (length-starts_of e i xs) ∙ sym (length-map_from (λ x. x - n) (i + 1) (starts_of e i xs)))
-      (λ k h. lowered_at k (omega (arith, length-starts_of (e - n) i xs)) (cases_lt i k))
-
-  lowered_within_at : (k : ℕ) → k < length xs → (i < k) ⊎ (k ≤ i) → get_or xs k 0 ≤ e - n
-  lowered_within_at k b (inl h) =
-      let m = length-starts_of e i xs in
-      omega (arith, past_loss (starts_of e i xs) e i n sound.sound (omega arith) can k h (omega arith), starts_of_far e i xs k h b)
-  lowered_within_at k b (inr h) =
-      let m = length-starts_of e i xs in
-      omega (arith, rising_or_same (starts_of e i xs) sound.sound.rising k i h (omega arith), starts_of_near e i xs k h, can.before_end)
-
-  pub stored_lowered : IsSound greatest (e - n) i xs
-  stored_lowered =
-      record {
-        within = within_all (e - n) xs (λ k b. lowered_within_at k b (cases_lt i k));
-        step_within = sound.step_within;
-        fits = omega (arith, sound.fits);
-        sound = rw starts_of_lowered (sound_lowered (starts_of e i xs) e i n sound.sound (omega (arith, length-starts_of e i xs)) can);
-      }
+  starts_of_moved : starts_of e' i xs ≡ map_from f (i + 1) (starts_of e i xs)
+  starts_of_moved =
+      ext_get_or 0 (starts_of e' i xs) (map_from f (i + 1) (starts_of e i xs))
+      (length_starts_of e' i xs ∙ sym (length_starts_of e i xs) ∙ sym (length_map_from f (i + 1) (starts_of e i xs)))
+      (λ k h. moved_at k (omega (arith, length_starts_of e' i xs)) (cases_lt i k))
 
 -- a stored number that moved from place j to place k, and lies on the same side of the step as before
 moved_start :
@@ -85,7 +44,7 @@ moved_start e s t xs ys j k q l m near far (inr h) = starts_of_near e t ys k (ne
 module _ (greatest e s t i x v : ℕ) (xs : List ℕ) (sound : IsSound greatest e s xs) (can : CanStart (starts_of e s xs) e i x)
     (moves : t ≡ s + min 1 (s + 2 - i)) (small : v ≤ e) (there : get_or (starts_of e t (insert xs i v)) i 0 ≡ x) where
   inside : i ≤ length xs
-  inside = omega (arith, can.within, length-starts_of e s xs)
+  inside = omega (arith, can.within, length_starts_of e s xs)
 
   more : length (insert xs i v) ≡ length xs + 1
   more = length-insert xs i v inside
@@ -108,9 +67,9 @@ module _ (greatest e s t i x v : ℕ) (xs : List ℕ) (sound : IsSound greatest 
 
   pub starts_of_inserted : starts_of e t (insert xs i v) ≡ insert (starts_of e s xs) i x
   starts_of_inserted =
-      let n = length-starts_of e t (insert xs i v) in
+      let n = length_starts_of e t (insert xs i v) in
       let m = length-insert (starts_of e s xs) i x can.within in
-      let o = length-starts_of e s xs in
+      let o = length_starts_of e s xs in
       let p = more in
       ext_get_or 0 (starts_of e t (insert xs i v)) (insert (starts_of e s xs) i x) (omega arith)
       (λ k h. inserted_start k (omega arith) (cases_order k i))
@@ -139,7 +98,7 @@ module _ (greatest e s t i : ℕ) (xs : List ℕ) (sound : IsSound greatest e s 
   fewer = length-remove xs i l
 
   there : i < length (starts_of e s xs)
-  there = omega (arith, length-starts_of e s xs)
+  there = omega (arith, length_starts_of e s xs)
 
   removed_start : (k : ℕ) → k + 1 < length xs → (k < i) ⊎ (i ≤ k) → get_or (starts_of e t (remove xs i)) k 0 ≡ get_or (remove (starts_of e s xs) i) k 0
   removed_start k b (inl h) =
@@ -153,9 +112,9 @@ module _ (greatest e s t i : ℕ) (xs : List ℕ) (sound : IsSound greatest e s 
 
   pub starts_of_removed : starts_of e t (remove xs i) ≡ remove (starts_of e s xs) i
   starts_of_removed =
-      let n = length-starts_of e t (remove xs i) in
+      let n = length_starts_of e t (remove xs i) in
       let m = length-remove (starts_of e s xs) i there in
-      let o = length-starts_of e s xs in
+      let o = length_starts_of e s xs in
       let p = fewer in
       ext_get_or 0 (starts_of e t (remove xs i)) (remove (starts_of e s xs) i) (omega arith)
       (λ k h. removed_start k (omega arith) (cases_lt k i))
@@ -178,58 +137,64 @@ abbrev pub Leaves : ℕ → ℕ → ℕ → List ℕ → List ℕ → Type 0
 Leaves greatest e i stored starts = IsSound greatest e i stored × (starts_of e i stored ≡ starts)
 
 pub text_put_in :
-    (greatest e e' i j n end : ℕ) (xs old : List ℕ) → IsSound greatest e i xs → starts_of e i xs ≡ old → i ≡ j → e ≡ end → e' ≡ e + n
-    → j < length old → end + n ≤ greatest → Leaves greatest e' i xs (raised_behind old j n)
-text_put_in greatest e e' i j n end xs old sound q r same p l fits =
-    let b : i < length xs = omega (arith, length-starts_of e i xs, ap length q) in (
-      rw p (stored_raised greatest e i n xs sound b (omega arith)),
-      rw p (starts_of_raised greatest e i n xs sound b ∙ ap (λ s. raised_behind s i n) q ∙ ap (λ k. raised_behind old k n) r),
+    {greatest e i : ℕ} {xs : List ℕ} (n : ℕ) → IsSound greatest e i xs → i < length (starts_of e i xs) → e + n ≤ greatest
+    → Leaves greatest (e + n) i xs (raised_behind (starts_of e i xs) i n)
+text_put_in {greatest} {e} {i} {xs} n sound l fits =
+    let same = starts_of_moved (λ x. x + n) e (e + n) i xs (λ k b h. omega (arith, sound.within k)) in (
+      record { within = λ k. omega (arith, sound.within k); step_within = sound.step_within; fits = fits; sound = rw same (sound_raised (starts_of e i xs) e i n sound.sound l) },
+      same,
     )
 
 pub text_taken_out :
-    (greatest e e' i j n end : ℕ) (xs old : List ℕ) → IsSound greatest e i xs → starts_of e i xs ≡ old → i ≡ j → e ≡ end → e' ≡ e - n
-    → j < length old → CanLose old end j n → Leaves greatest e' i xs (lowered_behind old j n)
-text_taken_out greatest e e' i j n end xs old sound q r same p l can =
-    let b : i < length xs = omega (arith, length-starts_of e i xs, ap length q) in
-    let can' : CanLose (starts_of e i xs) e i n = rw (q, r, same) can in (
-      rw p (stored_lowered greatest e i n xs sound b can'),
-      rw p (starts_of_lowered greatest e i n xs sound b can' ∙ ap (λ s. lowered_behind s i n) q ∙ ap (λ k. lowered_behind old k n) r),
+    {greatest e i : ℕ} {xs : List ℕ} (n : ℕ) → IsSound greatest e i xs → i < length (starts_of e i xs) → CanLose (starts_of e i xs) e i n
+    → Leaves greatest (e - n) i xs (lowered_behind (starts_of e i xs) i n)
+text_taken_out {greatest} {e} {i} {xs} n sound l can =
+    let m = length_starts_of e i xs in
+    let same = starts_of_moved (λ x. x - n) e (e - n) i xs (λ k b h. omega arith) in
+    let kept : (k : ℕ) → (i < k) ⊎ (k ≤ i) → k < length xs → get_or xs k 0 ≤ e - n = λ k side b. elim side [
+      | inl h ↦ omega (arith, past_loss (starts_of e i xs) e i n sound.sound can k h (omega arith), starts_of_far e i xs k h b)
+      | inr h ↦ omega (arith, rising_or_same (starts_of e i xs) sound.sound.rising k i h l, starts_of_near e i xs k h, can.before_end)
+    ] in (
+      record {
+        within = within_all (e - n) xs (λ k b. kept k (cases_lt i k) b);
+        step_within = sound.step_within;
+        fits = omega (arith, sound.fits);
+        sound = rw same (sound_lowered (starts_of e i xs) e i n sound.sound l can);
+      },
+      same,
     )
 
 -- a start that is stored as it is
 pub start_put_in_near :
-    (greatest e s i x end : ℕ) (xs ys old : List ℕ) → IsSound greatest e s xs → starts_of e s xs ≡ old → i ≤ s + 1 → e ≡ end → ys ≡ insert xs i x
-    → CanStart old end i x → Leaves greatest e (s + 1) ys (insert old i x)
-start_put_in_near greatest e s i x end xs ys old sound q near same p can =
-    let can' : CanStart (starts_of e s xs) e i x = rw (q, same) can in
-    let b : i ≤ length xs = omega (arith, can'.within, length-starts_of e s xs) in
+    {greatest e s : ℕ} {xs : List ℕ} (i x : ℕ) → IsSound greatest e s xs → i ≤ s + 1 → CanStart (starts_of e s xs) e i x
+    → Leaves greatest e (s + 1) (insert xs i x) (insert (starts_of e s xs) i x)
+start_put_in_near {greatest} {e} {s} {xs} i x sound near can =
+    let b : i ≤ length xs = omega (arith, can.within, length_starts_of e s xs) in
     let moves : s + 1 ≡ s + min 1 (s + 2 - i) = omega arith in
     let there : get_or (starts_of e (s + 1) (insert xs i x)) i 0 ≡ x =
     starts_of_near e (s + 1) (insert xs i x) i near ∙ get_or-insert_at xs i x 0 b in (
-      rw p (stored_inserted greatest e s (s + 1) i x x xs sound can' moves can'.at_most there),
-      rw p (starts_of_inserted greatest e s (s + 1) i x x xs sound can' moves can'.at_most there ∙ ap (λ l. insert l i x) q),
+      stored_inserted greatest e s (s + 1) i x x xs sound can moves can.at_most there,
+      starts_of_inserted greatest e s (s + 1) i x x xs sound can moves can.at_most there,
     )
 
 -- a start that is stored as its distance to the end
 pub start_put_in_far :
-    (greatest e s i x v end : ℕ) (xs ys old : List ℕ) → IsSound greatest e s xs → starts_of e s xs ≡ old → s + 1 < i → e ≡ end → v ≡ e - x → ys ≡ insert xs i v
-    → CanStart old end i x → Leaves greatest e s ys (insert old i x)
-start_put_in_far greatest e s i x v end xs ys old sound q far same stored p can =
-    let can' : CanStart (starts_of e s xs) e i x = rw (q, same) can in
-    let b : i ≤ length xs = omega (arith, can'.within, length-starts_of e s xs) in
+    {greatest e s : ℕ} {xs : List ℕ} (i x : ℕ) → IsSound greatest e s xs → s + 1 < i → CanStart (starts_of e s xs) e i x
+    → Leaves greatest e s (insert xs i (e - x)) (insert (starts_of e s xs) i x)
+start_put_in_far {greatest} {e} {s} {xs} i x sound far can =
+    let b : i ≤ length xs = omega (arith, can.within, length_starts_of e s xs) in
     let moves : s ≡ s + min 1 (s + 2 - i) = omega arith in
+    let v = e - x in
     let small : v ≤ e = omega arith in
     let there : get_or (starts_of e s (insert xs i v)) i 0 ≡ x =
-    omega (arith, starts_of_far e s (insert xs i v) i (omega arith) (omega (arith, length-insert xs i v b)), get_or-insert_at xs i v 0 b, can'.at_most) in (
-      rw p (stored_inserted greatest e s s i x v xs sound can' moves small there),
-      rw p (starts_of_inserted greatest e s s i x v xs sound can' moves small there ∙ ap (λ l. insert l i x) q),
+    omega (arith, starts_of_far e s (insert xs i v) i (omega arith) (omega (arith, length-insert xs i v b)), get_or-insert_at xs i v 0 b, can.at_most) in (
+      stored_inserted greatest e s s i x v xs sound can moves small there,
+      starts_of_inserted greatest e s s i x v xs sound can moves small there,
     )
 
 pub start_taken_out :
-    (greatest e s t i : ℕ) (xs ys old : List ℕ) → IsSound greatest e s xs → starts_of e s xs ≡ old → t ≡ s - min 1 (s + 1 - i) → ys ≡ remove xs i
-    → 0 < i → i < length old → Leaves greatest e t ys (remove old i)
-start_taken_out greatest e s t i xs ys old sound q moves p not_first l =
-    let b : i < length xs = omega (arith, length-starts_of e s xs, ap length q) in (
-      rw p (stored_removed greatest e s t i xs sound not_first b moves),
-      rw p (starts_of_removed greatest e s t i xs sound not_first b moves ∙ ap (λ l. remove l i) q),
-    )
+    {greatest e s : ℕ} {xs : List ℕ} (t i : ℕ) → IsSound greatest e s xs → t ≡ s - min 1 (s + 1 - i) → 0 < i → i < length (starts_of e s xs)
+    → Leaves greatest e t (remove xs i) (remove (starts_of e s xs) i)
+start_taken_out {greatest} {e} {s} {xs} t i sound moves not_first l =
+    let b : i < length xs = omega (arith, length_starts_of e s xs) in
+    (stored_removed greatest e s t i xs sound not_first b moves, starts_of_removed greatest e s t i xs sound not_first b moves)

@@ -1,55 +1,61 @@
 -- A look-up by halving: how many starts it may still read, and what it found.
-use Rattle.partitioning.proofs.Names.{◌≡◌, ℕ, ◌+◌, ◌-◌, ◌*◌, ◌/◌, ◌%◌, ◌^◌, ◌<◌, ◌≤◌, zero, suc, min, List, length, get_or, inl, inr, Bool, IsTrue, true, false, refl, arith, pow-suc, bool_byte, cases_lt, false≢true, ArePartitions, IsLastAtMost, IsFloorLog, counted}
+use Rattle.partitioning.proofs.Names.{◌≡◌, ℕ, ◌+◌, ◌-◌, ◌*◌, ◌/◌, ◌%◌, ◌^◌, ◌<◌, ◌≤◌, zero, suc, min, List, length, get_or, ◌⊎◌, inl, inr, Bool, IsTrue, true, false, refl, arith, pow-suc, bool_byte, cases_lt, false≢true, add-one, ArePartitions, CountsReads, IsLastAtMost, IsFloorLog, counted}
 use Rattle.std.proofs.Math.Pow.{pow_mono}
 use Rattle.partitioning.proofs.Parts.{rising_or_same}
 
--- of count starts, those up to now were read, and a range of this width is left: the halvings that it needs stay within
--- the upper bound
-abbrev pub MayRead : ℕ → ℕ → ℕ → ℕ → Type 0
-MayRead count old now width = (k : ℕ) → IsFloorLog k count → (j : ℕ) × (width ≤ 2 ^ j) × (now + j ≤ old + (1 + k))
+-- those up to now were read, `extra` of them before the first halving: so many halvings of a range with 2 ^ k to
+-- 2 ^ (k + 1) starts have left one of this width
+pub record Halvings (extra old now width k : ℕ) : Type 0 where
+  pub count : ℕ
+  pub within : count ≤ k + 1
+  pub many : counted old (extra + count) ≤ now
+  pub few : now ≤ old + (extra + count)
+  pub low : 2 ^ (k - count) ≤ width
+  pub high : width ≤ 2 ^ (k + 1 - count)
 
-halved_at :
-    (old now now' width width' k j : ℕ) → 1 < width → now' ≤ now + 1 → width' ≤ width - width / 2 → width ≤ 2 ^ j → now + j ≤ old + (1 + k)
-    → (j : ℕ) × (width' ≤ 2 ^ j) × (now' + j ≤ old + (1 + k))
-halved_at old now now' width width' k zero a b c d e = absurd (omega arith)
-halved_at old now now' width width' k (suc j) a b c d e =
-    let p : width ≤ 2 ^ j * 2 = rw pow-suc at d in
-    (j, omega arith, omega arith)
+-- the same of n starts
+abbrev pub IsHalved : (extra n old now width : ℕ) → Type 0
+IsHalved extra n old now width = (k : ℕ) → IsFloorLog k n → Halvings extra old now width k
+
+-- the greater part of a range is between the halves of its bounds
+half_between : (d width : ℕ) → 1 < width → 2 ^ d ≤ width → width ≤ 2 ^ (d + 1) → (2 ^ (d - 1) ≤ width - width / 2) × (width - width / 2 ≤ 2 ^ d)
+half_between zero width a b c = (omega arith, omega arith)
+half_between (suc d) width a b c =
+    let low : 2 ^ d * 2 ≤ width = rw pow-suc at b in
+    let high : width ≤ 2 ^ (suc d) * 2 = rw (add-one, pow-suc) at c in
+    let q : suc d - 1 ≡ d = omega arith in
+    (rw q (omega arith), omega arith)
+
+halved_on : (extra old now now' width k : ℕ) → 1 < width → now' ≡ counted now 1 → (h : Halvings extra old now width k) → (k < h.count) ⊎ (h.count ≤ k) → Halvings extra old now' (width - width / 2) k
+halved_on extra old now now' width k a b h (inl over) =
+    let q : k + 1 - h.count ≡ 0 = omega arith in
+    let w : width ≤ 2 ^ 0 = rw q at h.high in absurd (omega arith)
+halved_on extra old now now' width k a b h (inr more) =
+    let up : k + 1 - h.count ≡ k - h.count + 1 = omega arith in
+    let low : k - (h.count + 1) ≡ k - h.count - 1 = omega arith in
+    let high : k + 1 - (h.count + 1) ≡ k - h.count = omega arith in
+    let t = half_between (k - h.count) width a h.low (rw up at h.high) in
+    record { count = h.count + 1; within = omega arith; many = omega arith; few = omega arith; low = rw low t.0; high = rw high t.1 }
 
 -- one more start was read, and half of the range is left
 pub halved :
-    (count old now now' width width' : ℕ) → 1 < width → now' ≤ now + 1 → width' ≤ width - width / 2 → MayRead count old now width → MayRead count old now' width'
-halved count old now now' width width' a b c may k log =
-    let m = may k log in halved_at old now now' width width' k m.0 a b c m.1 m.2
-
--- of count starts, those up to now were read, and a range of this width is left: the halvings that it needs at least
--- reach the lower bound
-abbrev pub MustRead : ℕ → ℕ → ℕ → ℕ → Type 0
-MustRead count old now width = (k : ℕ) → IsFloorLog k count → (j : ℕ) × (2 ^ j ≤ width) × (counted old k ≤ counted now j)
-
-halved_down_to :
-    (old now now' width width' k j : ℕ) → 1 < width → now' ≡ counted now 1 → width' ≡ width - width / 2 → 2 ^ j ≤ width → counted old k ≤ counted now j
-    → (j : ℕ) × (2 ^ j ≤ width') × (counted old k ≤ counted now' j)
-halved_down_to old now now' width width' k zero a b c d e = (0, omega arith, omega arith)
-halved_down_to old now now' width width' k (suc j) a b c d e =
-    let p : 2 ^ j * 2 ≤ width = rw pow-suc at d in
-    (j, omega arith, omega arith)
-
-pub halved_again :
-    (count old now now' width width' : ℕ) → 1 < width → now' ≡ counted now 1 → width' ≡ width - width / 2 → MustRead count old now width → MustRead count old now' width'
-halved_again count old now now' width width' a b c must k log =
-    let m = must k log in halved_down_to old now now' width width' k m.0 a b c m.1 m.2
+    (extra n old now now' width width' : ℕ) → 1 < width → now' ≡ counted now 1 → width' ≡ width - width / 2 → IsHalved extra n old now width
+    → IsHalved extra n old now' width'
+halved extra n old now now' width width' a b c is k log =
+    let h = is k log in rw c (halved_on extra old now now' width k a b h (cases_lt k h.count))
 
 one_at_least : (j : ℕ) → 1 ≤ 2 ^ j
 one_at_least zero = omega arith
 one_at_least (suc j) = rw pow-suc (omega (arith, one_at_least j))
 
-no_more : (old now k j : ℕ) → 2 ^ j ≤ 1 → counted old k ≤ counted now j → counted old k ≤ now
-no_more old now k zero h e = omega arith
-no_more old now k (suc j) h e = let p : 2 ^ j * 2 ≤ 1 = rw pow-suc at h in absurd (omega (arith, one_at_least j))
+no_more : (j : ℕ) → 2 ^ j ≤ 1 → j ≡ 0
+no_more zero h = omega arith
+no_more (suc j) h = let p : 2 ^ j * 2 ≤ 1 = rw pow-suc at h in absurd (omega (arith, one_at_least j))
 
-pub read_enough : (count old now width k : ℕ) → width ≤ 1 → MustRead count old now width → IsFloorLog k count → counted old k ≤ now
-read_enough count old now width k h must log = let m = must k log in no_more old now k m.0 (omega (arith, m.1)) m.2
+-- nothing is left to halve
+pub reads_counted : (extra n old now width : ℕ) → width ≤ 1 → old ≤ now → IsHalved extra n old now width → CountsReads (extra + 1) n old now
+reads_counted extra n old now width a b is =
+    (b, λ k log. let h = is k log in let q : k - h.count ≡ 0 = no_more (k - h.count) (omega (arith, h.low)) in (omega arith, omega arith))
 
 -- the rest of a look-up: `width` starts from `low` on, among which is the last one that is at most the wanted place
 pub record IsRange (starts : List ℕ) (wanted low width : ℕ) : Type 0 where
@@ -150,11 +156,10 @@ power_at_most level k count a b =
     ]
 
 -- one start was read, and the greatest power of two is left
-pub may_read_power : (count old now level : ℕ) → 2 ^ level ≤ count → now ≤ old + 1 → MayRead count old now (2 ^ level)
-may_read_power count old now level a b k log = (level, omega arith, omega (arith, power_at_most level k count a log.1))
-
-pub must_read_power : (count old now level : ℕ) → count < 2 * 2 ^ level → now ≡ counted old 1 → MustRead count old now (2 ^ level)
-must_read_power count old now level a b k log =
-    let q : level + 1 - 1 ≡ level = omega arith in
-    let p : 2 ^ (level + 1) ≡ 2 ^ level * 2 = rw q at (power_halved (level + 1) (omega arith)) in
-    (level, omega arith, omega (arith, power_at_most k level count log.0 (omega arith)))
+pub halved_to_power : (n old now level : ℕ) → 2 ^ level ≤ n → n < 2 * 2 ^ level → now ≡ counted old 1 → IsHalved 1 n old now (2 ^ level)
+halved_to_power n old now level a b c k log =
+    let p : 2 ^ (level + 1) ≡ 2 ^ level * 2 = rw add-one (pow-suc 2 level) in
+    let q : k ≡ level = omega (arith, power_at_most level k n a log.1, power_at_most k level n log.0 (omega arith)) in
+    let low : k - 0 ≡ level = omega arith in
+    let high : k + 1 - 0 ≡ level + 1 = omega arith in
+    record { count = 0; within = omega arith; many = omega arith; few = omega arith; low = rw low (omega arith); high = rw high (omega arith) }

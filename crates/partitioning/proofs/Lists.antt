@@ -1,10 +1,10 @@
 -- Numbers in lists: a function applied from a place on, and a range turned into distances.
 use Rattle.partitioning.proofs.Names.{◌≡◌, ℕ, ◌+◌, ◌-◌, ◌<◌, ◌≤◌, ◌≢◌, zero, suc, List, [], ◌∷◌, length, get_or, set, map, refl, sym, ap, ◌∙◌, ◌⊎◌, inl, inr, arith, length-set, length-map, get_or-map, get_or-set_same, get_or-set_other, get_or_past, cases_eq, cases_lt, map_from, IsTurned, IsUpdated}
 
-pub length-map_from : (f : ℕ → ℕ) (n : ℕ) (xs : List ℕ) → length (map_from f n xs) ≡ length xs
-length-map_from f zero xs = length-map xs f
-length-map_from f (suc n) [] = refl
-length-map_from f (suc n) (x ∷ xs) = ap suc (length-map_from f n xs)
+pub length_map_from : (f : ℕ → ℕ) (n : ℕ) (xs : List ℕ) → length (map_from f n xs) ≡ length xs
+length_map_from f zero xs = length-map xs f
+length_map_from f (suc n) [] = refl
+length_map_from f (suc n) (x ∷ xs) = ap suc (length_map_from f n xs)
 
 pub map_from_before : (f : ℕ → ℕ) (n : ℕ) (xs : List ℕ) (k : ℕ) → k < n → get_or (map_from f n xs) k 0 ≡ get_or xs k 0
 map_from_before f zero xs k h = absurd (omega arith)

@@ -1,7 +1,7 @@
 -- Starts stay in order when some move, and when one is inserted or removed.
-use Rattle.partitioning.proofs.Names.{◌≡◌, ℕ, ◌+◌, ◌-◌, ◌<◌, ◌≤◌, zero, suc, List, length, get_or, insert, remove, ◌∙◌, ◌⊎◌, inl, inr, arith, add-one, cases_lt, cases_order, length-insert, get_or-insert_below, get_or-insert_at, get_or-insert_above, length-remove, get_or-remove_below, get_or-remove_above, ArePartitions, CanStart, CanLose, raised_behind, lowered_behind}
+use Rattle.partitioning.proofs.Names.{◌≡◌, ℕ, ◌+◌, ◌-◌, ◌<◌, ◌≤◌, zero, suc, List, length, get_or, insert, remove, ◌∙◌, ◌⊎◌, inl, inr, arith, add-one, cases_lt, cases_order, length-insert, get_or-insert_below, get_or-insert_at, get_or-insert_above, length-remove, get_or-remove_below, get_or-remove_above, ArePartitions, CanStart, CanLose, raised_behind, lowered_behind, map_from}
 use Rattle.std.specs.List.Sorted.{IsStrictlyIncreasing}
-use Rattle.partitioning.proofs.Lists.{length-map_from, map_from_before, map_from_behind}
+use Rattle.partitioning.proofs.Lists.{length_map_from, map_from_before, map_from_behind}
 
 -- an earlier number is below a later one
 pub rising_pairs : (s : List ℕ) → IsStrictlyIncreasing s → (j k : ℕ) → j < k → k < length s → get_or s j 0 < get_or s k 0
@@ -21,71 +21,51 @@ rising_or_same s r j k h l =
       | inr a ↦ let q : j ≡ k = omega arith in rw q (omega arith)
     ]
 
--- text was inserted into partition i
-module _ (s : List ℕ) (end i n : ℕ) (sound : ArePartitions s end) (l : i < length s) where
-  raised_near : (k : ℕ) → k ≤ i → get_or (raised_behind s i n) k 0 ≡ get_or s k 0
-  raised_near k h = map_from_before (λ x. x + n) (i + 1) s k (omega arith)
+-- the starts behind partition i were moved, each one behind those before it as they were
+module _ (f : ℕ → ℕ) (s : List ℕ) (end end' i : ℕ) (sound : ArePartitions s end) (here : get_or s i 0 ≤ end')
+    (past : (k : ℕ) → i < k → k < length s → get_or s i 0 < f (get_or s k 0)) (rises : (k : ℕ) → i < k → k + 1 < length s → f (get_or s k 0) < f (get_or s (k + 1) 0))
+    (within : (k : ℕ) → i < k → k < length s → f (get_or s k 0) ≤ end') (l : i < length s) where
+  moved_near : (k : ℕ) → k ≤ i → get_or (map_from f (i + 1) s) k 0 ≡ get_or s k 0
+  moved_near k h = map_from_before f (i + 1) s k (omega arith)
 
-  raised_far : (k : ℕ) → i < k → k < length s → get_or (raised_behind s i n) k 0 ≡ get_or s k 0 + n
-  raised_far k h b = map_from_behind (λ x. x + n) (i + 1) s k (omega arith) b
+  moved_far : (k : ℕ) → i < k → k < length s → get_or (map_from f (i + 1) s) k 0 ≡ f (get_or s k 0)
+  moved_far k h b = map_from_behind f (i + 1) s k (omega arith) b
 
-  length-raised : length (raised_behind s i n) ≡ length s
-  length-raised = length-map_from (λ x. x + n) (i + 1) s
-
-  raised_rising : (k : ℕ) → k + 1 < length s → (k + 1 < i + 1) ⊎ (i + 1 ≤ k + 1) → (k < i) ⊎ (i ≤ k) → (i < k) ⊎ (k ≤ i) → get_or (raised_behind s i n) k 0 < get_or (raised_behind s i n) (k + 1) 0
-  raised_rising k b (inl a) _ _ = omega (arith, raised_near k (omega arith), raised_near (k + 1) (omega arith), sound.rising k b)
-  raised_rising k b (inr a) _ (inl h) = omega (arith, raised_far k h (omega arith), raised_far (k + 1) (omega arith) b, sound.rising k b)
-  raised_rising k b (inr a) _ (inr h) = omega (arith, raised_near k h, raised_far (k + 1) (omega arith) b, sound.rising k b)
-
-  raised_within : (k : ℕ) → k < length s → (i < k) ⊎ (k ≤ i) → get_or (raised_behind s i n) k 0 ≤ end + n
-  raised_within k b (inl h) = omega (arith, raised_far k h b, sound.within k b)
-  raised_within k b (inr h) = omega (arith, raised_near k h, sound.within k b)
-
-  pub sound_raised : ArePartitions (raised_behind s i n) (end + n)
-  sound_raised =
-      record {
-        some = omega (arith, length-raised);
-        first = raised_near 0 (omega arith) ∙ sound.first;
-        rising = λ k b. raised_rising k (omega (arith, length-raised)) (cases_lt (k + 1) (i + 1)) (cases_lt k i) (cases_lt i k);
-        within = λ k b. raised_within k (omega (arith, length-raised)) (cases_lt i k);
-      }
-
--- text was deleted from partition i
-module _ (s : List ℕ) (end i n : ℕ) (sound : ArePartitions s end) (l : i < length s) (can : CanLose s end i n) where
-  lowered_near : (k : ℕ) → k ≤ i → get_or (lowered_behind s i n) k 0 ≡ get_or s k 0
-  lowered_near k h = map_from_before (λ x. x - n) (i + 1) s k (omega arith)
-
-  lowered_far : (k : ℕ) → i < k → k < length s → get_or (lowered_behind s i n) k 0 ≡ get_or s k 0 - n
-  lowered_far k h b = map_from_behind (λ x. x - n) (i + 1) s k (omega arith) b
-
-  length-lowered : length (lowered_behind s i n) ≡ length s
-  length-lowered = length-map_from (λ x. x - n) (i + 1) s
-
-  -- what lies behind partition i lies past everything that was deleted
-  pub past_loss : (k : ℕ) → i < k → k < length s → get_or s i 0 + n < get_or s k 0
-  past_loss k h b = omega (arith, can.before_next (omega arith), rising_or_same s sound.rising (i + 1) k (omega arith) b)
-
-  lowered_rising : (k : ℕ) → k + 1 < length s → (i < k + 1) ⊎ (k + 1 ≤ i) → (i < k) ⊎ (k ≤ i) → get_or (lowered_behind s i n) k 0 < get_or (lowered_behind s i n) (k + 1) 0
-  lowered_rising k b (inr a) _ = omega (arith, lowered_near k (omega arith), lowered_near (k + 1) a, sound.rising k b)
-  lowered_rising k b (inl a) (inl h) =
-      omega (arith, lowered_far k h (omega arith), lowered_far (k + 1) a b, sound.rising k b, past_loss k h (omega arith))
-  lowered_rising k b (inl a) (inr h) =
+  moved_rising : (k : ℕ) → k + 1 < length s → (i < k + 1) ⊎ (k + 1 ≤ i) → (i < k) ⊎ (k ≤ i) → get_or (map_from f (i + 1) s) k 0 < get_or (map_from f (i + 1) s) (k + 1) 0
+  moved_rising k b (inr a) _ = omega (arith, moved_near k (omega arith), moved_near (k + 1) a, sound.rising k b)
+  moved_rising k b (inl a) (inl h) = omega (arith, moved_far k h (omega arith), moved_far (k + 1) a b, rises k h b)
+  moved_rising k b (inl a) (inr h) =
       let q : i ≡ k = omega arith in
-      let p : get_or s k 0 + n < get_or s (k + 1) 0 = rw q at (past_loss (k + 1) a b) in
-      omega (arith, lowered_near k h, lowered_far (k + 1) a b)
+      let p : get_or s k 0 < f (get_or s (k + 1) 0) = rw q at (past (k + 1) a b) in
+      omega (arith, moved_near k h, moved_far (k + 1) a b)
 
-  lowered_within : (k : ℕ) → k < length s → (i < k) ⊎ (k ≤ i) → get_or (lowered_behind s i n) k 0 ≤ end - n
-  lowered_within k b (inl h) = omega (arith, lowered_far k h b, sound.within k b)
-  lowered_within k b (inr h) = omega (arith, lowered_near k h, rising_or_same s sound.rising k i h l, can.before_end)
+  moved_within : (k : ℕ) → k < length s → (i < k) ⊎ (k ≤ i) → get_or (map_from f (i + 1) s) k 0 ≤ end'
+  moved_within k b (inl h) = omega (arith, moved_far k h b, within k h b)
+  moved_within k b (inr h) = omega (arith, moved_near k h, rising_or_same s sound.rising k i h l)
 
-  pub sound_lowered : ArePartitions (lowered_behind s i n) (end - n)
-  sound_lowered =
+  pub sound_moved : ArePartitions (map_from f (i + 1) s) end'
+  sound_moved =
+      let n = length_map_from f (i + 1) s in
       record {
-        some = omega (arith, length-lowered);
-        first = lowered_near 0 (omega arith) ∙ sound.first;
-        rising = λ k b. lowered_rising k (omega (arith, length-lowered)) (cases_lt i (k + 1)) (cases_lt i k);
-        within = λ k b. lowered_within k (omega (arith, length-lowered)) (cases_lt i k);
+        some = omega arith;
+        first = moved_near 0 (omega arith) ∙ sound.first;
+        rising = λ k b. moved_rising k (omega arith) (cases_lt i (k + 1)) (cases_lt i k);
+        within = λ k b. moved_within k (omega arith) (cases_lt i k);
       }
+
+pub sound_raised : (s : List ℕ) (end i n : ℕ) → ArePartitions s end → i < length s → ArePartitions (raised_behind s i n) (end + n)
+sound_raised s end i n sound l =
+    sound_moved (λ x. x + n) s end (end + n) i sound (omega (arith, sound.within i l)) (λ k h b. omega (arith, rising_pairs s sound.rising i k h b))
+    (λ k h b. omega (arith, sound.rising k b)) (λ k h b. omega (arith, sound.within k b)) l
+
+-- what lies behind partition i lies past everything that was deleted
+pub past_loss : (s : List ℕ) (end i n : ℕ) → ArePartitions s end → CanLose s end i n → (k : ℕ) → i < k → k < length s → get_or s i 0 + n < get_or s k 0
+past_loss s end i n sound can k h b = omega (arith, can.before_next (omega arith), rising_or_same s sound.rising (i + 1) k (omega arith) b)
+
+pub sound_lowered : (s : List ℕ) (end i n : ℕ) → ArePartitions s end → i < length s → CanLose s end i n → ArePartitions (lowered_behind s i n) (end - n)
+sound_lowered s end i n sound l can =
+    sound_moved (λ x. x - n) s end (end - n) i sound (omega (arith, can.before_end)) (λ k h b. omega (arith, past_loss s end i n sound can k h b))
+    (λ k h b. omega (arith, sound.rising k b, past_loss s end i n sound can k h (omega arith))) (λ k h b. omega (arith, sound.within k b)) l
 
 -- a start was inserted at place i
 module _ (s : List ℕ) (end i x : ℕ) (sound : ArePartitions s end) (can : CanStart s end i x) where

@@ -75,7 +75,7 @@ impl<'a, P: Place, A: Allocator> CountedStarts<'a, P, A> {
     /// Returns the number of partitions, which is at least 1.
     pub(crate) fn count(&self) -> usize
         ensures count { result ≡ length self.now.starts }
-        ensures within { length self.now.starts + self.now.room < 2 ^ 63 }
+        ensures fits { (length self.now.starts ≤ self.now.capacity) × (self.now.capacity < 2 ^ 63) }
         ensures sound { ArePartitions self.now.starts self.now.length }
     {
         self.table.count()

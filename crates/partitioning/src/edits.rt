@@ -1,6 +1,6 @@
 //! The calls that change partitions. Text that is inserted or deleted moves the step to its partition.
 ghost use Rattle.std.specs.Prelude.{◌≡◌, ◌≤◌, ◌<◌, ◌+◌, ◌-◌, length, insert, remove};
-ghost use Rattle.partitioning.specs.Partitions.{ArePartitions, CanStart, CanLose, raised_behind, lowered_behind};
+ghost use Rattle.partitioning.specs.Partitions.{ArePartitions, CanStart, CanLose, StartsFit, lowered_behind, raised_behind, step_inserted, step_removed};
 ghost use Rattle.partitioning.specs.Stored.{stepped_to};
 ghost use Rattle.partitioning.specs.SumLaws.{KeepsTo, steps_of};
 
@@ -13,14 +13,9 @@ impl<P: Place, A: Allocator> Partitioning<P, A> {
     /// No other stored start changes: the step stays with its partition, or moves to the new one if that comes right
     /// behind it.
     pub fn insert_reserved(&mut self, index: usize, start: usize)
-        requires room { 0 < self.old.room }
+        requires room { StartsFit 1 self.old }
         requires start { CanStart self.old.starts self.old.length index start }
-        ensures starts { self.new.starts ≡ insert self.old.starts index start }
-        ensures length { self.new.length ≡ self.old.length }
-        ensures room { self.new.room + 1 ≡ self.old.room }
-        ensures step_moves { index ≤ self.old.step_at + 1 → self.new.step_at ≡ self.old.step_at + 1 }
-        ensures step_stays { self.old.step_at + 1 < index → self.new.step_at ≡ self.old.step_at }
-        ensures stepped { self.new.stepped ≡ self.old.stepped }
+        ensures inserted { self.new ≡ record self.old { starts = insert self.old.starts index start; step_at = step_inserted index self.old.step_at } }
         ensures few { KeepsTo index (steps_of self.old) (steps_of self.new) }
         ensures sound { ArePartitions self.new.starts self.new.length }
     {
@@ -39,12 +34,7 @@ impl<P: Place, A: Allocator> Partitioning<P, A> {
     /// other stored start changes: the step stays with its partition, or moves to the one before if its own was joined.
     pub fn remove(&mut self, index: usize)
         requires { (0 < index) × (index < length self.old.starts) }
-        ensures starts { self.new.starts ≡ remove self.old.starts index }
-        ensures length { self.new.length ≡ self.old.length }
-        ensures room { self.new.room ≡ self.old.room + 1 }
-        ensures step_moves { index ≤ self.old.step_at → self.new.step_at + 1 ≡ self.old.step_at }
-        ensures step_stays { self.old.step_at < index → self.new.step_at ≡ self.old.step_at }
-        ensures stepped { self.new.stepped ≡ self.old.stepped }
+        ensures removed { self.new ≡ record self.old { starts = remove self.old.starts index; step_at = step_removed index self.old.step_at } }
         ensures few { KeepsTo index (steps_of self.old) (steps_of self.new) }
         ensures sound { ArePartitions self.new.starts self.new.length }
     {
@@ -60,12 +50,7 @@ impl<P: Place, A: Allocator> Partitioning<P, A> {
     pub fn insert_text(&mut self, index: usize, count: usize)
         requires index { index < length self.old.starts }
         requires fits { self.old.length + count ≤ P.GREATEST }
-        ensures starts { self.new.starts ≡ raised_behind self.old.starts index count }
-        ensures length { self.new.length ≡ self.old.length + count }
-        ensures room { self.new.room ≡ self.old.room }
-        ensures step_at { self.new.step_at ≡ index }
-        ensures counted { self.old.stepped ≤ self.new.stepped }
-        ensures stepped { self.new.stepped ≡ stepped_to index self.old }
+        ensures raised { self.new ≡ record self.old { starts = raised_behind self.old.starts index count; length = self.old.length + count; stepped = stepped_to index self.old; step_at = index } }
         ensures few { KeepsTo index (steps_of self.old) (steps_of self.new) }
         ensures sound { ArePartitions self.new.starts self.new.length }
     {
@@ -78,12 +63,7 @@ impl<P: Place, A: Allocator> Partitioning<P, A> {
     pub fn delete_text(&mut self, index: usize, count: usize)
         requires index { index < length self.old.starts }
         requires count { CanLose self.old.starts self.old.length index count }
-        ensures starts { self.new.starts ≡ lowered_behind self.old.starts index count }
-        ensures length { self.new.length + count ≡ self.old.length }
-        ensures room { self.new.room ≡ self.old.room }
-        ensures step_at { self.new.step_at ≡ index }
-        ensures counted { self.old.stepped ≤ self.new.stepped }
-        ensures stepped { self.new.stepped ≡ stepped_to index self.old }
+        ensures lowered { self.new ≡ record self.old { starts = lowered_behind self.old.starts index count; length = self.old.length - count; stepped = stepped_to index self.old; step_at = index } }
         ensures few { KeepsTo index (steps_of self.old) (steps_of self.new) }
         ensures sound { ArePartitions self.new.starts self.new.length }
     {

@@ -1,7 +1,6 @@
 //! Look-up of the partition of a place.
-ghost use Rattle.std.specs.Prelude.{◌≡◌, ◌≤◌, ◌<◌, ◌+◌, ◌-◌, ℕ, length, slice_index};
-ghost use Rattle.partitioning.specs.Partitions.{IsLastAtMost, IsFloorLog};
-ghost use Rattle.split_vector.specs.Split.{counted};
+ghost use Rattle.std.specs.Prelude.{◌≤◌, ◌<◌, ◌-◌, length, slice_index};
+ghost use Rattle.partitioning.specs.Partitions.{CountsReads, IsLastAtMost};
 
 use crate::counted::{CountedStarts, Probes};
 use crate::places::Place;
@@ -18,9 +17,7 @@ pub(crate) fn last_at_most<P: Place, A: Allocator>(
     probes: &mut Probes,
 ) -> usize
     ensures last { IsLastAtMost starts.now.starts place result }
-    ensures counted { probes.old ≤ probes.new }
-    ensures few { (k : ℕ) → IsFloorLog k (length starts.now.starts) → probes.new ≤ probes.old + (2 + k) }
-    ensures many { (k : ℕ) → IsFloorLog k (length starts.now.starts) → counted probes.old k ≤ probes.new }
+    ensures reads { CountsReads 2 (length starts.now.starts) probes.old probes.new }
 {
     let wanted = P::from_usize(place.min(starts.length()));
     if starts.count() <= FEW {
@@ -39,9 +36,7 @@ fn last_of_few<P: Place, A: Allocator>(
 ) -> usize
     requires { P.number wanted ≤ starts.now.length }
     ensures last { IsLastAtMost starts.now.starts (P.number wanted) result }
-    ensures counted { probes.old ≤ probes.new }
-    ensures few { (k : ℕ) → IsFloorLog k (length starts.now.starts) → probes.new ≤ probes.old + (2 + k) }
-    ensures many { (k : ℕ) → IsFloorLog k (length starts.now.starts) → counted probes.old k ≤ probes.new }
+    ensures reads { CountsReads 2 (length starts.now.starts) probes.old probes.new }
 {
     let count = starts.count();
     let mut level = count.ilog2();
@@ -69,9 +64,7 @@ fn last_among<P: Place, A: Allocator>(
     requires low { slice_index starts.now.starts first ≤ P.number wanted }
     requires high { behind < length starts.now.starts → P.number wanted < slice_index starts.now.starts behind }
     ensures last { IsLastAtMost starts.now.starts (P.number wanted) result }
-    ensures counted { probes.old ≤ probes.new }
-    ensures few { (k : ℕ) → IsFloorLog k (behind - first) → probes.new ≤ probes.old + (1 + k) }
-    ensures many { (k : ℕ) → IsFloorLog k (behind - first) → counted probes.old k ≤ probes.new }
+    ensures reads { CountsReads 1 (behind - first) probes.old probes.new }
 {
     starts.are_partitions();
     let mut low = first;
@@ -100,9 +93,7 @@ pub(crate) fn last_between<P: Place, A: Allocator>(
     requires low { slice_index starts.now.starts first ≤ place }
     requires high { place < slice_index starts.now.starts behind }
     ensures last { IsLastAtMost starts.now.starts place result }
-    ensures counted { probes.old ≤ probes.new }
-    ensures few { (k : ℕ) → IsFloorLog k (behind - first) → probes.new ≤ probes.old + (1 + k) }
-    ensures many { (k : ℕ) → IsFloorLog k (behind - first) → counted probes.old k ≤ probes.new }
+    ensures reads { CountsReads 1 (behind - first) probes.old probes.new }
 {
     let wanted = P::from_usize(place.min(starts.length()));
     last_among(starts, wanted, first, behind, probes)

@@ -21,7 +21,7 @@ fn turn_one<P: Place, A: Allocator>(body: &mut SplitVector<P, A>, index: usize, 
     requires index { index < length body.old.items }
     requires within { AreWithin (P.number end) (map P.number body.old.items) }
     ensures turned { IsOneTurned (P.number end) index (map P.number body.old.items) (map P.number body.new.items) }
-    ensures spare { body.new.spare ≡ body.old.spare }
+    ensures capacity { body.new.capacity ≡ body.old.capacity }
 {
     let distance = end.minus(body.get(index));
     body.set(index, distance);
@@ -32,7 +32,7 @@ fn turn<P: Place, A: Allocator>(body: &mut SplitVector<P, A>, low: usize, high: 
     requires range { (low ≤ high) × (high ≤ length body.old.items) }
     requires within { AreWithin (P.number end) (map P.number body.old.items) }
     ensures turned { IsTurned (P.number end) low high (map P.number body.old.items) (map P.number body.new.items) }
-    ensures spare { body.new.spare ≡ body.old.spare }
+    ensures capacity { body.new.capacity ≡ body.old.capacity }
 {
     body.update(low, high, |stored| end.minus(stored));
 }
@@ -41,11 +41,7 @@ impl<P: Place, A: Allocator> Partitioning<P, A> {
     // Moves the step to the next partition, and counts the start that this changes.
     fn step_on(&mut self)
         requires { self.old.step_at + 1 < length self.old.starts }
-        ensures starts { self.new.starts ≡ self.old.starts }
-        ensures length { self.new.length ≡ self.old.length }
-        ensures room { self.new.room ≡ self.old.room }
-        ensures step_at { self.new.step_at ≡ self.old.step_at + 1 }
-        ensures stepped { self.new.stepped ≡ counted self.old.stepped 1 }
+        ensures { self.new ≡ record self.old { stepped = counted self.old.stepped 1; step_at = self.old.step_at + 1 } }
     {
         self.are_partitions();
         let index = self.step_at + 1;
@@ -59,12 +55,7 @@ impl<P: Place, A: Allocator> Partitioning<P, A> {
     #[inline(never)]
     fn step_far(&mut self, index: usize)
         requires { index ≤ length self.old.starts }
-        ensures starts { self.new.starts ≡ self.old.starts }
-        ensures length { self.new.length ≡ self.old.length }
-        ensures room { self.new.room ≡ self.old.room }
-        ensures step_at { self.new.step_at ≡ index }
-        ensures counted { self.old.stepped ≤ self.new.stepped }
-        ensures stepped { self.new.stepped ≡ stepped_to index self.old }
+        ensures { self.new ≡ record self.old { stepped = stepped_to index self.old; step_at = index } }
     {
         let count = self.count();
         let near = near_starts(self.step_at, count);
@@ -81,12 +72,7 @@ impl<P: Place, A: Allocator> Partitioning<P, A> {
     #[inline(always)]
     pub(crate) fn step_to(&mut self, index: usize)
         requires { index ≤ length self.old.starts }
-        ensures starts { self.new.starts ≡ self.old.starts }
-        ensures length { self.new.length ≡ self.old.length }
-        ensures room { self.new.room ≡ self.old.room }
-        ensures step_at { self.new.step_at ≡ index }
-        ensures counted { self.old.stepped ≤ self.new.stepped }
-        ensures stepped { self.new.stepped ≡ stepped_to index self.old }
+        ensures { self.new ≡ record self.old { stepped = stepped_to index self.old; step_at = index } }
     {
         if index == self.step_at {
             return;

@@ -1,7 +1,7 @@
-//! `Partitioning`: how it is made and read, and its room.
-ghost use Rattle.std.specs.Prelude.{◌≡◌, ◌≤◌, ◌<◌, ◌+◌, ◌-◌, ◌^◌, ◌↔◌, ℕ, [], ◌∷◌, length, slice_index, IfOk, OnOk, OnErr, IsOk, IsTrue};
-ghost use Rattle.partitioning.specs.Partitions.{ArePartitions, IsLastAtMost, IsFloorLog};
-ghost use Rattle.split_vector.specs.Split.{counted, most_room};
+//! `Partitioning`: how it is made and read, and its capacity.
+ghost use Rattle.std.specs.Prelude.{◌≡◌, ◌≤◌, ◌<◌, ◌+◌, ◌-◌, ◌^◌, ◌↔◌, [], ◌∷◌, length, slice_index, IfOk, OnErr, IsTrue};
+ghost use Rattle.partitioning.specs.Partitions.{ArePartitions, CountsReads, Grows, IsLastAtMost, StartsFit, partitions};
+ghost use Rattle.vec_room.specs.Reserved.{IsReserved};
 
 use crate::counted::{CountedStarts, Probes};
 use crate::lookups::{last_at_most, last_between};
@@ -34,7 +34,7 @@ impl<P: Place, A: Allocator> Model for Partitioning<P, A> {
 
     ghost coded = { partitions_code };
 
-    ghost view = { λ t. partitions (starts_of (P.number t.end) t.step_at (map P.number t.body.items)) (P.number t.end) t.body.spare t.stepped t.step_at };
+    ghost view = { λ t. partitions (starts_of (P.number t.end) t.step_at (map P.number t.body.items)) (P.number t.end) t.body.capacity t.stepped t.step_at };
 
     ghost invariant = { λ t. IsSound P.GREATEST (P.number t.end) t.step_at (map P.number t.body.items) };
 }
@@ -46,8 +46,7 @@ impl<P: Place, A: Allocator> Partitioning<P, A> {
     ///
     /// `AllocError` if the allocation fails.
     pub fn new(alloc: A) -> Result<Self, AllocError>
-        ensures start { IfOk result (λ t. (t.starts ≡ 0 ∷ []) × (t.length ≡ 0) × (t.stepped ≡ 0) × (t.step_at ≡ 0)) }
-        ensures room { IfOk result (λ t. t.room ≡ 0) }
+        ensures { IfOk result (λ t. t ≡ partitions (0 ∷ []) 0 1 0 0) }
     {
         let mut body = SplitVector::new(alloc);
         body.reserve(1)?;
@@ -63,16 +62,16 @@ impl<P: Place, A: Allocator> Partitioning<P, A> {
     /// Returns the number of partitions, which is at least 1.
     pub fn count(&self) -> usize
         ensures count { result ≡ length self.now.starts }
-        ensures within { length self.now.starts + self.now.room < 2 ^ 63 }
+        ensures fits { (length self.now.starts ≤ self.now.capacity) × (self.now.capacity < 2 ^ 63) }
         ensures sound { ArePartitions self.now.starts self.now.length }
     {
         self.body.len()
     }
 
-    // The starts rise from 0, and none is past the end. There are fewer than 2^63, together with the room for more.
+    // The starts rise from 0, and none is past the end. Fewer than 2^63 fit in.
     #[inline(always)]
     pub(crate) fn are_partitions(&self)
-        ensures within { length self.now.starts + self.now.room < 2 ^ 63 }
+        ensures fits { (length self.now.starts ≤ self.now.capacity) × (self.now.capacity < 2 ^ 63) }
         ensures sound { ArePartitions self.now.starts self.now.length }
     {
         self.count();
@@ -88,6 +87,7 @@ impl<P: Place, A: Allocator> Partitioning<P, A> {
     }
 
     // Returns where the partition starts, as a place.
+    #[tactic(auto, using(crate::proofs::Lists::read_number, crate::proofs::Steps::read_far, crate::proofs::Steps::length_starts_of))]
     pub(crate) fn place_of(&self, index: usize) -> P
         requires { index < length self.now.starts }
         ensures { P.number result ≡ slice_index self.now.starts index }
@@ -146,10 +146,8 @@ impl<P: Place, A: Allocator> Partitioning<P, A> {
     /// `AllocError` if the allocation fails. Nothing has changed then.
     #[inline(always)]
     pub fn reserve(&mut self, count: usize) -> Result<(), AllocError>
-        ensures ok { OnOk result ((count ≤ self.new.room) × (self.new ≡ record self.old { room = self.new.room })) }
-        ensures room_is_there { count ≤ self.old.room → IsOk result × (self.new ≡ self.old) }
-        ensures room_stays { self.old.room ≤ self.new.room }
-        ensures at_most { OnOk result (self.new.room ≤ most_room (length self.old.starts) self.old.room count) }
+        ensures reserved { IsReserved (StartsFit count) result self.old self.new }
+        ensures grown { Grows count self.old self.new }
         ensures err { OnErr result (self.new ≡ self.old) }
     {
         self.body.reserve(count)
@@ -159,9 +157,7 @@ impl<P: Place, A: Allocator> Partitioning<P, A> {
     /// Counts each start that it reads in `probes`.
     pub fn partition_of(&self, place: usize, probes: &mut Probes) -> usize
         ensures last { IsLastAtMost self.now.starts place result }
-        ensures counted { probes.old ≤ probes.new }
-        ensures few { (k : ℕ) → IsFloorLog k (length self.now.starts) → probes.new ≤ probes.old + (2 + k) }
-        ensures many { (k : ℕ) → IsFloorLog k (length self.now.starts) → counted probes.old k ≤ probes.new }
+        ensures reads { CountsReads 2 (length self.now.starts) probes.old probes.new }
     {
         last_at_most(&CountedStarts::of(self), place, probes)
     }
@@ -179,9 +175,7 @@ impl<P: Place, A: Allocator> Partitioning<P, A> {
         requires low { slice_index self.now.starts first ≤ place }
         requires high { place < slice_index self.now.starts behind }
         ensures last { IsLastAtMost self.now.starts place result }
-        ensures counted { probes.old ≤ probes.new }
-        ensures few { (k : ℕ) → IsFloorLog k (behind - first) → probes.new ≤ probes.old + (1 + k) }
-        ensures many { (k : ℕ) → IsFloorLog k (behind - first) → counted probes.old k ≤ probes.new }
+        ensures reads { CountsReads 1 (behind - first) probes.old probes.new }
     {
         last_between(&CountedStarts::of(self), place, first, behind, probes)
     }

@@ -1,10 +1,10 @@
 -- A range that is set to a value: where it may be widened or trimmed, and the runs that replace it.
-use Rattle.run_styles.proofs.Names.{◌≡◌, ◌≢◌, ◌⊎◌, ℕ, ◌+◌, ◌-◌, ◌<◌, ◌≤◌, zero, suc, List, [], ◌∷◌, ◌++◌, Some, None, length, get_or, set, take, drop, replicate, refl, sym, ap, ◌∙◌, arith, subst, ⊎_elim, append_assoc, length-append, take-append-drop, take_at, drop_at, length-take-le, length-drop, length-replicate, get_or-append_right, get_or_append_left, get_or-replicate, get_or-take, get_or-drop, get_or_default, get_or_past, same_lists, take_more_set, drop-set-lt, slice_get-get_or, get_or_from_slice_get, slice_get_past, cases_lt, slice_get, expansion, Rise, IsTable, NeighboursDiffer, filled, IsChangedRange}
+use Rattle.run_styles.proofs.Names.{◌≡◌, ◌≢◌, ◌⊎◌, ℕ, ◌+◌, ◌-◌, ◌<◌, ◌≤◌, zero, suc, List, ◌∷◌, ◌++◌, Some, None, length, get_or, take, drop, replicate, sym, ap, ◌∙◌, arith, ⊎_elim, append_assoc, length-append, take-append-drop, take_at, drop_at, length-take-le, length-drop, length-replicate, get_or-append_right, get_or_append_left, get_or-replicate, get_or-take, get_or-drop, get_or_default, get_or_past, same_lists, slice_get-get_or, get_or_from_slice_get, slice_get_past, cases_lt, slice_get, expansion, Rise, IsTable, NeighboursDiffer, filled, IsChangedRange}
 use Rattle.run_styles.specs.Changes.{IsTrimmed}
 use Rattle.run_styles.proofs.Tables.{rise_lt, rise_within}
-use Rattle.run_styles.proofs.Steps.{Stands, stands_at, At, at}
-use Rattle.run_styles.proofs.ByIndex.{value_in_run, fill_stands, length-table}
-use Rattle.run_styles.proofs.Neighbours.{differ_between, differ_next}
+use Rattle.run_styles.proofs.Steps.{At, at}
+use Rattle.run_styles.proofs.ByIndex.{value_in_run, fill_stands, length_table, run_top}
+use Rattle.run_styles.proofs.Neighbours.{differ_next}
 
 module _ {V : Type 0} where
   pub length-filled : (xs : List V) (p n : ℕ) (v : V) → p + n ≤ length xs → length (filled xs p n v) ≡ length xs
@@ -53,70 +53,57 @@ module _ {V : Type 0} where
       (cases_lt k p))
 
   -- each place of a run has the run's value
-  pub slice_get_in_run : (S : List ℕ) (W : List V) (end i q : ℕ) → IsTable S W end → i < length S → get_or S i 0 ≤ q → q < get_or S (i + 1) end → q < end → slice_get (expansion S W end) q ≡ slice_get W i
-  slice_get_in_run S W end i q t h low high top =
-      let paired : length S ≡ length W = t.paired in
-      let a : At W i = at W i (omega arith) in
-      slice_get-get_or (expansion S W end) q a.item (rw (length-table S W end t) top)
-      ∙ ap Some (value_in_run S W end i q a.item t h low high top)
-      ∙ sym (slice_get-get_or W i a.item (omega arith))
-
-  set_values : (W : List V) (a b : ℕ) (v : V) → a < b → a < length W → take (a + 1) (set W a v) ++ drop b (set W a v) ≡ take a W ++ v ∷ drop b W
-  set_values W a b v o h = rw (take_more_set W a v h, drop-set-lt b W a v o) (append_assoc (take a W) (v ∷ []) (drop b W))
+  pub slice_get_in_run : {S : List ℕ} {W : List V} {end : ℕ} (i q : ℕ) → IsTable S W end → i < length S → get_or S i 0 ≤ q → q < get_or S (i + 1) end → slice_get (expansion S W end) q ≡ slice_get W i
+  slice_get_in_run {S} {W} {end} i q t h low high =
+      let a : At W i = at W i (omega (arith, t.paired)) in
+      slice_get-get_or (expansion S W end) q a.item (omega (arith, length_table t, run_top i t h))
+      ∙ ap Some (value_in_run i q a.item t h low high)
+      ∙ sym (slice_get-get_or W i a.item (omega (arith, t.paired)))
 
   -- the runs from one to another replaced by one, which absorbs neighbours that have its value
-  pub replaced : (S : List ℕ) (W : List V) (end first last from to : ℕ) (v : V) → IsTable S W end → 0 < end → first < last → last ≤ length S
-      → (from ≡ first) ⊎ ((from + 1 ≡ first) × (slice_get W from ≡ Some v)) → (to ≡ last) ⊎ ((to ≡ last + 1) × (slice_get W last ≡ Some v)) → to ≤ length W
-      → Stands (take (from + 1) S ++ drop to S) (take (from + 1) (set W from v) ++ drop to (set W from v)) end (filled (expansion S W end) (get_or S first 0) (get_or S last end - get_or S first 0) v)
-  replaced S W end first last from to v t pos o h near_first near_last within =
+  pub replaced : {S : List ℕ} {W : List V} {end : ℕ} (first last from to : ℕ) (v : V) → IsTable S W end → 0 < end → first < last → last ≤ length S
+      → (from ≡ first) ⊎ ((from + 1 ≡ first) × (slice_get W from ≡ Some v)) → (to ≡ last) ⊎ ((to ≡ last + 1) × (slice_get W last ≡ Some v)) → to ≤ length S
+      → expansion (take (from + 1) S ++ drop to S) (take from W ++ v ∷ drop to W) end ≡ filled (expansion S W end) (get_or S first 0) (get_or S last end - get_or S first 0) v
+  replaced {S} {W} {end} first last from to v t pos o h near_first near_last within =
       let paired : length S ≡ length W = t.paired in
+      let full : length (expansion S W end) ≡ end = length_table t in
       let rises : Rise S end = t.rise pos in
-      let full : length (expansion S W end) ≡ end = length-table S W end t in
       let from_le : from ≤ first = ⊎_elim (λ e. omega (arith, e)) (λ p. omega (arith, p.0)) near_first in
       let to_le : last ≤ to = ⊎_elim (λ e. omega (arith, e)) (λ p. omega (arith, p.0)) near_last in
-      let stands = fill_stands S W end from to v t pos (omega arith) (omega arith) in
       let upper : get_or S to end ≤ end = rise_within S end to rises in
       let o1 : get_or S from 0 < get_or S to end = rise_lt S end from to (omega arith) (omega arith) rises in
       let o2 : get_or S first 0 < get_or S last end = rise_lt S end first last o h rises in
       let a1 : get_or S from 0 ≤ get_or S first 0 = ⊎_elim (λ e. rw e (omega arith)) (λ p. let lt : get_or S from 0 < get_or S first end = rise_lt S end from first (omega (arith, p.0)) (omega arith) rises in let same = get_or_default S first 0 end (omega arith) in omega arith) near_first in
       let a2 : get_or S last end ≤ get_or S to end = ⊎_elim (λ e. rw e (omega arith)) (λ p. let lt : get_or S last 0 < get_or S to end = rise_lt S end last to (omega (arith, p.0)) (omega arith) rises in let same = get_or_default S last 0 end (omega (arith, p.0)) in omega arith) near_last in
-      let wide = filled_widened (expansion S W end) (get_or S from 0) (get_or S to end - get_or S from 0) (get_or S first 0) (get_or S last end - get_or S first 0) v a1 (omega arith) (omega arith)
+      (fill_stands from to v t pos (omega arith) (omega arith)).list
+      ∙ filled_widened (expansion S W end) (get_or S from 0) (get_or S to end - get_or S from 0) (get_or S first 0) (get_or S last end - get_or S first 0) v a1 (omega arith) (omega arith)
       (λ k low high. ⊎_elim (λ e. let same : get_or S from 0 ≡ get_or S first 0 = ap (λ i. get_or S i 0) e in absurd (omega arith))
-      (λ p. let next : get_or S (from + 1) end ≡ get_or S first 0 = ap (λ i. get_or S i end) p.0 ∙ get_or_default S first end 0 (omega arith) in slice_get_in_run S W end from k t (omega arith) low (omega arith) (omega arith) ∙ p.1) near_first)
+      (λ p. let next : get_or S (from + 1) end ≡ get_or S first 0 = ap (λ i. get_or S i end) p.0 ∙ get_or_default S first end 0 (omega arith) in slice_get_in_run from k t (omega arith) low (omega arith) ∙ p.1) near_first)
       (λ k low high. ⊎_elim (λ e. let same : get_or S to end ≡ get_or S last end = ap (λ i. get_or S i end) e in absurd (omega arith))
-      (λ p. let next : get_or S to end ≡ get_or S (last + 1) end = ap (λ i. get_or S i end) p.0 in let same : get_or S last end ≡ get_or S last 0 = get_or_default S last end 0 (omega (arith, p.0)) in slice_get_in_run S W end last k t (omega (arith, p.0)) (omega arith) (omega arith) (omega arith) ∙ p.1) near_last) in
-      let P : List V → Type 0 = λ l. Stands (take (from + 1) S ++ drop to S) (take (from + 1) (set W from v) ++ drop to (set W from v)) end l in
-      subst P wide (stands_at _ _ _ _ end _ refl (set_values W from to v (omega arith) (omega arith)) stands)
-
-  pub replaced_differ : (W : List V) (first last from to : ℕ) (v : V) → from ≤ first → first < last → last ≤ to → first < length W
-      → NeighboursDiffer (take from W) → NeighboursDiffer (drop to W) → (0 < from → slice_get W (from - 1) ≢ Some v) → slice_get W to ≢ Some v
-      → NeighboursDiffer (take (from + 1) (set W from v) ++ drop to (set W from v))
-  replaced_differ W first last from to v h1 h2 h3 h4 front behind before after =
-      let P : List V → Type 0 = λ l. NeighboursDiffer l in
-      subst P (sym (set_values W from to v (omega arith) (omega arith))) (differ_between W from to v (omega arith) front behind before after)
+      (λ p. let next : get_or S to end ≡ get_or S (last + 1) end = ap (λ i. get_or S i end) p.0 in let same : get_or S last end ≡ get_or S last 0 = get_or_default S last end 0 (omega (arith, p.0)) in slice_get_in_run last k t (omega (arith, p.0)) (omega arith) (omega arith) ∙ p.1) near_last)
 
   -- the place behind a run has another value, or there is none
-  pub other_behind : (S : List ℕ) (W : List V) (end i : ℕ) (v : V) → IsTable S W end → 0 < end → i < length S → NeighboursDiffer W → slice_get W i ≡ Some v → slice_get (expansion S W end) (get_or S (i + 1) end) ≢ Some v
-  other_behind S W end i v t pos h d e = ⊎_elim
+  pub other_behind : {S : List ℕ} {W : List V} {end : ℕ} (i : ℕ) (v : V) → IsTable S W end → 0 < end → i < length S → NeighboursDiffer W → slice_get W i ≡ Some v → slice_get (expansion S W end) (get_or S (i + 1) end) ≢ Some v
+  other_behind {S} {W} {end} i v t pos h d e = ⊎_elim
       (λ next. λ found.
       let same : get_or S (i + 1) end ≡ get_or S (i + 1) 0 = get_or_default S (i + 1) end 0 next in
       let high : get_or S (i + 1) 0 < get_or S (i + 1 + 1) end = rise_lt S end (i + 1) (i + 1 + 1) (omega arith) (omega arith) (t.rise pos) in
       let top : get_or S (i + 1 + 1) end ≤ end = rise_within S end (i + 1 + 1) (t.rise pos) in
-      differ_next W i v d e (sym (slice_get_in_run S W end (i + 1) (get_or S (i + 1) end) t next (omega arith) (omega arith) (omega arith)) ∙ found))
+      differ_next W i v d e (sym (slice_get_in_run (i + 1) (get_or S (i + 1) end) t next (omega arith) (omega arith)) ∙ found))
       (λ past. λ found.
-      let full : length (expansion S W end) ≡ end = length-table S W end t in
+      let full : length (expansion S W end) ≡ end = length_table t in
       let same : get_or S (i + 1) end ≡ end = get_or_past S (i + 1) end past in
       let none : slice_get (expansion S W end) (get_or S (i + 1) end) ≡ None = slice_get_past (expansion S W end) (get_or S (i + 1) end) (omega arith) in
       let wrong : None ≡ Some v = sym none ∙ found in
       cc)
       (cases_lt (i + 1) (length S))
 
-  pub other_before : (S : List ℕ) (W : List V) (end i : ℕ) (v : V) → IsTable S W end → 0 < end → i < length S → 0 < get_or S i 0 → NeighboursDiffer W → slice_get W i ≡ Some v → slice_get (expansion S W end) (get_or S i 0 - 1) ≢ Some v
-  other_before S W end zero v t pos h some d e =
+  pub other_before : {S : List ℕ} {W : List V} {end : ℕ} (i : ℕ) (v : V) → IsTable S W end → 0 < end → i < length S → 0 < get_or S i 0 → NeighboursDiffer W → slice_get W i ≡ Some v → slice_get (expansion S W end) (get_or S i 0 - 1) ≢ Some v
+  other_before {S} {W} {end} zero v t pos h some d e =
       let zero_first : get_or S 0 1 ≡ 0 = t.from_zero in
       let same : get_or S 0 1 ≡ get_or S 0 0 = get_or_default S 0 1 0 h in
       absurd (omega arith)
-  other_before S W end (suc j) v t pos h some d e =
+  other_before {S} {W} {end} (suc j) v t pos h some d e =
       λ found.
       let n : j + 1 ≡ suc j = omega arith in
       let low : get_or S j 0 < get_or S (suc j) end = rise_lt S end j (suc j) (omega arith) (omega arith) (t.rise pos) in
@@ -124,7 +111,7 @@ module _ {V : Type 0} where
       let next : get_or S (j + 1) end ≡ get_or S (suc j) end = ap (λ k. get_or S k end) n in
       let top : get_or S (suc j) end ≤ end = rise_within S end (suc j) (t.rise pos) in
       let there : slice_get W (j + 1) ≡ Some v = ap (λ k. slice_get W k) n ∙ e in
-      differ_next W j v d (sym (slice_get_in_run S W end j (get_or S (suc j) 0 - 1) t (omega arith) (omega arith) (omega arith) (omega arith)) ∙ found) there
+      differ_next W j v d (sym (slice_get_in_run j (get_or S (suc j) 0 - 1) t (omega arith) (omega arith) (omega arith)) ∙ found) there
 
   pub filled-none : (xs : List V) (p : ℕ) (v : V) → filled xs p 0 v ≡ xs
   filled-none xs p v = let n : p + 0 ≡ p = omega arith in rw n (take-append-drop p xs)
@@ -133,6 +120,21 @@ module _ {V : Type 0} where
   pub filled_same : (xs : List V) (p n : ℕ) (v : V) → p + n ≤ length xs → ((k : ℕ) → p ≤ k → k < p + n → slice_get xs k ≡ Some v) → filled xs p n v ≡ xs
   filled_same xs p n v h there =
       filled_widened xs p n (p + n) 0 v (omega arith) (omega arith) h there (λ k low high. absurd (omega arith)) ∙ filled-none xs (p + n) v
+
+  -- a run joined with the one before it, which has the same value
+  pub joined : {S : List ℕ} {W : List V} {end : ℕ} (k : ℕ) (v : V) → IsTable S W end → 0 < k → k < length S → slice_get W (k - 1) ≡ Some v → slice_get W k ≡ Some v
+      → expansion (take (k - 1 + 1) S ++ drop (k + 1) S) (take (k - 1) W ++ v ∷ drop (k + 1) W) end ≡ expansion S W end
+  joined {S} {W} {end} k v t some h before here =
+      let pos : 0 < end = ⊎_elim (λ o. o) (λ z. let one = t.single (omega arith) in absurd (omega arith)) (cases_lt 0 end) in
+      let full : length (expansion S W end) ≡ end = length_table t in
+      let upper : get_or S (k + 1) end ≤ end = run_top k t h in
+      let o1 : get_or S (k - 1) 0 < get_or S (k + 1) end = rise_lt S end (k - 1) (k + 1) (omega arith) (omega arith) (t.rise pos) in
+      let same : get_or S (k - 1 + 1) end ≡ get_or S k 0 = ap (λ i. get_or S i end) (omega arith) ∙ get_or_default S k end 0 h in
+      (fill_stands (k - 1) (k + 1) v t pos (omega arith) (omega arith)).list
+      ∙ filled_same (expansion S W end) (get_or S (k - 1) 0) (get_or S (k + 1) end - get_or S (k - 1) 0) v (omega arith) (λ q low high. ⊎_elim
+      (λ first. slice_get_in_run (k - 1) q t (omega arith) low (omega arith) ∙ before)
+      (λ second. slice_get_in_run k q t h second (omega arith) ∙ here)
+      (cases_lt q (get_or S k 0)))
 
   -- a range trimmed to the places that change
   pub trimmed : (xs : List V) (place count low high : ℕ) (v : V) → place + count ≤ length xs → place ≤ low → low < place + count → high ≤ place + count

@@ -1,4 +1,5 @@
 pub mod Names
+pub mod Becoming
 pub mod ByIndex
 pub mod Deleting
 pub mod Filling

@@ -1,5 +1,5 @@
 -- Lists with no two equal neighbours: their parts, and how they are joined.
-use Rattle.run_styles.proofs.Names.{◌≡◌, ◌≢◌, ℕ, ◌+◌, ◌-◌, ◌<◌, ◌≤◌, zero, suc, List, [], ◌∷◌, ◌++◌, Some, length, get_or, take, drop, refl, sym, ap, ◌∙◌, arith, subst, take-append-drop, take-take, drop-drop, Bool, true, false, true≢false, IsEquivalence, slice_get_read, length-take-le, slice_get, IsExact, NeighboursDiffer}
+use Rattle.run_styles.proofs.Names.{◌≡◌, ◌≢◌, ℕ, ◌+◌, ◌-◌, ◌<◌, ◌≤◌, zero, suc, List, [], ◌∷◌, ◌++◌, Some, length, take, drop, refl, sym, ap, ◌∙◌, arith, subst, take-append-drop, take-take, drop-drop, Bool, true, false, length-take-le, slice_get, IsExact, NeighboursDiffer}
 
 module _ {V : Type 0} where
   pub slice_get-take : (k : ℕ) (xs : List V) (i : ℕ) → i < k → slice_get (take k xs) i ≡ slice_get xs i
@@ -87,35 +87,15 @@ module _ {V : Type 0} where
       let m : 0 + 1 ≡ 1 = omega arith in
       differ_next (drop k xs) 0 v h (slice_get-drop k xs 0 ∙ ap (λ j. slice_get xs j) n ∙ e) (rw m (slice_get-drop k xs 1 ∙ f))
 
--- a value that was read, and compared
 module _ {V : Type 0} {eq : V → V → Bool} where
-  pub read_same : IsExact eq → (xs : List V) (i : ℕ) (r v : V) → i < length xs → r ≡ get_or xs i r → eq r v ≡ true → slice_get xs i ≡ Some v
-  read_same exact xs i r v h e t = let same : r ≡ v = exact r v t in slice_get_read xs (length xs) i r refl h e ∙ ap Some same
-
-  pub read_apart : IsEquivalence eq → (xs : List V) (i : ℕ) (r v : V) → i < length xs → r ≡ get_or xs i r → eq r v ≡ false → slice_get xs i ≢ Some v
-  read_apart laws xs i r v h e t f =
-      let s : Some r ≡ Some v = sym (slice_get_read xs (length xs) i r refl h e) ∙ f in
-      let same : r ≡ v = cc s in
-      let P : V → Type 0 = λ x. eq x v ≡ false in
-      let wrong : eq v v ≡ false = subst P same t in
-      true≢false (sym (laws.refl v) ∙ wrong)
+  pub unequal : IsExact eq → (x y : V) → x ≢ y → eq x y ≡ false
+  unequal exact x y h = by (eq x y) refl
+    where
+      by : (b : Bool) → eq x y ≡ b → eq x y ≡ false
+      by true e = absurd (h (exact x y e))
+      by false e = e
 
 module _ {V : Type 0} where
-  pub read_here : (xs : List V) (i : ℕ) (r : V) → i < length xs → r ≡ get_or xs i r → slice_get xs i ≡ Some r
-  read_here xs i r h e = slice_get_read xs (length xs) i r refl h e
-
-  -- two neighbours with the same value, of which one is removed
-  pub differ_joined : (xs : List V) (k : ℕ) (v : V) → k < length xs → NeighboursDiffer (take k xs) → NeighboursDiffer (drop k xs) → slice_get xs (k - 1) ≡ Some v → slice_get xs k ≡ Some v
-      → NeighboursDiffer (take k xs ++ drop (k + 1) xs)
-  differ_joined xs k v h front behind before here =
-      let n : k + 0 ≡ k = omega arith in
-      let m : k + 1 + 0 ≡ k + 1 = omega arith in
-      differ_append (take k xs) (drop (k + 1) xs)
-      (λ i w e f g. let last : suc i ≡ k = e ∙ length-take-le k xs (omega arith) in let i' : k - 1 ≡ i = omega (arith, last) in
-      let there : Some w ≡ Some v = sym f ∙ slice_get-take k xs i (omega (arith, last)) ∙ ap (λ j. slice_get xs j) (sym i') ∙ before in
-      differ_behind xs k v behind here (ap (λ j. slice_get xs j) (sym m) ∙ sym (slice_get-drop (k + 1) xs 0) ∙ g ∙ there))
-      front (differ_further xs k (k + 1) behind (omega arith))
-
   -- a value appended, which differs from the last
   pub differ_push : (xs : List V) (v : V) → (0 < length xs → slice_get xs (length xs - 1) ≢ Some v) → NeighboursDiffer xs → NeighboursDiffer (xs ++ v ∷ [])
   differ_push xs v apart h =

@@ -83,25 +83,6 @@ module _ {V : Type 0} where
         list = expansion-fill xs s ms ys vs us v ws end e e' left mid t.from_zero;
       }
 
-  -- two neighbours with the same value joined
-  pub join_parts : (xs : List ℕ) (s p : ℕ) (ys : List ℕ) (vs : List V) (v : V) (ws : List V) (end : ℕ) → length xs ≡ length vs → 0 < end
-      → IsTable (xs ++ s ∷ p ∷ ys) (vs ++ v ∷ v ∷ ws) end
-      → Stands (xs ++ s ∷ ys) (vs ++ v ∷ ws) end (expansion (xs ++ s ∷ p ∷ ys) (vs ++ v ∷ v ∷ ws) end)
-  join_parts xs s p ys vs v ws end e pos t =
-      let rises : Rise (xs ++ s ∷ p ∷ ys) end = t.rise pos in
-      let right : Rise (s ∷ p ∷ ys) end = rise_right xs (s ∷ p ∷ ys) end rises in
-      let left : Rise xs s = rise_left xs (s ∷ p ∷ ys) end rises in
-      let paired : length (xs ++ s ∷ p ∷ ys) ≡ length (vs ++ v ∷ v ∷ ws) = t.paired in
-      record {
-        table = record {
-          paired = omega (arith, length-append xs (s ∷ ys), length-append vs (v ∷ ws), length-append xs (s ∷ p ∷ ys), length-append vs (v ∷ v ∷ ws));
-          from_zero = head-append xs (s ∷ ys) 1 ∙ sym (head-append xs (s ∷ p ∷ ys) 1) ∙ t.from_zero;
-          rise = λ _. rise_join xs (s ∷ ys) end left (omega (arith, right.0, right.1.0), right.1.1);
-          single = λ z. absurd (omega (arith, z));
-        };
-        list = sym (expansion-merge xs s p ys vs v ws end e (omega (arith, right.0)) (omega (arith, right.1.0)));
-      }
-
   -- text inserted into a run, which may be that of an empty list
   pub grow_parts : (xs : List ℕ) (s : ℕ) (ys : List ℕ) (vs : List V) (v : V) (ws : List V) (end q k : ℕ) → length xs ≡ length vs → Rise xs s → (0 < end → Rise (s ∷ ys) end) → (end ≡ 0 → ys ≡ []) → 0 < k
       → IsTable (xs ++ s ∷ ys) (vs ++ v ∷ ws) end → s ≤ q → q ≤ get_or ys 0 end
@@ -174,10 +155,10 @@ module _ {V : Type 0} where
       zero_first (x ∷ xs) ys more z high = z
 
   -- one more run before the first
-  pub first_parts : (S : List ℕ) (W : List V) (v : V) (end k : ℕ) → 0 < end → 0 < k → IsTable S W end
+  pub first_parts : {S : List ℕ} {W : List V} {end : ℕ} (v : V) (k : ℕ) → IsTable S W end → 0 < end → 0 < k
       → Stands (0 ∷ map (λ t. t + k) S) (v ∷ W) (end + k) (inserted (expansion S W end) 0 k v)
-  first_parts [] W v end k pos more t = absurd (omega (arith, t.from_zero))
-  first_parts (s ∷ S) W v end k pos more t =
+  first_parts {S = []} {W} {end} v k t pos more = absurd (omega (arith, t.from_zero))
+  first_parts {S = s ∷ S} {W} {end} v k t pos more =
       let paired : suc (length S) ≡ length W = t.paired in
       let z : s ≡ 0 = t.from_zero in
       let n : (s + k) - 0 ≡ k = omega arith in
@@ -192,10 +173,10 @@ module _ {V : Type 0} where
       }
 
   -- one more run behind the last
-  pub last_parts : (S : List ℕ) (W : List V) (v : V) (end k : ℕ) → 0 < end → 0 < k → IsTable S W end
+  pub last_parts : {S : List ℕ} {W : List V} {end : ℕ} (v : V) (k : ℕ) → IsTable S W end → 0 < end → 0 < k
       → Stands (S ++ end ∷ []) (W ++ v ∷ []) (end + k) (inserted (expansion S W end) end k v)
-  last_parts [] W v end k pos more t = absurd (omega (arith, t.from_zero))
-  last_parts (s ∷ S) W v end k pos more t =
+  last_parts {S = []} {W} {end} v k t pos more = absurd (omega (arith, t.from_zero))
+  last_parts {S = s ∷ S} {W} {end} v k t pos more =
       let paired : suc (length S) ≡ length W = t.paired in
       let z : s ≡ 0 = t.from_zero in
       let n : (end + k) - end ≡ k = omega arith in
@@ -229,8 +210,8 @@ pub record Parts {V : Type 0} (S : List ℕ) (W : List V) (end i : ℕ) : Type 0
   pub read : (d : V) → get_or W i d ≡ v
 
 module _ {V : Type 0} where
-  pub parts : (S : List ℕ) (W : List V) (end i : ℕ) → IsTable S W end → i < length S → Parts S W end i
-  parts S W end i t h =
+  pub parts : {S : List ℕ} {W : List V} {end : ℕ} (i : ℕ) → IsTable S W end → i < length S → Parts S W end i
+  parts {S} {W} {end} i t h =
       let paired : length S ≡ length W = t.paired in
       let h' : i < length W = omega arith in
       let a : At S i = at S i h in

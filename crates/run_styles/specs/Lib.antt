@@ -1,3 +1,4 @@
 pub mod Changes
 pub mod Expansion
 pub mod Runs
+pub mod Table

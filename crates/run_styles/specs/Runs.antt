@@ -26,6 +26,10 @@ pub record IsCapacityFor (wanted : ℕ) (old new : RunCapacity) : Type 0 where
   pub starts_there : wanted ≤ old.starts → new.starts ≡ old.starts
   pub values_there : wanted ≤ old.values → new.values ≡ old.values
 
+-- the capacity once room for so many runs was asked for: not less than before, and at most that
+abbrev pub GrowsFor : (wanted : ℕ) → RunCapacity → RunCapacity → Type 0
+GrowsFor wanted old new = KeepsCapacity old new × IsCapacityFor wanted old new
+
 -- the default value, the value at each place, and how many runs fit in
 pub record Runs (V : Type 0) : Type 0 where
   pub default : V

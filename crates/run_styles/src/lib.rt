@@ -6,6 +6,7 @@
 #![tactic(auto)]
 
 mod edits;
+mod runs;
 mod styles;
 mod table;
 

@@ -1,6 +1,6 @@
 //! The views that watch a document follow a step.
 
-ghost use Rattle.line_index.specs.StepEdits.{SmallLines, edits_of};
+ghost use Rattle.line_index.specs.StepEdits.{edits_of};
 ghost use Rattle.scene.specs.Following.{CanAllFollow, HaveFollowed};
 
 use ed_view::View;
@@ -24,7 +24,6 @@ pub(crate) fn follow(ids: &[u32], views: &mut IdTable<View>, movement: Movement,
 // compute edits.
 #[inline(never)]
 fn follow_edits(ids: &[u32], views: &mut IdTable<View>, movement: Movement, change: LineChange)
-    requires small { SmallLines change.old_lines × SmallLines change.new_lines }
     requires can { CanAllFollow movement (edits_of change) ids.now views.old }
     ensures { HaveFollowed movement (edits_of change) ids.now views.old views.new }
 {
@@ -41,7 +40,6 @@ pub(crate) fn follow_change(
     movement: Movement,
     change: LineChange,
 )
-    requires small { SmallLines change.old_lines × SmallLines change.new_lines }
     requires can { CanAllFollow movement (edits_of change) ids.now views.old }
     ensures { HaveFollowed movement (edits_of change) ids.now views.old views.new }
 {

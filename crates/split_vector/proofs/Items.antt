@@ -1,5 +1,5 @@
 -- The cells of a block as a list.
-use Rattle.split_vector.proofs.Names.{◌≡◌, ℕ, zero, suc, ◌+◌, ◌-◌, ◌<◌, ◌≤◌, Bool, true, false, List, [], ◌∷◌, ◌++◌, map, length, get_or, take, drop, set, replicate, Option, Some, None, refl, sym, ap, ◌∙◌, arith, length-append, length-take, length-drop, take-append-drop, append_assoc, length-map, length-replicate, map-append, take-map, drop-map, drop-drop, cells_of}
+use Rattle.split_vector.proofs.Names.{◌≡◌, ℕ, zero, suc, ◌+◌, ◌-◌, ◌<◌, ◌≤◌, Bool, true, false, List, [], ◌∷◌, ◌++◌, map, length, get_or, take, drop, set, replicate, Option, Some, None, refl, sym, ap, ◌∙◌, arith, length-append, length-take, length-drop, take-append-drop, append_assoc, length-map, length-replicate, map-append, take-map, drop-map, drop-drop, cells_of, ◌⊎◌, inl, inr}
 use Rattle.split_vector.specs.Cells.{Hold, Run, beside, run_start}
 
 module _ {X : Type 0} where
@@ -122,16 +122,22 @@ module _ {X : Type 0} where
   right_run xs n ys = ap (take (length ys)) (past_left xs n (length xs + n) ys refl) ∙ take_all ys
 
   -- the cell of the item at a place, left of the gap and right of it
-  pub item_left : (xs : List X) (n : ℕ) (ys : List X) (i : ℕ) → i < length xs → take 1 (drop i (cells_of xs n ys)) ≡ map Some (take 1 (drop i (xs ++ ys)))
+  item_left : (xs : List X) (n : ℕ) (ys : List X) (i : ℕ) → i < length xs → take 1 (drop i (cells_of xs n ys)) ≡ map Some (take 1 (drop i (xs ++ ys)))
   item_left [] n ys i lt = absurd (omega arith)
   item_left (x ∷ xs) n ys zero lt = refl
   item_left (x ∷ xs) n ys (suc i) lt = item_left xs n ys i (omega arith)
 
-  pub item_right : (xs : List X) (n : ℕ) (ys : List X) (i : ℕ) → length xs ≤ i → take 1 (drop (i + n) (cells_of xs n ys)) ≡ map Some (take 1 (drop i (xs ++ ys)))
+  item_right : (xs : List X) (n : ℕ) (ys : List X) (i : ℕ) → length xs ≤ i → take 1 (drop (i + n) (cells_of xs n ys)) ≡ map Some (take 1 (drop i (xs ++ ys)))
   item_right [] n ys i le =
       ap (λ k. take 1 (drop k (none n ++ map Some ys))) (let e : i + n ≡ n + i = omega arith in e) ∙ ap (take 1) (sym (drop-drop i n (none n ++ map Some ys)) ∙ ap (drop i) (past_none n ys) ∙ drop-map Some i ys) ∙ take-map Some 1 (drop i ys)
   item_right (x ∷ xs) n ys zero le = absurd (omega arith)
   item_right (x ∷ xs) n ys (suc i) le = let e : suc i + n ≡ suc (i + n) = omega arith in ap (λ k. take 1 (drop k (cells_of (x ∷ xs) n ys))) e ∙ item_right xs n ys i (omega arith)
+
+  -- the cell p of the item at a place
+  pub item_cell : (xs : List X) (n : ℕ) (ys : List X) (i p : ℕ) → ((p ≡ i) × (i < length xs)) ⊎ ((p ≡ i + n) × (length xs ≤ i))
+      → take 1 (drop p (cells_of xs n ys)) ≡ map Some (take 1 (drop i (xs ++ ys)))
+  item_cell xs n ys i p (inl h) = ap (λ k. take 1 (drop k (cells_of xs n ys))) h.0 ∙ item_left xs n ys i h.1
+  item_cell xs n ys i p (inr h) = ap (λ k. take 1 (drop k (cells_of xs n ys))) h.0 ∙ item_right xs n ys i h.1
 
   -- the one cell of a run that is read as one item
   pub sole : (cs : List (Option X)) (xs : List X) (x : X) → take 1 cs ≡ map Some xs → 0 < length xs → x ≡ get_or xs 0 x → take 1 cs ≡ Some x ∷ []

@@ -1,26 +1,22 @@
 -- A place in two lists, one after the other.
-use Rattle.split_vector.proofs.Names.{◌≡◌, ℕ, ◌+◌, ◌-◌, ◌≤◌, List, ◌++◌, length, take, drop, sym, ap, ◌∙◌, arith, length-drop, slice_range, drop-append-le}
-use Rattle.std.proofs.Math.Seq.{take-append_seam, drop-append_seam, take-append-add, drop-append-add}
+use Rattle.split_vector.proofs.Names.{◌≡◌, ℕ, ◌+◌, ◌-◌, ◌≤◌, List, ◌++◌, length, take, drop, sym, ap, ◌∙◌, arith, append_assoc, take-append-drop, take-append-le, slice_range, drop-drop, deleted}
+use Rattle.std.proofs.lemmas.List.{drop-take}
+use Rattle.std.proofs.Math.Seq.{drop-append-add, take-add}
 
 module _ {X : Type 0} where
-  pub take_at_right : (xs ys : List X) (i : ℕ) → length xs ≤ i → take i (xs ++ ys) ≡ xs ++ take (i - length xs) ys
-  take_at_right xs ys i le = let k : i ≡ length xs + (i - length xs) = omega arith in ap (λ j. take j (xs ++ ys)) k ∙ take-append-add xs ys (i - length xs)
+  -- the items from a place on moved from the end of the first list to the second
+  pub moved_up : (xs ys : List X) (i : ℕ) → take i xs ++ (drop i xs ++ ys) ≡ xs ++ ys
+  moved_up xs ys i = sym (append_assoc (take i xs) (drop i xs) ys) ∙ ap (λ l. l ++ ys) (take-append-drop i xs)
 
-  pub drop_at_right : (xs ys : List X) (i : ℕ) → length xs ≤ i → drop i (xs ++ ys) ≡ drop (i - length xs) ys
-  drop_at_right xs ys i le = let k : i ≡ length xs + (i - length xs) = omega arith in ap (λ j. drop j (xs ++ ys)) k ∙ drop-append-add xs ys (i - length xs)
+  -- items on either side of the seam deleted
+  pub deleted_around : (xs ys : List X) (p n seam : ℕ) → seam ≡ length xs → p ≤ seam → seam ≤ p + n → take p xs ++ drop (p + n - seam) ys ≡ deleted (xs ++ ys) p n
+  deleted_around xs ys p n seam e near far =
+      let past : p + n ≡ length xs + (p + n - seam) = omega (arith, e) in
+      (λ j. sym (take-append-le p xs ys (omega (arith, e))) j ++ sym (ap (λ k. drop k (xs ++ ys)) past ∙ drop-append-add xs ys (p + n - seam)) j)
 
-  pub take_seam : (xs ys : List X) (i : ℕ) → i ≡ length xs → take i (xs ++ ys) ≡ xs
-  take_seam xs ys i e = ap (λ j. take j (xs ++ ys)) e ∙ take-append_seam xs ys
-
-  pub drop_seam : (xs ys : List X) (i : ℕ) → i ≡ length xs → drop i (xs ++ ys) ≡ ys
-  drop_seam xs ys i e = ap (λ j. drop j (xs ++ ys)) e ∙ drop-append_seam xs ys
-
-  pub range_right : (xs ys : List X) (a b n : ℕ) → n ≡ length xs → n ≤ a → a ≤ b → take (b - n - (a - n)) (drop (a - n) ys) ≡ slice_range (xs ++ ys) a b
-  range_right xs ys a b n e p q =
-      let back : b - n - (a - n) ≡ b - a = omega arith in let from : a - n ≡ a - length xs = ap (λ k. a - k) e in
-      ap (λ k. take k (drop (a - n) ys)) back ∙ ap (λ k. take (b - a) (drop k ys)) from ∙ ap (take (b - a)) (sym (drop_at_right xs ys a (omega (arith, e))))
-
-  pub range_across : (xs ys : List X) (a b n : ℕ) → n ≡ length xs → a ≤ n → n ≤ b → drop a xs ++ take (b - n) ys ≡ slice_range (xs ++ ys) a b
-  range_across xs ys a b n e p q =
-      let rest : b - n ≡ b - a - length (drop a xs) = omega (arith, e, length-drop a xs) in
-      ap (λ k. drop a xs ++ take k ys) rest ∙ sym (take_at_right (drop a xs) ys (b - a) (omega (arith, e, length-drop a xs))) ∙ ap (take (b - a)) (sym (drop-append-le a xs ys (omega (arith, e))))
+  -- a range across the place n: its items before n, and those behind
+  pub range_across : (xs : List X) (a b n : ℕ) → a ≤ n → n ≤ b → drop a (take n xs) ++ take (b - n) (drop n xs) ≡ slice_range xs a b
+  range_across xs a b n p q =
+      let at : n ≡ a + (n - a) = omega arith in let all : b - a ≡ n - a + (b - n) = omega arith in
+      (λ j. (ap (λ k. drop a (take k xs)) at ∙ drop-take a (n - a) xs) j ++ take (b - n) ((ap (λ k. drop k xs) at ∙ sym (drop-drop (n - a) a xs)) j))
+      ∙ sym (take-add (n - a) (b - n) (drop a xs)) ∙ ap (λ k. take k (drop a xs)) (sym all)

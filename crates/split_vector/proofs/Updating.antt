@@ -1,8 +1,11 @@
 -- Items replaced by what a relation allows for them.
-use Rattle.split_vector.proofs.Names.{◌≡◌, ℕ, ◌+◌, ◌-◌, ◌<◌, ◌≤◌, ◌⊎◌, inl, inr, List, ◌++◌, length, get_or, min, max, sym, ap, ◌∙◌, arith, cases_lt, get_or_append_left, get_or-append_right, EachBetween, IsUpdated}
+use Rattle.split_vector.proofs.Names.{◌≡◌, ℕ, ◌+◌, ◌-◌, ◌<◌, ◌≤◌, ◌⊎◌, inl, inr, List, ◌++◌, length, get_or, min, max, refl, sym, ap, ◌∙◌, arith, cases_lt, get_or_append_left, get_or-append_right, EachBetween, IsUpdated}
 use Rattle.std.proofs.lemmas.List.{length-append}
 
 module _ {X : Type 0} (R : X → X → Type 0) where
+  pub none_updated : (low : ℕ) (xs : List X) → IsUpdated R low low xs xs
+  none_updated low xs = record { same_length = refl; updated = λ k d f l. absurd (omega arith); kept_below = λ k d l. refl; kept_above = λ k d f. refl }
+
   -- the items of the range that lie in the first of two lists replaced, and those that lie in the second
   module _ (low high n a b p q : ℕ) (xs ys xs' ys' : List X) (m : n ≡ length xs)
       (low_left : a ≡ min low n) (high_left : b ≡ min high n) (low_right : p ≡ max low n) (high_right : q ≡ max high n)

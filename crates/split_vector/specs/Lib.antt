@@ -1,5 +1,5 @@
-pub mod Block
 pub mod Cells
+pub mod Fields
 pub mod Ownership
 pub mod Split
 pub mod SplitLends

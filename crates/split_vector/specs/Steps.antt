@@ -13,25 +13,13 @@ module _ {X : Type 0} where
   abbrev pub right_start : Cells X → ℕ
   right_start c = length c.left + c.spare
 
-  -- the cells of the block at `at` are these items, so many empty cells, and these items
-  abbrev pub Holds : Cells X → Ptr → List X → ℕ → List X → Type 0
-  Holds c at left spare right = (c.at ≡ at) × (c.left ≡ left) × (c.spare ≡ spare) × (c.right ≡ right)
-
   -- the items, so many of them, stand in the first cells of the gap
   abbrev pub Pushes : List X → ℕ → Cells X → Cells X → Type 0
-  Pushes items count old new = Holds new old.at (old.left ++ items) (old.spare - count) old.right
+  Pushes items count old new = new ≡ record old { left = old.left ++ items; spare = old.spare - count }
 
   -- the items, so many of them, stand in the last cells of the gap
   abbrev pub PushesRight : List X → ℕ → Cells X → Cells X → Type 0
-  PushesRight items count old new = Holds new old.at old.left (old.spare - count) (items ++ old.right)
-
-  -- the items on the right and the number of empty cells are as before
-  abbrev pub KeepsRight : Cells X → Cells X → Type 0
-  KeepsRight old new = (new.at ≡ old.at) × (new.spare ≡ old.spare) × (new.right ≡ old.right)
-
-  -- the items on the left and the number of empty cells are as before
-  abbrev pub KeepsLeft : Cells X → Cells X → Type 0
-  KeepsLeft old new = (new.at ≡ old.at) × (new.left ≡ old.left) × (new.spare ≡ old.spare)
+  PushesRight items count old new = new ≡ record old { spare = old.spare - count; right = items ++ old.right }
 
   -- the gap begins in the cell `gap` and has room for `count` items
   abbrev pub FitInGap : Cells X → (gap count : ℕ) → Type 0

@@ -1,13 +1,12 @@
-//! The fields of a vector, and the steps that keep them a gap buffer. All arithmetic of the gap is in this module.
-ghost use Rattle.std.specs.Prelude.{◌≡◌, ◌≤◌, ◌<◌, ◌+◌, ◌-◌, ◌*◌, ◌^◌, [], ◌∷◌, length, take, drop, replicate, slice_index_or, slice_set, slice_range, OnOk, OnErr, Some, true};
+//! The steps that keep the fields of a vector a gap buffer. All arithmetic of the gap is in this module.
+ghost use Rattle.std.specs.Prelude.{◌≡◌, ◌≤◌, ◌<◌, ◌+◌, ◌-◌, ◌*◌, ◌^◌, [], ◌∷◌, length, take, drop, replicate, OnOk, OnErr, true};
 ghost use Rattle.std.specs.Vec.Ownership.{FitsInBlock};
 ghost use Rattle.std.specs.Mem.{type_size};
-ghost use Rattle.split_vector.specs.Cells.{IsRun};
 ghost use Rattle.split_vector.specs.Steps.{cell_count, IsDeed};
-ghost use Rattle.split_vector.specs.Split.{counted, apart, outside, EachBetween, IsUpdated};
-ghost use Rattle.split_vector.specs.Block.{block_items, block_cells, CanEnlarge, Has, IsBlock, IsEnlarged, IsUnchanged, KeepsGap, MovesGap, Removes, Slides, Writes};
+ghost use Rattle.split_vector.specs.Split.{apart, counted, deleted, outside, with_gap, with_written, ItemsFit};
 
 use crate::cells::{Base, Cells, Deed, allocate, deallocate, discard, enlarge, no_cells};
+use crate::vector::SplitVector;
 use std::alloc::{AllocError, Allocator};
 use std::mem::{self, size_of_val};
 use std_alloc::room::may_hold;
@@ -20,20 +19,14 @@ const PART: usize = 4096;
 /// The most bytes of a part that is copied to the stack.
 const PART_BYTES: usize = 32_768;
 
-/// A row of `len + spare` cells: `gap` items, then `spare` cells with no item, then the other items.
-pub struct Block<T, A: Allocator> {
+/// Frees the block of `len` cells, if there is one.
+pub(crate) fn release<T, A: Allocator>(
+    alloc: &A,
     base: Base<T>,
-    pub(crate) len: usize,
-    pub(crate) spare: usize,
-    pub(crate) gap: usize,
-    pub(crate) moved: u64,
+    len: usize,
     cells: Cells<T>,
     deed: Deed<T, A>,
-    alloc: A,
-}
-
-/// Frees the block of `len` cells, if there is one.
-fn release<T, A: Allocator>(alloc: &A, base: Base<T>, len: usize, cells: Cells<T>, deed: Deed<T, A>)
+)
     requires { (cells.at ≡ base.ptr) × (cell_count cells ≡ len) × IsDeed deed base.ptr len alloc.now }
 {
     if len == 0 {
@@ -52,84 +45,35 @@ fn is_small_part<T>(items: &[T]) -> bool
     size_of_val(&items[..PART]) <= PART_BYTES
 }
 
-impl<T, A: Allocator> Block<T, A> {
-    /// Returns a block with no cells. Allocates nothing.
-    pub(crate) fn new(alloc: A) -> Self
-        ensures { Has result [] 0 [] 0 }
-    {
-        let (base, cells, deed) = no_cells(&alloc);
-        Block {
-            base,
-            len: 0,
-            spare: 0,
-            gap: 0,
-            moved: 0,
-            cells,
-            deed,
-            alloc,
-        }
-    }
+// Adds to a count of moved items, which stays at `u64::MAX` once it is reached.
+#[inline(always)]
+fn count(moved: u64, items: usize) -> u64
+    ensures { result ≡ counted moved items }
+{
+    moved.saturating_add(items as u64)
+}
 
-    /// Frees the memory.
-    pub(crate) fn free(self)
-        requires { IsBlock self }
-    {
-        let Block {
-            base,
-            len,
-            spare,
-            gap: _,
-            moved: _,
-            cells,
-            deed,
-            alloc,
-        } = self;
-        release(&alloc, base, len + spare, cells, deed);
-    }
-
+impl<T: Copy, A: Allocator> SplitVector<T, A> {
     /// Returns the items before the gap.
     pub(crate) fn left(&self) -> &[T]
-        requires { IsBlock self.now }
-        ensures { result.now ≡ self.now.cells.left }
+        ensures { (result.now ≡ take self.now.gap self.now.items) × (length result.now ≡ self.now.gap) }
     {
         self.cells.left(self.base, self.gap)
     }
 
     /// Returns the items behind the gap.
     pub(crate) fn right(&self) -> &[T]
-        requires { IsBlock self.now }
-        ensures { result.now ≡ self.now.cells.right }
+        ensures { (result.now ≡ drop self.now.gap self.now.items) × (self.now.gap + length result.now ≡ length self.now.items) }
     {
         self.cells
-            .right(self.base, self.gap + self.spare, self.len - self.gap)
-    }
-
-    /// Returns the item in the cell `place`.
-    #[inline]
-    pub(crate) fn item(&self, place: usize) -> T
-    where
-        T: Copy,
-        requires { IsBlock self.now × IsRun (block_cells self.now) place 1 }
-        ensures { take 1 (drop place (block_cells self.now)) ≡ Some result ∷ [] }
-    {
-        self.cells.slice(self.base, place, 1)[0]
-    }
-
-    #[inline(always)]
-    fn count(&mut self, items: usize)
-        requires { IsBlock self.old }
-        ensures { Has self.new self.old.cells.left self.old.spare self.old.cells.right (counted self.old.moved items) }
-    {
-        self.moved = self.moved.saturating_add(items as u64);
+            .right(self.base, self.gap + self.spare, self.filled - self.gap)
     }
 
     // Moves the last `PART` items before the gap behind it.
     fn raise_part(&mut self)
-    where
-        T: Copy,
-        requires here { IsBlock self.old × (4096 ≤ self.old.gap) }
+        requires here { 4096 ≤ self.old.gap }
         requires few { 4096 * type_size T.row < 2 ^ 63 }
-        ensures { Slides (self.old.gap - 4096) self.old self.new }
+        ensures { self.new ≡ record self.old { gap = self.old.gap - 4096 } }
     {
         let from = self.gap - PART;
         let end = self.gap + self.spare;
@@ -144,11 +88,9 @@ impl<T, A: Allocator> Block<T, A> {
 
     // Moves the first `PART` items behind the gap before it.
     fn lower_part(&mut self)
-    where
-        T: Copy,
-        requires here { IsBlock self.old × (self.old.gap + 4096 ≤ self.old.len) }
+        requires here { self.old.gap + 4096 ≤ length self.old.items }
         requires few { 4096 * type_size T.row < 2 ^ 63 }
-        ensures { Slides (self.old.gap + 4096) self.old self.new }
+        ensures { self.new ≡ record self.old { gap = self.old.gap + 4096 } }
     {
         let gap = self.gap;
         let Some(part) = self.right().first_chunk::<PART>() else {
@@ -162,8 +104,8 @@ impl<T, A: Allocator> Block<T, A> {
 
     // Moves the gap to `place`, which is near it. Copies the items between the two, and does not count them.
     fn slide_near(&mut self, place: usize)
-        requires { IsBlock self.old × (place ≤ self.old.len) }
-        ensures { Slides place self.old self.new }
+        requires { place ≤ length self.old.items }
+        ensures { self.new ≡ record self.old { gap = place } }
     {
         if place < self.gap {
             let count = self.gap - place;
@@ -180,11 +122,8 @@ impl<T, A: Allocator> Block<T, A> {
 
     // Moves the gap back, part by part, to less than a part behind `place`.
     fn slide_back(&mut self, place: usize)
-    where
-        T: Copy,
-        requires { IsBlock self.old × (place ≤ self.old.gap) }
-        ensures parted { Slides self.new.gap self.old self.new }
-        ensures within { place ≤ self.new.gap }
+        requires { place ≤ self.old.gap }
+        ensures { (self.new ≡ record self.old { gap = self.new.gap }) × (place ≤ self.new.gap) }
     {
         'parts: while self.gap - place >= PART && is_small_part(self.left()) {
             self.raise_part();
@@ -193,11 +132,8 @@ impl<T, A: Allocator> Block<T, A> {
 
     // Moves the gap forward, part by part, to less than a part before `place`.
     fn slide_on(&mut self, place: usize)
-    where
-        T: Copy,
-        requires { IsBlock self.old × (self.old.gap ≤ place) × (place ≤ self.old.len) }
-        ensures parted { Slides self.new.gap self.old self.new }
-        ensures within { self.new.gap ≤ place }
+        requires { (self.old.gap ≤ place) × (place ≤ length self.old.items) }
+        ensures { (self.new ≡ record self.old { gap = self.new.gap }) × (self.new.gap ≤ place) }
     {
         'parts: while place - self.gap >= PART && is_small_part(self.right()) {
             self.lower_part();
@@ -206,10 +142,8 @@ impl<T, A: Allocator> Block<T, A> {
 
     /// Moves the gap to `place`. Copies the items between the two, and does not count them.
     pub(crate) fn slide(&mut self, place: usize)
-    where
-        T: Copy,
-        requires { IsBlock self.old × (place ≤ self.old.len) }
-        ensures { Slides place self.old self.new }
+        requires { place ≤ length self.old.items }
+        ensures { self.new ≡ record self.old { gap = place } }
     {
         if place < self.gap {
             self.slide_back(place);
@@ -222,10 +156,8 @@ impl<T, A: Allocator> Block<T, A> {
     /// Moves the gap to `place`, and counts the items that this copies. The gap usually stands there already.
     #[inline(always)]
     pub(crate) fn move_gap(&mut self, place: usize)
-    where
-        T: Copy,
-        requires { IsBlock self.old × (place ≤ self.old.len) }
-        ensures { MovesGap place (apart place self.old.gap) self.old self.new }
+        requires { place ≤ length self.old.items }
+        ensures { self.new ≡ with_gap place (apart place self.old.gap) self.old }
     {
         if place == self.gap {
             return;
@@ -236,10 +168,8 @@ impl<T, A: Allocator> Block<T, A> {
     // The slow path of `move_gap`, out of line: the gap stands elsewhere.
     #[inline(never)]
     fn carry_gap(&mut self, place: usize)
-    where
-        T: Copy,
-        requires { IsBlock self.old × (place ≤ self.old.len) }
-        ensures { MovesGap place (apart place self.old.gap) self.old self.new }
+        requires { place ≤ length self.old.items }
+        ensures { self.new ≡ with_gap place (apart place self.old.gap) self.old }
     {
         let distance = if place < self.gap {
             self.gap - place
@@ -247,136 +177,89 @@ impl<T, A: Allocator> Block<T, A> {
             place - self.gap
         };
         self.slide(place);
-        self.count(distance);
+        self.moved = count(self.moved, distance);
     }
 
-    /// Moves the gap to the nearer end of the range from `low` to `high`, unless it stands in that range.
-    fn reach(&mut self, low: usize, high: usize)
-    where
-        T: Copy,
-        requires { IsBlock self.old × (low ≤ high) × (high ≤ self.old.len) }
-        ensures fields { MovesGap self.new.gap (outside low high self.old.gap) self.old self.new }
-        ensures within { (low ≤ self.new.gap) × (self.new.gap ≤ high) }
+    // Moves the gap to the nearer end of the `count` items from `place` on, unless it stands among them.
+    fn reach(&mut self, place: usize, count: usize)
+        requires { place + count ≤ length self.old.items }
+        ensures { (self.new ≡ with_gap self.new.gap (outside place (place + count) self.old.gap) self.old) × (place ≤ self.new.gap) × (self.new.gap ≤ place + count) }
     {
-        if self.gap < low {
-            self.move_gap(low);
-        } else if high < self.gap {
-            self.move_gap(high);
+        let gap = self.gap;
+        let end = place + count;
+        if gap < place {
+            self.move_gap(place);
+        } else if end < gap {
+            self.move_gap(end);
         }
     }
 
     /// Deletes the `count` items from `place` on.
     pub(crate) fn remove(&mut self, place: usize, count: usize)
-    where
-        T: Copy,
-        requires { IsBlock self.old × (place + count ≤ self.old.len) }
-        ensures { Removes place count self.old self.new }
+        requires { place + count ≤ length self.old.items }
+        ensures { self.new ≡ record (with_gap place (outside place (place + count) self.old.gap) self.old) { items = deleted self.old.items place count } }
     {
-        let end = place + count;
-        self.reach(place, end);
-        self.cells.widen(place, end - self.gap);
+        self.reach(place, count);
+        let gap = self.gap;
+        self.cells.widen(place, place + count - gap);
         self.spare += count;
-        self.len -= count;
+        self.filled -= count;
         self.gap = place;
     }
 
     /// Writes `item` before the gap.
     #[inline(always)]
     pub(crate) fn write(&mut self, item: T)
-        requires { IsBlock self.old × (0 < self.old.spare) }
-        ensures { Writes (item ∷ []) 1 self.old self.new }
+        requires { ItemsFit 1 self.old }
+        ensures { self.new ≡ with_written 1 (item ∷ []) self.old }
     {
         self.cells.push(self.base, self.gap, item);
         self.gap += 1;
         self.spare -= 1;
-        self.len += 1;
-        self.count(1);
+        self.filled += 1;
+        self.moved = count(self.moved, 1);
     }
 
     /// Writes the items of `source` before the gap.
     #[inline(always)]
     pub(crate) fn write_slice(&mut self, source: &[T])
-    where
-        T: Copy,
-        requires { IsBlock self.old × (length source.now ≤ self.old.spare) }
-        ensures { Writes source.now (length source.now) self.old self.new }
+        requires { ItemsFit (length source.now) self.old }
+        ensures { self.new ≡ with_written (length source.now) source.now self.old }
     {
-        let count = source.len();
+        let added = source.len();
         self.cells.push_slice(self.base, self.gap, source);
-        self.gap += count;
-        self.spare -= count;
-        self.len += count;
-        self.count(count);
+        self.gap += added;
+        self.spare -= added;
+        self.filled += added;
+        self.moved = count(self.moved, added);
     }
 
-    /// Writes `item` before the gap `count` times.
-    pub(crate) fn write_fill(&mut self, count: usize, item: T)
-    where
-        T: Copy,
-        requires { IsBlock self.old × (count ≤ self.old.spare) }
-        ensures { Writes (replicate count item) count self.old self.new }
+    /// Writes `item` before the gap `added` times.
+    pub(crate) fn write_fill(&mut self, added: usize, item: T)
+        requires { ItemsFit added self.old }
+        ensures { self.new ≡ with_written added (replicate added item) self.old }
     {
-        self.cells.push_fill(self.base, self.gap, count, item);
-        self.gap += count;
-        self.spare -= count;
-        self.len += count;
-        self.count(count);
-    }
-
-    /// Overwrites the item at `index` with `item`.
-    pub(crate) fn replace(&mut self, index: usize, item: T)
-        requires { IsBlock self.old × (index < self.old.len) }
-        ensures fields { KeepsGap self.old self.new }
-        ensures items { block_items self.new ≡ slice_set (block_items self.old) index item }
-    {
-        if index < self.gap {
-            self.cells.replace_left(self.base, index, item);
-        } else {
-            self.cells
-                .replace_right(self.base, index + self.spare, item);
-        }
-    }
-
-    /// Replaces each item from `low` up to `high` by what `change` returns for it: first those before the gap, then
-    /// those behind it.
-    #[inline]
-    pub(crate) fn update<F: Fn(T) -> T>(&mut self, low: usize, high: usize, change: &F)
-    where
-        T: Copy,
-        requires range { IsBlock self.old × (low ≤ high) × (high ≤ self.old.len) }
-        requires callable { EachBetween (F.pre change.now) low high (block_items self.old) }
-        ensures fields { KeepsGap self.old self.new }
-        ensures items { IsUpdated (F.post change.now) low high (block_items self.old) (block_items self.new) }
-    {
-        let gap = self.gap;
-        let first = gap + self.spare;
-        let right = self.len - gap;
-        self.cells
-            .update_left(self.base, gap, low.min(gap), high.min(gap), change);
-        self.cells.update_right(
-            self.base,
-            first,
-            right,
-            low.max(gap) - gap,
-            high.max(gap) - gap,
-            change,
-        );
+        self.cells.push_fill(self.base, self.gap, added, item);
+        self.gap += added;
+        self.spare -= added;
+        self.filled += added;
+        self.moved = count(self.moved, added);
     }
 
     // Lets the allocator enlarge the block to `size` cells. No item lies behind the gap.
     fn enlarge(&mut self, size: usize) -> Result<(), AllocError>
-        requires { CanEnlarge T.row self.old size }
-        ensures ok { OnOk result (IsEnlarged size self.old self.new) }
-        ensures err { OnErr result (IsUnchanged self.old self.new) }
+        requires { (self.old.gap ≡ length self.old.items) × (0 < self.old.capacity) × (self.old.capacity ≤ size) × FitsInBlock T.row size }
+        ensures ok { OnOk result ((self.new ≡ record self.old { capacity = size }) × (size < 2 ^ 63)) }
+        ensures err { OnErr result (self.new ≡ self.old) }
     {
-        let old = self.len + self.spare;
+        let old = self.filled + self.spare;
         let (_, none, no_deed) = no_cells(&self.alloc);
         let old_cells = mem::replace(&mut self.cells, none);
         let old_deed = mem::replace(&mut self.deed, no_deed);
         let (base, cells, deed) = enlarge(
             &self.alloc,
             self.base,
-            self.len,
+            self.filled,
             old,
             size,
             old_cells,
@@ -392,39 +275,34 @@ impl<T, A: Allocator> Block<T, A> {
 
     // Moves the items to a new block of `size` cells.
     fn move_to(&mut self, size: usize) -> Result<(), AllocError>
-    where
-        T: Copy,
-        requires { IsBlock self.old × (self.old.len < size) × FitsInBlock T.row size }
-        ensures ok { OnOk result (IsEnlarged size self.old self.new) }
-        ensures err { OnErr result (IsUnchanged self.old self.new) }
+        requires { (self.old.capacity < size) × FitsInBlock T.row size }
+        ensures ok { OnOk result ((self.new ≡ record self.old { capacity = size }) × (size < 2 ^ 63)) }
+        ensures err { OnErr result (self.new ≡ self.old) }
     {
         let (base, mut cells, deed) = allocate(&self.alloc, size)?;
         cells.push_slice(base, 0, self.left());
         cells.push_right_slice(base, size, self.right());
-        let old_len = self.len + self.spare;
+        let old_len = self.filled + self.spare;
         let old_base = self.base;
         let old_cells = mem::replace(&mut self.cells, cells);
         let old_deed = mem::replace(&mut self.deed, deed);
         self.base = base;
-        self.spare = size - self.len;
+        self.spare = size - self.filled;
         release(&self.alloc, old_base, old_len, old_cells, old_deed);
         Ok(())
     }
 
     /// Enlarges the block to `size` cells. The gap stays at its place. If no item lies behind it, the allocator
     /// enlarges the block itself: it moves a large block without a copy, and does not touch the memory of empty cells.
-    pub(crate) fn grow(&mut self, size: usize) -> Result<(), AllocError>
-    where
-        T: Copy,
-        requires { IsBlock self.old × (self.old.len < size) }
-        ensures ok { OnOk result (IsEnlarged size self.old self.new) }
-        ensures err { OnErr result (IsUnchanged self.old self.new) }
+    pub(crate) fn grow_to(&mut self, size: usize) -> Result<(), AllocError>
+        requires { self.old.capacity < size }
+        ensures ok { OnOk result ((self.new ≡ record self.old { capacity = size }) × (size < 2 ^ 63)) }
+        ensures err { OnErr result (self.new ≡ self.old) }
     {
         if !may_hold::<T>(size) {
             return Err(AllocError);
         }
-        let old = self.len + self.spare;
-        if self.gap < self.len || old == 0 || size < old {
+        if self.gap < self.filled || self.capacity() == 0 {
             self.move_to(size)
         } else {
             self.enlarge(size)

@@ -6,7 +6,7 @@ ghost use Rattle.std.specs.Prelude.{◌≡◌, ℕ, ◌+◌, ◌-◌, ◌*◌, �
 ghost use Rattle.std.specs.Vec.Ownership.{FitsInBlock};
 ghost use base.Fml.{ftrue};
 ghost use denote.RawPtr.{Ptr};
-ghost use Rattle.split_vector.specs.Cells.{CanMove, Held, Hold, IsRun, IsWritten, Run, beside};
+ghost use Rattle.split_vector.specs.Cells.{CanMove, Held, IsRun, IsWritten, Run, beside};
 ghost use Rattle.split_vector.specs.Ownership.{cells_of, cells_own, cells_lent, deed_owns};
 
 use crate::raw::move_run;
@@ -164,7 +164,7 @@ impl<T> Cells<T> {
     fn write_cell(&mut self, base: Base<T>, place: usize, item: T)
         ghost after: { Held T }
         requires { (base.ptr ≡ self.old.at) × IsWritten self.old.left self.old.spare self.old.right place item after }
-        ensures { (self.new.at ≡ self.old.at) × Hold self.new.left self.new.spare self.new.right after }
+        ensures { self.new ≡ record self.old { left = after.0; spare = after.1; right = after.2 } }
     {
         unsafe { base.ptr.add(place).write(item) }
     }
@@ -173,7 +173,7 @@ impl<T> Cells<T> {
     #[tactic(auto, using(crate::proofs::Items::cells_set_push))]
     pub(crate) fn push(&mut self, base: Base<T>, gap: usize, item: T)
         requires { (base.ptr ≡ self.old.at) × (gap ≡ length self.old.left) × (0 < self.old.spare) }
-        ensures { (self.new.at ≡ self.old.at) × (self.new.left ≡ self.old.left ++ item ∷ []) × (self.new.spare ≡ self.old.spare - 1) × (self.new.right ≡ self.old.right) }
+        ensures { self.new ≡ record self.old { left = self.old.left ++ item ∷ []; spare = self.old.spare - 1 } }
     {
         self.write_cell(base, gap, item);
     }
@@ -182,7 +182,7 @@ impl<T> Cells<T> {
     #[tactic(auto, using(crate::proofs::Items::cells_set_last))]
     pub(crate) fn push_right(&mut self, base: Base<T>, place: usize, item: T)
         requires { (base.ptr ≡ self.old.at) × (place + 1 ≡ length self.old.left + self.old.spare) × (0 < self.old.spare) }
-        ensures { (self.new.at ≡ self.old.at) × (self.new.left ≡ self.old.left) × (self.new.spare ≡ self.old.spare - 1) × (self.new.right ≡ item ∷ self.old.right) }
+        ensures { self.new ≡ record self.old { spare = self.old.spare - 1; right = item ∷ self.old.right } }
     {
         self.write_cell(base, place, item);
     }
@@ -191,7 +191,7 @@ impl<T> Cells<T> {
     #[tactic(auto, using(crate::proofs::Items::cells_set_left))]
     pub(crate) fn replace_left(&mut self, base: Base<T>, index: usize, item: T)
         requires { (base.ptr ≡ self.old.at) × (index < length self.old.left) }
-        ensures { (self.new.at ≡ self.old.at) × (self.new.left ≡ slice_set self.old.left index item) × (self.new.spare ≡ self.old.spare) × (self.new.right ≡ self.old.right) }
+        ensures { self.new ≡ record self.old { left = slice_set self.old.left index item } }
     {
         self.write_cell(base, index, item);
     }
@@ -200,7 +200,7 @@ impl<T> Cells<T> {
     #[tactic(auto, using(crate::proofs::Items::cells_set_right))]
     pub(crate) fn replace_right(&mut self, base: Base<T>, place: usize, item: T)
         requires { (base.ptr ≡ self.old.at) × (length self.old.left + self.old.spare ≤ place) × (place < length self.old.left + self.old.spare + length self.old.right) }
-        ensures { (self.new.at ≡ self.old.at) × (self.new.left ≡ self.old.left) × (self.new.spare ≡ self.old.spare) × (self.new.right ≡ slice_set self.old.right (place - (length self.old.left + self.old.spare)) item) }
+        ensures { self.new ≡ record self.old { right = slice_set self.old.right (place - (length self.old.left + self.old.spare)) item } }
     {
         self.write_cell(base, place, item);
     }
@@ -219,7 +219,7 @@ impl<T> Cells<T> {
     fn move_over(&mut self, base: Base<T>, from: usize, to: usize, count: usize, up: bool)
         ghost run: { Run T }
         requires { (base.ptr ≡ self.old.at) × CanMove up self.old.left self.old.spare self.old.right from to count run }
-        ensures { (self.new.at ≡ self.old.at) × Hold self.new.left self.new.spare self.new.right (beside (not up) run) }
+        ensures { self.new ≡ record self.old { left = (beside (not up) run).0; spare = (beside (not up) run).1; right = (beside (not up) run).2 } }
     {
         unsafe { move_run(base.ptr.add(from), base.ptr.add(to), count, up) }
     }
@@ -227,7 +227,7 @@ impl<T> Cells<T> {
     /// Moves the last `count` items on the left to the right side of the gap.
     pub(crate) fn raise(&mut self, base: Base<T>, from: usize, to: usize, count: usize)
         requires { (base.ptr ≡ self.old.at) × (from + count ≡ length self.old.left) × (to ≡ from + self.old.spare) }
-        ensures { (self.new.at ≡ self.old.at) × (self.new.left ≡ take from self.old.left) × (self.new.spare ≡ self.old.spare) × (self.new.right ≡ drop from self.old.left ++ self.old.right) }
+        ensures { self.new ≡ record self.old { left = take from self.old.left; right = drop from self.old.left ++ self.old.right } }
     {
         self.move_over(base, from, to, count, true);
     }
@@ -235,7 +235,7 @@ impl<T> Cells<T> {
     /// Moves the first `count` items on the right to the left side of the gap.
     pub(crate) fn lower(&mut self, base: Base<T>, from: usize, to: usize, count: usize)
         requires { (base.ptr ≡ self.old.at) × (to ≡ length self.old.left) × (from ≡ to + self.old.spare) × (count ≤ length self.old.right) }
-        ensures { (self.new.at ≡ self.old.at) × (self.new.left ≡ self.old.left ++ take count self.old.right) × (self.new.spare ≡ self.old.spare) × (self.new.right ≡ drop count self.old.right) }
+        ensures { self.new ≡ record self.old { left = self.old.left ++ take count self.old.right; right = drop count self.old.right } }
     {
         self.move_over(base, from, to, count, false);
     }
@@ -243,6 +243,6 @@ impl<T> Cells<T> {
     /// Forgets the items next to the gap: it keeps the first `left` on the left, and drops the first `after` on the right.
     pub(crate) fn widen(&mut self, left: usize, after: usize)
         requires { (left ≤ length self.old.left) × (after ≤ length self.old.right) }
-        ensures { (self.new.at ≡ self.old.at) × (self.new.left ≡ take left self.old.left) × (self.new.spare ≡ self.old.spare + (length self.old.left - left) + after) × (self.new.right ≡ drop after self.old.right) }
+        ensures { self.new ≡ record self.old { left = take left self.old.left; spare = self.old.spare + (length self.old.left - left) + after; right = drop after self.old.right } }
     {}
 }

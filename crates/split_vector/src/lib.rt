@@ -9,10 +9,11 @@
 //! - `cells` has the raw pointers, in functions of a line or two. A block is seen as the items left of the gap, a
 //!   number of empty cells, and the items right of it. Only cells with an item are ever read.
 //! - `runs` repeats those steps over slices.
-//! - `block` keeps the numbers that say where the gap lies, and `reads` reads the items on either side of it. All
-//!   arithmetic is here, in ordinary code that is proved without a pointer.
-//! - `vector` is the type itself, `SplitVector`. A clause sees it as a record: its `items`, how many more fit in
-//!   (`spare`), how many items lie before the gap (`gap`), and how many were moved or written so far (`moved`).
+//! - `vector` is the type itself, `SplitVector`, with the numbers that say where the gap lies. A clause sees it as a
+//!   record: its `items`, how many fit in (`capacity`), how many items lie before the gap (`gap`), and how many were moved
+//!   or written so far (`moved`).
+//! - `block` moves the gap, writes before it and lets the block grow, and `reads` reads the items on either side of it.
+//!   This is ordinary code that is proved without a pointer: its clauses speak of the record as well.
 //!
 //! Who owns the block: a vector starts with no block, and `reserve` and `reserve_narrow` are the only calls that
 //! allocate. Three values stand for a block. `Base` is its address, a plain copy that owns nothing. `Cells` is the
@@ -34,8 +35,6 @@ mod runs;
 mod vector;
 
 // A crate can name a vector in a contract only if the types of its fields are exported.
-#[doc(hidden)]
-pub use block::Block;
 #[doc(hidden)]
 pub use cells::{Base, Cells, Deed};
 pub use laws::moves_add_up;

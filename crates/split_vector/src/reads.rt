@@ -1,72 +1,82 @@
-//! Reads of the items of a block, on either side of the gap.
-ghost use Rattle.std.specs.Prelude.{◌≡◌, ◌≤◌, ◌<◌, ◌+◌, ◌-◌, ◌⊎◌, ◌++◌, length, take, drop, slice_index_or, slice_range};
+//! Reads of the items, on either side of the gap.
+ghost use Rattle.std.specs.Prelude.{◌≡◌, ◌≤◌, ◌<◌, ◌+◌, ◌⊎◌, ◌++◌, length, slice_index_or, slice_range};
+ghost use Rattle.std.specs.Borrow.{sem};
 ghost use Rattle.split_vector.specs.Split.{gap_beside};
-ghost use Rattle.split_vector.specs.Block.{block_items, IsBlock, KeepsSizes};
+ghost use Rattle.split_vector.specs.SplitLends.{lent_and_back};
 
-use crate::block::Block;
+use crate::vector::SplitVector;
 use std::alloc::Allocator;
 
-impl<T, A: Allocator> Block<T, A> {
-    /// Returns the item at `index`. Both sides of the gap share one read: only the number added to the index differs.
-    pub(crate) fn get(&self, index: usize) -> T
-    where
-        T: Copy,
-        requires { IsBlock self.now × (index < self.now.len) }
-        ensures { result ≡ slice_index_or (block_items self.now) index result }
+impl<T: Copy, A: Allocator> SplitVector<T, A> {
+    /// Returns the item at `index`, which is below the length.
+    pub fn get(&self, index: usize) -> T
+        requires { index < length self.now.items }
+        ensures { result ≡ slice_index_or self.now.items index result }
     {
+        // Both sides of the gap share one read: only the number added to the index differs.
         let place = if index < self.gap {
             index
         } else {
             index + self.spare
         };
-        self.item(place)
+        self.cells.item(self.base, place)
     }
 
     /// Copies the items from `start` on into `target`, which says how many.
-    pub(crate) fn copy_out(&self, start: usize, target: &mut [T])
-    where
-        T: Copy,
-        requires { IsBlock self.now × (start + length target.old ≤ self.now.len) }
-        ensures { target.new ≡ slice_range (block_items self.now) start (start + length target.old) }
+    pub fn copy_out(&self, start: usize, target: &mut [T])
+        requires { start + length target.old ≤ length self.now.items }
+        ensures { target.new ≡ slice_range self.now.items start (start + length target.old) }
     {
+        let gap = self.gap;
         let end = start + target.len();
-        if end <= self.gap {
+        if end <= gap {
             target.copy_from_slice(&self.left()[start..end]);
-        } else if self.gap <= start {
-            target.copy_from_slice(&self.right()[start - self.gap..end - self.gap]);
+        } else if gap <= start {
+            target.copy_from_slice(&self.right()[start - gap..end - gap]);
         } else {
-            let (before, behind) = target.split_at_mut(self.gap - start);
+            let (before, behind) = target.split_at_mut(gap - start);
             before.copy_from_slice(&self.left()[start..]);
-            behind.copy_from_slice(&self.right()[..end - self.gap]);
+            behind.copy_from_slice(&self.right()[..end - gap]);
         }
     }
 
-    /// Moves the gap out of the range from `low` to `high`, to the nearer end. The gap usually stands elsewhere already.
-    #[inline(always)]
-    pub(crate) fn settle(&mut self, low: usize, high: usize)
-    where
-        T: Copy,
-        requires { IsBlock self.old × (low ≤ high) × (high ≤ self.old.len) }
-        ensures fields { KeepsSizes self.old self.new }
-        ensures items { block_items self.new ≡ block_items self.old }
-        ensures gap { self.new.gap ≡ gap_beside low high self.old.gap }
-        ensures beside { (self.new.gap ≤ low) ⊎ (high ≤ self.new.gap) }
+    /// Returns the items before the gap and those behind it. The gap stays where it is.
+    pub fn halves(&self) -> (&[T], &[T])
+        ensures joined { result.0.now ++ result.1.now ≡ self.now.items }
+        ensures parted { length result.0.now ≡ self.now.gap }
     {
-        if low < self.gap && self.gap < high {
-            self.settle_from_between(low, high);
+        (self.left(), self.right())
+    }
+
+    /// Lends the `count` items from `start` on as one slice. If the gap lies among them, it moves to the nearer end first.
+    pub fn lend(&mut self, start: usize, count: usize) -> &[T]
+        requires { start + count ≤ length self.old.items }
+        ensures* back { sem 𝓛 (lent_and_back T.row A.row A.Allocator self.entry start count) }
+        ensures value { result.now ≡ slice_range self.old.items start (start + count) }
+    {
+        self.settle(start, count);
+        self.run(start, count)
+    }
+
+    // Moves the gap out of the `count` items from `start` on, to the nearer end. The gap usually stands elsewhere already.
+    #[inline(always)]
+    fn settle(&mut self, start: usize, count: usize)
+        requires { start + count ≤ length self.old.items }
+        ensures gap { self.new ≡ record self.old { gap = gap_beside start (start + count) self.old.gap } }
+        ensures beside { (self.new.gap ≤ start) ⊎ (start + count ≤ self.new.gap) }
+    {
+        let gap = self.gap;
+        let end = start + count;
+        if start < gap && gap < end {
+            self.settle_from_between(start, end);
         }
     }
 
     // The slow path of `settle`, out of line: the gap stands between `low` and `high`, and moves to the nearer of the two.
     #[inline(never)]
     fn settle_from_between(&mut self, low: usize, high: usize)
-    where
-        T: Copy,
-        requires inside { IsBlock self.old × (high ≤ self.old.len) }
-        requires between { (low < self.old.gap) × (self.old.gap < high) }
-        ensures fields { KeepsSizes self.old self.new }
-        ensures items { block_items self.new ≡ block_items self.old }
-        ensures gap { self.new.gap ≡ gap_beside low high self.old.gap }
+        requires { (low < self.old.gap) × (self.old.gap < high) × (high ≤ length self.old.items) }
+        ensures gap { self.new ≡ record self.old { gap = gap_beside low high self.old.gap } }
         ensures beside { (self.new.gap ≤ low) ⊎ (high ≤ self.new.gap) }
     {
         if self.gap - low <= high - self.gap {
@@ -76,16 +86,18 @@ impl<T, A: Allocator> Block<T, A> {
         }
     }
 
-    /// Returns the `count` items from `start` on, which all lie on one side of the gap.
-    pub(crate) fn run(&self, start: usize, count: usize) -> &[T]
-        requires inside { IsBlock self.now × (start + count ≤ self.now.len) }
+    // Returns the `count` items from `start` on, which all lie on one side of the gap.
+    fn run(&self, start: usize, count: usize) -> &[T]
+        requires inside { start + count ≤ length self.now.items }
         requires beside { (self.now.gap ≤ start) ⊎ (start + count ≤ self.now.gap) }
-        ensures { result.now ≡ slice_range (block_items self.now) start (start + count) }
+        ensures { result.now ≡ slice_range self.now.items start (start + count) }
     {
-        if start + count <= self.gap {
-            &self.left()[start..start + count]
+        let gap = self.gap;
+        let end = start + count;
+        if end <= gap {
+            &self.left()[start..end]
         } else {
-            &self.right()[start - self.gap..start + count - self.gap]
+            &self.right()[start - gap..end - gap]
         }
     }
 }

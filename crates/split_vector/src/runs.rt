@@ -1,7 +1,9 @@
 //! Safe steps over runs of cells.
-ghost use Rattle.std.specs.Prelude.{◌≡◌, ◌+◌, ◌-◌, ◌≤◌, ◌<◌, length, replicate};
+ghost use Rattle.std.specs.Prelude.{◌≡◌, ◌+◌, ◌-◌, ◌≤◌, ◌<◌, [], ◌∷◌, length, take, drop, replicate, Some};
+ghost use Rattle.split_vector.specs.Cells.{IsRun};
+ghost use Rattle.split_vector.specs.Ownership.{cells_of};
 ghost use Rattle.split_vector.specs.Split.{EachBetween, IsUpdated};
-ghost use Rattle.split_vector.specs.Steps.{right_start, AreOnTheRight, FitInGap, KeepsLeft, KeepsRight, Pushes, PushesRight};
+ghost use Rattle.split_vector.specs.Steps.{right_start, AreOnTheRight, FitInGap, Pushes, PushesRight};
 
 use crate::cells::{Base, Cells};
 
@@ -20,6 +22,17 @@ impl<T> Cells<T> {
         ensures { result.now ≡ self.now.right }
     {
         self.slice(base, place, len)
+    }
+
+    /// Returns the item in the cell `place`.
+    #[inline]
+    pub(crate) fn item(&self, base: Base<T>, place: usize) -> T
+    where
+        T: Copy,
+        requires { (base.ptr ≡ self.now.at) × IsRun (cells_of self.now.left self.now.spare self.now.right) place 1 }
+        ensures { take 1 (drop place (cells_of self.now.left self.now.spare self.now.right)) ≡ Some result ∷ [] }
+    {
+        self.slice(base, place, 1)[0]
     }
 
     /// Writes the items of `source` into the first cells of the gap.
@@ -50,7 +63,7 @@ impl<T> Cells<T> {
         requires cells { (base.ptr ≡ self.old.at) × (gap ≡ length self.old.left) }
         requires range { (low ≤ high) × (high ≤ gap) }
         requires callable { EachBetween (F.pre change.now) low high self.old.left }
-        ensures others { KeepsRight self.old self.new }
+        ensures others { self.new ≡ record self.old { left = self.new.left } }
         ensures items { IsUpdated (F.post change.now) low high self.old.left self.new.left }
     {
         for index in low..high {
@@ -75,7 +88,7 @@ impl<T> Cells<T> {
         requires cells { (base.ptr ≡ self.old.at) × AreOnTheRight self.old first len }
         requires range { (low ≤ high) × (high ≤ len) }
         requires callable { EachBetween (F.pre change.now) low high self.old.right }
-        ensures others { KeepsLeft self.old self.new }
+        ensures others { self.new ≡ record self.old { right = self.new.right } }
         ensures items { IsUpdated (F.post change.now) low high self.old.right self.new.right }
     {
         for index in low..high {

@@ -1,18 +1,27 @@
-//! `SplitVector` and its calls. A contract sees a vector as its `items`, `spare`, `gap` and `moved`.
-ghost use Rattle.std.specs.Prelude.{◌≡◌, ◌≤◌, ◌<◌, ◌+◌, ◌*◌, ◌^◌, ◌==◌, [], ◌∷◌, ◌++◌, length, replicate, slice_index_or, slice_set, slice_range, OnOk, OnErr, IsOk};
-ghost use Rattle.std.specs.Borrow.{sem};
-ghost use Rattle.split_vector.specs.Split.{block_size, deleted, gap_after, gap_closed, inserted, most_room, moved_after, moved_closed, split, EachBetween, GainsSpare, GrowsByPart, IsDoubled, IsUpdated};
+//! `SplitVector` and its calls. A contract sees a vector as its `items`, `capacity`, `gap` and `moved`.
+ghost use Rattle.std.specs.Prelude.{◌≡◌, ◌≤◌, ◌<◌, ◌+◌, ◌-◌, ◌*◌, ◌^◌, ◌==◌, ◌⊎◌, [], ◌∷◌, ◌++◌, length, replicate, slice_index_or, slice_set, slice_range, OnOk, OnErr};
+ghost use Rattle.vec_room.specs.Reserved.{IsReserved};
+ghost use Rattle.split_vector.specs.Split.{part_larger, split, with_deleted, with_inserted, EachBetween, Grows, IsUpdated, ItemsFit};
 
-use crate::block::Block;
+use crate::block::release;
+use crate::cells::{Base, Cells, Deed, no_cells};
 use std::alloc::{AllocError, Allocator, Global};
 use std::marker::Model;
 
 /// `reserve_narrow` enlarges a block by its size divided by this.
 const PARTS: usize = 64;
 
-/// A list of items in one block of memory, with the spare capacity as a gap among them.
+/// A list of items in one block of memory, with the spare capacity as a gap among them: `gap` items, then `spare` cells
+/// with no item, then the other items, `filled` in all.
 pub struct SplitVector<T, A: Allocator = Global> {
-    block: Block<T, A>,
+    pub(crate) base: Base<T>,
+    pub(crate) filled: usize,
+    pub(crate) spare: usize,
+    pub(crate) gap: usize,
+    pub(crate) moved: u64,
+    pub(crate) cells: Cells<T>,
+    pub(crate) deed: Deed<T, A>,
+    pub(crate) alloc: A,
 }
 
 impl<T, A: Allocator> Model for SplitVector<T, A> {
@@ -22,32 +31,37 @@ impl<T, A: Allocator> Model for SplitVector<T, A> {
 
     ghost coded = { split_code T.code };
 
-    ghost use Rattle.split_vector.specs.Split.{split};
-    ghost use Rattle.split_vector.specs.Block.{IsBlock, block_items};
+    ghost use Rattle.split_vector.specs.Fields.{IsSound, split_of};
 
-    ghost view = { λ v. split (block_items v.block) v.block.spare v.block.gap v.block.moved };
+    ghost view = { split_of };
 
-    ghost invariant = { λ v. IsBlock v.block };
+    ghost invariant = { IsSound };
 }
 
 impl<T: Copy, A: Allocator> SplitVector<T, A> {
-    ghost use Rattle.split_vector.specs.SplitLends.{lent_and_back};
-
     /// Returns an empty vector with no spare capacity. Allocates nothing.
     pub fn new(alloc: A) -> Self
         ensures { result ≡ split [] 0 0 0 }
     {
+        let (base, cells, deed) = no_cells(&alloc);
         SplitVector {
-            block: Block::new(alloc),
+            base,
+            filled: 0,
+            spare: 0,
+            gap: 0,
+            moved: 0,
+            cells,
+            deed,
+            alloc,
         }
     }
 
     /// Returns the number of items.
     pub fn len(&self) -> usize
         ensures len { result ≡ length self.now.items }
-        ensures within { length self.now.items + self.now.spare < 2 ^ 63 }
+        ensures fits { (length self.now.items ≤ self.now.capacity) × (self.now.capacity < 2 ^ 63) }
     {
-        self.block.len
+        self.filled
     }
 
     /// Returns whether there is no item.
@@ -57,12 +71,19 @@ impl<T: Copy, A: Allocator> SplitVector<T, A> {
         self.len() == 0
     }
 
+    /// Returns how many items fit in without an allocation, those that are there included.
+    pub fn capacity(&self) -> usize
+        ensures { result ≡ self.now.capacity }
+    {
+        self.len() + self.spare()
+    }
+
     /// Returns how many more items fit in without an allocation.
     pub fn spare(&self) -> usize
-        ensures spare { result ≡ self.now.spare }
-        ensures within { length self.now.items + self.now.spare < 2 ^ 63 }
+        ensures spare { result ≡ self.now.capacity - length self.now.items }
+        ensures fits { (length self.now.items ≤ self.now.capacity) × (self.now.capacity < 2 ^ 63) }
     {
-        self.block.spare
+        self.spare
     }
 
     /// Returns how many items lie before the gap.
@@ -70,7 +91,7 @@ impl<T: Copy, A: Allocator> SplitVector<T, A> {
         ensures gap { result ≡ self.now.gap }
         ensures within { self.now.gap ≤ length self.now.items }
     {
-        self.block.gap
+        self.gap
     }
 
     /// Returns how many items insertions and deletions have moved or written so far. The count stays at `u64::MAX` once
@@ -78,39 +99,44 @@ impl<T: Copy, A: Allocator> SplitVector<T, A> {
     pub fn moved(&self) -> u64
         ensures { result ≡ self.now.moved }
     {
-        self.block.moved
-    }
-
-    /// Returns the item at `index`, which is below the length.
-    pub fn get(&self, index: usize) -> T
-        requires { index < length self.now.items }
-        ensures { result ≡ slice_index_or self.now.items index result }
-    {
-        self.block.get(index)
+        self.moved
     }
 
     /// Replaces the item at `index`, which is below the length, by `item`.
     pub fn set(&mut self, index: usize, item: T)
         requires { index < length self.old.items }
-        ensures items { self.new.items ≡ slice_set self.old.items index item }
-        ensures spare { self.new.spare ≡ self.old.spare }
-        ensures gap { self.new.gap ≡ self.old.gap }
-        ensures moved { self.new.moved ≡ self.old.moved }
+        ensures { self.new ≡ record self.old { items = slice_set self.old.items index item } }
     {
-        self.block.replace(index, item);
+        if index < self.gap {
+            self.cells.replace_left(self.base, index, item);
+        } else {
+            self.cells
+                .replace_right(self.base, index + self.spare, item);
+        }
     }
 
-    /// Replaces each item from `low` up to `high` by what `change` returns for it. Nothing moves.
+    /// Replaces each item from `low` up to `high` by what `change` returns for it: first those before the gap, then those
+    /// behind it. Nothing moves.
     #[inline]
     pub fn update<F: Fn(T) -> T>(&mut self, low: usize, high: usize, change: F)
         requires range { (low ≤ high) × (high ≤ length self.old.items) }
         requires callable { EachBetween (F.pre change) low high self.old.items }
         ensures items { IsUpdated (F.post change) low high self.old.items self.new.items }
-        ensures spare { self.new.spare ≡ self.old.spare }
-        ensures gap { self.new.gap ≡ self.old.gap }
-        ensures moved { self.new.moved ≡ self.old.moved }
+        ensures rest { self.new ≡ record self.old { items = self.new.items } }
     {
-        self.block.update(low, high, &change);
+        let gap = self.gap;
+        let first = gap + self.spare;
+        let right = self.filled - gap;
+        self.cells
+            .update_left(self.base, gap, low.min(gap), high.min(gap), &change);
+        self.cells.update_right(
+            self.base,
+            first,
+            right,
+            low.max(gap) - gap,
+            high.max(gap) - gap,
+            &change,
+        );
     }
 
     /// Makes room for `count` more items. If the spare capacity is too small, the block at least doubles, so that a run
@@ -121,12 +147,10 @@ impl<T: Copy, A: Allocator> SplitVector<T, A> {
     /// `AllocError` if the allocation fails, or if no block can be so large. The vector is then unchanged.
     #[inline(always)]
     pub fn reserve(&mut self, count: usize) -> Result<(), AllocError>
-        ensures ok { OnOk result (GainsSpare count self.old self.new) }
-        ensures room_is_there { count ≤ self.old.spare → IsOk result × (self.new ≡ self.old) }
-        ensures doubles { OnOk result (IsDoubled self.old self.new) }
-        ensures at_most { OnOk result (self.new.spare ≤ most_room (length self.old.items) self.old.spare count) }
+        ensures reserved { IsReserved (ItemsFit count) result self.old self.new }
+        ensures grown { Grows count self.old self.new }
+        ensures doubles { OnOk result ((self.new ≡ self.old) ⊎ (2 * self.old.capacity ≤ self.new.capacity)) }
         ensures err { OnErr result (self.new ≡ self.old) }
-        ensures within { length self.new.items + self.new.spare < 2 ^ 63 }
     {
         if count <= self.spare() {
             return Ok(());
@@ -137,16 +161,14 @@ impl<T: Copy, A: Allocator> SplitVector<T, A> {
     // Moves to a larger block. Out of line, since it is rare.
     #[inline(never)]
     fn grow(&mut self, count: usize) -> Result<(), AllocError>
-        requires { self.old.spare < count }
-        ensures ok { OnOk result (GainsSpare count self.old self.new) }
-        ensures doubles { OnOk result (2 * block_size self.old ≤ block_size self.new) }
-        ensures at_most { OnOk result (self.new.spare ≤ most_room (length self.old.items) self.old.spare count) }
+        requires { self.old.capacity < length self.old.items + count }
+        ensures ok { OnOk result (ItemsFit count self.new × (2 * self.old.capacity ≤ self.new.capacity)) }
+        ensures grown { Grows count self.old self.new }
         ensures err { OnErr result (self.new ≡ self.old) }
-        ensures within { length self.new.items + self.new.spare < 2 ^ 63 }
     {
         let wanted = self.len().saturating_add(count);
-        let doubled = 2 * (self.len() + self.spare());
-        self.block.grow(wanted.max(doubled))
+        let doubled = 2 * self.capacity();
+        self.grow_to(wanted.max(doubled))
     }
 
     /// Makes room for `count` more items. If the spare capacity is too small, the block grows by a 64th of its size, or
@@ -160,17 +182,15 @@ impl<T: Copy, A: Allocator> SplitVector<T, A> {
     ///
     /// `AllocError` if the allocation fails, or if no block can be so large. The vector is then unchanged.
     pub fn reserve_narrow(&mut self, count: usize) -> Result<(), AllocError>
-        ensures ok { OnOk result (GainsSpare count self.old self.new) }
-        ensures room_is_there { count ≤ self.old.spare → IsOk result × (self.new ≡ self.old) }
-        ensures grows { self.old.spare < count → OnOk result (GrowsByPart count self.old self.new) }
-        ensures at_most { OnOk result (self.new.spare ≤ most_room (length self.old.items) self.old.spare count) }
+        ensures reserved { IsReserved (ItemsFit count) result self.old self.new }
+        ensures grown { Grows count self.old self.new }
+        ensures part { self.old.capacity < length self.old.items + count → OnOk result (self.new.capacity ≡ part_larger self.old.capacity (length self.old.items + count)) }
         ensures err { OnErr result (self.new ≡ self.old) }
-        ensures within { length self.new.items + self.new.spare < 2 ^ 63 }
     {
         if self.spare() < count {
-            let held = self.len() + self.spare();
+            let capacity = self.capacity();
             let needed = self.len().saturating_add(count);
-            return self.block.grow(needed.max(held + held / PARTS));
+            return self.grow_to(needed.max(capacity + capacity / PARTS));
         }
         Ok(())
     }
@@ -178,88 +198,59 @@ impl<T: Copy, A: Allocator> SplitVector<T, A> {
     /// Inserts `item` before the item at `place`, or at the end. There must be room for it.
     #[inline]
     pub fn insert_reserved(&mut self, place: usize, item: T)
-        requires { (place ≤ length self.old.items) × (0 < self.old.spare) }
-        ensures items { self.new.items ≡ inserted self.old.items place (item ∷ []) }
-        ensures spare { self.new.spare + 1 ≡ self.old.spare }
-        ensures gap { self.new.gap ≡ place + 1 }
-        ensures moved { self.new.moved ≡ moved_after place 1 self.old.gap self.old.moved }
+        requires { (place ≤ length self.old.items) × ItemsFit 1 self.old }
+        ensures { self.new ≡ with_inserted place 1 (item ∷ []) self.old }
     {
-        self.block.move_gap(place);
-        self.block.write(item);
+        self.move_gap(place);
+        self.write(item);
     }
 
     /// Inserts the items of `source`, in their order, before the item at `place`, or at the end. There must be room for them.
     #[inline]
     pub fn insert_slice_reserved(&mut self, place: usize, source: &[T])
-        requires { (place ≤ length self.old.items) × (length source.now ≤ self.old.spare) }
-        ensures items { self.new.items ≡ inserted self.old.items place source.now }
-        ensures spare { self.new.spare + length source.now ≡ self.old.spare }
-        ensures gap { self.new.gap ≡ gap_after place (length source.now) self.old.gap }
-        ensures moved { self.new.moved ≡ moved_after place (length source.now) self.old.gap self.old.moved }
+        requires { (place ≤ length self.old.items) × ItemsFit (length source.now) self.old }
+        ensures { self.new ≡ with_inserted place (length source.now) source.now self.old }
     {
         if !source.is_empty() {
-            self.block.move_gap(place);
-            self.block.write_slice(source);
+            self.move_gap(place);
+            self.write_slice(source);
         }
     }
 
     /// Inserts `item` `count` times before the item at `place`, or at the end. There must be room for them.
     pub fn insert_fill_reserved(&mut self, place: usize, count: usize, item: T)
-        requires { (place ≤ length self.old.items) × (count ≤ self.old.spare) }
-        ensures items { self.new.items ≡ inserted self.old.items place (replicate count item) }
-        ensures spare { self.new.spare + count ≡ self.old.spare }
-        ensures gap { self.new.gap ≡ gap_after place count self.old.gap }
-        ensures moved { self.new.moved ≡ moved_after place count self.old.gap self.old.moved }
+        requires { (place ≤ length self.old.items) × ItemsFit count self.old }
+        ensures { self.new ≡ with_inserted place count (replicate count item) self.old }
     {
         if count > 0 {
-            self.block.move_gap(place);
-            self.block.write_fill(count, item);
+            self.move_gap(place);
+            self.write_fill(count, item);
         }
     }
 
     /// Deletes the `count` items from `place` on. Their cells become spare capacity.
     pub fn delete(&mut self, place: usize, count: usize)
         requires { place + count ≤ length self.old.items }
-        ensures items { self.new.items ≡ deleted self.old.items place count }
-        ensures spare { self.new.spare ≡ self.old.spare + count }
-        ensures gap { self.new.gap ≡ gap_closed place count self.old.gap }
-        ensures moved { self.new.moved ≡ moved_closed place count self.old.gap self.old.moved }
+        ensures { self.new ≡ with_deleted place count self.old }
     {
         if count > 0 {
-            self.block.remove(place, count);
+            self.remove(place, count);
         }
-    }
-
-    /// Copies the items from `start` on into `target`, which says how many.
-    pub fn copy_out(&self, start: usize, target: &mut [T])
-        requires { start + length target.old ≤ length self.now.items }
-        ensures { target.new ≡ slice_range self.now.items start (start + length target.old) }
-    {
-        self.block.copy_out(start, target);
-    }
-
-    /// Returns the items before the gap and those behind it. The gap stays where it is.
-    pub fn halves(&self) -> (&[T], &[T])
-        ensures joined { result.0.now ++ result.1.now ≡ self.now.items }
-        ensures parted { length result.0.now ≡ self.now.gap }
-    {
-        (self.block.left(), self.block.right())
-    }
-
-    /// Lends the `count` items from `start` on as one slice. If the gap lies among them, it moves to the nearer end first.
-    pub fn lend(&mut self, start: usize, count: usize) -> &[T]
-        requires { start + count ≤ length self.old.items }
-        ensures* back { sem 𝓛 (lent_and_back T.row A.row A.Allocator self.entry start count) }
-        ensures value { result.now ≡ slice_range self.old.items start (start + count) }
-    {
-        self.block.settle(start, start + count);
-        self.block.run(start, count)
     }
 }
 
 impl<T: Drop, A: Allocator> Drop for SplitVector<T, A> {
     fn drop(self) {
-        let SplitVector { block } = self;
-        block.free();
+        let SplitVector {
+            base,
+            filled,
+            spare,
+            gap: _,
+            moved: _,
+            cells,
+            deed,
+            alloc,
+        } = self;
+        release(&alloc, base, filled + spare, cells, deed);
     }
 }

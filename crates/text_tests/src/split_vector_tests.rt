@@ -32,7 +32,7 @@ fn bytes_go_in_and_out(rt: HostRuntime) {
     );
     assert_eq!(rt; v.lend(0, 4), b"axbc".as_slice());
     v.delete(0, 4);
-    assert!(rt; v.spare() >= 5);
+    assert!(rt; v.capacity() >= 5);
     assert!(rt; v.is_empty());
 }
 

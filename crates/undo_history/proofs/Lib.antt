@@ -1,12 +1,10 @@
 pub mod Names
 pub mod Parts
-pub mod Lists
 pub mod Transactions
 pub mod Moving
+pub mod Reading
 pub mod Sealing
 pub mod Pushing
-pub mod Reading
 pub mod Joins
-pub mod Latest
 pub mod SavePoint
 pub mod Held

@@ -1,193 +1,111 @@
 -- Undo and redo move the boundary between past and future by one transaction.
-use Rattle.undo_history.proofs.Names.{◌≡◌, ◌≤◌, ◌<◌, ◌+◌, ◌-◌, ℕ, List, [], ◌∷◌, ◌++◌, length, take, drop, map, refl, ap, ap₂, sym, subst, ◌∙◌, arith, reverse, Bool, append_assoc, inl, inr, Option, reverse-append, reverse-reverse, length-append, length-reverse, length-take-le, length-drop, take-append-drop, take_all, take_at, drop_at, drop_all, Transaction, History, seal_first, with_last_sealed, undone, undone_to, redone, redone_from, first_changes, undo_changes, redo_changes, inverse_change, Entry, transactions, history_of, last_count, next_count, BeginsOne}
-use Rattle.std.proofs.lemmas.Bool.{cases_lt}
-use Rattle.undo_history.proofs.Lists.{front_of_reverse, back_of_reverse, map_reverse}
-use Rattle.undo_history.proofs.Transactions.{cut, last_apart, last_count_within, last_count_some, begins_last, begins_front, begins_more, begins_behind_next, next_count_within, next_is_whole, last_changes, change_in}
+use Rattle.undo_history.proofs.Names.{◌≡◌, ◌≤◌, ◌<◌, ◌+◌, ◌-◌, ℕ, List, [], ◌∷◌, ◌++◌, length, take, drop, map, ap, ap₂, sym, subst, ◌∙◌, arith, reverse, Bool, append_assoc, inl, inr, Option, reverse-append, reverse-reverse, length-append, length-reverse, length-take-le, length-drop, take-append-drop, take_all, take_at, drop_at, drop_all, cases_lt, Transaction, History, seal_first, with_last_sealed, undone, undone_to, redone, redone_from, first_changes, undo_changes, redo_changes, inverse_change, Entry, transactions, history_of, change_in, last_count, next_count, BeginsOne, HistoryCapacity, Kept, kept, history_capacity, entries_in, Inside}
+use Rattle.undo_history.proofs.Parts.{map_reverse}
+use Rattle.undo_history.proofs.Transactions.{cut, one_transaction, last_is_whole, last_count_within, last_count_some, begins_last, begins_front, begins_more, begins_behind_next, next_count_within, next_is_whole, last_changes}
 
 abbrev pub history : List Transaction → List Transaction → Option ℕ → ℕ → Bool → History
 history past future save_point depth collecting = record { past = past; future = future; save_point = save_point; depth = depth; collecting = collecting }
 
--- the place of the last transaction's first entry
-abbrev pub start_of_last : List Entry → ℕ → ℕ
-start_of_last all past = past - last_count (reverse (take past all))
+-- how the code sees a history
+abbrev pub seen : Inside → Kept
+seen i = kept (history_of (entries_in i.steps.items i.bytes.items) i.past i.save_point i.depth i.is_collecting) (history_capacity i.steps.capacity i.bytes.capacity)
 
--- the place behind the next transaction's last entry
-abbrev pub end_of_next : List Entry → ℕ → ℕ
-end_of_next all past = past + next_count (drop past all)
+-- what a contract sees once the history has changed, and no capacity
+pub carried : (f : History → History) (h h' : History) (capacity : HistoryCapacity) (k : Kept) → h' ≡ f h → kept h capacity ≡ k → kept h' capacity ≡ record k { history = f k.history }
+carried f h h' capacity k e v = ap (λ n. kept n capacity) e ∙ ap (λ (q : Kept). kept (f q.history) q.capacity) v
 
--- All before the last transaction, its entries, and all behind it.
-pub record AroundLast (all : List Entry) (past : ℕ) : Type 0 where
-  pub before : List Entry
-  pub last : List Entry
+-- One transaction lies between two places: it is the last one before `high`, and the next one from `low` on.
+pub record OneBetween (all : List Entry) (low high : ℕ) : Type 0 where
   pub one : Transaction
-  pub front : take (start_of_last all past) all ≡ before
-  pub back : drop (start_of_last all past) all ≡ last ++ drop past all
-  pub is_one : transactions (reverse last) ≡ one ∷ []
-  pub stacked : transactions (reverse (take past all)) ≡ one ∷ transactions (reverse before)
-  pub begins : BeginsOne last
-  pub some : 0 < length last
+  pub past : transactions (reverse (take high all)) ≡ one ∷ transactions (reverse (take low all))
+  pub future : reverse (transactions (reverse (drop low all))) ≡ one ∷ reverse (transactions (reverse (drop high all)))
+  pub begins : BeginsOne (drop low all) × BeginsOne (drop high all)
+  pub within : (low < high) × (high ≤ length all)
+  pub changes : reverse one.changes ≡ map change_in (take (high - low) (drop low all))
 
-pub around_last : (all : List Entry) (past : ℕ) → 0 < past → past ≤ length all → BeginsOne all → AroundLast all past
-around_last all past p h begins =
+-- the part between the places is one transaction
+one_between : (all before part behind : List Entry) (low high : ℕ) → all ≡ before ++ (part ++ behind) → length before ≡ low → low + length part ≡ high → 0 < length part →
+    last_count (reverse part) ≡ length part → BeginsOne part → BeginsOne behind → OneBetween all low high
+one_between all before part behind low high e l h some whole begins behind_begins =
+    let one = one_transaction (reverse part) (omega (arith, length-reverse part)) (omega (arith, length-reverse part)) in
+    let e' : all ≡ (before ++ part) ++ behind = e ∙ sym (append_assoc before part behind) in
+    let count : length (before ++ part) ≡ high = omega (arith, length-append before part) in
+    let to_low : take low all ≡ before = ap (λ t. take low t) e ∙ take_at before (part ++ behind) low l in
+    let from_low : drop low all ≡ part ++ behind = ap (λ t. drop low t) e ∙ drop_at before (part ++ behind) low l in
+    let to_high : take high all ≡ before ++ part = ap (λ t. take high t) e' ∙ take_at (before ++ part) behind high count in
+    let from_high : drop high all ≡ behind = ap (λ t. drop high t) e' ∙ drop_at (before ++ part) behind high count in
+    record {
+      one = one.0;
+      past = ap (λ t. transactions (reverse t)) to_high ∙ cut before part begins ∙ ap₂ (λ a t. a ++ transactions (reverse t)) one.1 (sym to_low);
+      future =
+          ap (λ t. reverse (transactions (reverse t))) from_low
+          ∙ ap (λ t. reverse t) (cut part behind behind_begins ∙ ap (λ t. transactions (reverse behind) ++ t) one.1)
+          ∙ reverse-append (transactions (reverse behind)) (one.0 ∷ [])
+          ∙ ap (λ t. one.0 ∷ reverse (transactions (reverse t))) (sym from_high);
+      begins = (subst BeginsOne (sym from_low) (begins_more part behind some begins), subst BeginsOne (sym from_high) behind_begins);
+      within = (omega arith, omega (arith, ap length e', length-append (before ++ part) behind));
+      changes =
+          ap (λ ts. reverse (first_changes ts)) (sym one.1)
+          ∙ ap (λ cs. reverse cs) (last_changes (reverse part) ∙ ap (λ t. map change_in t) (take_all (last_count (reverse part)) (reverse part) (omega (arith, length-reverse part))) ∙ map_reverse change_in part)
+          ∙ reverse-reverse (map change_in part)
+          ∙ ap (λ t. map change_in t) (sym (take_at part behind (high - low) (omega arith)) ∙ ap (λ t. take (high - low) t) (sym from_low));
+    }
+
+pub last_between : (all : List Entry) (past : ℕ) → 0 < past → past ≤ length all → BeginsOne all → BeginsOne (drop past all) →
+    OneBetween all (past - last_count (reverse (take past all))) past
+last_between all past p h begins boundary =
     let front = take past all in
     let back = reverse front in
     let n = last_count back in
-    let long : length front ≡ past = length-take-le past all h in
-    let long_back : length back ≡ past = length-reverse front ∙ long in
-    let within : n ≤ past = omega (arith, last_count_within back) in
-    let one = last_apart back (omega arith) in
-    let last = reverse (take n back) in
-    let before = reverse (drop n back) in
-    let count : length last ≡ n = length-reverse (take n back) ∙ length-take-le n back (omega arith) in
-    let front_is : take (past - n) front ≡ before = ap (λ k. take (k - n) front) (sym long) ∙ front_of_reverse front n (omega arith) in
-    let back_is : drop (past - n) front ≡ last = ap (λ k. drop (k - n) front) (sym long) ∙ back_of_reverse front n (omega arith) in
-    let whole : all ≡ before ++ (last ++ drop past all) =
-    sym (take-append-drop past all)
-    ∙ ap (λ t. t ++ drop past all) (sym (take-append-drop (past - n) front) ∙ ap₂ (λ a b. a ++ b) front_is back_is)
-    ∙ append_assoc before last (drop past all) in
-    let first : length before ≡ past - n = ap length (sym front_is) ∙ length-take-le (past - n) front (omega arith) in
+    let long : length back ≡ past = length-reverse front ∙ length-take-le past all h in
+    let count : length (take n back) ≡ n = length-take-le n back (last_count_within back) in
     let some : 0 < n = last_count_some back (omega arith) in
-    record {
-      before = before;
-      last = last;
-      one = one.last;
-      front = ap (λ t. take (past - n) t) whole ∙ take_at before (last ++ drop past all) (past - n) first;
-      back = ap (λ t. drop (past - n) t) whole ∙ drop_at before (last ++ drop past all) (past - n) first;
-      is_one = ap transactions (reverse-reverse (take n back)) ∙ one.is_one;
-      stacked = one.all ∙ ap (λ t. one.last ∷ transactions t) (sym (reverse-reverse (drop n back)));
-      begins = begins_last back (omega arith) (subst BeginsOne (sym (reverse-reverse front)) (begins_front front (drop past all) (omega arith) (subst BeginsOne (sym (take-append-drop past all)) begins)));
-      some = omega (arith, count);
-    }
+    let whole : all ≡ reverse (drop n back) ++ (reverse (take n back) ++ drop past all) =
+    sym (take-append-drop past all)
+    ∙ ap (λ t. t ++ drop past all) (sym (reverse-reverse front) ∙ ap (λ t. reverse t) (sym (take-append-drop n back)) ∙ reverse-append (take n back) (drop n back))
+    ∙ append_assoc (reverse (drop n back)) (reverse (take n back)) (drop past all) in
+    let first : BeginsOne (reverse back) = subst BeginsOne (sym (reverse-reverse front)) (begins_front front (drop past all) (subst BeginsOne (sym (take-append-drop past all)) begins)) in
+    one_between all (reverse (drop n back)) (reverse (take n back)) (drop past all) (past - n) past whole
+    (omega (arith, length-reverse (drop n back), length-drop n back)) (omega (arith, length-reverse (take n back), last_count_within back)) (omega (arith, length-reverse (take n back)))
+    (ap last_count (reverse-reverse (take n back)) ∙ omega (arith, last_is_whole back, length-reverse (take n back))) (begins_last back first) boundary
 
-pub undone_history : (all : List Entry) (past depth : ℕ) (save_point : Option ℕ) (collecting : Bool) → 0 < past → past ≤ length all → BeginsOne all → BeginsOne (drop past all) →
-    with_last_sealed (history_of all (start_of_last all past) save_point depth collecting) ≡ undone (history_of all past save_point depth collecting)
-undone_history all past depth save_point collecting p h begins boundary =
-    let a = around_last all past p h begins in
-    let rest = drop past all in
-    let future : reverse (transactions (reverse (drop (start_of_last all past) all))) ≡ a.one ∷ reverse (transactions (reverse rest)) =
-    ap (λ t. reverse (transactions (reverse t))) a.back
-    ∙ ap (λ t. reverse t) (cut a.last rest boundary ∙ ap (λ t. transactions (reverse rest) ++ t) a.is_one)
-    ∙ reverse-append (transactions (reverse rest)) (a.one ∷ []) in
-    ap₂ (λ b f. history (seal_first (transactions (reverse b))) f save_point depth collecting) a.front future
-    ∙ ap (λ ps. undone_to (history_of all past save_point depth collecting) ps) (sym a.stacked)
-
-pub undone_begins : (all : List Entry) (past : ℕ) → 0 < past → past ≤ length all → BeginsOne all → BeginsOne (drop (start_of_last all past) all)
-undone_begins all past p h begins = let a = around_last all past p h begins in subst BeginsOne (sym a.back) (begins_more a.last (drop past all) a.some a.begins)
-
-pub undone_count : (all : List Entry) (past count : ℕ) → 0 < past → past ≤ length all → BeginsOne all → count ≡ length (transactions (reverse (take past all))) →
-    (0 < count) × (count - 1 ≡ length (transactions (reverse (take (start_of_last all past) all))))
-undone_count all past count p h begins e =
-    let a = around_last all past p h begins in
-    let whole : count ≡ length (a.one ∷ transactions (reverse a.before)) = e ∙ ap length a.stacked in
-    let part : length (transactions (reverse (take (start_of_last all past) all))) ≡ length (transactions (reverse a.before)) = ap (λ t. length (transactions (reverse t))) a.front in
-    (omega arith, omega arith)
-
--- All before the next transaction, its entries, and all behind it.
-pub record AroundNext (all : List Entry) (past : ℕ) : Type 0 where
-  pub next : List Entry
-  pub next_is : next ≡ take (next_count (drop past all)) (drop past all)
-  pub behind : List Entry
-  pub one : Transaction
-  pub front : take (end_of_next all past) all ≡ take past all ++ next
-  pub back : drop (end_of_next all past) all ≡ behind
-  pub rest : drop past all ≡ next ++ behind
-  pub is_one : transactions (reverse next) ≡ one ∷ []
-  pub changes : first_changes (one ∷ []) ≡ map change_in (reverse next)
-  pub begins : BeginsOne behind
-  pub starts : BeginsOne next
-  pub some : 0 < length next
-
-pub around_next : (all : List Entry) (past : ℕ) → past < length all → BeginsOne (drop past all) → AroundNext all past
-around_next all past h boundary =
+pub next_between : (all : List Entry) (past : ℕ) → past < length all → BeginsOne (drop past all) → OneBetween all past (past + next_count (drop past all))
+next_between all past h boundary =
     let rest = drop past all in
     let n = next_count rest in
-    let left : length rest ≡ length all - past = length-drop past all in
-    let some : 0 < n = next_some rest (omega arith) in
-    let within : n ≤ length rest = next_count_within rest in
-    let next = take n rest in
-    let behind = drop n rest in
-    let count : length next ≡ n = length-take-le n rest within in
-    let parts : rest ≡ next ++ behind = sym (take-append-drop n rest) in
-    let long : length (take past all) ≡ past = length-take-le past all (omega arith) in
-    let whole : all ≡ (take past all ++ next) ++ behind =
-    sym (take-append-drop past all) ∙ ap (λ t. take past all ++ t) parts ∙ sym (append_assoc (take past all) next behind) in
-    let first : length (take past all ++ next) ≡ past + n = omega (arith, length-append (take past all) next) in
-    let one = last_apart (reverse next) (omega (arith, length-reverse next)) in
-    let whole_count : last_count (reverse next) ≡ length (reverse next) = next_is_whole rest in
-    let all_of_it : take (last_count (reverse next)) (reverse next) ≡ reverse next = take_all (last_count (reverse next)) (reverse next) (omega arith) in
-    let is_one : transactions (reverse next) ≡ one.last ∷ [] = ap transactions (sym all_of_it) ∙ one.is_one in
-    record {
-      next = next;
-      next_is = refl;
-      behind = behind;
-      one = one.last;
-      front = ap (λ t. take (past + n) t) whole ∙ take_at (take past all ++ next) behind (past + n) first;
-      back = ap (λ t. drop (past + n) t) whole ∙ drop_at (take past all ++ next) behind (past + n) first;
-      rest = parts;
-      is_one = is_one;
-      changes = ap first_changes (sym is_one) ∙ last_changes (reverse next) ∙ ap (λ t. map change_in t) all_of_it;
-      begins = begins_behind_next rest;
-      starts = begins_front next behind (omega arith) (subst BeginsOne parts boundary);
-      some = omega arith;
-    }
-  where
-    next_some : (es : List Entry) → 0 < length es → 0 < next_count es
-    next_some [] l = absurd (omega arith)
-    next_some (e ∷ es) l = omega arith
+    let count : length (take n rest) ≡ n = length-take-le n rest (next_count_within rest) in
+    one_between all (take past all) (take n rest) (drop n rest) past (past + n) (sym (take-append-drop past all) ∙ ap (λ t. take past all ++ t) (sym (take-append-drop n rest)))
+    (length-take-le past all (omega arith)) (omega arith) (omega (arith, next_some rest (omega (arith, length-drop past all)))) (omega (arith, next_is_whole rest))
+    (begins_front (take n rest) (drop n rest) (subst BeginsOne (sym (take-append-drop n rest)) boundary)) (begins_behind_next rest) where
+      next_some : (es : List Entry) → 0 < length es → 0 < next_count es
+      next_some [] l = absurd (omega arith)
+      next_some (e ∷ es) l = omega arith
 
-next_first : (all : List Entry) (past : ℕ) (h : past < length all) (boundary : BeginsOne (drop past all)) → let a = around_next all past h boundary in
-    reverse (transactions (reverse (drop past all))) ≡ a.one ∷ reverse (transactions (reverse a.behind))
-next_first all past h boundary =
-    let a = around_next all past h boundary in
-    ap (λ t. reverse (transactions (reverse t))) a.rest
-    ∙ ap (λ t. reverse t) (cut a.next a.behind a.begins ∙ ap (λ t. transactions (reverse a.behind) ++ t) a.is_one)
-    ∙ reverse-append (transactions (reverse a.behind)) (a.one ∷ [])
+module _ (all : List Entry) (low high depth : ℕ) (save_point : Option ℕ) (collecting : Bool) (between : OneBetween all low high) where
+  pub undone_history : with_last_sealed (history_of all low save_point depth collecting) ≡ undone (history_of all high save_point depth collecting)
+  undone_history =
+      ap (λ f. history (seal_first (transactions (reverse (take low all)))) f save_point depth collecting) between.future
+      ∙ ap (λ ps. undone_to (history_of all high save_point depth collecting) ps) (sym between.past)
 
-pub next_within : (all : List Entry) (past : ℕ) → past ≤ length all → end_of_next all past ≤ length all
-next_within all past h = omega (arith, next_count_within (drop past all), length-drop past all)
-
-pub redone_history : (all : List Entry) (past depth : ℕ) (save_point : Option ℕ) (collecting : Bool) → past < length all → BeginsOne (drop past all) →
-    with_last_sealed (history_of all (end_of_next all past) save_point depth collecting) ≡ redone (history_of all past save_point depth collecting)
-redone_history all past depth save_point collecting h boundary =
-    let a = around_next all past h boundary in
-    let new : transactions (reverse (take (end_of_next all past) all)) ≡ a.one ∷ transactions (reverse (take past all)) =
-    ap (λ t. transactions (reverse t)) a.front ∙ cut (take past all) a.next a.starts ∙ ap (λ t. t ++ transactions (reverse (take past all))) a.is_one in
-    let future = next_first all past h boundary in
-    ap₂ (λ p f. history (seal_first p) (reverse (transactions (reverse f))) save_point depth collecting) new a.back
-    ∙ ap (λ fs. redone_from (history_of all past save_point depth collecting) fs) (sym future)
-
-pub redone_begins : (all : List Entry) (past : ℕ) → past < length all → BeginsOne (drop past all) → BeginsOne (drop (end_of_next all past) all)
-redone_begins all past h boundary = let a = around_next all past h boundary in subst BeginsOne (sym a.back) a.begins
-
-pub redone_count : (all : List Entry) (past count : ℕ) → past < length all → BeginsOne (drop past all) → count ≡ length (transactions (reverse (take past all))) →
-    count + 1 ≡ length (transactions (reverse (take (end_of_next all past) all)))
-redone_count all past count h boundary e =
-    let a = around_next all past h boundary in
-    let new : transactions (reverse (take (end_of_next all past) all)) ≡ a.one ∷ transactions (reverse (take past all)) =
-    ap (λ t. transactions (reverse t)) a.front ∙ cut (take past all) a.next a.starts ∙ ap (λ t. t ++ transactions (reverse (take past all))) a.is_one in
-    omega (arith, ap length new)
+  pub redone_history : with_last_sealed (history_of all high save_point depth collecting) ≡ redone (history_of all low save_point depth collecting)
+  redone_history =
+      ap (λ p. history (seal_first p) (reverse (transactions (reverse (drop high all)))) save_point depth collecting) between.past
+      ∙ ap (λ fs. redone_from (history_of all low save_point depth collecting) fs) (sym between.future)
 
 -- What is reverted and made again.
 
-pub changes_to_undo : (all : List Entry) (past depth : ℕ) (save_point : Option ℕ) (collecting : Bool) →
-    undo_changes (history_of all past save_point depth collecting) ≡ map inverse_change (map change_in (take (last_count (reverse (take past all))) (reverse (take past all))))
-changes_to_undo all past depth save_point collecting = ap (λ cs. map inverse_change cs) (last_changes (reverse (take past all)))
+module _ (all : List Entry) (past depth : ℕ) (save_point : Option ℕ) (collecting : Bool) where
+  pub changes_to_undo : undo_changes (history_of all past save_point depth collecting) ≡ map inverse_change (map change_in (take (last_count (reverse (take past all))) (reverse (take past all))))
+  changes_to_undo = ap (λ cs. map inverse_change cs) (last_changes (reverse (take past all)))
 
-some_to_redo : (all : List Entry) (past depth : ℕ) (save_point : Option ℕ) (collecting : Bool) → past < length all → BeginsOne (drop past all) →
-    redo_changes (history_of all past save_point depth collecting) ≡ map change_in (take (next_count (drop past all)) (drop past all))
-some_to_redo all past depth save_point collecting h boundary =
-    let a = around_next all past h boundary in
-    ap (λ fs. reverse (first_changes fs)) (next_first all past h boundary)
-    ∙ ap (λ cs. reverse cs) (a.changes ∙ map_reverse change_in a.next)
-    ∙ reverse-reverse (map change_in a.next)
-    ∙ ap (λ t. map change_in t) a.next_is
-
-pub changes_to_redo : (all : List Entry) (past depth : ℕ) (save_point : Option ℕ) (collecting : Bool) → past ≤ length all → BeginsOne (drop past all) →
-    redo_changes (history_of all past save_point depth collecting) ≡ map change_in (take (next_count (drop past all)) (drop past all))
-changes_to_redo all past depth save_point collecting h boundary =
-    elim (cases_lt past (length all)) [
-      | inl some ↦ some_to_redo all past depth save_point collecting some boundary
-      | inr none ↦
-          let nothing : drop past all ≡ [] = drop_all past all none in
-          ap (λ t. reverse (first_changes (reverse (transactions (reverse t))))) nothing ∙ ap (λ t. map change_in (take (next_count t) t)) (sym nothing)
-    ]
+  pub changes_to_redo : past ≤ length all → BeginsOne (drop past all) → redo_changes (history_of all past save_point depth collecting) ≡ map change_in (take (next_count (drop past all)) (drop past all))
+  changes_to_redo h boundary =
+      elim (cases_lt past (length all)) [
+        | inl some ↦
+            let between = next_between all past some boundary in
+            let count : past + next_count (drop past all) - past ≡ next_count (drop past all) = omega arith in
+            ap (λ fs. reverse (first_changes fs)) between.future ∙ between.changes ∙ ap (λ k. map change_in (take k (drop past all))) count
+        | inr none ↦
+            let nothing : drop past all ≡ [] = drop_all past all none in
+            ap (λ t. reverse (first_changes (reverse (transactions (reverse t))))) nothing ∙ ap (λ t. map change_in (take (next_count t) t)) (sym nothing)
+      ]

@@ -1,209 +1,122 @@
--- The effect of sealing, and the tests of a history.
-use Rattle.undo_history.proofs.Names.{◌≡◌, ◌≤◌, ◌<◌, ◌+◌, ◌-◌, ℕ, zero, suc, List, [], ◌∷◌, length, take, drop, set, get_or, refl, ap, ap₂, sym, ◌∙◌, arith, reverse, Bool, true, false, Option, nat_lt, slice_range, if◌then◌else◌, length-reverse, length-drop, nat_tests, Transaction, can_redo, seal_first, with_last_sealed, sealed_outside_groups, undone, redone, sealed_length, StepRecord, Entry, entry, entry_in, entries_in, alone, joined, pushed, transactions, history_of, read_parts, bytes_end, changed_at, sealed_record, with_sealed, BeginsOne, EndsInOrder, HaveTheirParts, IsInOrder}
-use Rattle.undo_history.proofs.Parts.{parts_length}
-use Rattle.undo_history.proofs.Lists.{latest_first}
+-- The effect of sealing, of undo and redo on the records, and the test for something to redo.
+use Rattle.undo_history.proofs.Names.{◌≡◌, ◌≤◌, ◌<◌, ◌+◌, ◌-◌, ℕ, zero, suc, List, [], ◌∷◌, length, take, drop, set, get_or, refl, ap, ap₂, sym, subst, ◌∙◌, arith, reverse, Bool, true, false, inl, inr, Option, None, nat_lt, slice_range, length-reverse, length-drop, length-set, take-set, drop-set-lt, get_or-set_same, get_or_default, drop_all, cases_Bool, cases_lt, lt-ltb, le-ltb, false≢true, Transaction, History, seal_first, with_last_sealed, sealed_length, StepRecord, StepOutline, Entry, entry, entry_in, entries_from, entries_in, pushed, transactions, history_of, past_of, sealed_record, with_sealed, no_step, BeginsOne, AreParts, IsInOrder, IsLatest}
+use Rattle.undo_history.proofs.Parts.{entries_length, latest_first}
 use Rattle.undo_history.proofs.Transactions.{transactions_some}
-use Rattle.undo_history.proofs.Moving.{history, start_of_last, end_of_next, undone_history, undone_begins, undone_count, redone_history, redone_begins, redone_count, next_within}
-
--- One item changed.
-
-module _ {R : Type 0} (new : R → R) where
-  changed_length : (i : ℕ) (rs : List R) → length (changed_at new i rs) ≡ length rs
-  changed_length i [] = refl
-  changed_length zero (r ∷ rs) = refl
-  changed_length (suc i) (r ∷ rs) = ap suc (changed_length i rs)
-
-  changed_front : (i : ℕ) (rs : List R) → take i (changed_at new i rs) ≡ take i rs
-  changed_front zero rs = refl
-  changed_front (suc i) [] = refl
-  changed_front (suc i) (r ∷ rs) = ap (λ t. r ∷ t) (changed_front i rs)
-
-  changed_back : (i : ℕ) (rs : List R) → drop (suc i) (changed_at new i rs) ≡ drop (suc i) rs
-  changed_back i [] = refl
-  changed_back zero (r ∷ rs) = refl
-  changed_back (suc i) (r ∷ rs) = changed_back i rs
-
-  changed_read : (i : ℕ) (rs : List R) (d : R) → i < length rs → get_or (changed_at new i rs) i d ≡ new (get_or rs i d)
-  changed_read i [] d h = absurd (omega arith)
-  changed_read zero (r ∷ rs) d h = refl
-  changed_read (suc i) (r ∷ rs) d h = changed_read i rs d (omega arith)
-
-  changed_is_set : (i : ℕ) (rs : List R) (d : R) → i < length rs → changed_at new i rs ≡ set rs i (new (get_or rs i d))
-  changed_is_set i [] d h = absurd (omega arith)
-  changed_is_set zero (r ∷ rs) d h = refl
-  changed_is_set (suc i) (r ∷ rs) d h = ap (λ t. r ∷ t) (changed_is_set i rs d (omega arith))
+use Rattle.undo_history.proofs.Moving.{history, OneBetween}
 
 -- a record as it is written
 pub sealed_set : (n : ℕ) (rs : List StepRecord) (x : StepRecord) → 0 < n → n ≤ length rs → x ≡ get_or rs (n - 1) x → set rs (n - 1) (sealed_record x) ≡ with_sealed n rs
 sealed_set zero rs x p h e = absurd (omega arith)
 sealed_set (suc i) rs x p h e =
     let back : suc i - 1 ≡ i = omega arith in
-    ap (λ j. set rs j (sealed_record x)) back
-    ∙ ap (λ y. set rs i (sealed_record y)) (e ∙ ap (λ j. get_or rs j x) back)
-    ∙ sym (changed_is_set sealed_record i rs x h)
+    ap₂ (λ j y. set rs j (sealed_record y)) back (e ∙ ap (λ j. get_or rs j x) back ∙ get_or_default rs i x no_step h)
+
+pub with_sealed_length : (n : ℕ) (rs : List StepRecord) → length (with_sealed n rs) ≡ length rs
+with_sealed_length zero rs = refl
+with_sealed_length (suc i) rs = length-set rs i (sealed_record (get_or rs i no_step))
 
 -- Sealing.
 
 abbrev sealed_entry : Entry → Entry
 sealed_entry e = entry e.change e.starts true
 
-sealed_ends : (i from : ℕ) (rs : List StepRecord) (n : ℕ) → EndsInOrder bytes_end from rs n → EndsInOrder bytes_end from (changed_at sealed_record i rs) n
-sealed_ends i from [] n h = h
-sealed_ends zero from (r ∷ rs) n h = h
-sealed_ends (suc i) from (r ∷ rs) n h = (h.0, sealed_ends i r.bytes_end rs n h.1)
+sealed_parts : (i from : ℕ) (rs : List StepRecord) (n : ℕ) → AreParts from rs n → AreParts from (set rs i (sealed_record (get_or rs i no_step))) n
+sealed_parts i from [] n h = h
+sealed_parts zero from (r ∷ rs) n h = h
+sealed_parts (suc i) from (r ∷ rs) n h = (h.0, sealed_parts i r.bytes_end rs n h.1)
 
-sealed_own : (i from : ℕ) (rs : List StepRecord) → HaveTheirParts from rs → HaveTheirParts from (changed_at sealed_record i rs)
-sealed_own i from [] h = h
-sealed_own zero from (r ∷ rs) h = h
-sealed_own (suc i) from (r ∷ rs) h = (h.0, sealed_own i r.bytes_end rs h.1)
-
-sealed_parts : (i from : ℕ) (rs : List StepRecord) (bytes : List ℕ) →
-    read_parts bytes_end entry_in from (changed_at sealed_record i rs) bytes ≡ changed_at sealed_entry i (read_parts bytes_end entry_in from rs bytes)
-sealed_parts i from [] bytes = refl
-sealed_parts zero from (r ∷ rs) bytes = refl
-sealed_parts (suc i) from (r ∷ rs) bytes = ap (λ t. entry_in r (slice_range bytes from r.bytes_end) ∷ t) (sealed_parts i r.bytes_end rs bytes)
-
-sealed_by : (b : Bool) (t u : Transaction) (ts us : List Transaction) →
-    (if b then record t { is_sealed = true } ∷ ts else record u { is_sealed = true } ∷ us) ≡ seal_first (if b then t ∷ ts else u ∷ us)
-sealed_by true t u ts us = refl
-sealed_by false t u ts us = refl
+sealed_entries : (i from : ℕ) (rs : List StepRecord) (bytes : List ℕ) (d : Entry) →
+    entries_from from (set rs i (sealed_record (get_or rs i no_step))) bytes ≡ set (entries_from from rs bytes) i (sealed_entry (get_or (entries_from from rs bytes) i d))
+sealed_entries i from [] bytes d = refl
+sealed_entries zero from (r ∷ rs) bytes d = refl
+sealed_entries (suc i) from (r ∷ rs) bytes d = ap (λ t. entry_in r (slice_range bytes from r.bytes_end) ∷ t) (sealed_entries i r.bytes_end rs bytes d)
 
 sealed_pushed : (e : Entry) (ts : List Transaction) → pushed (sealed_entry e) ts ≡ seal_first (pushed e ts)
 sealed_pushed e [] = refl
-sealed_pushed e (t ∷ ts) = sealed_by e.starts (alone e) (joined e t) (t ∷ ts) ts
+sealed_pushed e (t ∷ ts) = elim (cases_Bool e.starts) [ inl y ↦ rw y | inr n ↦ rw n ]
 
 sealed_past : (i : ℕ) (es : List Entry) (d : Entry) → i < length es →
-    transactions (reverse (take (suc i) (changed_at sealed_entry i es))) ≡ seal_first (transactions (reverse (take (suc i) es)))
+    transactions (reverse (take (suc i) (set es i (sealed_entry (get_or es i d))))) ≡ seal_first (transactions (reverse (take (suc i) es)))
 sealed_past i es d h =
+    let x = sealed_entry (get_or es i d) in
     ap transactions
-    (latest_first (changed_at sealed_entry i es) i d (omega (arith, changed_length sealed_entry i es))
-    ∙ ap₂ (λ x t. x ∷ reverse t) (changed_read sealed_entry i es d h) (changed_front sealed_entry i es))
+    (latest_first (set es i x) i (suc i) d (omega arith) (omega (arith, length-set es i x))
+    ∙ ap₂ (λ y t. y ∷ reverse t) (get_or-set_same es i x d h) (take-set es i x))
     ∙ sealed_pushed (get_or es i d) (transactions (reverse (take i es)))
-    ∙ ap (λ t. seal_first (transactions t)) (sym (latest_first es i d h))
+    ∙ ap (λ t. seal_first (transactions t)) (sym (latest_first es i (suc i) d (omega arith) h))
 
-sealed_begins : (i : ℕ) (es : List Entry) → BeginsOne es → BeginsOne (changed_at sealed_entry i es)
-sealed_begins i [] h = h
-sealed_begins zero (e ∷ es) h = h
-sealed_begins (suc i) (e ∷ es) h = h
-
-pub entries_length : (rs : List StepRecord) (bytes : List ℕ) → length (entries_in rs bytes) ≡ length rs
-entries_length rs bytes = parts_length bytes_end entry_in 0 rs bytes
-
--- the item of a list that is not empty
-first_of : (rs : List StepRecord) (bytes : List ℕ) → 0 < length rs → Entry
-first_of [] bytes h = absurd (omega arith)
-first_of (r ∷ rs) bytes h = entry_in r bytes
+sealed_begins : (i : ℕ) (es : List Entry) (d : Entry) → BeginsOne es → BeginsOne (set es i (sealed_entry (get_or es i d)))
+sealed_begins i [] d h = h
+sealed_begins zero (e ∷ es) d h = h
+sealed_begins (suc i) (e ∷ es) d h = h
 
 pub sealed_history : (rs : List StepRecord) (bytes : List ℕ) (past depth : ℕ) (save_point : Option ℕ) (collecting : Bool) → past ≤ length rs →
     history_of (entries_in (with_sealed past rs) bytes) past save_point depth collecting ≡ with_last_sealed (history_of (entries_in rs bytes) past save_point depth collecting)
 sealed_history rs bytes zero depth save_point collecting h = refl
 sealed_history rs bytes (suc i) depth save_point collecting h =
     let es = entries_in rs bytes in
-    let there : i < length es = omega (arith, entries_length rs bytes) in
-    ap (λ t. history_of t (suc i) save_point depth collecting) (sealed_parts i 0 rs bytes)
-    ∙ ap₂
-    (λ p f. history p (reverse (transactions (reverse f))) save_point depth collecting)
-    (sealed_past i es (first_of rs bytes (omega arith)) there)
-    (changed_back sealed_entry i es)
+    let d = entry_in no_step [] in
+    ap (λ t. history_of t (suc i) save_point depth collecting) (sealed_entries i 0 rs bytes d)
+    ∙ ap₂ (λ p f. history p (reverse (transactions (reverse f))) save_point depth collecting)
+    (sealed_past i es d (omega (arith, entries_length 0 rs bytes))) (drop-set-lt (suc i) es i (sealed_entry (get_or es i d)) (omega arith))
 
 pub sealed_in_order : (rs : List StepRecord) (bytes : List ℕ) (past count : ℕ) → IsInOrder rs bytes past count → IsInOrder (with_sealed past rs) bytes past count
 sealed_in_order rs bytes zero count h = h
 sealed_in_order rs bytes (suc i) count h =
     let es = entries_in rs bytes in
-    let same : entries_in (with_sealed (suc i) rs) bytes ≡ changed_at sealed_entry i es = sealed_parts i 0 rs bytes in
-    let there : i < length es = omega (arith, entries_length rs bytes, h.there) in
-    let past_is : transactions (reverse (take (suc i) (changed_at sealed_entry i es))) ≡ seal_first (transactions (reverse (take (suc i) es))) =
-    sealed_past i es (first_of rs bytes (omega (arith, h.there))) there in
+    let d = entry_in no_step [] in
+    let same = sealed_entries i 0 rs bytes d in
     record {
-      ends = sealed_ends i 0 rs (length bytes) h.ends;
-      parts = sealed_own i 0 rs h.parts;
-      begins = rw same (sealed_begins i es h.begins);
-      boundary = rw (same, changed_back sealed_entry i es) h.boundary;
-      there = omega (arith, changed_length sealed_record i rs, h.there);
-      counted = h.counted ∙ sym (sealed_length (transactions (reverse (take (suc i) es)))) ∙ ap length (sym past_is) ∙ ap (λ t. length (transactions (reverse (take (suc i) t)))) (sym same);
+      parts = sealed_parts i 0 rs (length bytes) h.parts;
+      begins = rw same (sealed_begins i es d h.begins);
+      boundary = rw (same, drop-set-lt (suc i) es i (sealed_entry (get_or es i d)) (omega arith)) h.boundary;
+      there = omega (arith, with_sealed_length (suc i) rs, h.there);
+      counted = h.counted ∙ sym (ap (λ (k : History). length k.past) (sealed_history rs bytes (suc i) 0 None false h.there) ∙ sealed_length (past_of rs bytes (suc i)));
     }
 
-pub with_sealed_length : (n : ℕ) (rs : List StepRecord) → length (with_sealed n rs) ≡ length rs
-with_sealed_length zero rs = refl
-with_sealed_length (suc i) rs = changed_length sealed_record i rs
-
--- outside groups
-pub sealed_outside : (all : List Entry) (past depth : ℕ) (save_point : Option ℕ) (collecting : Bool) → depth ≡ 0 →
-    with_last_sealed (history_of all past save_point depth collecting) ≡ sealed_outside_groups (history_of all past save_point depth collecting)
-sealed_outside all past depth save_point collecting e =
-    ap (λ d. with_last_sealed (history_of all past save_point d collecting)) e
-    ∙ ap (λ d. sealed_outside_groups (history_of all past save_point d collecting)) (sym e)
+-- no change joins a sealed transaction
+pub latest_sealed : (rs : List StepRecord) (bytes : List ℕ) (n : ℕ) (latest : Option StepOutline) → n ≤ length rs → IsLatest (past_of (with_sealed n rs) bytes n) latest
+latest_sealed rs bytes n latest h =
+    subst (λ ts. IsLatest ts latest) (ap (λ (k : History). k.past) (sym (sealed_history rs bytes n 0 None false h))) (sealed (past_of rs bytes n)) where
+      sealed : (ts : List Transaction) → IsLatest (seal_first ts) latest
+      sealed [] = λ o. absurd o
+      sealed (t ∷ ts) = λ o. absurd (false≢true (sym o))
 
 -- Undo and redo.
 
-pub undone_in_order : (rs : List StepRecord) (bytes : List ℕ) (past count start : ℕ) → IsInOrder rs bytes past count → 0 < past → start ≡ start_of_last (entries_in rs bytes) past →
-    (0 < count) × IsInOrder (with_sealed start rs) bytes start (count - 1)
-undone_in_order rs bytes past count start h p e =
-    let es = entries_in rs bytes in
-    let there : past ≤ length es = omega (arith, entries_length rs bytes, h.there) in
-    let counts = undone_count es past count p there h.begins h.counted in (
-      counts.0,
-      sealed_in_order rs bytes start (count - 1) (record {
-        ends = h.ends;
-        parts = h.parts;
-        begins = h.begins;
-        boundary = rw e (undone_begins es past p there h.begins);
-        there = omega (arith, e, h.there);
-        counted = rw e counts.1;
-      }),
-    )
-
-pub undone_view : (rs : List StepRecord) (bytes : List ℕ) (past count start depth : ℕ) (save_point : Option ℕ) (collecting : Bool) → IsInOrder rs bytes past count → 0 < past → start ≡ start_of_last (entries_in rs bytes) past →
-    history_of (entries_in (with_sealed start rs) bytes) start save_point depth collecting ≡ undone (history_of (entries_in rs bytes) past save_point depth collecting)
-undone_view rs bytes past count start depth save_point collecting h p e =
-    let es = entries_in rs bytes in
-    sealed_history rs bytes start depth save_point collecting (omega (arith, e, h.there))
-    ∙ ap (λ k. with_last_sealed (history_of es k save_point depth collecting)) e
-    ∙ undone_history es past depth save_point collecting p (omega (arith, entries_length rs bytes, h.there)) h.begins h.boundary
-
-pub redone_in_order : (rs : List StepRecord) (bytes : List ℕ) (past count end : ℕ) → IsInOrder rs bytes past count → past < length rs → end ≡ end_of_next (entries_in rs bytes) past →
-    IsInOrder (with_sealed end rs) bytes end (count + 1)
-redone_in_order rs bytes past count end h p e =
-    let es = entries_in rs bytes in
-    let there : past < length es = omega (arith, entries_length rs bytes) in
-    sealed_in_order rs bytes end (count + 1) (record {
-      ends = h.ends;
+module _ (rs : List StepRecord) (bytes : List ℕ) (low high count : ℕ) (between : OneBetween (entries_in rs bytes) low high) where
+  pub undone_in_order : IsInOrder rs bytes high count → (0 < count) × IsInOrder (with_sealed low rs) bytes low (count - 1)
+  undone_in_order h = (
+    omega (arith, h.counted, ap length between.past),
+    sealed_in_order rs bytes low (count - 1) (record {
       parts = h.parts;
       begins = h.begins;
-      boundary = rw e (redone_begins es past there h.boundary);
-      there = omega (arith, e, next_within es past (omega (arith, entries_length rs bytes, h.there)), entries_length rs bytes);
-      counted = rw e (redone_count es past count there h.boundary h.counted);
-    })
+      boundary = between.begins.0;
+      there = omega (arith, between.within, h.there);
+      counted = omega (arith, h.counted, ap length between.past);
+    }),
+  )
 
-pub redone_view : (rs : List StepRecord) (bytes : List ℕ) (past count end depth : ℕ) (save_point : Option ℕ) (collecting : Bool) → IsInOrder rs bytes past count → past < length rs → end ≡ end_of_next (entries_in rs bytes) past →
-    history_of (entries_in (with_sealed end rs) bytes) end save_point depth collecting ≡ redone (history_of (entries_in rs bytes) past save_point depth collecting)
-redone_view rs bytes past count end depth save_point collecting h p e =
-    let es = entries_in rs bytes in
-    sealed_history rs bytes end depth save_point collecting (omega (arith, e, next_within es past (omega (arith, entries_length rs bytes, h.there)), entries_length rs bytes))
-    ∙ ap (λ k. with_last_sealed (history_of es k save_point depth collecting)) e
-    ∙ redone_history es past depth save_point collecting (omega (arith, entries_length rs bytes)) h.boundary
+  pub redone_in_order : IsInOrder rs bytes low count → IsInOrder (with_sealed high rs) bytes high (count + 1)
+  redone_in_order h =
+      sealed_in_order rs bytes high (count + 1) (record {
+        parts = h.parts;
+        begins = h.begins;
+        boundary = between.begins.1;
+        there = omega (arith, between.within, entries_length 0 rs bytes);
+        counted = omega (arith, h.counted, ap length between.past);
+      })
 
--- The tests.
+-- Whether there is something to redo.
 
-some_left : (n m : ℕ) → (0 < n → 0 < m) → (n ≡ 0 → m ≡ 0) → nat_lt 0 n ≡ nat_lt 0 m
-some_left zero m h k = ap (λ j. nat_lt 0 j) (sym (k refl))
-some_left (suc n) m h k = let some : 0 < m = h (omega arith) in grind (arith, nat_tests)
-
-rest_none : (es : List Entry) → length es ≡ 0 → length (reverse (transactions (reverse es))) ≡ 0
-rest_none [] e = refl
-rest_none (x ∷ es) e = absurd (omega arith)
-
-lt_by : (n m : ℕ) → nat_lt n m ≡ nat_lt 0 (m - n)
-lt_by n m = grind (arith, nat_tests)
-
-pub can_redo_here : (rs : List StepRecord) (bytes : List ℕ) (past depth : ℕ) (save_point : Option ℕ) (collecting : Bool) → depth ≡ 0 →
-    nat_lt past (length rs) ≡ can_redo (history_of (entries_in rs bytes) past save_point depth collecting)
-can_redo_here rs bytes past depth save_point collecting e =
+pub future_some : (rs : List StepRecord) (bytes : List ℕ) (past : ℕ) → past < length rs → 0 < length (reverse (transactions (reverse (drop past (entries_in rs bytes)))))
+future_some rs bytes past h =
     let rest = drop past (entries_in rs bytes) in
-    let left : length rs - past ≡ length rest = omega (arith, length-drop past (entries_in rs bytes), entries_length rs bytes) in
-    lt_by past (length rs)
-    ∙ ap (λ n. nat_lt 0 n) left
-    ∙ some_left (length rest) (length (reverse (transactions (reverse rest))))
-    (λ h. omega (arith, length-reverse (transactions (reverse rest)), transactions_some (reverse rest) (omega (arith, length-reverse rest))))
-    (λ z. rest_none rest z)
-    ∙ ap (λ d. can_redo (history_of (entries_in rs bytes) past save_point d collecting)) (sym e)
+    omega (arith, length-reverse (transactions (reverse rest)), transactions_some (reverse rest) (omega (arith, length-reverse rest, length-drop past (entries_in rs bytes), entries_length 0 rs bytes)))
+
+pub can_redo_here : (rs : List StepRecord) (bytes : List ℕ) (past : ℕ) → nat_lt past (length rs) ≡ nat_lt 0 (length (reverse (transactions (reverse (drop past (entries_in rs bytes))))))
+can_redo_here rs bytes past = elim (cases_lt past (length rs)) [
+  | inl more ↦ lt-ltb past (length rs) more ∙ sym (lt-ltb 0 (length (reverse (transactions (reverse (drop past (entries_in rs bytes)))))) (future_some rs bytes past more))
+  | inr none ↦
+      le-ltb past (length rs) none ∙ ap (λ es. nat_lt 0 (length (reverse (transactions (reverse es))))) (sym (drop_all past (entries_in rs bytes) (omega (arith, entries_length 0 rs bytes))))
+]

@@ -1,5 +1,5 @@
 -- Which steps join, as the code decides it: by the places of steps and the number of their bytes.
-use Rattle.std.specs.Prelude.{◌≡◌, ℕ, ◌+◌, ◌==◌, nat_le, ◌&&◌, ◌||◌, Bool, true, false, List, length, Option, Some, None}
+use Rattle.std.specs.Prelude.{◌≡◌, ℕ, ◌+◌, ◌==◌, nat_le, ◌&&◌, ◌||◌, Bool, true, false, List, length, Option, Some, None, option_map}
 use Rattle.ed_model.specs.History.{Transaction, first_changes, latest_text_step, with_change}
 use Rattle.ed_model.specs.Steps as model
 use Rattle.undo_history.specs.declared.records.StepKind.{StepKind}
@@ -16,17 +16,9 @@ abbrev pub outline_of : model.Step → StepOutline
 outline_of (model.Insert place bytes) = outline Insert place (length bytes)
 outline_of (model.Delete place bytes) = outline Delete place (length bytes)
 
-abbrev pub outline_if_any : Option model.Step → Option StepOutline
-outline_if_any None = None
-outline_if_any (Some step) = Some (outline_of step)
-
--- the latest step of the text in the last of these transactions
-abbrev pub latest_outline : List Transaction → Option StepOutline
-latest_outline ts = outline_if_any (latest_text_step (first_changes ts))
-
--- it is this one, unless no change joins the last transaction
+-- it is the latest step of the text in the last of these transactions, unless no change joins that
 abbrev pub IsLatest : List Transaction → Option StepOutline → Type 0
-IsLatest ts latest = LastIsOpen ts → latest ≡ latest_outline ts
+IsLatest ts latest = LastIsOpen ts → latest ≡ option_map outline_of (latest_text_step (first_changes ts))
 
 -- if it is `latest`, then it is `after` once a change has been appended
 abbrev pub IsLatestAfter : Option StepOutline → Bool → ChangeKind → ℕ → Option StepOutline → Type 0

@@ -1,7 +1,8 @@
 -- What a contract sees of an `UndoHistory`.
-use Rattle.std.specs.Prelude.{◌≤◌, ◌+◌, ◌*◌, ℕ, max, nat_le, if◌then◌else◌, Bool, true, List, ◌++◌, length, reverse, flat_map, sum_by, ◌≡◌}
+use Rattle.std.specs.Prelude.{◌≤◌, ◌+◌, ℕ, if◌then◌else◌, Bool, true, List, ◌++◌, length, reverse, flat_map, sum_by, ◌≡◌}
 use Rattle.ed_model.specs.Steps.{step_bytes}
 use Rattle.ed_model.specs.History.{Change, TextStep, ContainerStep, Transaction, History, fresh_history, collecting_set}
+use Rattle.split_vector.specs.Split.{most_held}
 
 -- how many steps, and how many bytes of steps, fit in all with no allocation
 pub record HistoryCapacity : Type 0 where
@@ -60,15 +61,11 @@ HasRoom steps bytes k = k.history.collecting ≡ true → Fits steps bytes k
 abbrev pub KeepsCapacity : HistoryCapacity → HistoryCapacity → Type 0
 KeepsCapacity old new = (old.steps ≤ new.steps) × (old.bytes ≤ new.bytes)
 
--- the most that a block may hold after room for so many more was requested: it stays if they fit in, and otherwise grows
--- to twice its size, or to what was requested if that is more
-abbrev pub most : (held more capacity : ℕ) → ℕ
-most held more capacity = if nat_le (held + more) capacity then capacity else max (2 * capacity) (held + more)
-
+-- a block stays if what was requested fits in, and otherwise grows to twice its size, or to what was requested if that is more
 abbrev pub CapacityAtMost : ℕ → ℕ → Kept → Kept → Type 0
 CapacityAtMost steps bytes old new =
-    (new.capacity.steps ≤ most (held_steps old.history) steps old.capacity.steps)
-    × (new.capacity.bytes ≤ most (held_bytes old.history) bytes old.capacity.bytes)
+    (new.capacity.steps ≤ most_held old.capacity.steps (held_steps old.history + steps))
+    × (new.capacity.bytes ≤ most_held old.capacity.bytes (held_bytes old.history + bytes))
 
 -- after the collection of steps is turned on or off: if it is off, there is no memory
 abbrev pub with_collecting : Bool → Kept → Kept

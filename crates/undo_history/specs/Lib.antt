@@ -1,8 +1,5 @@
 -- Definitions that the contracts cite, and how the records of a history are read.
 pub mod Kept
-pub mod Steps
 pub mod Records
-pub mod Reading
-pub mod Dropping
 pub mod Joining
 pub mod proved

@@ -1,34 +1,18 @@
 -- The records of a history. There is one for each step, the oldest first. It has the end of the step's bytes among the
 -- bytes of all steps, whether the step begins a transaction, and whether its transaction is sealed behind it.
-use Rattle.std.specs.Prelude.{◌≡◌, ◌≤◌, ℕ, List, [], ◌∷◌, length, take, drop, reverse, slice_range, if◌then◌else◌, Option, Bool, true, false, zero, suc}
+use Rattle.std.specs.Prelude.{◌≡◌, ◌≤◌, ℕ, List, [], ◌∷◌, length, take, drop, reverse, slice_range, slice_set, slice_index_or, if◌then◌else◌, Option, Bool, true, false, zero, suc}
 use Rattle.ed_model.specs.History.{Change, TextStep, ContainerStep, Transaction, History}
-use Rattle.undo_history.specs.Steps.{step_of}
+use Rattle.ed_model.specs.Steps as model
 use Rattle.undo_history.specs.declared.records.ChangeKind.{ChangeKind}
 use Rattle.undo_history.specs.declared.records.ChangeKind.TheVariants.{Text, Container}
 use Rattle.undo_history.specs.declared.records.LentChange.{LentChange}
+use Rattle.undo_history.specs.declared.records.StepKind.{StepKind}
+use Rattle.undo_history.specs.declared.records.StepKind.TheVariants.{Insert, Delete}
 use Rattle.undo_history.specs.declared.records.StepRecord.{StepRecord}
 
--- Parts that end where their records say, the first beginning at `from`.
-
--- what `value` returns for each record and its part of xs
-abbrev pub read_parts : {R X Y : Type 0} → (R → ℕ) → (R → List X → Y) → ℕ → List R → List X → List Y
-read_parts end value from [] xs = []
-read_parts end value from (r ∷ rs) xs = value r (slice_range xs from (end r)) ∷ read_parts end value (end r) rs xs
-
--- the end of the last part
-abbrev pub last_end : {R : Type 0} → (R → ℕ) → ℕ → List R → ℕ
-last_end end from [] = from
-last_end end from (r ∷ rs) = last_end end (end r) rs
-
--- no part ends before it begins, and the last one at the end of the whole
-abbrev pub EndsInOrder : {R : Type 0} → (R → ℕ) → ℕ → List R → ℕ → Type 0
-EndsInOrder end from [] whole = from ≡ whole
-EndsInOrder end from (r ∷ rs) whole = (from ≤ end r) × EndsInOrder end (end r) rs whole
-
--- Steps.
-
-abbrev pub bytes_end : StepRecord → ℕ
-bytes_end r = r.bytes_end
+abbrev pub step_of : StepKind → ℕ → List ℕ → model.Step
+step_of Insert place bytes = model.Insert place bytes
+step_of Delete place bytes = model.Delete place bytes
 
 abbrev pub change_of : ChangeKind → List ℕ → Change
 change_of (Text kind place) bytes = TextStep (step_of kind place bytes)
@@ -43,15 +27,20 @@ abbrev pub HasItsBytes : ChangeKind → List ℕ → Type 0
 HasItsBytes (Text kind place) bytes = Unit {0}
 HasItsBytes (Container coalesce token) bytes = bytes ≡ []
 
--- the part of a container's step is empty
+-- such a change may have the part from one place up to the other: a container's is empty
 abbrev pub HasItsPart : ChangeKind → (from end : ℕ) → Type 0
-HasItsPart (Text kind place) from end = Unit {0}
+HasItsPart (Text kind place) from end = from ≤ end
 HasItsPart (Container coalesce token) from end = from ≡ end
 
--- so for the part of each step, the first beginning at `from`
-abbrev pub HaveTheirParts : ℕ → List StepRecord → Type 0
-HaveTheirParts from [] = Unit {0}
-HaveTheirParts from (r ∷ rs) = HasItsPart r.kind from r.bytes_end × HaveTheirParts r.bytes_end rs
+-- the parts of steps lie one behind the other, from a place up to the end of the whole
+abbrev pub AreParts : (from : ℕ) → List StepRecord → (whole : ℕ) → Type 0
+AreParts from [] whole = from ≡ whole
+AreParts from (r ∷ rs) whole = HasItsPart r.kind from r.bytes_end × AreParts r.bytes_end rs whole
+
+-- the end of the last part
+abbrev pub last_end : (from : ℕ) → List StepRecord → ℕ
+last_end from [] = from
+last_end from (r ∷ rs) = last_end r.bytes_end rs
 
 -- a change with its marks
 pub record Entry : Type 0 where
@@ -65,8 +54,16 @@ entry change starts is_sealed = record { change = change; starts = starts; is_se
 abbrev pub entry_in : StepRecord → List ℕ → Entry
 entry_in r bytes = entry (change_of r.kind bytes) r.starts r.is_sealed
 
+-- the entries of steps whose first part begins at `from`
+abbrev pub entries_from : ℕ → List StepRecord → List ℕ → List Entry
+entries_from from [] bytes = []
+entries_from from (r ∷ rs) bytes = entry_in r (slice_range bytes from r.bytes_end) ∷ entries_from r.bytes_end rs bytes
+
 abbrev pub entries_in : List StepRecord → List ℕ → List Entry
-entries_in rs bytes = read_parts bytes_end entry_in 0 rs bytes
+entries_in rs bytes = entries_from 0 rs bytes
+
+abbrev pub change_in : Entry → Change
+change_in e = e.change
 
 -- Transactions.
 
@@ -115,10 +112,13 @@ abbrev pub next_count : List Entry → ℕ
 next_count [] = 0
 next_count (e ∷ es) = suc (joined_count es)
 
--- the first entry, if there is one, begins a transaction
+-- whether the first entry begins a transaction; true if there is none
+abbrev pub begins_or_none : List Entry → Bool
+begins_or_none [] = true
+begins_or_none (e ∷ es) = e.starts
+
 abbrev pub BeginsOne : List Entry → Type 0
-BeginsOne [] = Unit {0}
-BeginsOne (e ∷ es) = e.starts ≡ true
+BeginsOne es = begins_or_none es ≡ true
 
 -- there is a last transaction, and it is not sealed
 abbrev pub LastIsOpen : List Transaction → Type 0
@@ -127,31 +127,23 @@ LastIsOpen (t ∷ ts) = t.is_sealed ≡ false
 
 -- Sealing.
 
--- the list with the item at one place changed
-abbrev pub changed_at : {R : Type 0} → (R → R) → ℕ → List R → List R
-changed_at new i [] = []
-changed_at new zero (r ∷ rs) = new r ∷ rs
-changed_at new (suc i) (r ∷ rs) = r ∷ changed_at new i rs
-
 abbrev pub sealed_record : StepRecord → StepRecord
 sealed_record r = record r { is_sealed = true }
+
+-- the record that a read behind all of them returns
+abbrev pub no_step : StepRecord
+no_step = record { kind = Text Insert 0; bytes_end = 0; starts = false; is_sealed = false }
 
 -- the last of the first `count` steps sealed
 abbrev pub with_sealed : ℕ → List StepRecord → List StepRecord
 with_sealed zero rs = rs
-with_sealed (suc i) rs = changed_at sealed_record i rs
+with_sealed (suc i) rs = slice_set rs i (sealed_record (slice_index_or rs i no_step))
 
 -- Each step has its bytes. The first step begins a transaction, and so does the first of those that can be redone. The
 -- past has `count` transactions.
 pub record IsInOrder (rs : List StepRecord) (bytes : List ℕ) (past count : ℕ) : Type 0 where
-  pub ends : EndsInOrder bytes_end 0 rs (length bytes)
-  pub parts : HaveTheirParts 0 rs
+  pub parts : AreParts 0 rs (length bytes)
   pub begins : BeginsOne (entries_in rs bytes)
   pub boundary : BeginsOne (drop past (entries_in rs bytes))
   pub there : past ≤ length rs
-  pub counted : count ≡ length (transactions (reverse (take past (entries_in rs bytes))))
-
--- whether the first entry begins a transaction; true if there is none
-abbrev pub begins_or_none : List Entry → Bool
-begins_or_none [] = true
-begins_or_none (e ∷ es) = e.starts
+  pub counted : count ≡ length (past_of rs bytes past)

@@ -1,17 +1,15 @@
 //! `UndoHistory` and its calls.
 
-ghost use Rattle.std.specs.Prelude.{true, false, [], ◌≡◌, ◌<◌, ◌+◌, ◌^◌, ◌==◌, if◌then◌else◌, length};
-ghost use Rattle.std.specs.Prelude.{slice_get, OnOk, IsOk};
+ghost use Rattle.std.specs.Prelude.{true, false, [], ◌≡◌, ◌<◌, ◌+◌, ◌^◌, ◌==◌, if◌then◌else◌, length, slice_get, OnOk};
 ghost use Rattle.ed_model.specs.History.{at_save_point, can_undo, can_redo, undone, redone, undo_changes, redo_changes};
-ghost use Rattle.ed_model.specs.History.{begins_transaction, appended, joins, TextStep, with_container_step};
+ghost use Rattle.ed_model.specs.History.{begins_transaction, appended, joins, TextStep, with_change, with_container_step};
 ghost use Rattle.ed_model.specs.History.{sealed_outside_groups, group_begun, group_ended, saved, emptied, reachable};
 ghost use Rattle.ed_model.specs.History.{inverse_change};
 ghost use Rattle.ed_model.specs.Numbers.{is_number};
 ghost use Rattle.undo_history.specs.Kept.{CapacityAtMost, Fits, HasRoom, KeepsCapacity};
 ghost use Rattle.undo_history.specs.Kept.{fresh, holding_nothing, with_collecting};
-ghost use Rattle.undo_history.specs.Steps.{step_of};
-ghost use Rattle.undo_history.specs.Dropping.{with_past_change, without_future, without_undone};
-ghost use Rattle.undo_history.specs.Records.{change_lent, change_of, HasItsBytes, LastIsOpen};
+ghost use Rattle.undo_history.specs.Records.{change_lent, change_of, step_of, HasItsBytes, LastIsOpen};
+ghost use Rattle.vec_room.specs.Reserved.{IsReserved};
 
 use crate::joining::{belongs, latest_after};
 use crate::records::{
@@ -48,13 +46,13 @@ impl Model for UndoHistory {
 
     ghost Value = { Kept };
 
-    ghost use Rattle.std.specs.Prelude.{◌≡◌, ◌+◌, length};
+    ghost use Rattle.std.specs.Prelude.{◌≡◌, length};
     ghost use Rattle.undo_history.specs.Records.{history_of, entries_in, past_of, IsInOrder};
     ghost use Rattle.undo_history.specs.Joining.{IsLatest};
 
     ghost view = { λ h.
         kept (history_of (entries_in h.steps.items h.bytes.items) h.past h.save_point h.depth h.is_collecting)
-        (history_capacity (length h.steps.items + h.steps.spare) (length h.bytes.items + h.bytes.spare)) };
+        (history_capacity h.steps.capacity h.bytes.capacity) };
 
     ghost invariant = { λ h. record {
       in_order : IsInOrder h.steps.items h.bytes.items h.past h.transactions;
@@ -147,11 +145,8 @@ impl UndoHistory {
     /// `AllocError` if an allocation fails. The history is then unchanged, and its capacity is at least what it was.
     #[inline(always)]
     pub fn reserve(&mut self, steps: usize, bytes: usize) -> Result<(), AllocError>
-        ensures rest { self.new ≡ record self.old { capacity = self.new.capacity } }
-        ensures ok { OnOk result (HasRoom steps bytes self.new) }
-        ensures room_is_there { HasRoom steps bytes self.old → IsOk result × (self.new ≡ self.old) }
-        ensures capacity { KeepsCapacity self.old.capacity self.new.capacity }
-        ensures at_most { CapacityAtMost steps bytes self.old self.new }
+        ensures reserved { IsReserved (HasRoom steps bytes) result self.old self.new }
+        ensures grown { (self.new ≡ record self.old { capacity = self.new.capacity }) × KeepsCapacity self.old.capacity self.new.capacity × CapacityAtMost steps bytes self.old self.new }
     {
         if !self.is_collecting {
             return Ok(());
@@ -165,10 +160,8 @@ impl UndoHistory {
     // The slow path of `reserve`, out of line: a block is too small.
     #[inline(never)]
     fn grow(&mut self, steps: usize, bytes: usize) -> Result<(), AllocError>
-        ensures rest { self.new ≡ record self.old { capacity = self.new.capacity } }
         ensures ok { OnOk result (Fits steps bytes self.new) }
-        ensures capacity { KeepsCapacity self.old.capacity self.new.capacity }
-        ensures at_most { CapacityAtMost steps bytes self.old self.new }
+        ensures grown { (self.new ≡ record self.old { capacity = self.new.capacity }) × KeepsCapacity self.old.capacity self.new.capacity × CapacityAtMost steps bytes self.old self.new }
     {
         self.steps.reserve(steps)?;
         self.bytes.reserve(bytes)
@@ -178,8 +171,9 @@ impl UndoHistory {
     pub fn fits_in(&self)
         ensures { Fits 0 0 self.now }
     {
-        // A use of a field brings the invariant.
-        let _ = &self.steps;
+        // `len` says so of each block.
+        self.steps.len();
+        self.bytes.len();
     }
 
     /// Seals the last transaction unless a group is open: no step joins it any more.
@@ -421,7 +415,7 @@ impl UndoHistory {
     // Drops what was undone, and the save point if only a redo could reach it.
     #[inline(always)]
     fn drop_future(&mut self)
-        ensures { self.new ≡ record self.old { history = without_future self.old.history } }
+        ensures { self.new ≡ record self.old { history = record self.old.history { future = []; save_point = reachable (length self.old.history.past) self.old.history.save_point } } }
     {
         self.drop_undone();
         if is_lost(self.transactions, self.save_point) {
@@ -432,7 +426,7 @@ impl UndoHistory {
     // Drops what was undone. There is usually nothing.
     #[inline(always)]
     fn drop_undone(&mut self)
-        ensures { self.new ≡ record self.old { history = without_undone self.old.history } }
+        ensures { self.new ≡ record self.old { history = record self.old.history { future = [] } } }
     {
         if self.past < self.steps.len() {
             self.delete_undone();
@@ -442,7 +436,7 @@ impl UndoHistory {
     // The slow path of `drop_undone`, out of line: something was undone.
     #[inline(never)]
     fn delete_undone(&mut self)
-        ensures { self.new ≡ record self.old { history = without_undone self.old.history } }
+        ensures { self.new ≡ record self.old { history = record self.old.history { future = [] } } }
     {
         let kept = bytes_before(all_steps(&self.steps), self.past);
         let steps = self.steps.len();
@@ -458,7 +452,7 @@ impl UndoHistory {
         requires begun { joined ≡ true → LastIsOpen self.old.history.past }
         requires room { Fits 1 (length bytes.now) self.old }
         requires own { HasItsBytes kind bytes.now }
-        ensures { self.new ≡ record self.old { history = with_past_change joined (change_of kind bytes.now) self.old.history } }
+        ensures { self.new ≡ record self.old { history = record self.old.history { past = with_change joined (change_of kind bytes.now) self.old.history.past } } }
     {
         let stored = end_of(&self.bytes);
         self.bytes.insert_slice_reserved(stored, bytes);

@@ -2,8 +2,7 @@
 //! and one block for the bytes of all steps.
 
 ghost use Rattle.std.specs.Prelude.{◌≡◌, ◌≤◌, ◌<◌, ◌+◌, ◌^◌, length, take, Some, map, slice_get};
-ghost use Rattle.undo_history.specs.Records.{last_end, bytes_end, change_of, HasItsBytes, EndsInOrder, with_sealed};
-ghost use Rattle.undo_history.specs.Reading.{changes_in};
+ghost use Rattle.undo_history.specs.Records.{AreParts, HasItsBytes, change_in, change_of, entries_in, last_end, with_sealed};
 
 use split_vector::SplitVector;
 
@@ -60,21 +59,14 @@ pub struct StepOutline {
     pub count: usize,
 }
 
-// A law: a vector has few items, and little room for more. `len` says so.
-#[inline(always)]
-fn items_are_few<T: Copy>(items: &SplitVector<T>)
-    ensures { length items.now.items + items.now.spare < 2 ^ 63 }
-{
-    items.len();
-}
-
 /// Returns all records. Their gap stands behind them, since records are only appended, or deleted at the end.
 pub(crate) fn all_steps(steps: &SplitVector<StepRecord>) -> &[StepRecord]
     requires { steps.now.gap ≡ length steps.now.items }
     ensures steps { result.now ≡ steps.now.items }
     ensures within { length steps.now.items < 2 ^ 63 }
 {
-    items_are_few(steps);
+    // `len` says that they are few.
+    steps.len();
     let (before, _) = steps.halves();
     before
 }
@@ -94,9 +86,10 @@ pub(crate) fn all_bytes(bytes: &SplitVector<u8>) -> &[u8]
 pub(crate) fn end_of<T: Copy>(items: &SplitVector<T>) -> usize
     requires { items.now.gap ≡ length items.now.items }
     ensures end { result ≡ length items.now.items }
-    ensures within { length items.now.items + items.now.spare < 2 ^ 63 }
+    ensures within { items.now.capacity < 2 ^ 63 }
 {
-    items_are_few(items);
+    // `len` says how many fit in at most.
+    items.len();
     items.gap()
 }
 
@@ -104,7 +97,7 @@ pub(crate) fn end_of<T: Copy>(items: &SplitVector<T>) -> usize
 #[tactic(auto, using(crate::proofs::Parts::last_end_read))]
 pub(crate) fn bytes_before(steps: &[StepRecord], count: usize) -> usize
     requires { count ≤ length steps.now }
-    ensures { result ≡ last_end bytes_end 0 (take count steps.now) }
+    ensures { result ≡ last_end 0 (take count steps.now) }
 {
     if count == 0 {
         return 0;
@@ -119,8 +112,8 @@ pub(crate) fn change_at<'a>(
     index: usize,
 ) -> (ChangeKind, &'a [u8])
     requires there { index < length steps.now }
-    requires in_order { EndsInOrder bytes_end 0 steps.now (length bytes.now) }
-    ensures change { slice_get (changes_in steps.now bytes.now) index ≡ Some (change_of result.0 result.1.now) }
+    requires in_order { AreParts 0 steps.now (length bytes.now) }
+    ensures change { slice_get (map change_in (entries_in steps.now bytes.now)) index ≡ Some (change_of result.0 result.1.now) }
     ensures bytes { HasItsBytes result.0 result.1.now }
 {
     let start = bytes_before(steps, index);
@@ -147,10 +140,7 @@ fn bytes_by_kind(kind: ChangeKind, stored: &[u8]) -> &[u8]
 #[tactic(auto, using(crate::proofs::Sealing::sealed_set))]
 pub(crate) fn seal(steps: &mut SplitVector<StepRecord>, count: usize)
     requires { count ≤ length steps.old.items }
-    ensures items { steps.new.items ≡ with_sealed count steps.old.items }
-    ensures spare { steps.new.spare ≡ steps.old.spare }
-    ensures gap { steps.new.gap ≡ steps.old.gap }
-    ensures moved { steps.new.moved ≡ steps.old.moved }
+    ensures { steps.new ≡ record steps.old { items = with_sealed count steps.old.items } }
 {
     if count > 0 {
         let last = steps.get(count - 1);

@@ -1,23 +1,16 @@
--- Call by call, the bytes first and then the styles.
-use Rattle.cell_buffer.proofs.Names.{arith, ◌+◌, ◌-◌, ◌≤◌, List, [], ◌∷◌, Buffer}
+-- Call by call, for either gap buffer.
+use Rattle.cell_buffer.proofs.Names.{arith, ℕ, ◌+◌, ◌-◌, ◌≤◌, List, [], ◌∷◌, Buffer, CostsBoth}
 use Rattle.cell_buffer.specs.SumLaws.{Edited, EachCosts, buffer_after, sum_of_costs}
 use Rattle.cell_buffer.proofs.laws.costs_add_up.Goals as goal
 
-bytes_cost : (was : Buffer) (calls : List Edited) → EachCosts was calls
-    → (buffer_after was calls).moved.0 ≤ was.moved.0 + sum_of_costs (λ b. b.gaps.0) (λ call. call.count) was calls
-bytes_cost was [] costs = omega arith
-bytes_cost was (call ∷ calls) costs =
-    let first : call.left.moved.0 ≤ was.moved.0 + ((call.place - was.gaps.0) + (was.gaps.0 - call.place)) + call.count = costs.0.bytes.cost in
-    let others : (buffer_after call.left calls).moved.0 ≤ call.left.moved.0 + sum_of_costs (λ b. b.gaps.0) (λ call. call.count) call.left calls = bytes_cost call.left calls costs.1 in
-    omega (arith, first, others)
-
-styles_cost : (was : Buffer) (calls : List Edited) → EachCosts was calls
-    → (buffer_after was calls).moved.1 ≤ was.moved.1 + sum_of_costs (λ b. b.gaps.1) (λ call. call.styles) was calls
-styles_cost was [] costs = omega arith
-styles_cost was (call ∷ calls) costs =
-    let first : call.left.moved.1 ≤ was.moved.1 + ((call.place - was.gaps.1) + (was.gaps.1 - call.place)) + call.styles = costs.0.styles.cost in
-    let others : (buffer_after call.left calls).moved.1 ≤ call.left.moved.1 + sum_of_costs (λ b. b.gaps.1) (λ call. call.styles) call.left calls = styles_cost call.left calls costs.1 in
-    omega (arith, first, others)
+sum_of : (gap moved : Buffer → ℕ) (items : Edited → ℕ)
+    → ((was : Buffer) (call : Edited) → CostsBoth call.place call.count call.styles was call.left → moved call.left ≤ moved was + ((call.place - gap was) + (gap was - call.place)) + items call)
+    → (was : Buffer) (calls : List Edited) → EachCosts was calls → moved (buffer_after was calls) ≤ moved was + sum_of_costs gap items was calls
+sum_of gap moved items one was [] costs = omega arith
+sum_of gap moved items one was (call ∷ calls) costs = omega (arith, one was call costs.0, sum_of gap moved items one call.left calls costs.1)
 
 pub returns : goal.returns
-returns c = λ was calls costs. (bytes_cost was calls costs, styles_cost was calls costs)
+returns c = λ was calls costs. (
+  sum_of (λ b. b.gaps.0) (λ b. b.moved.0) (λ call. call.count) (λ _ _ h. h.bytes.cost) was calls costs,
+  sum_of (λ b. b.gaps.1) (λ b. b.moved.1) (λ call. call.styles) (λ _ _ h. h.styles.cost) was calls costs,
+)

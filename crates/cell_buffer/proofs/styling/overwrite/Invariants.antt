@@ -1,12 +1,6 @@
-use Rattle.cell_buffer.proofs.Names.{◌≡◌, take, changed_range, overwritten, range_between}
+use Rattle.cell_buffer.proofs.Names.{take}
+use Rattle.cell_buffer.proofs.Changed.{Written}
 use Rattle.cell_buffer.proofs.styling.overwrite.Given as goal
 
--- the first `i` new styles are written, the range of those that changed is known, and nothing moved
 abbrev pub invariant-loop-i : goal.invariant-loop-i
-invariant-loop-i l = record {
-  items : l.styles.items ≡ overwritten l.initial.styles.items l.start (take l.i l.new);
-  changed : range_between l.ends.0 l.ends.1 ≡ changed_range l.initial.styles.items l.styles.items;
-  spare : l.styles.spare ≡ l.initial.styles.spare;
-  gap : l.styles.gap ≡ l.initial.styles.gap;
-  moved : l.styles.moved ≡ l.initial.styles.moved;
-}
+invariant-loop-i l = Written l.start (take l.i l.new) l.ends l.initial.styles l.styles

@@ -1,5 +1,5 @@
-use Rattle.std.proofs.Common.{◌≡◌, ◌-◌, slice_index, sym, ap, ◌∙◌, arith}
-use Rattle.contraction.specs.Headings.{heads as heads_by, last_heading}
+use Rattle.std.proofs.Common.{◌-◌, slice_index, sym, ◌∙◌, arith}
+use Rattle.contraction.specs.Headings.{heads as heads_by}
 use Rattle.contraction.proofs.FoldLines.{last_here, last_earlier}
 use Rattle.contraction.proofs.folds.last_among.Goals as goal
 
@@ -18,8 +18,3 @@ seeking-preserved c =
       low = omega (arith, inv.low, c.seeking-test.true);
       high = omega (arith, inv.high);
     }
-
-pub returns-clause-missing : goal.returns-clause-missing
-returns-clause-missing c =
-    let inv = c.seeking.invariant in let all : c.seeking.end ≡ c.args.low = omega (arith, inv.low, c.seeking-test.false) in
-    inv.left ∙ ap (last_heading c.args.number c.args.levels.now) all

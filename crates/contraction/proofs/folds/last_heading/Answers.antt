@@ -10,9 +10,6 @@ all_told : (number : ℕ) (levels : List ℕ) (high : ℕ) (found : Option ℕ) 
 all_told number levels high None there none = sym none
 all_told number levels high (Some place) there none = sym there.1
 
-pub returns-in-Some-clause-last : goal.returns-in-Some-clause-last
-returns-in-Some-clause-last c = sym c.in-Some.ensures.found.1
-
 pub returns-clause-last : goal.returns-clause-last
 returns-clause-last c =
     let xs = c.args.levels.now in let far = c.before_empty_blocks-far in let last = c.last_among-2 in

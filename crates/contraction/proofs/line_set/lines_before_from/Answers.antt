@@ -13,4 +13,4 @@ pub returns-then-line-to : goal.returns-then-line-to
 returns-then-line-to g c =
     let s = c.args.starts.now in
     next_behind s.starts s.length c.args.line c.args.likely c.count-last.ensures.sound (omega (arith, c.if-likely-last.true, c.count-last.ensures.count))
-    (omega (arith, c.if-from-line.true, c.start_of-from.ensures.start)) (omega (arith, c.if-start_of-line.false, c.start_of.ensures.start))
+    (omega (arith, c.if-from-line.true, c.start_of-from.ensures.start)) (λ _. omega (arith, c.if-start_of-line.false, c.start_of.ensures.start))

@@ -1,5 +1,5 @@
-use Rattle.decorations.proofs.Names.{◌≡◌, ℕ, ◌+◌, ◌<◌, ◌≤◌, List, Option, None, IfSome, length, get_or, set, take, drop, ◌++◌, subst, sym, ap, ◌∙◌, refl, arith, get_or_default, length-set, Runs, HasRoom, nat_eq, slot_at, InBoth, HaveGrown}
-use Rattle.decorations.proofs.SlotLists.{in_each, looped, done_more, same_more}
+use Rattle.decorations.proofs.Names.{◌≡◌, ℕ, ◌+◌, ◌<◌, List, Option, length, set, subst, sym, ap, ◌∙◌, refl, arith, length-set, set-get_or, Runs, HasRoom, nat_eq, slot_at, EachSlot, SlotFits, InBoth, HaveGrown, rules}
+use Rattle.decorations.proofs.SlotLists.{looped, loop_done, slot_reached, done_more, same_more}
 use Rattle.decorations.proofs.Memory.{grown_so_far}
 use Rattle.decorations.proofs.slots.reserve_runs.Goals as goal
 
@@ -9,73 +9,60 @@ loop-slot-preserved g c =
     let i = c.loop-slot.slot-index in
     let initial = c.deref_mut-slot-items.result.now in
     let new = c.reserve_in.new.slot in
+    let count = c.args.insertions + 2 in
+    let kept = c.loop-slot.invariant in
     let inside : i < length items = omega arith in
-    let first : i ≤ i = omega arith in
-    let R : Option (Runs ℕ) → Option (Runs ℕ) → Type 0 = InBoth (HaveGrown (c.args.insertions + 2)) in
-    let P : Option (Runs ℕ) → Option (Runs ℕ) → Type 0 = λ old now. IfSome now (HasRoom nat_eq (c.args.insertions + 2)) in
-    let Q : Option (Runs ℕ) → Type 0 = λ s. R s new in
-    let read : slot_at items i ≡ get_or items i c.slot-item.result = get_or_default items i None c.slot-item.result inside in
-    let here : R (slot_at initial i) new = subst Q (sym read ∙ c.loop-slot.invariant.same i first) c.reserve_in.ensures.same in
+    let same : slot_at items i ≡ slot_at initial i = kept.same i (omega arith) in
     record {
-      room = done_more P initial items i new inside c.in_ok-reserve_in.ensures.ok c.loop-slot.invariant.room;
-      done = done_more R initial items i new inside here c.loop-slot.invariant.done;
-      same = same_more items initial i new c.loop-slot.invariant.same;
+      room = done_more (λ old now. SlotFits count now) initial items i c.slot-item.result new inside same c.in_ok-reserve_in.ensures.reserved.0 kept.room;
+      done = done_more (InBoth (HaveGrown count)) initial items i c.slot-item.result new inside same c.in_ok-reserve_in.ensures.grown kept.done;
+      same = same_more items initial i new kept.same;
+      kept = λ enough.
+          ap (set items i) (c.in_ok-reserve_in.ensures.reserved.1 (slot_reached (SlotFits count) initial initial items i c.slot-item.result refl inside same (enough i))).1
+          ∙ set-get_or items i c.slot-item.result ∙ kept.kept enough;
     }
 
-pub returns-in_err-reserve_in-clause-same : goal.returns-in_err-reserve_in-clause-same
-returns-in_err-reserve_in-clause-same g c =
+pub returns-in_err-reserve_in-clause-reserved : goal.returns-in_err-reserve_in-clause-reserved
+returns-in_err-reserve_in-clause-reserved g c =
+    let i = c.loop-slot.slot-index in (
+      search rules,
+      λ enough.
+          let room = slot_reached (SlotFits (c.args.insertions + 2)) c.args.slots.now.items c.deref_mut-slot-items.result.now c.loop-slot.slot-items i c.slot-item.result c.deref_mut-slot-items.ensures.value
+          (omega arith) (c.loop-slot.invariant.same i (omega arith)) (enough i) in
+          let refused = (c.in_err-reserve_in.ensures.reserved.1 room).0 in
+          absurd (cc),
+    )
+
+pub returns-in_err-reserve_in-clause-grown : goal.returns-in_err-reserve_in-clause-grown
+returns-in_err-reserve_in-clause-grown g c =
     let items = c.loop-slot.slot-items in
     let i = c.loop-slot.slot-index in
     let initial = c.deref_mut-slot-items.result.now in
-    let old = c.args.slots.now.items in
     let new = c.reserve_in.new.slot in
-    let now = set items i new in
-    let inside : i < length items = omega arith in
-    let first : i ≤ i = omega arith in
     let R : Option (Runs ℕ) → Option (Runs ℕ) → Type 0 = InBoth (HaveGrown (c.args.insertions + 2)) in
-    let Q : Option (Runs ℕ) → Type 0 = λ s. R s new in
-    let read : slot_at items i ≡ get_or items i c.slot-item.result = get_or_default items i None c.slot-item.result inside in
-    let here : R (slot_at initial i) new = subst Q (sym read ∙ c.loop-slot.invariant.same i first) c.reserve_in.ensures.same in
-    let same_length : length now ≡ length old = length-set items i new ∙ c.loop-slot.auto.slot-items ∙ ap length c.deref_mut-slot-items.ensures.value in
-    let all : take c.args.slots.now.len (now ++ drop (length now) old) ≡ now = looped now old c.args.slots.now.len same_length (omega arith) in
-    let each : (k : ℕ) → R (slot_at initial k) (slot_at now k) =
-    grown_so_far (c.args.insertions + 2) (i + 1) initial now (done_more R initial items i new inside here c.loop-slot.invariant.done) (same_more items initial i new c.loop-slot.invariant.same) in
-    let S : List (Option (Runs ℕ)) → Type 0 = λ s. (k : ℕ) → R (slot_at s k) (slot_at now k) in
-    rw all (subst S c.deref_mut-slot-items.ensures.value each)
+    let all = grown_so_far (c.args.insertions + 2) (i + 1) initial (set items i new)
+    (done_more R initial items i c.slot-item.result new (omega arith) (c.loop-slot.invariant.same i (omega arith)) c.in_err-reserve_in.ensures.grown c.loop-slot.invariant.done)
+    (same_more items initial i new c.loop-slot.invariant.same) in
+    let each = loop_done R c.args.slots.now.items initial (set items i new) c.args.slots.now.len c.deref_mut-slot-items.ensures.value (length-set items i new ∙ c.loop-slot.auto.slot-items) (omega arith) refl (λ k h. all k) in
+    (each.0, each.1, refl)
 
-pub returns-clause-same : goal.returns-clause-same
-returns-clause-same g c =
+pub returns-clause-reserved : goal.returns-clause-reserved
+returns-clause-reserved g c =
     let items = c.loop-slot.slot-items in
     let old = c.args.slots.now.items in
-    let same_length : length items ≡ length old = c.loop-slot.auto.slot-items ∙ ap length c.deref_mut-slot-items.ensures.value in
-    let all : take c.args.slots.now.len (items ++ drop (length items) old) ≡ items = looped items old c.args.slots.now.len same_length (omega arith) in
-    let R : Option (Runs ℕ) → Option (Runs ℕ) → Type 0 = InBoth (HaveGrown (c.args.insertions + 2)) in
-    let done : (k : ℕ) → k < length old → R (slot_at old k) (slot_at items k) =
-    λ k h. let Q : List (Option (Runs ℕ)) → Type 0 = λ s. R (slot_at s k) (slot_at items k) in
-    let before : k < c.loop-slot.slot-index = omega arith in
-    subst Q c.deref_mut-slot-items.ensures.value (c.loop-slot.invariant.done k before) in
-    rw all (in_each R old items same_length refl done)
+    let value = c.deref_mut-slot-items.ensures.value in
+    let P : Option (Runs ℕ) → Option (Runs ℕ) → Type 0 = λ before now. SlotFits (c.args.insertions + 2) now in
+    let E : List (Option (Runs ℕ)) → Type 0 = EachSlot (HasRoom nat_eq (c.args.insertions + 2)) in
+    let each = loop_done P old c.deref_mut-slot-items.result.now items c.args.slots.now.len value c.loop-slot.auto.slot-items (omega arith) tt (λ k h. c.loop-slot.invariant.room k (omega arith)) in (
+      each.0,
+      λ enough. (
+        refl,
+        looped items old c.args.slots.now.len (c.loop-slot.auto.slot-items ∙ ap length value) (omega arith) ∙ c.loop-slot.invariant.kept (subst E (sym value) enough) ∙ value,
+      ),
+    )
 
-pub returns-clause-ok : goal.returns-clause-ok
-returns-clause-ok g c =
-    let items = c.loop-slot.slot-items in
-    let old = c.args.slots.now.items in
-    let same_length : length items ≡ length old = c.loop-slot.auto.slot-items ∙ ap length c.deref_mut-slot-items.ensures.value in
-    let all : take c.args.slots.now.len (items ++ drop (length items) old) ≡ items = looped items old c.args.slots.now.len same_length (omega arith) in
-    let P : Option (Runs ℕ) → Option (Runs ℕ) → Type 0 = λ before now. IfSome now (HasRoom nat_eq (c.args.insertions + 2)) in
-    let done : (k : ℕ) → k < length old → P (slot_at old k) (slot_at items k) =
-    λ k h. let before : k < c.loop-slot.slot-index = omega arith in c.loop-slot.invariant.room k before in
-    rw all (in_each P old items same_length tt done)
-
-pub returns-in_err-reserve_in-clause-room_is_there : goal.returns-in_err-reserve_in-clause-room_is_there
-returns-in_err-reserve_in-clause-room_is_there g c =
-    let items = c.loop-slot.slot-items in
-    let i = c.loop-slot.slot-index in
-    let inside : i < length items = omega arith in
-    let first : i ≤ i = omega arith in
-    let P : Option (Runs ℕ) → Type 0 = λ s. IfSome s (HasRoom nat_eq (c.args.insertions + 2)) in
-    let read : slot_at items i ≡ get_or items i c.slot-item.result = get_or_default items i None c.slot-item.result inside in
-    let was : slot_at items i ≡ slot_at c.args.slots.now.items i = c.loop-slot.invariant.same i first ∙ ap (λ s. slot_at s i) c.deref_mut-slot-items.ensures.value in
-    λ enough.
-    let refused = c.in_err-reserve_in.ensures.room_is_there (subst P (sym was ∙ read) (enough i)) in
-    cc
+pub returns-clause-grown : goal.returns-clause-grown
+returns-clause-grown g c =
+    let each = loop_done (InBoth (HaveGrown (c.args.insertions + 2))) c.args.slots.now.items c.deref_mut-slot-items.result.now c.loop-slot.slot-items c.args.slots.now.len
+    c.deref_mut-slot-items.ensures.value c.loop-slot.auto.slot-items (omega arith) refl (λ k h. c.loop-slot.invariant.done k (omega arith)) in
+    (each.0, each.1, refl)

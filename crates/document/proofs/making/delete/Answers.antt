@@ -1,42 +1,34 @@
-use Rattle.document.proofs.Names.{◌+◌, ◌≤◌, slice_range, ap, ◌∙◌, arith, length, bytes_of, Delete, length_of_range, List, Cell, text_parts}
+use Rattle.document.proofs.Names.{◌+◌, ◌≤◌, slice_range, ap, ◌∙◌, arith, length, bytes_of, length_of_bytes, length_of_range, List, Cell, deletion_of, TextParts}
 use Rattle.document.proofs.LineSteps.{length_deleted}
-use Rattle.document.proofs.SteppedParts.{told_rows, parts_after, small_bound}
-use Rattle.document.proofs.TextRoom.{deletion_leaves}
+use Rattle.document.proofs.SteppedParts.{can_carry, small_bound, stepped}
 use Rattle.document.proofs.making.delete.Goals as goal
 
-pub carry_rows-requires-clause-was : goal.carry_rows-requires-clause-was
-carry_rows-requires-clause-was c =
-    let old = text_parts c.args.cells.now c.args.lines.now c.args.rows.now c.args.indicators.now in
-    let step = Delete c.args.place (slice_range (bytes_of old.cells.cells) c.args.place (c.args.place + c.args.count)) in
-    let counted = length_of_range old.cells.cells c.args.place c.args.count c.requires.fits in
-    record {
-      types = old.lines.index.types;
-      step = step;
-      text = bytes_of old.cells.cells;
-      is = told_rows step c.requires.parts.options old c.take_out-change.result c.requires.parts.are c.take_out-change.ensures.change (omega (arith, c.requires.fits, counted)) c.requires.room.rows
-          (omega (arith, c.requires.room.width, small_bound old.lines.is_large));
-    }
+pub take_out-change-requires : goal.take_out-change-requires
+take_out-change-requires c =
+    let room = c.requires.room.1 in
+    record { within = c.requires.fits; width = omega (arith, room.width); indexed = c.requires.room.0.are.indexed; starts = room.starts }
 
-pub returns-clause-stepped : goal.returns-clause-stepped
-returns-clause-stepped c =
-    let old = text_parts c.args.cells.now c.args.lines.now c.args.rows.now c.args.indicators.now in
-    let new = text_parts c.take_out-change.new.cells c.take_out-change.new.lines c.carry_rows.new.rows c.delete.new.self in
-    let bytes = slice_range (bytes_of old.cells.cells) c.args.place (c.args.place + c.args.count) in
-    let step = Delete c.args.place bytes in
-    let taken = c.take_out-change.ensures.taken in
+pub carry_rows-requires : goal.carry_rows-requires
+carry_rows-requires c =
+    let old = c.args.parts.now in
+    let laws = c.edits_of_steps.ensures in
+    let one = c.requires.room.0 in
+    can_carry (deletion_of c.args.place c.args.count (bytes_of old.cells.cells)) c.take_out-change.result one.options old one.are
+    (omega (arith, c.requires.fits, length_of_range old.cells.cells c.args.place c.args.count c.requires.fits)) laws.few laws.fit c.take_out-change.ensures.is c.requires.room.1.rows
+    (omega (arith, c.requires.room.1.width, small_bound old.lines.is_large))
+
+pub returns : goal.returns
+returns c =
+    let old = c.args.parts.now in
+    let new : TextParts = record { cells = c.take_out-change.new.cells; lines = c.take_out-change.new.lines; rows = c.carry_rows.new.rows; indicators = c.delete.new.self } in
+    let text = bytes_of old.cells.cells in
+    let bytes = slice_range text c.args.place (c.args.place + c.args.count) in
+    let laws = c.edits_of_steps.ensures in
+    let one = c.requires.room.0 in
     let counted = length_of_range old.cells.cells c.args.place c.args.count c.requires.fits in
-    let told = told_rows step c.requires.parts.options old c.take_out-change.result c.requires.parts.are c.take_out-change.ensures.change (omega (arith, c.requires.fits, counted)) c.requires.room.rows
-    (omega (arith, c.requires.room.width, small_bound old.lines.is_large)) in
-    let carried = c.carry_rows.ensures.carried old.lines.index.types step (bytes_of old.cells.cells) told in
     let within : c.args.place + length bytes ≤ length old.cells.cells = omega (arith, c.requires.fits, counted) in
-    let long = ap (λ (cells : List Cell). length cells + length bytes) taken.cells ∙ length_deleted c.args.place bytes old.cells.cells within in
-    let values = c.delete.ensures.values bytes counted in
-    record {
-      together = λ options parts. parts_after step options old new parts taken carried (omega (arith, c.delete.ensures.length, long, counted, parts.indicator_count)) values c.delete.ensures.width
-          (omega (arith, long, parts.fits));
-      text = taken;
-      rows = carried;
-      values = values;
-      runs = c.delete.ensures.capacity;
-      room = deletion_leaves c.args.place bytes old new c.room_for_steps.ensures.deletion within c.requires.parts.are.indexed taken carried c.delete.ensures.room;
-    }
+    let long = ap (λ (cells : List Cell). length cells + length bytes) c.take_out-change.ensures.edit.cells ∙ length_deleted c.args.place bytes old.cells.cells within in
+    let few = c.room_for_steps.ensures.deletion old.lines.index.types c.args.place (length bytes) text (omega (arith, within, length_of_bytes old.cells.cells)) in
+    stepped (deletion_of c.args.place c.args.count text) c.take_out-change.result one.options old one.are within laws.few new laws.rows c.rows_that_meet.ensures.rows c.rows_match_lines.ensures.rows_after_steps
+    few c.take_out-change.ensures c.carry_rows.ensures (omega (arith, long, c.requires.room.1.width)) c.delete.ensures.width (omega (arith, c.delete.ensures.length, long, counted, one.are.indicator_count))
+    (c.delete.ensures.values bytes counted) c.delete.ensures.runs.0 (λ rest room. c.delete.ensures.runs.1 rest.insertions room)

@@ -1,5 +1,5 @@
 use Rattle.editor_session.proofs.Names.{pos, ap, sym, subst, quiet, IsSound, not-true}
-use Rattle.session_changes.specs.Memory.{takes_memory}
+use Rattle.performing.specs.SessionMemory.{takes_memory}
 use Rattle.editor_session.proofs.Keeping.{kept_with}
 use Rattle.editor_session.proofs.OneDocument.{kept_performed}
 use Rattle.editor_session.proofs.changing.perform_session_change.Goals as goal

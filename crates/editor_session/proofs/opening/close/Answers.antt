@@ -1,7 +1,7 @@
 use Rattle.editor_session.proofs.Names.{◌≡◌, ◌≢◌, ℕ, ◌+◌, ◌<◌, ◌==◌, Bool, true, false, cond, List, [], ◌∷◌, map, refl, ap, sym, ◌∙◌, subst, Option, Some, None, Ok, Err, option_map, NoSuchView, nat_lt, not, filter, AllByRecursion, cond_both, Limits, Document, View, view_at, living, left_by, references, Rise, IsSoundDocument, ListsItsViews, closed, closed_view, Entry, Entries, id_of, value_of, value_at, with_value_at, without_id, Kept, KeptView, views_of, AreNamed, session_in, SessionState, IsKept, DocumentsAreNamed, view_in, id_of_view, id_of_document, own_at, found_some, found_none, still_named, all_filter, option_copied}
 use Rattle.id_table.specs.Entries.{Rise as IdsRise}
 use Rattle.document_table.specs.Leaving.{documents_in as entries_in, left_over_of, let_go, IsChangedAlike, LeavesTheLiving}
-use Rattle.session_changes.specs.proved.Names.{IsNamedDocument, named_in, named_out, id_at, without_itself, none_listed}
+use Rattle.performing.specs.proved.Names.{IsNamedDocument, named_in, named_out, id_at, without_itself, none_listed}
 use Rattle.editor_session.proofs.opening.close.Goals as goal
 
 not_open : (s : SessionState) (view : ℕ) → IsKept s → value_at s.views.entries view ≡ None → closed (session_in s) view ≡ Err NoSuchView

@@ -26,6 +26,6 @@ pub returns-clause-ok : goal.returns-clause-ok
 returns-clause-ok c =
     let s = c.args.state.now in let k = c.in_ok-document.document in let v = c.in_ok-document.view in
     opened_so s c.reserve.new.self c.insert_reserved.new.self c.reserve-2.new.self c.insert_reserved-2.new.self k v
-    (ap (λ (t : Entries Kept). t.entries) c.reserve.ensures.rest) (ap (λ (t : Entries Kept). t.next) c.reserve.ensures.rest) c.insert_reserved.ensures.entries c.insert_reserved.ensures.next
-    (ap (λ (t : Entries KeptView). t.entries) c.reserve-2.ensures.rest) (ap (λ (t : Entries KeptView). t.next) c.reserve-2.ensures.rest) c.insert_reserved-2.ensures.entries c.insert_reserved-2.ensures.next
+    (ap (λ (t : Entries Kept). t.entries) c.reserve.ensures.grown.0) (ap (λ (t : Entries Kept). t.next) c.reserve.ensures.grown.0) c.insert_reserved.ensures.entries c.insert_reserved.ensures.next
+    (ap (λ (t : Entries KeptView). t.entries) c.reserve-2.ensures.grown.0) (ap (λ (t : Entries KeptView). t.next) c.reserve-2.ensures.grown.0) c.insert_reserved-2.ensures.entries c.insert_reserved-2.ensures.next
     (search rules) (search rules)

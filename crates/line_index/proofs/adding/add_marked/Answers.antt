@@ -7,28 +7,18 @@ adding-init g c = none_seen c.args.types (c.args.before.now ++ c.args.after.now)
 
 pub add_at-line-requires : goal.add_at-line-requires
 add_at-line-requires g c =
-    let text = c.args.before.now ++ c.args.after.now in
     let bit = c.lowest-bit.result in
     let found = c.lowest-bit.ensures in
-    let inv = c.adding.invariant in (
-      omega (arith, c.requires.base),
-      can_go_on c.args.types text c.args.base c.args.place (c.args.place + bit) (c.args.place + bit + 1) (c.args.place + 64) c.args.first c.adding.line c.args.starts.now c.adding.starts
-          c.requires.can
-          (added_up_to c.args.types text c.args.base c.args.place c.args.first c.adding.line c.adding.left bit c.args.starts.now c.adding.starts inv c.requires.can.free.within
-          (omega (arith, found.within)) (inv.behind bit found.within found.set) found.below)
-          (omega arith) (omega arith) (omega (arith, found.within)),
-    )
+    let inv = c.adding.invariant in
+    let up_to = added_up_to inv bit c.requires.can.free.within (omega (arith, found.within)) (inv.behind bit found.within found.set) found.below in
+    (omega (arith, c.requires.base), can_go_on c.requires.can up_to (c.args.place + bit + 1) (omega arith) (omega arith) (omega (arith, found.within)))
 
 pub adding-preserved : goal.adding-preserved
 adding-preserved g c =
-    let text = c.args.before.now ++ c.args.after.now in
     let found = c.lowest-bit.ensures in
     let rest = c.without-left in
-    one_seen c.args.types text c.args.base c.args.place c.args.first c.adding.line c.add_at-line.result c.adding.left rest.result c.lowest-bit.result
-    c.args.starts.now c.adding.starts c.add_at-line.new.starts c.adding.invariant c.requires.can.free.within found.within found.set found.below
+    one_seen c.adding.invariant c.add_at-line.result rest.result c.lowest-bit.result c.add_at-line.new.starts c.requires.can.free.within found.within found.set found.below
     rest.ensures.gone rest.ensures.kept c.add_at-line.ensures
 
 pub returns : goal.returns
-returns g c =
-    all_seen c.args.types (c.args.before.now ++ c.args.after.now) c.args.base c.args.place c.args.first c.adding.line c.adding.left c.args.starts.now c.adding.starts
-    c.adding.invariant c.requires.can.free.within (omega arith)
+returns g c = all_seen c.adding.invariant c.requires.can.free.within (omega arith)

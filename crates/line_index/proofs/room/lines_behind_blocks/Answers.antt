@@ -1,13 +1,7 @@
-use Rattle.line_index.proofs.Names.{◌+◌, arith, Default}
-use Rattle.line_index.proofs.Blocks.{block_counted}
+use Rattle.std.proofs.Common.{refl, arith}
+use Rattle.line_index.proofs.Blocks.{counted_next}
 use Rattle.line_index.proofs.room.lines_behind_blocks.Goals as goal
 
 pub adding-preserved : goal.adding-preserved
 adding-preserved c =
-    let inv = c.adding.invariant in
-    let block = c.lines_behind_block-lines in
-    record {
-      lines = block_counted Default c.args.bytes.now 0 (c.adding.place + 1) (c.adding.place + 192 + 1) c.adding.lines block.result (omega arith) (omega arith) inv.lines block.ensures.lines;
-      few = omega (arith, inv.few, block.ensures.few);
-      within = omega arith;
-    }
+    record { counts = record { counted = counted_next c.adding.invariant.counts.counted c.lines_behind_block-lines.ensures refl (omega arith) (omega arith) (omega arith); within = omega arith } }

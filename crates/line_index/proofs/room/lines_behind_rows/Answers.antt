@@ -1,27 +1,27 @@
-use Rattle.std.proofs.Common.{◌+◌, ◌*◌, arith}
-use Rattle.line_index.proofs.Blocks.{next_counted, rows_counted}
+use Rattle.line_index.proofs.Names.{◌+◌, arith, Default, AreStarts}
+use Rattle.line_index.proofs.Blocks.{counted_next}
 use Rattle.line_index.proofs.room.lines_behind_rows.Goals as goal
 
 pub loop-block-preserved : goal.loop-block-preserved
 loop-block-preserved c =
-    let text = c.args.bytes.now in
-    let from = c.args.from in
-    let blocks = c.loop-block.block in
-    let was = c.loop-block in
-    let first = c.lines_behind_block-first in
-    let second = c.lines_behind_block-second in
-    let third = c.lines_behind_block-third in
-    let fourth = c.lines_behind_block-fourth in
+    let inv = c.loop-block.invariant in
+    let first = c.lines_behind_block-first.ensures in
+    let second = c.lines_behind_block-second.ensures in
+    let third = c.lines_behind_block-third.ensures in
+    let fourth = c.lines_behind_block-fourth.ensures in
     record {
-      first = next_counted text from blocks (from + blocks * 192) was.first first.result (omega arith) was.invariant.first first.ensures.lines;
-      second = next_counted text (from + 12288) blocks (from + blocks * 192 + 12288) was.second second.result (omega arith) was.invariant.second second.ensures.lines;
-      third = next_counted text (from + 24576) blocks (from + blocks * 192 + 24576) was.third third.result (omega arith) was.invariant.third third.ensures.lines;
-      fourth = next_counted text (from + 36864) blocks (from + blocks * 192 + 36864) was.fourth fourth.result (omega arith) was.invariant.fourth fourth.ensures.lines;
-      few = omega (arith, was.invariant.few, first.ensures.few, second.ensures.few, third.ensures.few, fourth.ensures.few);
+      first = counted_next inv.first first (omega arith) (omega arith) (omega arith) (omega arith);
+      second = counted_next inv.second second (omega arith) (omega arith) (omega arith) (omega arith);
+      third = counted_next inv.third third (omega arith) (omega arith) (omega arith) (omega arith);
+      fourth = counted_next inv.fourth fourth (omega arith) (omega arith) (omega arith) (omega arith);
+      few = omega (arith, inv.few, first.few, second.few, third.few, fourth.few);
     }
 
-pub returns-clause-lines : goal.returns-clause-lines
-returns-clause-lines c =
-    let rows = c.loop-block in
-    let inv = rows.invariant in
-    rows_counted c.args.bytes.now c.args.from rows.block rows.first rows.second rows.third rows.fourth (omega arith) inv.first inv.second inv.third inv.fourth
+pub returns : goal.returns
+returns c =
+    let inv = c.loop-block.invariant in
+    let half : AreStarts Default c.args.bytes.now (c.args.from + 1) (c.args.from + 24576 + 1) (c.loop-block.first + c.loop-block.second) =
+    counted_next inv.first inv.second (omega arith) (omega arith) (omega arith) (omega arith) in
+    let most : AreStarts Default c.args.bytes.now (c.args.from + 1) (c.args.from + 36864 + 1) (c.loop-block.first + c.loop-block.second + c.loop-block.third) =
+    counted_next half inv.third (omega arith) (omega arith) (omega arith) (omega arith) in
+    counted_next most inv.fourth (omega arith) (omega arith) (omega arith) (omega arith)

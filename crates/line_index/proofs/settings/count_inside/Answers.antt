@@ -1,6 +1,6 @@
-use Rattle.line_index.proofs.Names.{◌+◌, [], ◌∷◌, ◌++◌, length, sym, ap, ◌∙◌, arith, length-append, Unicode, starts_within}
+use Rattle.line_index.proofs.Names.{◌+◌, ◌++◌, length, sym, ap, ◌∙◌, arith, Unicode}
 use Rattle.line_index.proofs.SettingLists.{none_starts, one_more_inside}
-use Rattle.line_index.proofs.StartLists.{no_starts, one_more}
+use Rattle.line_index.proofs.StartLists.{one_if, count_at, count_apart, no_starts}
 use Rattle.line_index.proofs.settings.count_inside.Goals as goal
 
 pub counting-init : goal.counting-init
@@ -26,8 +26,11 @@ counting-preserved c =
       lines = omega (
         arith,
         inv.lines,
-        ap length (one_more Unicode text (c.args.start + 1) place next.result (omega (arith, inv.low)) (omega (arith, next.ensures.within)) (inv.found c.counting-test.true) next.ensures.none),
-        length-append (starts_within Unicode text (c.args.start + 1) place) (place ∷ []),
+        count_apart Unicode text (c.args.start + 1) place next.result (omega (arith, inv.low)) (omega (arith, next.ensures.within)),
+        count_apart Unicode text place (place + 1) next.result (omega arith) (omega (arith, next.ensures.within)),
+        count_at Unicode text place,
+        ap one_if (inv.found c.counting-test.true),
+        ap length (no_starts Unicode text (place + 1) next.result next.ensures.none),
       );
       low = omega (arith, inv.low, next.ensures.within);
       high = next.ensures.within.1;

@@ -1,55 +1,41 @@
 use Rattle.std.proofs.Common.{◌+◌, ◌-◌, ◌≤◌, ◌++◌, arith}
-use Rattle.line_index.proofs.Added.{can_go_on, added_both, added_none, added_nothing}
+use Rattle.line_index.proofs.Added.{can_go_on, added_both, added_past, added_nothing}
 use Rattle.line_index.proofs.starts.add_from.Goals as goal
 
 pub add_marked-line-requires-clause-can : goal.add_marked-line-requires-clause-can
 add_marked-line-requires-clause-can g c =
-    let text = c.args.before.now ++ c.args.after.now in
     let inv = c.adding.invariant in
-    can_go_on c.args.types text c.args.base c.args.from c.adding.place (c.adding.place + 64) c.args.to c.args.first c.adding.line c.args.starts.now c.adding.starts
-    c.requires.can inv.added inv.low (omega arith) (omega (arith, c.in-Some.ensures.0, inv.low, c.requires.near))
+    can_go_on c.requires.can inv.added (c.adding.place + 64) inv.low (omega arith) (omega (arith, c.in-Some.ensures.0, inv.low, c.requires.near))
 
 pub adding-preserved-in-Some : goal.adding-preserved-in-Some
 adding-preserved-in-Some g c =
-    let text = c.args.before.now ++ c.args.after.now in
     let inv = c.adding.invariant in
     let base = c.args.base in
     let next = base + c.place_behind.result in
-    let to_marked = added_both c.args.types text base c.args.from c.adding.place (c.adding.place + 64) c.args.first c.adding.line c.add_marked-line.result
-    c.args.starts.now c.adding.starts c.add_marked-line.new.starts c.requires.can.free.within inv.low (omega arith) inv.added c.add_marked-line.ensures in
+    let marked = added_both inv.added c.add_marked-line.ensures c.requires.can.free.within inv.low (omega arith) in
     let low : c.adding.place + 64 ≤ next = omega (arith, inv.low, c.requires.near, c.place_behind.ensures.within.0) in
     record {
-      added = added_both c.args.types text base c.args.from (c.adding.place + 64) next c.args.first c.add_marked-line.result c.add_marked-line.result
-          c.args.starts.now c.add_marked-line.new.starts c.add_marked-line.new.starts c.requires.can.free.within (omega (arith, inv.low)) low to_marked
-          (added_none c.args.types text base (c.adding.place + 64) next c.add_marked-line.result c.add_marked-line.new.starts
-          (λ k l m. c.place_behind.ensures.none (k - base) (omega (arith, inv.low, c.requires.near)) (omega (arith, inv.low, c.requires.near))));
+      added = added_past marked next (λ k l m. c.place_behind.ensures.none (k - base) (omega (arith, inv.low, c.requires.near)) (omega (arith, inv.low, c.requires.near)))
+          c.requires.can.free.within (omega (arith, inv.low)) low;
       low = omega (arith, inv.low, low);
       high = omega (arith, inv.low, inv.high, c.requires.near, c.place_behind.ensures.within.1);
     }
 
 pub add_at-line-requires : goal.add_at-line-requires
 add_at-line-requires g c =
-    let text = c.args.before.now ++ c.args.after.now in
-    let inv = c.adding.invariant in (
-      omega (arith, inv.low, c.requires.near),
-      can_go_on c.args.types text c.args.base c.args.from c.adding.place (c.adding.place + 1) c.args.to c.args.first c.adding.line c.args.starts.now c.adding.starts
-          c.requires.can inv.added inv.low (omega arith) (omega arith),
-    )
+    let inv = c.adding.invariant in
+    (omega (arith, inv.low, c.requires.near), can_go_on c.requires.can inv.added (c.adding.place + 1) inv.low (omega arith) (omega arith))
 
 pub adding-preserved : goal.adding-preserved
 adding-preserved g c =
-    let text = c.args.before.now ++ c.args.after.now in
     let inv = c.adding.invariant in
     let base = c.args.base in
     let next = base + c.next_place.result in
-    let to_next = added_both c.args.types text base c.args.from c.adding.place (c.adding.place + 1) c.args.first c.adding.line c.add_at-line.result
-    c.args.starts.now c.adding.starts c.add_at-line.new.starts c.requires.can.free.within inv.low (omega arith) inv.added c.add_at-line.ensures in
+    let one = added_both inv.added c.add_at-line.ensures c.requires.can.free.within inv.low (omega arith) in
     let low : c.adding.place + 1 ≤ next = omega (arith, inv.low, c.requires.near, c.next_place.ensures.within.0) in
     record {
-      added = added_both c.args.types text base c.args.from (c.adding.place + 1) next c.args.first c.add_at-line.result c.add_at-line.result
-          c.args.starts.now c.add_at-line.new.starts c.add_at-line.new.starts c.requires.can.free.within (omega (arith, inv.low)) low to_next
-          (added_none c.args.types text base (c.adding.place + 1) next c.add_at-line.result c.add_at-line.new.starts
-          (λ k l m. c.next_place.ensures.none (k - base) (omega (arith, inv.low, c.requires.near)) (omega (arith, inv.low, c.requires.near))));
+      added = added_past one next (λ k l m. c.next_place.ensures.none (k - base) (omega (arith, inv.low, c.requires.near)) (omega (arith, inv.low, c.requires.near)))
+          c.requires.can.free.within (omega (arith, inv.low)) low;
       low = omega (arith, inv.low, low);
       high = omega (arith, inv.low, inv.high, c.requires.near, c.next_place.ensures.within.1);
     }

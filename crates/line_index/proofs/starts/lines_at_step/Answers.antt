@@ -3,7 +3,7 @@ use Rattle.line_index.proofs.Finding.{line_of_last}
 use Rattle.line_index.proofs.starts.lines_at_step.Goals as goal
 
 pub returns-in-Some-clause-line : goal.returns-in-Some-clause-line
-returns-in-Some-clause-line g c = sym (line_of_last c.args.starts.now.starts c.args.starts.now.length c.args.front c.args.likely c.starts_are_sound.ensures.sound c.in-Some.ensures.front)
+returns-in-Some-clause-line g c = sym (line_of_last c.starts_are_sound.ensures.sound c.in-Some.ensures.front)
 
 pub returns-in-Some-few_lines-clause-line : goal.returns-in-Some-few_lines-clause-line
-returns-in-Some-few_lines-clause-line g c = sym (line_of_last c.args.starts.now.starts c.args.starts.now.length c.args.front c.saturating_add-next.result c.starts_are_sound.ensures.sound c.in-Some-few_lines.ensures.front)
+returns-in-Some-few_lines-clause-line g c = sym (line_of_last c.starts_are_sound.ensures.sound c.in-Some-few_lines.ensures.front)

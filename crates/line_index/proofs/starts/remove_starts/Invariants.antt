@@ -1,4 +1,4 @@
-use Rattle.std.proofs.Common.{◌≡◌, ◌+◌, ◌-◌, ◌++◌, take, drop}
+use Rattle.std.proofs.Common.{◌≡◌, ◌++◌, take, drop}
 use Rattle.line_index.proofs.starts.remove_starts.Given as goal
 
 abbrev pub invariant-loop-line : goal.invariant-loop-line
@@ -6,5 +6,5 @@ invariant-loop-line g l =
     record {
       starts : l.starts.starts ≡ take l.first l.initial.starts.starts ++ drop l.line l.initial.starts.starts;
       length : l.starts.length ≡ l.initial.starts.length;
-      room : l.starts.room ≡ l.initial.starts.room + (l.line - l.first);
+      capacity : l.starts.capacity ≡ l.initial.starts.capacity;
     }

@@ -1,9 +1,5 @@
-use Rattle.line_index.proofs.Names.{◌≡◌, ◌+◌, ◌-◌, ◌≤◌, length, Unicode, starts_within}
+use Rattle.line_index.proofs.Names.{◌+◌, Unicode, AreStarts}
 use Rattle.line_index.proofs.unicode_blocks.lines_behind_block.Given as goal
 
 abbrev pub invariant-loop-place : goal.invariant-loop-place
-invariant-loop-place l =
-    record {
-      lines : l.lines ≡ length (starts_within Unicode l.bytes (l.from + 1) (l.place + 1));
-      few : l.lines ≤ l.place - l.from;
-    }
+invariant-loop-place l = AreStarts Unicode l.bytes (l.from + 1) (l.place + 1) l.lines

@@ -13,5 +13,5 @@ returns-then-before-line-clause-values g c = λ default lines h w.
 pub returns-clause-values : goal.returns-clause-values
 returns-clause-values g c = λ default lines h w.
     let items = c.args.stored.now.items in
-    ap (padded default (lines - c.args.count)) (c.delete.ensures.items ∙ ap (deleted items (c.args.line + 1)) c.min.ensures)
+    ap (padded default (lines - c.args.count)) (ap (λ s. s.items) c.delete.ensures ∙ ap (deleted items (c.args.line + 1)) c.min.ensures)
     ∙ padded_joined default items lines c.args.line c.args.count (c.len-before.result - c.args.line - 1) h (omega arith) w (omega arith)

@@ -1,5 +1,5 @@
 use Rattle.std.proofs.Common.{◌+◌, ◌-◌, ◌≤◌}
-use Rattle.partitioning.proofs.Halving.{IsRange, MayRead, MustRead}
+use Rattle.partitioning.proofs.Halving.{IsRange, IsHalved}
 use Rattle.partitioning.proofs.lookups.last_among.Given as goal
 
 abbrev pub invariant-halving : goal.invariant-halving
@@ -7,9 +7,8 @@ invariant-halving g l =
     record {
       end : l.low + l.width ≤ l.behind;
       range : IsRange l.starts.starts (g.P.Place.number l.wanted) l.low l.width;
-      counted : l.initial.probes ≤ l.probes;
-      many : MustRead (l.behind - l.first) l.initial.probes l.probes l.width;
-      few : MayRead (l.behind - l.first) l.initial.probes l.probes l.width;
+      rises : l.initial.probes ≤ l.probes;
+      reads : IsHalved 0 (l.behind - l.first) l.initial.probes l.probes l.width;
     }
 
 abbrev pub decreases-halving : goal.decreases-halving

@@ -1,5 +1,5 @@
 use Rattle.std.proofs.Common.{◌^◌, ◌<◌, ◌≤◌, length}
-use Rattle.partitioning.proofs.Halving.{IsRange, MayRead, MustRead}
+use Rattle.partitioning.proofs.Halving.{IsRange, IsHalved}
 use Rattle.partitioning.proofs.lookups.last_of_few.Given as goal
 
 abbrev pub invariant-halving : goal.invariant-halving
@@ -7,9 +7,8 @@ invariant-halving g l =
     record {
       range : IsRange l.starts.starts (g.P.Place.number l.wanted) l.low (2 ^ l.level);
       fits : l.level < 64;
-      counted : l.initial.probes ≤ l.probes;
-      many : MustRead (length l.starts.starts) l.fn.probes l.probes (2 ^ l.level);
-      few : MayRead (length l.starts.starts) l.fn.probes l.probes (2 ^ l.level);
+      rises : l.fn.probes ≤ l.probes;
+      reads : IsHalved 1 (length l.starts.starts) l.fn.probes l.probes (2 ^ l.level);
     }
 
 abbrev pub decreases-halving : goal.decreases-halving

@@ -14,5 +14,5 @@ returns-clause-turned g c =
     let e : f c.minus-distance.result ≡ f c.args.end - get_or (map f xs) i 0 =
     omega (arith, c.minus-distance.ensures, read_number f xs i c.get.result c.requires.index c.get.ensures) in
     let l : i < length (map f xs) = rw (length-map xs f) c.requires.index in
-    rw (c.set.ensures.items, map-set)
+    rw (c.set.ensures, map-set)
     (turned_more (f c.args.end) i i (f c.minus-distance.result) (map f xs) (map f xs) (turned_none (f c.args.end) i (map f xs)) (omega arith) l e)

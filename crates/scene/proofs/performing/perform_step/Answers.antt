@@ -39,15 +39,15 @@ tell_after_change-requires-clause-can c =
       },
     )
 
-pub follow_change-requires-clause-can : goal.follow_change-requires-clause-can
-follow_change-requires-clause-can c =
+pub follow_change-requires : goal.follow_change-requires
+follow_change-requires c =
     let s = c.requires.can.0 in
     let can = c.requires.can.1 in
     let d = c.args.document.now.document in
     let M = c.movement_of_change-movement.ensures ∙ ap outline_movement (some_has _ _ (TextStep s) can.at c.requires.outline) ∙ outline_movement_is s in
     let E : edits_of c.make_change-change.result ≡ step_edits s d = ap edits_of (c.make_change-change.ensures.lines s can.at) in
     let V : c.views.result.now ≡ d.views = c.views.ensures ∙ ap (λ (x : Document). x.views) (c.make_change-change.ensures.document s can.at) in
-    rw (M, E, V) (all_can s d c.args.views.now can.watched can.fits c.moves_are_those_of_steps.ensures.fit c.edits_of_steps.ensures.few can.room.width)
+    record { can = rw (M, E, V) (all_can s d c.args.views.now can.watched can.fits c.moves_are_those_of_steps.ensures.fit c.edits_of_steps.ensures.few can.room.width) }
 
 pub returns : goal.returns
 returns c =

@@ -46,7 +46,6 @@ follow_change-requires c =
     let E : edits_of c.step-change.result ≡ step_edits s d = ap edits_of (rw same at c.step-change.ensures.lines) in
     let V : c.views.result.now ≡ d.views = c.views.ensures ∙ ap (λ (x : Document). x.views) (rw same at c.step-change.ensures.document) in
     record {
-      small = c.step-change.ensures.small;
       can = rw (c.movement_of.ensures (text_of d) on, E, V) (all_can s d c.args.views.now c.requires.watched (lent_fits c.args.step (text_of d) on)
           c.moves_are_those_of_steps.ensures.fit c.edits_of_steps.ensures.few (subst (λ n. FitsWidth d (length d.cells + n)) (lent_text d.line_end_types c.args.step (text_of d)) c.requires.room.width));
     }

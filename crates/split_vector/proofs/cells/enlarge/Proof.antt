@@ -1,17 +1,17 @@
 -- `enlarge` hands the allocator the items as an array with room behind it, and splits what it returns into cells again. Assumes `Logic`.
-use Rattle.split_vector.proofs.HandNames.{◌≡◌, refl, sym, subst, true, false, ℕ, ◌+◌, ◌-◌, ◌*◌, ◌<◌, ◌≤◌, ◌^◌, arith, List, [], ◌∷◌, ◌++◌, T, lit<, length, Ura, Ty, Fn, Body, named, w64, inst_fn, Val, vptr, vint, vstruct, vcons, vnil, has_ty, WT, SProp, ent, sep, via, fst∗, snd∗, never_e, ex, Fml, Lft, Share, Incl-trans, ftrue, flft, Memory, Routine, Env, Calls, Loops, Wp, WpFn, Tables, after_seq, at_return, Logic, sem, Fun, fact, fact_use, ◌⊑◌, tables, tables_of, FmC, fm_of, WpFn-mono, Item, any_q, ⋆, ‵, raw, ◌⊛◌, later, await, at_ret, ◌$◌, ◌∵◌, !, qed, by, move, keep, use0, use1, use2, split, split3, join, group, rewrite, fsplit, fsplit3, fjoin, feq_l, flt_l, flt_i, suffices, frame, done, whole, sub, agg, live, vrt, in_variant, stop, fld, lit, of_opd, and_then, no_more, first, blocks, exec, switches_on, returns, enter, alloc_all, pass_all, free_all, look_at, get, get_in, get_tag, sets, sets_last, lands_last, is, env, yes, no, RattleType, owns, Is, hidden_shr, layout, Ptr, block_ptr, null_ptr, Bor, ShrRef, RefOf, usize, plain, nothing, owned, Struct, Struct-Makes, Tuple, calls_at_last, Clauses, Ended, closing, on_entry, Meets, triple_of, Triple, entered, needs, Stays, stay_dropped, walk_of, ends_at, Goes-dropped, walk_Meets, IfOk, OnErr, Ok, Err, FitsInBlock, block_with_items, resized_if_ok, El, R, Al, Answer, Answer-typed, Goes-blank, second, token, P, after, head, arm_body, Good, first_Good, word, word-Good, ok_of, err_of, cells_own, deed_owns, slots}
+use Rattle.split_vector.proofs.HandNames.{◌≡◌, refl, sym, subst, true, false, ℕ, ◌+◌, ◌-◌, ◌*◌, ◌<◌, ◌≤◌, ◌^◌, arith, List, [], ◌∷◌, ◌++◌, T, lit<, length, Ura, Ty, Fn, Body, named, w64, inst_fn, Val, vptr, vint, vstruct, vcons, vnil, has_ty, WT, SProp, ent, never_e, ex, Fml, Lft, Share, Incl-trans, ftrue, flft, Memory, Routine, Env, Calls, Loops, Wp, WpFn, after_seq, at_return, Logic, sem, Fun, fact, ◌⊑◌, tables, FmC, Item, any_q, ⋆, ‵, raw, ◌⊛◌, later, await, at_ret, ◌$◌, ◌∵◌, !, qed, by, move, keep, use0, use1, use2, split, split3, join, group, rewrite, fsplit, fsplit3, fjoin, feq_l, flt_l, flt_i, suffices, frame, done, whole, sub, agg, live, vrt, in_variant, stop, fld, lit, of_opd, and_then, no_more, first, blocks, exec, switches_on, returns, enter, alloc_all, pass_all, free_all, look_at, get, get_in, get_tag, sets, sets_last, lands_last, is, env, yes, no, RattleType, owns, Is, hidden_shr, layout, Ptr, block_ptr, null_ptr, Bor, ShrRef, RefOf, usize, plain, nothing, owned, Struct, Struct-Makes, Tuple, calls_at_last, Clauses, Ended, Triple, Stays, stay_dropped, walk_of, ends_at, Goes-dropped, IfOk, OnErr, Ok, Err, FitsInBlock, block_with_items, resized_if_ok, El, R, Al, Answer, Answer-typed, Goes-blank, token, P, after, head, arm_body, Good, first_Good, word, word-Good, ok_of, err_of, cells_own, deed_owns, slots, heard, regoal, prop, proved_at, drop}
 use types.Kit.{Post as After}
 use denote.Struct.Declared as Declared
 use Rattle.core.specs.contracts.result.Result as RS
 use Rattle.core.specs.contracts.alloc.AllocError as AE
 use Rattle.core.proofs.alloc.Resizes.{Flagged, Grows, Resizes, Resizes-gives, Resizes-goes, at_resizes, flagged, resize_key}
 use Rattle.core.proofs.slots.Leases.{args}
+use Rattle.core.proofs.atomic.Steps.{fm as calls_hold}
 use Rattle.split_vector.proofs.Memory.{all_of, all_long, Cr, Bs, Mark, sz, mark, mark_had, mark_made, word_had, word_made, says_both, three_val, three_of}
 use Rattle.split_vector.proofs.Whole.{opened, closed}
 use Rattle.split_vector.specs.contracts.cells.Deed as D-type
 use Rattle.split_vector.specs.contracts.cells.enlarge as F
-use Rattle.split_vector.specs.contracts.cells.enlarge.Key.{name as #self}
-use Rattle.split_vector.proofs.cells.enlarge.Statement as stated
+use Rattle.split_vector.proofs.cells.enlarge.Statement.{statement}
 use Rattle.split_vector.proofs.cells.enlarge.Code as code
 
 module _ (E : El) (Z : Al) where
@@ -172,39 +172,21 @@ module _ (E : El) (Z : Al) {M : Type 1} {𝓤 : Ura M} (𝓛 : Logic 𝓤) (at_m
       (back (Err (record {})) rv b o cells.spare old asked.1 asked.2 asked.3 asked.4 (let long : length (all_of E cells) ≡ old = omega (arith, all_long E cells, asked.1, asked.2, asked.3) in subst (λ k. k * sz E < 2 ^ 63) long fit)) $
       by ! (exits x (Err (record {}), record { mark = record {}; at = x; left = cells.left; spare = cells.spare; right = cells.right }, record { mark = record {}; at = x; len = old; alloc = a }) made tt (refl, refl, refl, refl, refl, refl, refl))))))
 
-  entry : (x : Ptr) → Asks E Z a x len old new cells deed → ent 𝓤 (on_entry 𝓛 (ended E Z).signature (κ, (κ₁, (κ₂, tt))) (q, (q₁, (q₂, tt))) (self, (based x, (len, (old, (new, (cells, (deed, tt))))))) (us0, (us1, (us2, (us3, (us4, (us5, (us6, tt))))))))
-      (WpFn 𝓤 H C Λ (function E Z) (us0 ++ (us1 ++ (us2 ++ (us3 ++ (us4 ++ (us5 ++ (us6 ++ []))))))) (Post x))
-  entry x asked =
-      qed 𝓛 ((‵ (flft κ q) ⊛ others) ∷ ‵ (owns (ShrRef (named 0) κ (P E Z) ∷ Bs E ∷ usize ∷ usize ∷ usize ∷ Cr E ∷ Dd E Z ∷ []) (self, (based x, (len, (old, (new, (cells, (deed, tt))))))) (us0, (us1, (us2, (us3, (us4, (us5, (us6, tt)))))))) ∷ []) ∵ split ! $ move ! (2 ∷ []) $ fsplit3 ! $ fsplit ! $ feq_l ! (λ e0.
-      move ! (1 ∷ []) $ word_had ! x us1 (λ e1. move ! (1 ∷ []) $ fsplit3 ! $ fsplit ! $ feq_l ! (λ e2. flt_l ! (λ fl. fsplit ! $ feq_l ! (λ e3. flt_l ! (λ fo.
-      fsplit3 ! $ fsplit ! $ feq_l ! (λ e4. flt_l ! (λ fn.
-      fsplit ! $ mark_had ! E us5 (λ e5. move ! (1 ∷ []) $ fsplit ! $ fsplit ! $ mark_had ! E us6 (λ e6. keep ! (2 ∷ 0 ∷ 3 ∷ 4 ∷ 5 ∷ []) $
-      by ! (subst (λ (ws : List Val × List Val × List Val × List Val × List Val × List Val × List Val). ent 𝓤 (⋆ 𝓛 Had) (WpFn 𝓤 H C Λ (function E Z) (ws.0 ++ (ws.1 ++ (ws.2 ++ (ws.3 ++ (ws.4 ++ (ws.5 ++ (ws.6 ++ []))))))) (Post x)))
-      (λ j. (sym e0 j, sym e1 j, sym e2 j, sym e3 j, sym e4 j, sym e5 j, sym e6 j)) (walk x asked fl fo fn))))))))))))
-
--- of a `requires` under two type parameters, the facts about their lifetimes and the last one
-three_facts : {M : Type 1} (𝓤 : Ura M) (φ ψ χ : Type 0) (On : SProp 𝓤) {Q : SProp 𝓤} → (φ → ψ → χ → ent 𝓤 On Q) → ent 𝓤 (sep 𝓤 On (sep 𝓤 (fact 𝓤 φ) (sep 𝓤 (fact 𝓤 ψ) (fact 𝓤 χ)))) Q
-three_facts 𝓤 φ ψ χ On k =
-    let S : SProp 𝓤 = sep 𝓤 (fact 𝓤 ψ) (fact 𝓤 χ) in
-    fact_use 𝓤 φ (via 𝓤 (sep 𝓤 (fact 𝓤 φ) S) (snd∗ 𝓤 On (sep 𝓤 (fact 𝓤 φ) S)) (fst∗ 𝓤 (fact 𝓤 φ) S)) (λ x. second 𝓤 φ ψ On (fact 𝓤 χ) (λ y. needs 𝓤 χ On (k x y)))
-
-meets : (E : El) (Z : Al) {M : Type 1} {𝓤 : Ura M} (𝓛 : Logic 𝓤) (at_mem : Memory → SProp 𝓤) (run : Routine → Fun 𝓤) (𝓣 : Tables 𝓤 𝓛.H) → Triple 𝓤 (𝓣.C (resize_key Z E.row 2)) (Resizes Z E.row (Grows E.row) 𝓛 at_mem run)
-    → Meets 𝓛 (ended E Z).signature (WpFn 𝓤 𝓛.H 𝓣.C 𝓣.Λ (function E Z)) (closing 𝓛 (ended E Z) (clauses E Z 𝓛 at_mem run))
-meets E Z {𝓤 = 𝓤} 𝓛 at_mem run 𝓣 callee =
-    let number = Goes-dropped 𝓛 3 (plain (λ _. usize)) yes (λ κs x f. refl) in
-    walk_Meets 𝓛 (ended E Z) (stayed E Z) (Goes-dropped 𝓛 3 (RefOf (0 ∷ []) tt (plain (λ _. P E Z)) (λ _. tt)) yes (λ κs x f. refl), (Goes-dropped 𝓛 3 (plain (λ _. Bs E)) no (λ κs x f. refl), (number, (number, (number, (Goes-blank 𝓛 3 (plain (λ _. Cr E)) no (λ κs x f. tt), (Goes-blank 𝓛 3 (plain (λ _. Dd E Z)) no (λ κs x f. tt), tt)))))))
-    (clauses E Z 𝓛 at_mem run) (WpFn 𝓤 𝓛.H 𝓣.C 𝓣.Λ (function E Z)) (WpFn-mono 𝓤 𝓛.H 𝓛.laws 𝓣 (function E Z))
-    (λ z. let κs = z.0.0 in let qs = z.0.1 in let a = z.0.3 in let vss = z.0.4 in let On : SProp 𝓤 = on_entry 𝓛 (ended E Z).signature κs qs a vss in
-    let len = a.1.1.0 in let old = a.1.1.1.0 in let new = a.1.1.1.1.0 in let cells = a.1.1.1.1.1.0 in let deed = a.1.1.1.1.1.1.0 in
-    three_facts 𝓤 (κs.1.0 ⊑ E.row.lives) (κs.1.1.0 ⊑ Z.row.lives) (Asks E Z a.0.now a.1.0.ptr len old new cells deed) On (λ reach within.
-    entry E Z 𝓛 at_mem run 𝓣.C 𝓣.Λ (fm_of 𝓤 𝓛.H 𝓛.laws 𝓣) callee κs.0 κs.1.0 κs.1.1.0 qs.0 qs.1.0 qs.1.1.0 z.0.2.0 reach within a.0.ref_ptr.0 a.0.ref_ptr.1 a.0.now len old new cells deed
-    vss.0 vss.1.0 vss.1.1.0 vss.1.1.1.0 vss.1.1.1.1.0 vss.1.1.1.1.1.0 vss.1.1.1.1.1.1.0 a.1.0.ptr))
-
-pub enlarge_spec : {M : Type 1} → stated.statement M
-unfolding tables_of
+pub enlarge_spec : {M : Type 1} → statement M
 enlarge_spec 𝓤 𝓛 𝓜 𝓡 wired X W LX LW g d dd met md =
-    let E : El = record { row = X; laws = LX } in
-    let Z : Al = record { row = W; laws = LW; g = g; d = d; drops = dd } in
-    let 𝓣 : Tables 𝓤 𝓛.H = tables_of 𝓤 𝓛.H 𝓜 (tables 𝓤 𝓛.H 𝓜 𝓡 𝓡.env) in
-    entered 𝓤 𝓛.H (triple_of 𝓛 (ended E Z).signature (F.spec X W g d dd 𝓛 𝓜.mem 𝓡.returns)) 𝓣.C 𝓣.Λ (#self (args E Z)) (function E Z) (code.unfolded 𝓤 𝓛.H 𝓜 𝓡 wired (X, (W, tt)) d dd)
-    (meets E Z 𝓛 𝓜.mem 𝓡.returns 𝓣 (met.grow dd X LX))
+    let E : El = record { row = X; laws = LX } in let Z : Al = record { row = W; laws = LW; g = g; d = d; drops = dd } in
+    let 𝓣 = tables 𝓤 𝓛.H 𝓜 𝓡 𝓡.env in let fn = function E Z in let number = Goes-dropped 𝓛 3 (plain (λ _. usize)) yes (λ κs x f. refl) in
+    proved_at 𝓛 (ended E Z) (stayed E Z) (clauses E Z 𝓛 𝓜.mem 𝓡.returns) 𝓜 𝓡
+    (Goes-dropped 𝓛 3 (RefOf (0 ∷ []) tt (plain (λ _. P E Z)) (λ _. tt)) yes (λ κs x f. refl), (Goes-dropped 𝓛 3 (plain (λ _. Bs E)) no (λ κs x f. refl), (number, (number, (number, (Goes-blank 𝓛 3 (plain (λ _. Cr E)) no (λ κs x f. tt), (Goes-blank 𝓛 3 (plain (λ _. Dd E Z)) no (λ κs x f. tt), tt)))))))
+    (F.Key.name (args E Z)) fn (code.unfolded 𝓤 𝓛.H 𝓜 𝓡 wired (X, (W, tt)) d dd) (λ z are.
+    let κs = z.0.0 in let qs = z.0.1 in let me = z.0.3.0.ref_ptr in let a = z.0.3.0.now in let x = z.0.3.1.0.ptr in let len = z.0.3.1.1.0 in let old = z.0.3.1.1.1.0 in let new = z.0.3.1.1.1.1.0 in
+    let cells = z.0.3.1.1.1.1.1.0 in let deed = z.0.3.1.1.1.1.1.1.0 in let vss = z.0.4 in let Asked = Asks E Z a x len old new cells deed in
+    qed 𝓛 (((‵ (flft κs.0 qs.0) ⊛ (‵ (flft κs.1.0 qs.1.0) ⊛ (‵ (flft κs.1.1.0 qs.1.1.0) ⊛ ‵ ftrue))) ⊛ ‵ (owns (ShrRef (named 0) κs.0 (P E Z) ∷ Bs E ∷ usize ∷ usize ∷ usize ∷ Cr E ∷ Dd E Z ∷ []) z.0.3 vss))
+    ∷ (raw (fact 𝓤 (κs.1.0 ⊑ X.lives)) ⊛ (raw (fact 𝓤 (κs.1.1.0 ⊑ W.lives)) ⊛ raw (fact 𝓤 Asked))) ∷ []) ∵
+    move ! (1 ∷ []) $ split3 ! $ heard ! (κs.1.0 ⊑ X.lives) (λ reach. heard ! (κs.1.1.0 ⊑ W.lives) (λ within. heard ! Asked (λ asked.
+    split ! $ split ! $ move ! (2 ∷ []) $ fsplit3 ! $ fsplit ! $ feq_l ! (λ e0. move ! (1 ∷ []) $ word_had ! x vss.1.0 (λ e1. move ! (1 ∷ []) $ fsplit3 ! $ drop ! $ drop ! $ fsplit3 ! $ drop ! $
+    fsplit ! $ mark_had ! E vss.1.1.1.1.1.0 (λ e5. move ! (1 ∷ []) $ fsplit ! $ fsplit ! $ mark_had ! E vss.1.1.1.1.1.1.0 (λ e6. keep ! (2 ∷ 0 ∷ 3 ∷ 4 ∷ 5 ∷ []) $
+    regoal ! (λ (us : List Val). prop (WpFn 𝓤 𝓛.H 𝓣.C 𝓣.Λ fn us ((walk_of 𝓛 (ended E Z) (stayed E Z) (clauses E Z 𝓛 𝓜.mem 𝓡.returns)).post z)))
+    (λ i. e0 i ++ (e1 i ++ (are.1.1.0.0 i ++ (are.1.1.1.0.0 i ++ (are.1.1.1.1.0.0 i ++ (e5 i ++ (e6 i ++ []))))))) refl $
+    by ! (walk E Z 𝓛 𝓜.mem 𝓡.returns 𝓣.C 𝓣.Λ (calls_hold 𝓛 𝓜 𝓡) (met.grow dd X LX) κs.0 κs.1.0 κs.1.1.0 qs.0 qs.1.0 qs.1.1.0 z.0.2.0 reach within me.0 me.1 a len old new cells deed
+    vss.0 vss.1.0 vss.1.1.0 vss.1.1.1.0 vss.1.1.1.1.0 vss.1.1.1.1.1.0 vss.1.1.1.1.1.1.0 x asked are.1.1.0.1 are.1.1.1.0.1 are.1.1.1.1.0.1)))))))))

@@ -23,7 +23,7 @@ children-smaller g c =
     let inv = c.children.invariant in
     let under : c.children.line ≤ last_child c.args.levels.now c.args.header = omega (arith, c.last_child-last.ensures.last) in
     let next = passed_next c.args.levels.now c.args.self.now.flags c.args.header c.children.line c.close-next.result c.children.self.flags c.close-next.new.self.flags
-    inv.behind (omega (arith, c.requires.header, c.requires.lines)) under c.requires.lines inv.flags c.close-next.ensures.next (ap (λ (v : ViewLines). v.flags) c.close-next.ensures.flags) in
+    inv.behind (omega (arith, c.requires.1, c.requires.0)) under c.requires.0 inv.flags c.close-next.ensures.next (ap (λ (v : ViewLines). v.flags) c.close-next.ensures.flags) in
     omega (arith, next.1, c.next_contracted-line-in-children.ensures.from)
 
 pub children-preserved : goal.children-preserved
@@ -34,7 +34,7 @@ children-preserved g c =
     let then = c.next_contracted-line-in-children in
     let under : c.children.line ≤ last_child levels c.args.header = omega (arith, c.last_child-last.ensures.last) in
     let next = passed_next levels flags c.args.header c.children.line c.close-next.result c.children.self.flags c.close-next.new.self.flags
-    inv.behind (omega (arith, c.requires.header, c.requires.lines)) under c.requires.lines inv.flags c.close-next.ensures.next (ap (λ (v : ViewLines). v.flags) c.close-next.ensures.flags) in
+    inv.behind (omega (arith, c.requires.1, c.requires.0)) under c.requires.0 inv.flags c.close-next.ensures.next (ap (λ (v : ViewLines). v.flags) c.close-next.ensures.flags) in
     record {
       flags = passed_over levels flags c.args.header c.close-next.result then.result c.close-next.new.self.flags (omega (arith, next.1, inv.behind)) then.ensures.from next.0 then.ensures.expanded;
       behind = omega (arith, next.1, inv.behind, then.ensures.from);

@@ -25,5 +25,5 @@ returns-clause-flags g c =
     with_its_flags c.args.self.now c.parents.self _
     (sym (up_none levels c.parents.inner c.parents.self.flags (sym c.in_default.is ∙ c.fold_parent.ensures.parent))
     ∙ inv.flags
-    ∙ sym (any_order levels c.args.line c.args.self.now.flags (omega (arith, c.requires.lines, c.requires.line)) (sym c.requires.lines)))
+    ∙ sym (any_order levels c.args.line c.args.self.now.flags (omega (arith, c.requires.0, c.requires.1)) (sym c.requires.0)))
     inv.capacity

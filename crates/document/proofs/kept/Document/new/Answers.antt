@@ -9,11 +9,10 @@ pub invariant_of-result : goal.invariant_of-result
 invariant_of-result c =
     rw (c.new-2.ensures, c.new-3.ensures)
     (record {
-      indexed = c.in_ok-lines.ensures.index.1;
-      row_count = ap (λ (k : KeptRows). length k.rows) c.new-rows.ensures ∙ sym (ap length c.in_ok-lines.ensures.index.1.starts);
+      indexed = c.in_ok-lines.ensures.1;
+      row_count = ap (λ (k : KeptRows). length k.rows) c.new-rows.ensures ∙ sym (ap length c.in_ok-lines.ensures.1.starts);
       indicator_count = refl;
-      all_indicators = refl;
-      line_width = c.in_ok-lines.ensures.width;
+      line_width = c.in_ok-lines.ensures.3;
       indicator_width = refl;
       fits = some_bound (meets c.args.options 0x100);
     })

@@ -1,14 +1,25 @@
-use Rattle.document.proofs.Names.{◌≡◌, ap, subst, sym, ◌∙◌, bytes_of, IsIndexOf, edits_of_setting, Kept, KeptRows, text_of}
-use Rattle.document.proofs.TypeSettings.{rows_of_lines, rows_regrouped, parts_retyped}
+use Rattle.document.proofs.Names.{◌≡◌, ap, length, subst, sym, ◌∙◌, bytes_of, rows_together, LineEdit, List, after_edits, IsIndexOf, edits_of_setting, Kept, KeptRows, text_of}
+use Rattle.document.proofs.LineSteps.{lines_of_index}
 use Rattle.document.proofs.kept.Document.set_line_end_types.Goals as goal
 
 pub invariant_of-self : goal.invariant_of-self
 invariant_of-self c =
     let d = c.self.inside in
-    let told : c.args.edits.now ≡ edits_of_setting d.lines.index.types c.args.types (bytes_of d.cells.cells) =
+    let was = c.self.invariant in
+    let types = d.parts.lines.index.types in
+    let text = bytes_of d.parts.cells.cells in
+    let set = c.set_types.ensures in
+    let told : c.args.edits.now ≡ edits_of_setting types c.args.types text =
     c.requires.edits ∙ ap (λ (k : Kept). edits_of_setting k.document.line_end_types c.args.types (text_of k.document)) (sym c.self.view_is) in
-    let rows = rows_regrouped d.lines.index.types c.args.types (bytes_of d.cells.cells) d.rows.rows c.carry.new.self.rows c.args.edits.now c.edits_of_settings.ensures.rows
-    c.rows_that_meet.ensures.rows (rows_of_lines d.cells.cells d.options d.lines d.rows d.indicators c.self.invariant) told (ap (λ (k : KeptRows). k.rows) c.carry.ensures.rows) in
-    parts_retyped c.args.types d.cells.cells d.options d.lines c.set_types.new.self d.rows c.carry.new.self d.indicators c.self.invariant
-    c.rows_match_lines.ensures.rows_regrouped rows c.set_types.ensures.types
-    (subst (λ text. IsIndexOf text c.set_types.new.self.index) c.halves.ensures.joined c.set_types.ensures.index) c.set_types.ensures.width
+    let index = subst (λ bytes. IsIndexOf bytes c.set_types.new.self.index) c.halves.ensures.joined set.index in
+    let rows = ap (λ (k : KeptRows). k.rows) c.carry.ensures.rows
+    ∙ ap (λ (es : List LineEdit). after_edits rows_together es d.parts.rows.rows) told
+    ∙ sym (c.edits_of_settings.ensures.rows rows_together c.rows_that_meet.ensures.rows types c.args.types text d.parts.rows.rows (was.row_count ∙ ap length was.indexed.starts)) in
+    record {
+      indexed = index;
+      row_count = ap length rows ∙ c.rows_match_lines.ensures.rows_regrouped rows_together types c.args.types text d.parts.rows.rows ∙ sym (lines_of_index c.args.types text c.set_types.new.self.index index set.set.1);
+      indicator_count = was.indicator_count;
+      line_width = set.set.0 ∙ was.line_width;
+      indicator_width = was.indicator_width;
+      fits = was.fits;
+    }

@@ -1,6 +1,6 @@
-use Rattle.line_rows.proofs.Names.{◌≡◌, ◌+◌, ◌<◌, ◌∷◌, [], List, length, drop, drop_all, get_or, sym, ap, ◌∙◌, subst, arith, drop_more, LineEdit, Come, FitLines, lines_after_edit, fresh_by, fresh_lines, first_or, values_after, length_after_edit, edit_adds}
+use Rattle.line_rows.proofs.Names.{◌≡◌, ◌+◌, ◌<◌, ◌∷◌, List, length, drop, get_or, sym, ap, ◌∙◌, subst, arith, drop_more, LineEdit, Come, FitLines, lines_after_edit, fresh_by, fresh_lines, first_or, values_after, length_after_edit, edit_adds}
 use Rattle.line_rows.specs.Values.{HasRoomForLines}
-use Rattle.line_rows.proofs.Carried.{room_after, room_after_edit}
+use Rattle.line_rows.proofs.Carried.{room_after_edit}
 use Rattle.line_rows.proofs.values.LineValues.carry.Goals as goal
 
 pub loop-edit-preserved : goal.loop-edit-preserved
@@ -23,11 +23,3 @@ loop-edit-preserved g c =
       fits = omega (arith, c.loop-edit.invariant.fits, edit_adds (length old.values) edit);
       room = subst (HasRoomForLines (fresh_lines left)) (sym c.carry_one.ensures) (room_after_edit edit old.stored old.capacity (fresh_lines left) (λ was. omega (arith, c.loop-edit.invariant.room was, fresh)));
     }
-
-pub returns-clause-room : goal.returns-clause-room
-returns-clause-room g c = λ count h.
-    let old = c.args.self.now in
-    let edits = c.args.edits.now in
-    let done : drop c.loop-edit.edit-index edits ≡ [] = drop_all c.loop-edit.edit-index edits (omega arith) in
-    let same = ap (λ es. values_after es c.loop-edit.self) (sym done) ∙ c.loop-edit.invariant.values in
-    subst (HasRoomForLines count) (sym same) (room_after edits old.stored old.capacity count h)

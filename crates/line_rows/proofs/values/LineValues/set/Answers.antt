@@ -8,9 +8,10 @@ returns-then-line-len g c =
     let items = d.stored.items in
     let line = c.args.line in
     let new = c.set.new.self in
-    let long = ap length c.set.ensures.items ∙ length-set items line c.args.value in
+    let is = ap (λ s. s.items) c.set.ensures in
+    let long = ap length is ∙ length-set items line c.args.value in
     let stored : line < length items = omega (arith, c.if-line-len.true, c.len.ensures.len) in
-    value_set d.stored new d.default d.lines line c.args.value c.args.self.now c.self.view_is (ap (padded d.default d.lines) c.set.ensures.items ∙ padded_set_stored d.default items d.lines line c.args.value c.self.invariant stored) (omega (arith, long, stored)) (omega (arith, long, c.set.ensures.spare))
+    value_set d.stored new d.default d.lines line c.args.value c.args.self.now c.self.view_is (ap (padded d.default d.lines) is ∙ padded_set_stored d.default items d.lines line c.args.value c.self.invariant stored) (omega (arith, long, stored)) (ap (λ s. s.capacity) c.set.ensures)
 
 pub returns-else-line-len : goal.returns-else-line-len
 returns-else-line-len g c =
@@ -23,7 +24,7 @@ returns-else-line-len g c =
     let inside : line < d.lines = omega arith in
     let behind : length items ≤ line = omega (arith, c.if-line-len.false, c.len.ensures.len) in
     let all : length (padded d.default end items) ≡ end = padded_length d.default end items (omega arith) in
-    let reached = ap length c.put_behind.ensures.items ∙ length-set (padded d.default end items) line c.args.value in
+    let reached = ap length c.put_behind.ensures.0 ∙ length-set (padded d.default end items) line c.args.value in
     value_set d.stored c.put_behind.new.stored d.default d.lines line c.args.value c.args.self.now c.self.view_is
-    (ap (padded d.default d.lines) c.put_behind.ensures.items ∙ padded_set d.default items d.lines end line c.args.value c.self.invariant (omega arith) (omega arith) (omega arith))
-    (omega (arith, reached, all, behind)) c.put_behind.ensures.capacity
+    (ap (padded d.default d.lines) c.put_behind.ensures.0 ∙ padded_set d.default items d.lines end line c.args.value c.self.invariant (omega arith) (omega arith) (omega arith))
+    (omega (arith, reached, all, behind)) c.put_behind.ensures.1

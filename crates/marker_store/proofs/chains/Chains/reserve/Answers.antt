@@ -1,37 +1,23 @@
-use Rattle.marker_store.proofs.Names.{◌+◌, length, ap, refl, arith, Chained, held}
-use Rattle.marker_store.proofs.LinkViews.{held_is}
+use Rattle.marker_store.proofs.Names.{length, ap, refl, ◌∙◌, arith, Chained}
+use Rattle.marker_store.proofs.Deeds.{held_is, larger}
 use Rattle.marker_store.proofs.chains.Chains.reserve.Goals as goal
 
-pub returns-clause-ok : goal.returns-clause-ok
-returns-clause-ok g c =
+pub returns-clause-reserved : goal.returns-clause-reserved
+returns-clause-reserved g c =
     let d = c.self.inside in
-    let i = c.self.invariant in
-    let all = length d.links.items + d.links.spare in
-    let lines = length d.heads.items + d.heads.spare in
-    let was = held_is d.links.items d.heads.items d.spare d.aside d.unused all lines i in
-    let is = ap held c.self.view_is in
+    let was = held_is d c.self.invariant _ c.self.view_is in
     let had = ap (λ (x : Chained). x.capacity) c.self.view_is in
-    grind (arith, c.reserve.ensures.ok, was, is, had)
+    rw (larger d c.self.invariant _ c.self.view_is c.reserve.new.self c.reserve.ensures.grown.0) (
+      grind (arith, c.reserve.ensures.reserved.0, ap (λ s. length s.items) c.reserve.ensures.grown.0, was, had),
+      λ fits.
+          let same = c.reserve.ensures.reserved.1 (omega (arith, fits, was, had, c.len.ensures.fits)) in
+          (same.0, ap (λ n. record c.args.self.now { capacity = n }) (ap (λ s. s.capacity) same.1 ∙ had)),
+    )
 
-pub returns-clause-room_is_there : goal.returns-clause-room_is_there
-returns-clause-room_is_there g c room =
+pub returns-clause-grown : goal.returns-clause-grown
+returns-clause-grown g c =
     let d = c.self.inside in
-    let i = c.self.invariant in
-    let all = length d.links.items + d.links.spare in
-    let lines = length d.heads.items + d.heads.spare in
-    let was = held_is d.links.items d.heads.items d.spare d.aside d.unused all lines i in
-    let is = ap held c.self.view_is in
+    let was = held_is d c.self.invariant _ c.self.view_is in
     let had = ap (λ (x : Chained). x.capacity) c.self.view_is in
-    let same = c.reserve.ensures.room_is_there (omega (arith, room, was, is, had)) in
-    (same.0, rw (same.1, ← c.self.view_is) refl)
-
-pub returns-clause-at_most : goal.returns-clause-at_most
-returns-clause-at_most g c =
-    let d = c.self.inside in
-    let i = c.self.invariant in
-    let all = length d.links.items + d.links.spare in
-    let lines = length d.heads.items + d.heads.spare in
-    let was = held_is d.links.items d.heads.items d.spare d.aside d.unused all lines i in
-    let is = ap held c.self.view_is in
-    let had = ap (λ (x : Chained). x.capacity) c.self.view_is in
-    grind (arith, c.reserve.ensures.at_most, c.reserve.ensures.err, c.reserve.ensures.ok, c.reserve.ensures.room_is_there, was, is, had)
+    rw (larger d c.self.invariant _ c.self.view_is c.reserve.new.self c.reserve.ensures.grown.0)
+    (refl, (omega (arith, c.reserve.ensures.grown, had), grind (arith, c.reserve.ensures.grown, was, had, c.len.ensures.fits)))

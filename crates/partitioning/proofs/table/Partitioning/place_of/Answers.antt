@@ -1,6 +1,6 @@
-use Rattle.partitioning.proofs.Names.{◌<◌, length, map, ap, sym, ◌∙◌, arith, length-map, starts_of}
+use Rattle.partitioning.proofs.Names.{◌<◌, length, map, ap, arith, length-map}
 use Rattle.partitioning.proofs.Lists.{read_number}
-use Rattle.partitioning.proofs.Steps.{length-starts_of, read_far}
+use Rattle.partitioning.proofs.Steps.{length_starts_of}
 use Rattle.partitioning.proofs.table.Partitioning.place_of.Goals as goal
 
 pub minus-requires : goal.minus-requires
@@ -8,12 +8,5 @@ minus-requires g c =
     let f = g.P.Place.number in
     let xs = c.self.inside.body.items in
     let l : c.args.index < length xs =
-    omega (arith, length-map xs f, length-starts_of (f c.self.inside.end) c.self.inside.step_at (map f xs), ap (λ p. length p.starts) c.self.view_is) in
+    omega (arith, length-map xs f, length_starts_of (f c.self.inside.end) c.self.inside.step_at (map f xs), ap (λ p. length p.starts) c.self.view_is) in
     omega (arith, read_number f xs c.args.index c.get-stored.result l c.get-stored.ensures, c.self.invariant.within c.args.index)
-
-pub returns : goal.returns
-returns g c =
-    let f = g.P.Place.number in
-    let l : c.args.index < length (starts_of (f c.self.inside.end) c.self.inside.step_at (map f c.self.inside.body.items)) = omega (arith, c.requires, ap (λ p. length p.starts) c.self.view_is) in
-    rw (← c.self.view_is)
-    (c.minus.ensures ∙ sym (read_far f (f c.self.inside.end) c.self.inside.step_at c.self.inside.body.items c.args.index c.get-stored.result l c.if-index-self.false c.get-stored.ensures))

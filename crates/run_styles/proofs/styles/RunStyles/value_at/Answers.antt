@@ -1,19 +1,6 @@
-use Rattle.std.proofs.Common.{◌∙◌, arith}
-use Rattle.run_styles.proofs.ByIndex.{length-table}
-use Rattle.run_styles.proofs.Filling.{slice_get_in_run}
-use Rattle.run_styles.proofs.Neighbours.{read_here}
+use Rattle.std.proofs.Common.{◌∙◌}
+use Rattle.run_styles.proofs.Reading.{value_of_run}
 use Rattle.run_styles.proofs.styles.RunStyles.value_at.Goals as goal
 
-pub run_of-requires : goal.run_of-requires
-run_of-requires g c =
-    let within = rw (← c.self.view_is) at c.requires in
-    omega (arith, within, length-table c.self.inside.starts.starts c.self.inside.values.items c.self.inside.starts.length c.self.invariant.table)
-
 pub returns : goal.returns
-returns g c =
-    let within = rw (← c.self.view_is) at c.requires in
-    let full = length-table c.self.inside.starts.starts c.self.inside.values.items c.self.inside.starts.length c.self.invariant.table in
-    let paired = c.self.invariant.table.paired in
-    rw (← c.self.view_is)
-    (slice_get_in_run c.self.inside.starts.starts c.self.inside.values.items c.self.inside.starts.length c.run_of.result c.args.place c.self.invariant.table c.run_of.ensures.within.0 c.run_of.ensures.from c.run_of.ensures.to (omega (arith, within, full))
-    ∙ read_here c.self.inside.values.items c.run_of.result c.get.result (omega (arith, c.run_of.ensures.within)) c.get.ensures)
+returns g c = rw (← c.self.view_is) (value_of_run c.run_of.ensures ∙ c.value.ensures)

@@ -1,5 +1,5 @@
-use Rattle.std.proofs.Common.{◌≡◌, ◌+◌, ◌++◌, take}
+use Rattle.std.proofs.Common.{◌≡◌, ◌-◌, ◌++◌, take}
 use Rattle.split_vector.proofs.cells.Cells.push_slice.Given as goal
 
 abbrev pub invariant-loop-i : goal.invariant-loop-i
-invariant-loop-i g l = (l.self.at ≡ l.initial.self.at) × (l.self.left ≡ l.initial.self.left ++ take l.i l.source) × (l.self.spare + l.i ≡ l.initial.self.spare) × (l.self.right ≡ l.initial.self.right)
+invariant-loop-i g l = l.self ≡ record l.initial.self { left = l.initial.self.left ++ take l.i l.source; spare = l.initial.self.spare - l.i }

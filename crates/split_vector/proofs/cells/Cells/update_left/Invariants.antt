@@ -5,6 +5,6 @@ use Rattle.split_vector.proofs.cells.Cells.update_left.Given as goal
 abbrev pub invariant-loop-index : goal.invariant-loop-index
 invariant-loop-index g l =
     record {
-      others : (l.self.at ≡ l.initial.self.at) × (l.self.spare ≡ l.initial.self.spare) × (l.self.right ≡ l.initial.self.right);
+      others : l.self ≡ record l.initial.self { left = l.self.left };
       items : IsUpdated (goal.F-post g l.change) l.low l.index l.initial.self.left l.self.left;
     }

@@ -5,6 +5,6 @@ use Rattle.split_vector.proofs.cells.Cells.update_right.Given as goal
 abbrev pub invariant-loop-index : goal.invariant-loop-index
 invariant-loop-index g l =
     record {
-      others : (l.self.at ≡ l.initial.self.at) × (l.self.left ≡ l.initial.self.left) × (l.self.spare ≡ l.initial.self.spare);
+      others : l.self ≡ record l.initial.self { right = l.self.right };
       items : IsUpdated (goal.F-post g l.change) l.low l.index l.initial.self.right l.self.right;
     }

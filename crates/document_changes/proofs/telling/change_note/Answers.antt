@@ -1,5 +1,0 @@
-use Rattle.document_changes.proofs.Names.{[], ap, Notice}
-use Rattle.document_changes.proofs.telling.change_note.Goals as goal
-
-pub returns : goal.returns
-returns c = ap (λ (n : Notice). record n { kind = c.args.kind }) (c.blank-note.ensures [])

@@ -1,0 +1,118 @@
+use Rattle.editor_session.proofs.Names.{◌≡◌, ◌++◌, ◌+◌, ◌≤◌, ℕ, List, [], pos, false, true, IfSome, value_at, SessionState, IsKept, IsAsked, rules, refl, ap, sym, subst, length, slice_range, eqb-true, IsFitPlan, Document, text_of, watching, views_of, told, modify_attempt, blank, response, styled_text, session_in, asked}
+use Rattle.ed_model.specs.declared.plan.Plan.TheVariants as plan
+use Rattle.document.specs.declared.undoing.Direction.TheVariants as direction
+use Rattle.editor_session.proofs.Going.{can_go, went}
+use Rattle.editor_session.proofs.OneDocument.{document_here, for_document, of_document}
+use Rattle.editor_session.proofs.PlanLemmas.{can_as, performed_as, revalued}
+use Rattle.editor_session.proofs.TableWay.{quietly}
+use Rattle.editor_session.proofs.perform.perform.Goals as goal
+
+-- the bytes that are handed out are those of the request's document
+module _ {s : SessionState} {document view : ℕ} {text : List ℕ} (kept : IsKept s) (by : IsAsked (session_in s) document view text) (start count : ℕ) (out : List ℕ) where
+  handed : IfSome (value_at s.documents.entries document) (λ k. out ≡ slice_range (text_of k.document) start (start + count)) → out ≡ slice_range (text_of (asked (session_in s) view text).document) start (start + count)
+  handed h = of_document kept by (λ (d : Document). out ≡ slice_range (text_of d) start (start + count)) h
+
+  styled : IfSome (value_at s.documents.entries document) (λ k. out ≡ styled_text (slice_range k.document.cells start (start + count))) → out ≡ styled_text (slice_range (asked (session_in s) view text).document.cells start (start + count))
+  styled h = of_document kept by (λ (d : Document). out ≡ styled_text (slice_range d.cells start (start + count))) h
+
+pub returns-in-Answer-clause-done : goal.returns-in-Answer-clause-done
+returns-in-Answer-clause-done c = performed_as c.in-Answer.is (quietly c.args.notes.now.notes refl) (search rules) c.requires.empty
+
+pub perform_edit-requires-clause-can : goal.perform_edit-requires-clause-can
+perform_edit-requires-clause-can c = can_as c.requires.can c.in-Edit.is (λ h. h)
+
+pub returns-in_ok-perform_edit-in-Edit-clause-done : goal.returns-in_ok-perform_edit-in-Edit-clause-done
+returns-in_ok-perform_edit-in-Edit-clause-done c = performed_as c.in-Edit.is (revalued c.in-Edit.value c.in_ok-perform_edit-in-Edit.ensures.done refl) (search rules) c.requires.empty
+
+pub returns-in_err-perform_edit-in-Edit-clause-free : goal.returns-in_err-perform_edit-in-Edit-clause-free
+returns-in_err-perform_edit-in-Edit-clause-free c = rw c.in-Edit.is (λ h. let bad : false ≡ true = c.in_err-perform_edit-in-Edit.ensures.free h in absurd (cc))
+
+pub perform_change-requires-clause-can : goal.perform_change-requires-clause-can
+perform_change-requires-clause-can c = can_as c.requires.can c.in-ChangeDocument.is (λ h. h)
+
+pub returns-in_ok-perform_change-in-ChangeDocument-clause-done : goal.returns-in_ok-perform_change-in-ChangeDocument-clause-done
+returns-in_ok-perform_change-in-ChangeDocument-clause-done c = performed_as c.in-ChangeDocument.is (revalued c.in-ChangeDocument.value c.in_ok-perform_change-in-ChangeDocument.ensures.done refl) (search rules) c.requires.empty
+
+pub returns-in_err-perform_change-in-ChangeDocument-clause-free : goal.returns-in_err-perform_change-in-ChangeDocument-clause-free
+returns-in_err-perform_change-in-ChangeDocument-clause-free c = rw c.in-ChangeDocument.is (λ h. let bad : false ≡ true = c.in_err-perform_change-in-ChangeDocument.ensures.free h in absurd (cc))
+
+pub perform_session_change-requires-clause-can : goal.perform_session_change-requires-clause-can
+perform_session_change-requires-clause-can c = can_as c.requires.can c.in-ChangeSession.is (λ h. h)
+
+pub returns-in_ok-perform_session_change-in-ChangeSession-clause-done : goal.returns-in_ok-perform_session_change-in-ChangeSession-clause-done
+returns-in_ok-perform_session_change-in-ChangeSession-clause-done c = performed_as c.in-ChangeSession.is (revalued c.in-ChangeSession.value (quietly {text = c.args.text.now} {what = plan.ChangeSession c.in-ChangeSession.change (pos 0)} c.args.notes.now.notes c.in_ok-perform_session_change-in-ChangeSession.ensures.done) refl) (search rules) c.requires.empty
+
+pub returns-in_err-perform_session_change-in-ChangeSession-clause-free : goal.returns-in_err-perform_session_change-in-ChangeSession-clause-free
+returns-in_err-perform_session_change-in-ChangeSession-clause-free c = rw c.in-ChangeSession.is (λ h. let bad : false ≡ true = c.in_err-perform_session_change-in-ChangeSession.ensures.free h in absurd (cc))
+
+pub perform_view_change-requires-clause-can : goal.perform_view_change-requires-clause-can
+perform_view_change-requires-clause-can c = can_as c.requires.can c.in-ChangeView.is (λ h. h)
+
+pub returns-in_ok-perform_view_change-in-ChangeView-clause-done : goal.returns-in_ok-perform_view_change-in-ChangeView-clause-done
+returns-in_ok-perform_view_change-in-ChangeView-clause-done c = performed_as c.in-ChangeView.is (revalued c.in-ChangeView.value (quietly {text = []} {what = plan.ChangeView c.in-ChangeView.change (pos 0)} c.args.notes.now.notes c.in_ok-perform_view_change-in-ChangeView.ensures.done) refl) (search rules) c.requires.empty
+
+pub returns-in_err-perform_view_change-in-ChangeView-clause-free : goal.returns-in_err-perform_view_change-in-ChangeView-clause-free
+returns-in_err-perform_view_change-in-ChangeView-clause-free c = rw c.in-ChangeView.is (λ h. let bad : false ≡ true = c.in_err-perform_view_change-in-ChangeView.ensures.free h in absurd (cc))
+
+pub perform_transaction-requires-clause-can : goal.perform_transaction-requires-clause-can
+perform_transaction-requires-clause-can c = can_go direction.Undo c.in-Undo.is c.requires.can
+
+pub returns-in_ok-perform_transaction-in-Undo-clause-done : goal.returns-in_ok-perform_transaction-in-Undo-clause-done
+returns-in_ok-perform_transaction-in-Undo-clause-done c = performed_as refl (went direction.Undo c.in-Undo.is c.in_ok-perform_transaction-in-Undo.ensures.done) refl c.requires.empty
+
+pub returns-in_err-perform_transaction-in-Undo-clause-free : goal.returns-in_err-perform_transaction-in-Undo-clause-free
+returns-in_err-perform_transaction-in-Undo-clause-free c = rw c.in-Undo.is (λ h. let bad : false ≡ true = h in absurd (cc))
+
+pub perform_transaction-requires-in-Redo-clause-can : goal.perform_transaction-requires-in-Redo-clause-can
+perform_transaction-requires-in-Redo-clause-can c = can_go direction.Redo c.in-Redo.is c.requires.can
+
+pub returns-in_ok-perform_transaction-in-Redo-clause-done : goal.returns-in_ok-perform_transaction-in-Redo-clause-done
+returns-in_ok-perform_transaction-in-Redo-clause-done c = performed_as refl (went direction.Redo c.in-Redo.is c.in_ok-perform_transaction-in-Redo.ensures.done) refl c.requires.empty
+
+pub returns-in_err-perform_transaction-in-Redo-clause-free : goal.returns-in_err-perform_transaction-in-Redo-clause-free
+returns-in_err-perform_transaction-in-Redo-clause-free c = rw c.in-Redo.is (λ h. let bad : false ≡ true = h in absurd (cc))
+
+pub perform_attempt-requires-clause-there : goal.perform_attempt-requires-clause-there
+perform_attempt-requires-clause-there c = document_here c.requires.kept c.requires.can.request
+
+pub returns-in_ok-perform_attempt-in-Attempt-clause-done : goal.returns-in_ok-perform_attempt-in-Attempt-clause-done
+returns-in_ok-perform_attempt-in-Attempt-clause-done c =
+    let s = c.args.state.now in let before = c.args.notes.now.notes in
+    performed_as c.in-Attempt.is
+    (record {
+      told = told (watching (views_of s.views.entries) (asked (session_in s) c.args.view c.args.text.now).document) (blank modify_attempt);
+      done = refl;
+      heard = of_document c.requires.kept c.requires.can.request (λ (d : Document). c.perform_attempt.new.notes.notes ≡ before ++ told (watching (views_of s.views.entries) d) (blank modify_attempt)) c.in_ok-perform_attempt-in-Attempt.ensures.told;
+    })
+    refl c.requires.empty
+
+pub returns-in_err-perform_attempt-in-Attempt-clause-free : goal.returns-in_err-perform_attempt-in-Attempt-clause-free
+returns-in_err-perform_attempt-in-Attempt-clause-free c = rw c.in-Attempt.is (λ h. let bad : false ≡ true = h in absurd (cc))
+
+pub hand_out-requires : goal.hand_out-requires
+hand_out-requires c =
+    let p = c.in-HandOut in let q = c.requires in
+    record { range = for_document q.kept q.can.request (λ (d : Document). p.start + p.count ≤ length d.cells) (subst (IsFitPlan (asked (session_in c.args.state.now) c.args.view c.args.text.now)) p.is q.can.fit) }
+
+pub returns-in_ok-handed_out-in-HandOut-clause-done : goal.returns-in_ok-handed_out-in-HandOut-clause-done
+returns-in_ok-handed_out-in-HandOut-clause-done c =
+    let p = c.in-HandOut in let q = c.requires in let s = session_in c.args.state.now in let h = c.in_ok-handed_out-in-HandOut in
+    let bytes = handed q.kept q.can.request p.start p.count _ h.ensures.bytes in
+    performed_as p.is (quietly c.args.notes.now.notes (ap (λ b. (s, response p.value b [])) (sym bytes))) (search rules) refl
+
+pub returns-in_err-handed_out-in-HandOut-clause-free : goal.returns-in_err-handed_out-in-HandOut-clause-free
+returns-in_err-handed_out-in-HandOut-clause-free c = rw c.in-HandOut.is (λ h. let bad : false ≡ true = c.in_err-handed_out-in-HandOut.ensures.free (eqb-true c.in-HandOut.count 0 h) in absurd (cc))
+
+pub hand_out_styled-requires : goal.hand_out_styled-requires
+hand_out_styled-requires c =
+    let p = c.in-HandOutStyled in let q = c.requires in
+    record { range = for_document q.kept q.can.request (λ (d : Document). p.start + p.count ≤ length d.cells) (subst (IsFitPlan (asked (session_in c.args.state.now) c.args.view c.args.text.now)) p.is q.can.fit) }
+
+pub returns-in_ok-handed_out-in-HandOutStyled-clause-done : goal.returns-in_ok-handed_out-in-HandOutStyled-clause-done
+returns-in_ok-handed_out-in-HandOutStyled-clause-done c =
+    let p = c.in-HandOutStyled in let q = c.requires in let s = session_in c.args.state.now in let h = c.in_ok-handed_out-in-HandOutStyled in
+    let bytes = styled q.kept q.can.request p.start p.count _ h.ensures.bytes in
+    performed_as p.is (quietly c.args.notes.now.notes (ap (λ b. (s, response (pos (length b)) b [])) (sym bytes))) (search rules) refl
+
+pub returns-in_err-handed_out-in-HandOutStyled-clause-free : goal.returns-in_err-handed_out-in-HandOutStyled-clause-free
+returns-in_err-handed_out-in-HandOutStyled-clause-free c = rw c.in-HandOutStyled.is (λ h. let bad : false ≡ true = c.in_err-handed_out-in-HandOutStyled.ensures.free (eqb-true c.in-HandOutStyled.count 0 h) in absurd (cc))

@@ -1,0 +1,17 @@
+use Rattle.performing.proofs.SessionNames.{◌+◌, ap, sym, ◌∙◌, option_copied_mut, Kept, session_in, document_of, id_of_document, changed}
+use Rattle.performing.proofs.MemoryLemmas.{documents_alone, one_stays}
+use Rattle.performing.proofs.sessions.add_reference.Goals as goal
+
+pub returns-clause-stays : goal.returns-clause-stays
+returns-clause-stays c =
+    let kept = c.requires.kept in let old = c.in-Some.document.now in let made = c.hold.ensures in
+    documents_alone kept _
+    (one_stays c.args.state.now.documents c.args.document kept.documents kept.sound.document_ids old c.hold.new.self (sym c.get_mut.ensures.value ∙ ap option_copied_mut c.in-Some.is)
+    (made ∙ ap (λ d. record old { document = d }) (sym (ap document_of made))) (ap (λ (k : Kept). k.document.id) made))
+
+pub returns-clause-changed : goal.returns-clause-changed
+returns-clause-changed c =
+    let s = c.args.state.now in let kept = c.requires.kept in
+    ap (λ ds. let x = session_in s in record x { documents = ds })
+    (changed document_of id_of_document s.documents.entries c.args.document s.documents.next kept.documents kept.sound.document_ids c.in-Some.document.now c.hold.new.self
+    (sym c.get_mut.ensures.value ∙ ap option_copied_mut c.in-Some.is) (λ d. record d { held_by_callers = d.held_by_callers + 1 }) (ap document_of c.hold.ensures))

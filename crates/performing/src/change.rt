@@ -1,0 +1,131 @@
+//! Makes a change, by its kind.
+
+ghost use Rattle.std.specs.Prelude.{◌≡◌, ◌≤◌, List, ℕ, false, length, IsOk, OnOk, OnErr};
+ghost use Rattle.notify.specs.Gathered.{CanPut};
+ghost use Rattle.scene.specs.Scenes.{IsWatched};
+ghost use Rattle.performing.specs.Changed.{Changes, IsMade, IsUnchanged, Makes};
+ghost use Rattle.performing.specs.Fit.{IsFitChange, bytes_read};
+ghost use Rattle.performing.specs.ChangeMemory.{ReservesNotes, TakesMemory};
+ghost use Rattle.performing.specs.ChangeNeeds.{IfChangeIsFree, IsReady, change_note_need, is_of_types, needs_room};
+
+use crate::history_changes::append_container;
+use crate::marker_changes::{
+    add_marker, add_markers, delete_handle, delete_marker, delete_markers,
+};
+use crate::note::ChangeNote;
+use crate::note_need::change_note_need;
+use crate::row_changes::{set_level, set_state};
+use crate::style_changes::{fill_indicator, need_style, style_bytes, style_run};
+use crate::telling::tell;
+use crate::type_changes::set_line_end_types;
+use document::Document;
+use ed_model::DocumentChange;
+use ed_view::View;
+use id_table::IdTable;
+use notify::NoteList;
+use std::alloc::{AllocError, Global};
+
+// Makes a change that needs no room. It cannot fail.
+fn make_free(document: &mut Document, change: DocumentChange) -> ChangeNote
+    requires fits { IsFitChange document.old.document change }
+    requires free { needs_room change ≡ false }
+    ensures { (text : List ℕ) → IsMade text change document.old document.new result }
+{
+    match change {
+        DocumentChange::SetReadOnly { on } => document.set_read_only(on),
+        DocumentChange::SetLineEnd { to } => document.set_line_end(to),
+        DocumentChange::SetSavePoint => {
+            document.set_save_point();
+            return ChangeNote::SavePointReached;
+        }
+        DocumentChange::BeginGroup => document.begin_group(),
+        DocumentChange::EndGroup => document.end_group(),
+        DocumentChange::ForgetHistory => document.forget_history(),
+        DocumentChange::CollectUndo { on } => document.set_collecting(on),
+        DocumentChange::SetEndStyled { place } => document.set_end_styled(place),
+        DocumentChange::DeleteMarker { line, number } => {
+            return delete_marker(document, line, number);
+        }
+        DocumentChange::DeleteMarkers { number } => return delete_markers(document, number),
+        DocumentChange::DeleteHandle { handle } => return delete_handle(document, handle),
+        DocumentChange::NeedStyle { start, end } => return need_style(document, start, end),
+        _ => {}
+    }
+    ChangeNote::Nothing
+}
+
+// Makes a change of the document alone, and returns what there is to tell of it. Rare changes are out of line, so that
+// the stack frame of the others stays small.
+fn make(
+    document: &mut Document,
+    text: &[u8],
+    change: DocumentChange,
+) -> Result<ChangeNote, AllocError>
+    requires fits { IsFitChange document.old.document change }
+    requires text { bytes_read change ≤ length text.now }
+    requires alone { is_of_types change ≡ false }
+    ensures { Makes text.now change document.old document.new result }
+{
+    match change {
+        DocumentChange::AppendContainer { token, coalesce } => {
+            append_container(document, token, coalesce)
+        }
+        DocumentChange::AddMarker { line, number } => add_marker(document, line, number),
+        DocumentChange::AddMarkers { line, mask } => add_markers(document, line, mask),
+        DocumentChange::SetLevel { line, level } => set_level(document, line, level),
+        DocumentChange::SetState { line, state } => set_state(document, line, state),
+        DocumentChange::StyleRun { count, style } => style_run(document, count, style),
+        DocumentChange::StyleBytes { count } => style_bytes(document, text, count),
+        DocumentChange::FillIndicator {
+            indicator,
+            start,
+            count,
+            value,
+        } => fill_indicator(document, indicator, start, count, value),
+        _ => Ok(make_free(document, change)),
+    }
+}
+
+/// Makes a change of the document, and notifies the views that watch and hear it. A request for styles notifies only
+/// the view whose id is `sender`. If other line ends count, the flags of the views follow the lines.
+///
+/// Allocates only what the change and its notes need, and nothing if there is room for them. A history that is
+/// forgotten holds no memory afterwards, and a fill may drop runs of its indicator.
+///
+/// # Errors
+///
+/// `AllocError` if an allocation fails. The document, the views and the notes are then as they were, except that more
+/// may fit in.
+pub fn change_document(
+    alloc: Global,
+    document: &mut Document,
+    views: &mut IdTable<View>,
+    notes: &mut NoteList,
+    sender: u32,
+    text: &[u8],
+    change: DocumentChange,
+) -> Result<(), AllocError>
+    requires fits { IsFitChange document.old.document change }
+    requires text { bytes_read change ≤ length text.now }
+    requires watched { IsWatched document.old.document views.old }
+    ensures changed { OnOk result (Changes text.now change sender document.old document.new views.old views.new notes.old notes.new) }
+    ensures memory { OnOk result (TakesMemory change document.old document.new) }
+    ensures same { OnErr result (IsUnchanged change document.old document.new views.old views.new notes.old notes.new) }
+    ensures notes { ReservesNotes (change_note_need change document.old views.old) notes.old notes.new }
+    ensures free { IfChangeIsFree change views.old (IsOk result) document.old }
+    ensures room_is_there { IsReady change document.old → CanPut (change_note_need change document.old views.old) notes.old → IsOk result }
+{
+    if let DocumentChange::SetLineEndTypes { to } = change {
+        return set_line_end_types(alloc, document, views, to);
+    }
+    // States that what the list holds fits in.
+    notes.fits_in();
+    notes.reserve(change_note_need(document, views, change), 0)?;
+    let note = make(document, text, change)?;
+    // No view listens, so no note is prepared.
+    if notes.is_full() {
+        return Ok(());
+    }
+    tell(document, views, notes, sender, note);
+    Ok(())
+}

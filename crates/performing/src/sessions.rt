@@ -1,0 +1,221 @@
+//! Changes of a session: of its clipboard, and of its documents and their references.
+
+ghost use Rattle.std.specs.Prelude.{◌≡◌, ◌+◌, ◌<◌, ◌≤◌, ◌^◌, [], map, take, length, false, IsOk, IfOk, OnOk, OnErr, IsSomeAnd};
+ghost use Rattle.ed_model.specs.Changes.{held_less, held_more, session_changed, with_new_document};
+ghost use Rattle.ed_model.specs.Session.{living, new_document};
+ghost use Rattle.id_table.specs.Entries.{value_at};
+ghost use Rattle.document.specs.Kept.{text_from};
+ghost use Rattle.message_requests.specs.Requested.{session_in};
+ghost use Rattle.performing.specs.Kept.{IsKept};
+ghost use Rattle.performing.specs.Asked.{CanChangeSession, asked, document_asked};
+ghost use Rattle.performing.specs.SessionMemory.{AllStays, GrowsForOne, HasPlaceFor, Stays, takes_memory, with_added};
+
+use crate::moving::attach;
+use document::Document;
+use document_table::{DocumentTable, the_living_are_left};
+use ed_model::SessionChange;
+use message_requests::SessionState;
+use std::alloc::{AllocError, Global};
+
+/// Replaces the clipboard by the `count` bytes of the document with this id from `start` on (COPY, COPYRANGE).
+///
+/// # Errors
+///
+/// `AllocError` if the allocation fails. The session is then as it was.
+fn copy(
+    alloc: Global,
+    state: &mut SessionState,
+    document: u32,
+    start: usize,
+    count: usize,
+) -> Result<(), AllocError>
+    requires kept { IsKept state.old }
+    requires within { IsSomeAnd (value_at state.old.documents.entries document) (λ k. start + count ≤ length k.document.cells) }
+    ensures copied { let s = session_in state.old in OnOk result (session_in state.new ≡ record s { clipboard = text_from start count (document_asked s.documents document) }) }
+    ensures rest { state.new ≡ record state.old { clipboard = state.new.clipboard } }
+    ensures same { OnErr result (state.new ≡ state.old) }
+    ensures free { count ≡ 0 → IsOk result }
+{
+    let Some(document) = state.documents.get(document) else {
+        unreachable!()
+    };
+    state.clipboard = document.text_to_vec(alloc, start, count, 0)?;
+    Ok(())
+}
+
+/// Replaces the clipboard by the first `count` bytes of a message's text (COPYTEXT).
+///
+/// # Errors
+///
+/// `AllocError` if the allocation fails. The session is then as it was.
+fn copy_text(
+    alloc: Global,
+    state: &mut SessionState,
+    text: &[u8],
+    count: usize,
+) -> Result<(), AllocError>
+    requires within { count ≤ length text.now }
+    ensures copied { let s = session_in state.old in OnOk result (session_in state.new ≡ record s { clipboard = take count text.now }) }
+    ensures rest { state.new ≡ record state.old { clipboard = state.new.clipboard } }
+    ensures same { OnErr result (state.new ≡ state.old) }
+    ensures free { count ≡ 0 → IsOk result }
+{
+    let mut bytes = Vec::with_capacity(alloc, count)?;
+    bytes.extend_from_slice(&text[..count])?;
+    state.clipboard = bytes;
+    Ok(())
+}
+
+/// Attaches the view to a document that exists (SETDOCPOINTER).
+///
+/// # Errors
+///
+/// `AllocError` if the allocation of a place in the document's list of views fails. The session is then as it was.
+fn attach_existing(
+    state: &mut SessionState,
+    document: u32,
+    view: u32,
+    to: u32,
+) -> Result<(), AllocError>
+    requires kept { IsKept state.old }
+    requires can { CanChangeSession (session_in state.old) document view [] (SessionChange.Attach to) }
+    ensures changed { OnOk result (session_in state.new ≡ session_changed (asked (session_in state.old) view []) (SessionChange.Attach to)) }
+    ensures same { OnErr result (session_in state.new ≡ session_in state.old) }
+    ensures place { HasPlaceFor (SessionChange.Attach to) state.old.documents.entries → IsOk result }
+    ensures stays { Stays (SessionChange.Attach to) state.old state.new }
+{
+    let Some(other) = state.documents.get_mut(to) else {
+        unreachable!()
+    };
+    let Ok(()) = other.reserve_view() else {
+        return Err(AllocError);
+    };
+    attach(state, document, view, to);
+    Ok(())
+}
+
+/// Adds a new document to the table, behind the others, and returns its id.
+///
+/// # Errors
+///
+/// `AllocError` if an allocation fails. The table is then as it was, but that more may fit in.
+fn add(documents: &mut DocumentTable, document: Document) -> Result<u32, AllocError>
+    requires few { documents.old.next + 1 < 2 ^ 32 }
+    ensures id { IfOk result (λ id. id ≡ documents.old.next) }
+    ensures added { OnOk result (documents.new ≡ with_added document documents.new.capacity documents.old) }
+    ensures same { OnErr result (documents.new ≡ record documents.old { capacity = documents.new.capacity }) }
+    ensures grows { GrowsForOne documents.old documents.new.capacity }
+{
+    let Ok(()) = documents.reserve(1) else {
+        return Err(AllocError);
+    };
+    Ok(documents.insert_reserved(document))
+}
+
+/// Attaches the view to a new document (SETDOCPOINTER with 0).
+///
+/// # Errors
+///
+/// `AllocError` if an allocation fails. The session is then as it was.
+fn attach_new(
+    alloc: Global,
+    state: &mut SessionState,
+    document: u32,
+    view: u32,
+) -> Result<(), AllocError>
+    requires kept { IsKept state.old }
+    requires can { CanChangeSession (session_in state.old) document view [] SessionChange.AttachNew }
+    ensures changed { OnOk result (session_in state.new ≡ session_changed (asked (session_in state.old) view []) SessionChange.AttachNew) }
+    ensures same { OnErr result (session_in state.new ≡ session_in state.old) }
+    ensures stays { Stays SessionChange.AttachNew state.old state.new }
+{
+    let mut new = Document::new(alloc, state.documents.next(), 0)?;
+    let Ok(()) = new.reserve_view() else {
+        return Err(AllocError);
+    };
+    let id = add(&mut state.documents, new)?;
+    attach(state, document, view, id);
+    Ok(())
+}
+
+/// Creates a document with these options and one reference, held by a caller (CREATEDOCUMENT).
+///
+/// # Errors
+///
+/// `AllocError` if an allocation fails. The session is then as it was.
+fn create(alloc: Global, state: &mut SessionState, options: u32) -> Result<(), AllocError>
+    requires kept { IsKept state.old }
+    requires few { state.old.documents.next ≤ state.old.limits.ids }
+    ensures changed { let s = session_in state.old in OnOk result (session_in state.new ≡ with_new_document (record (new_document s.next_document options) { held_by_callers = 1 }) s) }
+    ensures same { OnErr result (session_in state.new ≡ session_in state.old) }
+    ensures stays { Stays (SessionChange.Create options) state.old state.new }
+{
+    let mut new = Document::new(alloc, state.documents.next(), options)?;
+    new.hold();
+    add(&mut state.documents, new)?;
+    Ok(())
+}
+
+/// Adds a reference held by a caller to the document with this id (ADDREFDOCUMENT).
+fn add_reference(state: &mut SessionState, document: u32)
+    requires kept { IsKept state.old }
+    requires few { IsSomeAnd (value_at state.old.documents.entries document) (λ k. k.document.held_by_callers + 1 < 2 ^ 32) }
+    ensures changed { let s = session_in state.old in session_in state.new ≡ record s { documents = map (held_more document) s.documents } }
+    ensures stays { AllStays state.old state.new }
+{
+    let Some(document) = state.documents.get_mut(document) else {
+        unreachable!()
+    };
+    document.hold();
+}
+
+/// Releases a reference held by a caller to the document with this id (RELEASEDOCUMENT). Drops the document if that was
+/// its last reference.
+fn release(state: &mut SessionState, document: u32)
+    requires kept { IsKept state.old }
+    ensures changed { let s = session_in state.old in session_in state.new ≡ record s { documents = living (map (held_less document) s.documents) } }
+    ensures stays { AllStays state.old state.new }
+{
+    // States that the documents that are left are those with a reference.
+    the_living_are_left();
+    state.documents.release(document);
+}
+
+/// Makes a change of the session for a message with this text to `view`, which is attached to `document`.
+///
+/// # Errors
+///
+/// `AllocError` if an allocation fails. The session is then as it was, but that more may fit into the table of documents.
+pub fn change_session(
+    alloc: Global,
+    state: &mut SessionState,
+    document: u32,
+    view: u32,
+    text: &[u8],
+    change: SessionChange,
+) -> Result<(), AllocError>
+    requires kept { IsKept state.old }
+    requires can { CanChangeSession (session_in state.old) document view text.now change }
+    ensures changed { OnOk result (session_in state.new ≡ session_changed (asked (session_in state.old) view text.now) change) }
+    ensures same { OnErr result (session_in state.new ≡ session_in state.old) }
+    ensures free { takes_memory change ≡ false → IsOk result }
+    ensures place { HasPlaceFor change state.old.documents.entries → IsOk result }
+    ensures stays { Stays change state.old state.new }
+    ensures clipboard { OnErr result (state.new.clipboard ≡ state.old.clipboard) }
+{
+    match change {
+        SessionChange::Copy { start, count } => copy(alloc, state, document, start, count),
+        SessionChange::CopyText { count } => copy_text(alloc, state, text, count),
+        SessionChange::Attach { document: to } => attach_existing(state, document, view, to),
+        SessionChange::AttachNew => attach_new(alloc, state, document, view),
+        SessionChange::Create { options } => create(alloc, state, options),
+        SessionChange::AddReference { document } => {
+            add_reference(state, document);
+            Ok(())
+        }
+        SessionChange::Release { document } => {
+            release(state, document);
+            Ok(())
+        }
+    }
+}

@@ -1,0 +1,99 @@
+//! Changes of a view: its settings, its selection, and which lines it shows.
+
+ghost use Rattle.std.specs.Prelude.{◌≡◌, [], length, IsOk, OnOk, OnErr};
+ghost use Rattle.ed_model.specs.Changes.{changed_view, view_change_performed};
+ghost use Rattle.ed_view.specs.Folding.{IsWithin};
+ghost use Rattle.message_requests.specs.Requested.{session_in};
+ghost use Rattle.performing.specs.Kept.{IsKept};
+ghost use Rattle.performing.specs.Asked.{CanChangeView, asked};
+ghost use Rattle.performing.specs.Folding.{GrowsAtMost, HasFoldRoomAt, HasRoomFor, OnlyViewChanges};
+
+use contraction::Levels;
+use ed_model::ViewChange;
+use ed_view::{View, fit_changes_are_within, is_setting};
+use message_requests::SessionState;
+use std::alloc::AllocError;
+
+/// Makes a change of a view, and makes room for it before, for lines that it hides or contracts. `levels` are the fold
+/// levels of the view's document.
+///
+/// # Errors
+///
+/// `AllocError` if an allocation fails. The view is then as it was.
+fn change_with_room(view: &mut View, levels: &Levels, change: ViewChange) -> Result<(), AllocError>
+    requires levels { length levels.now ≡ length view.old.view.flags }
+    requires within { IsWithin (length view.old.view.flags) change }
+    ensures changed { OnOk result (view.new.view ≡ changed_view levels.now change view.old.view) }
+    ensures same { OnErr result (view.new.view ≡ view.old.view) }
+    ensures free { HasRoomFor change view.old → IsOk result }
+    ensures room { GrowsAtMost change view.old view.new }
+{
+    let need = view.fold_need(change);
+    let Ok(()) = view.reserve_folding(need) else {
+        return Err(AllocError);
+    };
+    view.change(levels, change);
+    Ok(())
+}
+
+/// Makes a change of `view` by the fold levels of its document. Out of line, so that a change of a setting does not pay
+/// for its stack frame.
+#[inline(never)]
+fn change_by_levels(
+    state: &mut SessionState,
+    document: u32,
+    view: u32,
+    change: ViewChange,
+) -> Result<(), AllocError>
+    requires kept { IsKept state.old }
+    requires can { CanChangeView (session_in state.old) document view change }
+    ensures changed { OnOk result (session_in state.new ≡ view_change_performed (asked (session_in state.old) view []) change) }
+    ensures same { OnErr result (session_in state.new ≡ session_in state.old) }
+    ensures free { HasFoldRoomAt state.old.views.entries view change → IsOk result }
+    ensures stays { OnlyViewChanges view change state.old state.new }
+{
+    // States that the lines that a fit change names exist.
+    fit_changes_are_within();
+    let SessionState {
+        documents,
+        views,
+        ..
+    } = state;
+    let Some(document) = documents.get(document) else {
+        unreachable!()
+    };
+    let Some(view) = views.get_mut(view) else {
+        unreachable!()
+    };
+    change_with_room(view, &document.rows().fold_levels(), change)
+}
+
+/// Makes a change of `view`, which is attached to `document`: of a setting, of the selection, or of the lines that it
+/// shows. Allocates only for lines that it hides or contracts, if they do not fit yet. All else in the session stays.
+///
+/// # Errors
+///
+/// `AllocError` if an allocation fails. The session is then as it was, but that more may fit into the view.
+#[inline]
+pub fn change_view(
+    state: &mut SessionState,
+    document: u32,
+    view: u32,
+    change: ViewChange,
+) -> Result<(), AllocError>
+    requires kept { IsKept state.old }
+    requires can { CanChangeView (session_in state.old) document view change }
+    ensures changed { OnOk result (session_in state.new ≡ view_change_performed (asked (session_in state.old) view []) change) }
+    ensures same { OnErr result (session_in state.new ≡ session_in state.old) }
+    ensures free { HasFoldRoomAt state.old.views.entries view change → IsOk result }
+    ensures stays { OnlyViewChanges view change state.old state.new }
+{
+    if !is_setting(change) {
+        return change_by_levels(state, document, view, change);
+    }
+    let Some(view) = state.views.get_mut(view) else {
+        unreachable!()
+    };
+    view.set(change);
+    Ok(())
+}
