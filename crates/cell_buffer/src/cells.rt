@@ -189,9 +189,7 @@ impl Cells {
         }
         size_is_small(&self.bytes);
         let fit = self.bytes.capacity();
-        let Ok(()) = self.styles.reserve(fit) else {
-            return Err(AllocError);
-        };
+        self.styles.reserve(fit)?;
         self.keeps_styles = true;
         Ok(())
     }
@@ -444,9 +442,7 @@ fn append_both(first: &[u8], second: &[u8], target: &mut Vec<u8>) -> Result<(), 
     ensures kept { vec_capacity target.old ≤ vec_capacity target.new }
     ensures err { OnErr result (target.new.items ≡ target.old.items) }
 {
-    let Ok(()) = target.reserve(first.len() + second.len()) else {
-        return Err(AllocError);
-    };
+    target.reserve(first.len() + second.len())?;
     let Ok(()) = target.extend_from_slice(first) else {
         unreachable!();
     };

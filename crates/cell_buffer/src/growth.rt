@@ -98,14 +98,10 @@ pub(crate) fn grow_blocks(
     let len = bytes.len();
     let by_little = grows_by_little(len, count, bytes.moved(), *paid_from);
     size_is_small(styles);
-    let Ok(()) = grow_block(bytes, count, by_little) else {
-        return Err(AllocError);
-    };
+    grow_block(bytes, count, by_little)?;
     if keeps_styles {
         let unstored = len - styles.len();
-        let Ok(()) = grow_block(styles, unstored + count, by_little) else {
-            return Err(AllocError);
-        };
+        grow_block(styles, unstored + count, by_little)?;
     }
     *paid_from = paid_after(len, count, bytes.moved());
     Ok(())

@@ -104,9 +104,7 @@ impl<A: Allocator> MarkerStore<A> {
         let Some(wanted) = (self.lines - self.chains.lines()).checked_add(lines) else {
             return Err(AllocError);
         };
-        let Ok(()) = self.chains.reserve_lines(wanted) else {
-            return Err(AllocError);
-        };
+        self.chains.reserve_lines(wanted)?;
         self.chains.reserve(count)
     }
 

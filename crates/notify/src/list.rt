@@ -72,12 +72,8 @@ impl NoteList {
         {
             return Ok(());
         }
-        let Ok(()) = self.pool.reserve_exact(bytes) else {
-            return Err(AllocError);
-        };
-        let Ok(()) = self.notes.reserve_exact(notes) else {
-            return Err(AllocError);
-        };
+        self.pool.reserve_exact(bytes)?;
+        self.notes.reserve_exact(notes)?;
         self.text_capacity = self.text_capacity.max(self.pool.len() + bytes);
         Ok(())
     }
