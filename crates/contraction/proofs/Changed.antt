@@ -1,5 +1,5 @@
 -- The flags after a change of one of the two sets, or of both.
-use Rattle.contraction.proofs.Names.{◌≡◌, ℕ, suc, ◌+◌, ◌-◌, ◌<◌, ◌≤◌, max, Bool, true, false, not, ◌&&◌, cond, ltb, leb, eqb, List, [], ◌∷◌, ◌++◌, length, get_or, take, drop, map, set, replicate, sym, refl, ap, ◌∙◌, inl, inr, arith, slice_range, range_with_len, cases_eq, cases_lt, cases_order, eq-eqb, ne_eqb, lt-ltb, le-ltb, ext_get_or, length-append, length-take-le, length-drop, length-replicate, length-set, get_or-take, get_or-drop, get_or-replicate, get_or_append_left, get_or-append_right, get_or_at, get_or-between, get_or-set_same, get_or-set_other, length-map-range_with_len, map_range_agree, Flags, fresh_flags, flags_together, flags_at, with_visible, with_expanded, is_between, lines_shown, lines_hidden, with_fresh, with_joined, Partitions, holds, holds_with_fresh, holds_without, holds_after, view_lines, Becomes}
+use Rattle.contraction.proofs.Names.{◌≡◌, ℕ, suc, ◌+◌, ◌-◌, ◌<◌, ◌≤◌, max, Bool, true, false, not, ◌&&◌, cond, ltb, leb, eqb, List, [], ◌∷◌, ◌++◌, length, get_or, take, drop, map, set, replicate, sym, refl, ap, ◌∙◌, inl, inr, arith, slice_range, range_with_len, cases_eq, cases_lt, cases_order, eq-eqb, ne_eqb, lt-ltb, le-ltb, ext_get_or, length-append, length-take-le, length-drop, length-replicate, length-set, get_or-take, get_or-drop, get_or-replicate, get_or_append_left, get_or-append_right, get_or_at, get_or-between, get_or-set_same, get_or-set_other, length-map-range_with_len, map_range_agree, Flags, fresh_flags, flags_together, flags_at, with_visible, with_expanded, is_between, lines_shown, lines_hidden, with_fresh, with_joined, Numbers, holds, holds_with_fresh, holds_without, holds_after, view_lines, Becomes}
 use Rattle.contraction.specs.ViewLines.{flags_kept}
 use Rattle.std.proofs.lemmas.Bool.Decides.{nat_tests}
 use Rattle.contraction.proofs.Kept.{flags_of, flags_by, flags_at_by, anew, unchanged}
@@ -48,31 +48,31 @@ one_line line k = grind (arith, nat_tests)
 behind_first : (first from past k : ℕ) (b : Bool) → from ≡ max first 1 → cond (leb from k && ltb k past) true b ≡ cond (ltb 0 k && (leb first k && ltb k past)) true b
 behind_first first from past k b e = grind (arith, nat_tests)
 
-module _ (h c : Partitions) where
+module _ (h c : Numbers) where
   abbrev pub flags : List Flags
-  flags = flags_kept h.starts c.starts h.length
+  flags = flags_kept h.numbers c.numbers h.length
 
-  pub shown : (h' : Partitions) (first past : ℕ) → Becomes h.length (holds_after false h.starts first past) h h' → view_lines h' c ≡ record (view_lines h c) { flags = lines_shown first past flags }
+  pub shown : (h' : Numbers) (first past : ℕ) → Becomes h.length (holds_after false h.numbers first past) h h' → view_lines h' c ≡ record (view_lines h c) { flags = lines_shown first past flags }
   unfolding flags_kept
-  shown h' first past is = anew _ is (unchanged c) (by_visible (holds h.starts) (holds c.starts) h.length (is_between first past) (λ _. true))
+  shown h' first past is = anew _ is (unchanged c) (by_visible (holds h.numbers) (holds c.numbers) h.length (is_between first past) (λ _. true))
 
-  pub hidden : (h' : Partitions) (first from past : ℕ) → from ≡ max first 1 → Becomes h.length (holds_after true h.starts from past) h h'
+  pub hidden : (h' : Numbers) (first from past : ℕ) → from ≡ max first 1 → Becomes h.length (holds_after true h.numbers from past) h h'
       → view_lines h' c ≡ record (view_lines h c) { flags = lines_hidden first past flags }
   unfolding flags_kept
   hidden h' first from past e is =
       anew _ is (unchanged c)
-      (by_same (holds_after true h.starts from past) (holds c.starts) (λ k. cond (ltb 0 k && is_between first past k) true (holds h.starts k)) (holds c.starts) h.length
-      (λ k. behind_first first from past k (holds h.starts k) e) (λ k. refl)
-      ∙ by_visible (holds h.starts) (holds c.starts) h.length (λ k. ltb 0 k && is_between first past k) (λ _. false))
+      (by_same (holds_after true h.numbers from past) (holds c.numbers) (λ k. cond (ltb 0 k && is_between first past k) true (holds h.numbers k)) (holds c.numbers) h.length
+      (λ k. behind_first first from past k (holds h.numbers k) e) (λ k. refl)
+      ∙ by_visible (holds h.numbers) (holds c.numbers) h.length (λ k. ltb 0 k && is_between first past k) (λ _. false))
 
-  pub set_expanded : (c' : Partitions) (line : ℕ) (on : Bool) → line < h.length → Becomes c.length (holds_after (not on) c.starts line (line + 1)) c c'
+  pub set_expanded : (c' : Numbers) (line : ℕ) (on : Bool) → line < h.length → Becomes c.length (holds_after (not on) c.numbers line (line + 1)) c c'
       → view_lines h c' ≡ record (view_lines h c) { flags = with_expanded line on flags }
   unfolding flags_kept
   set_expanded c' line on l is =
       anew _ (unchanged h) is
-      (by_same (holds h.starts) (holds_after (not on) c.starts line (line + 1)) (holds h.starts) (λ k. cond (eqb k line) (not on) (holds c.starts k)) h.length
-      (λ k. refl) (λ k. ap (λ b. cond b (not on) (holds c.starts k)) (one_line line k))
-      ∙ by_expanded (holds h.starts) (holds c.starts) h.length line on l)
+      (by_same (holds h.numbers) (holds_after (not on) c.numbers line (line + 1)) (holds h.numbers) (λ k. cond (eqb k line) (not on) (holds c.numbers k)) h.length
+      (λ k. refl) (λ k. ap (λ b. cond b (not on) (holds c.numbers k)) (one_line line k))
+      ∙ by_expanded (holds h.numbers) (holds c.numbers) h.length line on l)
 
 -- Lines that come and go.
 
@@ -147,18 +147,18 @@ by_joined p q n m line count l fewer =
           (rw behind (rw (get_or-drop (line + (count + 1)) f (k - line - 1) fresh_flags, place, flags_at_by p q n (k + count) (omega arith)) refl))
     ])
 
-module _ (h h' c c' : Partitions) where
-  pub put_in : (line count : ℕ) → line ≤ h.length → Becomes (h.length + count) (holds_with_fresh h.starts line count) h h' → Becomes (c.length + count) (holds_with_fresh c.starts line count) c c'
+module _ (h h' c c' : Numbers) where
+  pub put_in : (line count : ℕ) → line ≤ h.length → Becomes (h.length + count) (holds_with_fresh h.numbers line count) h h' → Becomes (c.length + count) (holds_with_fresh c.numbers line count) c c'
       → view_lines h' c' ≡ record (view_lines h c) { flags = with_fresh flags_together line count (flags h c) }
   unfolding flags_kept
-  put_in line count l one two = anew _ one two (by_fresh (holds h.starts) (holds c.starts) h.length line count l)
+  put_in line count l one two = anew _ one two (by_fresh (holds h.numbers) (holds c.numbers) h.length line count l)
 
-  pub joined : (line count : ℕ) → line + count < h.length → Becomes (h.length - count) (holds_without h.starts (line + 1) count) h h' → Becomes (c.length - count) (holds_without c.starts (line + 1) count) c c'
+  pub joined : (line count : ℕ) → line + count < h.length → Becomes (h.length - count) (holds_without h.numbers (line + 1) count) h h' → Becomes (c.length - count) (holds_without c.numbers (line + 1) count) c c'
       → view_lines h' c' ≡ record (view_lines h c) { flags = with_joined flags_together line count (flags h c) }
   unfolding flags_kept
-  joined line count l one two = anew _ one two (by_joined (holds h.starts) (holds c.starts) h.length (h.length - count) line count l (omega arith))
+  joined line count l one two = anew _ one two (by_joined (holds h.numbers) (holds c.numbers) h.length (h.length - count) line count l (omega arith))
 
-then : {n m : ℕ} {p q : ℕ → Bool} {s s' s'' : Partitions} → Becomes n p s s' → Becomes m q s' s'' → Becomes m q s s''
+then : {n m : ℕ} {p q : ℕ → Bool} {s s' s'' : Numbers} → Becomes n p s s' → Becomes m q s' s'' → Becomes m q s s''
 then one two = record { told = two.told; lines = two.lines; capacity = two.capacity ∙ one.capacity }
 
 restart_flags : (n : ℕ) (p q : ℕ → Bool) → n ≡ 0
@@ -166,8 +166,8 @@ restart_flags : (n : ℕ) (p q : ℕ → Bool) → n ≡ 0
 restart_flags n p q none = rw none refl
 
 -- all lines were taken out of both sets, and one was put in
-pub restarted : {h h' h'' c c' c'' : Partitions} {n m : ℕ} {p q : ℕ → Bool} → Becomes n p h h' → Becomes m q c c'
-    → Becomes (h'.length + 1) (holds_with_fresh h'.starts 0 1) h' h'' → Becomes (c'.length + 1) (holds_with_fresh c'.starts 0 1) c' c'' → n ≡ 0 → view_lines h'' c'' ≡ record (view_lines h c) { flags = fresh_flags ∷ [] }
+pub restarted : {h h' h'' c c' c'' : Numbers} {n m : ℕ} {p q : ℕ → Bool} → Becomes n p h h' → Becomes m q c c'
+    → Becomes (h'.length + 1) (holds_with_fresh h'.numbers 0 1) h' h'' → Becomes (c'.length + 1) (holds_with_fresh c'.numbers 0 1) c' c'' → n ≡ 0 → view_lines h'' c'' ≡ record (view_lines h c) { flags = fresh_flags ∷ [] }
 restarted {h} {h'} {h''} {c} {c'} {c''} {n} {m} {p} {q} one two one' two' none =
     anew {h = h} {c = c} (fresh_flags ∷ [])
-    (then one one') (then two two') (restart_flags h'.length (holds h'.starts) (holds c'.starts) (one.lines ∙ none))
+    (then one one') (then two two') (restart_flags h'.length (holds h'.numbers) (holds c'.numbers) (one.lines ∙ none))

@@ -2,8 +2,8 @@
 use Rattle.std.specs.Prelude.{◌≡◌, ◌≤◌, ◌<◌, ℕ, ◌+◌, ◌*◌, max, not, List, length, map, count_by}
 use Rattle.std.specs.List.{range_with_len}
 use Rattle.ed_model.specs.Rows.{Flags}
-use Rattle.partitioning.specs.Partitions.{Partitions}
-use Rattle.contraction.specs.LineSets.{holds, set_capacity}
+use Rattle.rising_numbers.specs.Numbers.{Numbers}
+use Rattle.contraction.specs.LineSets.{holds}
 
 -- how many lines in all may be hidden, and how many in all may be contracted, without an allocation
 pub record FoldCapacity : Type 0 where
@@ -23,12 +23,9 @@ unfoldable pub flags_kept : List ℕ → List ℕ → ℕ → List Flags
 flags_kept hidden contracted lines =
     map (λ line. record { visible = not (holds hidden line); expanded = not (holds contracted line) }) (range_with_len 0 lines)
 
-abbrev pub view_lines : Partitions → Partitions → ViewLines
+abbrev pub view_lines : Numbers → Numbers → ViewLines
 view_lines hidden contracted =
-    record {
-      flags = flags_kept hidden.starts contracted.starts hidden.length;
-      capacity = fold_capacity (set_capacity hidden) (set_capacity contracted);
-    }
+    record { flags = flags_kept hidden.numbers contracted.numbers hidden.length; capacity = fold_capacity hidden.capacity contracted.capacity }
 
 -- how many lines are contracted
 abbrev pub contracted_lines : List Flags → ℕ

@@ -5,9 +5,8 @@ ghost use Rattle.ed_model.specs.Rows.{flags_together, fresh_flags};
 ghost use Rattle.line_index.specs.Edits.{with_fresh, with_joined, after_edit, after_edits, FitsLines, FitLines, fresh_by, fresh_lines};
 
 use crate::contraction::Contraction;
-use crate::line_set::{put_lines_in, set_is_sound, take_lines_out};
 use line_index::LineEdit;
-use partitioning::Place;
+use rising_numbers::Place;
 
 #[tactic(auto, using(crate::proofs::Kept::kept_length))]
 impl<P: Place> Contraction<P> {
@@ -17,8 +16,8 @@ impl<P: Place> Contraction<P> {
         requires fits { length self.old.flags + count ≤ P.GREATEST }
         ensures { self.new ≡ record self.old { flags = with_fresh flags_together line count self.old.flags } }
     {
-        put_lines_in(&mut self.hidden, line, count);
-        put_lines_in(&mut self.contracted, line, count);
+        self.hidden.put_lines_in(line, count);
+        self.contracted.put_lines_in(line, count);
     }
 
     // Joins the lines behind a line to it. It keeps its flags.
@@ -26,9 +25,9 @@ impl<P: Place> Contraction<P> {
         requires { line + count < length self.old.flags }
         ensures { self.new ≡ record self.old { flags = with_joined flags_together line count self.old.flags } }
     {
-        set_is_sound(&self.contracted);
-        take_lines_out(&mut self.hidden, line + 1, count);
-        take_lines_out(&mut self.contracted, line + 1, count);
+        self.contracted.is_sound();
+        self.hidden.take_lines_out(line + 1, count);
+        self.contracted.take_lines_out(line + 1, count);
     }
 
     // Removes all lines, and inserts one fresh line.
@@ -37,10 +36,10 @@ impl<P: Place> Contraction<P> {
         ensures { self.new ≡ record self.old { flags = fresh_flags ∷ [] } }
     {
         let lines = self.contracted.length();
-        take_lines_out(&mut self.hidden, 0, lines);
-        take_lines_out(&mut self.contracted, 0, lines);
-        put_lines_in(&mut self.hidden, 0, 1);
-        put_lines_in(&mut self.contracted, 0, 1);
+        self.hidden.take_lines_out(0, lines);
+        self.contracted.take_lines_out(0, lines);
+        self.hidden.put_lines_in(0, 1);
+        self.contracted.put_lines_in(0, 1);
     }
 
     // Performs one edit of the lines.

@@ -5,8 +5,7 @@ ghost use Rattle.ed_model.specs.Folding.{lines_shown, lines_hidden, with_expande
 ghost use Rattle.contraction.specs.ViewLines.{contracted_lines};
 
 use crate::contraction::Contraction;
-use crate::line_set::{insert, insert_range, remove_range, set_is_sound};
-use partitioning::Place;
+use rising_numbers::Place;
 
 #[tactic(auto, using(crate::proofs::Kept::kept_length))]
 impl<P: Place> Contraction<P> {
@@ -16,7 +15,7 @@ impl<P: Place> Contraction<P> {
         ensures flags { self.new ≡ record self.old { flags = lines_shown first past self.old.flags } }
         ensures lines { length self.new.flags ≡ length self.old.flags }
     {
-        remove_range(&mut self.hidden, first, past);
+        self.hidden.remove_range(first, past);
     }
 
     /// Hides the lines from `first` up to `past`, but never line 0 (`SCI_HIDELINES`). There must be room for all lines
@@ -27,7 +26,7 @@ impl<P: Place> Contraction<P> {
         ensures flags { self.new ≡ record self.old { flags = lines_hidden first past self.old.flags } }
         ensures lines { length self.new.flags ≡ length self.old.flags }
     {
-        insert_range(&mut self.hidden, first.max(1), past);
+        self.hidden.insert_range(first.max(1), past);
     }
 
     /// Expands or contracts a line, and leaves its children as they are (`SCI_SETFOLDEXPANDED`). Contracting needs room
@@ -38,11 +37,11 @@ impl<P: Place> Contraction<P> {
         ensures flags { self.new ≡ record self.old { flags = with_expanded line on self.old.flags } }
         ensures lines { length self.new.flags ≡ length self.old.flags }
     {
-        set_is_sound(&self.contracted);
+        self.contracted.is_sound();
         if on {
-            remove_range(&mut self.contracted, line, line + 1);
+            self.contracted.remove_range(line, line + 1);
         } else {
-            insert(&mut self.contracted, line);
+            self.contracted.insert(line);
         }
     }
 }

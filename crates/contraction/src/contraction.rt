@@ -1,18 +1,15 @@
 //! `Contraction`: how it is made and read, and its capacity.
 
-ghost use Rattle.std.specs.Prelude.{◌≡◌, ◌^◌, ◌≤◌, ◌<◌, ℕ, true, false, [], ◌∷◌, length, replicate, IfOk, OnErr};
+ghost use Rattle.std.specs.Prelude.{◌≡◌, ◌^◌, ◌≤◌, ◌<◌, ℕ, true, false, length, replicate, OnErr};
 ghost use Rattle.ed_model.specs.Rows.{fresh_flags};
 ghost use Rattle.ed_model.specs.Folding.{is_visible, is_expanded};
 ghost use Rattle.ed_model.specs.DisplayLines.{display_line, line_shown, all_visible};
 ghost use Rattle.vec_room.specs.Reserved.{IsReserved};
 ghost use Rattle.contraction.specs.ViewLines.{contracted_lines, fold_capacity, FoldsFit, HaveGrown};
 
-use crate::line_set::{
-    contains, lines_before_likely, next_inside, nth_line_outside, reserve, set_is_sound,
-};
-use partitioning::{Partitioning, Place};
+use crate::line_set::LineSet;
+use rising_numbers::Place;
 use std::alloc::{AllocError, Global};
-use std::cell::Cell;
 use std::marker::Model;
 
 /// The flags of the lines of a view: which are visible, and which are expanded. Lines are counted from 0.
@@ -20,11 +17,8 @@ use std::marker::Model;
 /// `P` is the type in which line numbers are stored, and bounds them.
 #[derive(Drop)]
 pub struct Contraction<P: Place> {
-    pub(crate) hidden: Partitioning<P>,
-    pub(crate) contracted: Partitioning<P>,
-    // Where the last look-ups in the two sets ended. Lines are mostly asked for in order.
-    hidden_at: Cell<usize>,
-    contracted_at: Cell<usize>,
+    pub(crate) hidden: LineSet<P>,
+    pub(crate) contracted: LineSet<P>,
 }
 
 impl<P: Place> Model for Contraction<P> {
@@ -39,35 +33,17 @@ impl<P: Place> Model for Contraction<P> {
     ghost invariant = { λ c. c.contracted.length ≡ c.hidden.length };
 }
 
-// Returns an empty set of lines, for a text of `lines` lines.
-fn no_lines<P: Place>(alloc: Global, lines: usize) -> Result<Partitioning<P>, AllocError>
-    requires { lines ≤ P.GREATEST }
-    ensures { IfOk result (λ s. (s.starts ≡ 0 ∷ []) × (s.length ≡ lines) × (s.capacity ≡ 1)) }
-{
-    let mut set = Partitioning::new(alloc)?;
-    set.insert_text(0, lines);
-    Ok(set)
-}
-
 #[tactic(auto, using(crate::proofs::Kept::kept_length))]
 impl<P: Place> Contraction<P> {
-    /// Returns the flags of `lines` lines, all visible and expanded. Allocates memory for two numbers, and no more.
-    ///
-    /// # Errors
-    ///
-    /// `AllocError` if an allocation fails.
-    pub fn new(alloc: Global, lines: usize) -> Result<Self, AllocError>
+    /// Returns the flags of `lines` lines, all visible and expanded. Allocates nothing.
+    pub fn new(alloc: Global, lines: usize) -> Self
         requires { lines ≤ P.GREATEST }
-        ensures { IfOk result (λ c. c ≡ record { flags = replicate lines fresh_flags; capacity = fold_capacity 0 0 }) }
+        ensures { result ≡ record { flags = replicate lines fresh_flags; capacity = fold_capacity 0 0 } }
     {
-        let hidden = no_lines(alloc, lines)?;
-        let contracted = no_lines(alloc, lines)?;
-        Ok(Contraction {
-            hidden,
-            contracted,
-            hidden_at: Cell::new(0),
-            contracted_at: Cell::new(0),
-        })
+        Contraction {
+            hidden: LineSet::new(alloc, lines),
+            contracted: LineSet::new(alloc, lines),
+        }
     }
 
     /// Returns the number of lines.
@@ -84,8 +60,7 @@ impl<P: Place> Contraction<P> {
         ensures count { result ≡ contracted_lines self.now.flags }
         ensures within { contracted_lines self.now.flags < 2 ^ 63 }
     {
-        set_is_sound(&self.contracted);
-        self.contracted.count() - 1
+        self.contracted.count()
     }
 
     /// Returns whether the line is visible (`SCI_GETLINEVISIBLE`).
@@ -95,7 +70,7 @@ impl<P: Place> Contraction<P> {
         requires { line < length self.now.flags }
         ensures { result ≡ is_visible self.now.flags line }
     {
-        !contains(&self.hidden, line, &self.hidden_at)
+        !self.hidden.contains(line)
     }
 
     /// Returns whether the line is expanded (`SCI_GETFOLDEXPANDED`).
@@ -105,7 +80,7 @@ impl<P: Place> Contraction<P> {
         requires { line < length self.now.flags }
         ensures { result ≡ is_expanded self.now.flags line }
     {
-        !contains(&self.contracted, line, &self.contracted_at)
+        !self.contracted.contains(line)
     }
 
     // Returns the first contracted line from `line` on, or the number of lines if there is none.
@@ -116,7 +91,7 @@ impl<P: Place> Contraction<P> {
         ensures expanded { (k : ℕ) → line ≤ k → k < result → k < length self.now.flags → is_expanded self.now.flags k ≡ true }
         ensures contracted { result < length self.now.flags → is_expanded self.now.flags result ≡ false }
     {
-        next_inside(&self.contracted, line)
+        self.contracted.next(line)
     }
 
     /// Returns whether all lines are visible, in constant time (`SCI_GETALLLINESVISIBLE`).
@@ -124,7 +99,7 @@ impl<P: Place> Contraction<P> {
     pub fn is_all_visible(&self) -> bool
         ensures { result ≡ all_visible self.now.flags }
     {
-        self.hidden.count() == 1
+        self.hidden.count() == 0
     }
 
     /// Returns the display line of a line, counted from 0 (`SCI_VISIBLEFROMDOCLINE`). A hidden line has that of the
@@ -135,8 +110,8 @@ impl<P: Place> Contraction<P> {
         requires { line < length self.now.flags }
         ensures { result ≡ display_line self.now.flags line }
     {
-        set_is_sound(&self.hidden);
-        let hidden = lines_before_likely(&self.hidden, line + 1, &self.hidden_at);
+        self.hidden.is_sound();
+        let hidden = self.hidden.before_likely(line + 1);
         (line + 1 - hidden).saturating_sub(1)
     }
 
@@ -146,7 +121,7 @@ impl<P: Place> Contraction<P> {
     pub fn doc_of(&self, display: usize) -> usize
         ensures { result ≡ line_shown self.now.flags display }
     {
-        nth_line_outside(&self.hidden, display)
+        self.hidden.nth_outside(display)
     }
 
     /// Makes room for `hidden` hidden lines in all, and for `contracted` contracted ones. Allocates nothing for those
@@ -161,7 +136,7 @@ impl<P: Place> Contraction<P> {
         ensures grown { (self.new ≡ record self.old { capacity = self.new.capacity }) × HaveGrown hidden contracted self.old.capacity self.new.capacity }
         ensures err { OnErr result ((self.new.capacity.contracted ≡ self.old.capacity.contracted) × (contracted ≤ self.old.capacity.contracted → self.new ≡ self.old)) }
     {
-        reserve(&mut self.hidden, hidden)?;
-        reserve(&mut self.contracted, contracted)
+        self.hidden.reserve(hidden)?;
+        self.contracted.reserve(contracted)
     }
 }

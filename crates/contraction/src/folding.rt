@@ -8,7 +8,7 @@ ghost use Rattle.contraction.specs.ViewLines.{contracted_lines, CanFold};
 use crate::contraction::Contraction;
 use crate::folds::{fold_parent, is_header, last_child};
 use crate::levels::Levels;
-use partitioning::Place;
+use rising_numbers::Place;
 
 impl<P: Place> Contraction<P> {
     /// Contracts a header, and hides its children. There must be room for all lines to be hidden, and for one more

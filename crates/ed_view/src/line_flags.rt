@@ -1,6 +1,6 @@
 //! The flags of a view's lines, in the width of its document.
 
-ghost use Rattle.std.specs.Prelude.{◌≡◌, ◌<◌, ◌≤◌, ◌+◌, ◌^◌, false, length, replicate, IfOk};
+ghost use Rattle.std.specs.Prelude.{◌≡◌, ◌<◌, ◌≤◌, ◌+◌, ◌^◌, false, length, replicate};
 ghost use Rattle.ed_model.specs.DisplayLines.{all_visible, display_line, line_shown};
 ghost use Rattle.ed_model.specs.Folding.{is_expanded, is_visible, lines_hidden, lines_shown, with_expanded};
 ghost use Rattle.ed_model.specs.Folding.{contracted as contracted_at, expanded as expanded_at, revealed};
@@ -38,23 +38,17 @@ impl Model for LineFlags {
 }
 
 impl LineFlags {
-    /// Returns the flags of `lines` lines, all visible and expanded. Allocates memory for four numbers, and no more.
-    ///
-    /// # Errors
-    ///
-    /// `AllocError` if an allocation fails.
-    pub(crate) fn new(alloc: Global, lines: usize, is_large: bool) -> Result<Self, AllocError>
+    /// Returns the flags of `lines` lines, all visible and expanded. Allocates nothing.
+    pub(crate) fn new(alloc: Global, lines: usize, is_large: bool) -> Self
         requires { AreFewLines is_large lines }
-        ensures flags { IfOk result (λ l. (l.flags ≡ replicate lines fresh_flags) × (l.large ≡ is_large)) }
-        ensures capacity { IfOk result (λ l. (l.capacity ≡ fold_capacity 0 0) × (l.other_capacity ≡ fold_capacity 0 0)) }
+        ensures flags { (result.flags ≡ replicate lines fresh_flags) × (result.large ≡ is_large) }
+        ensures capacity { (result.capacity ≡ fold_capacity 0 0) × (result.other_capacity ≡ fold_capacity 0 0) }
     {
-        let small = Contraction::new(alloc, if is_large { 1 } else { lines })?;
-        let large = Contraction::new(alloc, if is_large { lines } else { 1 })?;
-        Ok(LineFlags {
-            small,
-            large,
+        LineFlags {
+            small: Contraction::new(alloc, if is_large { 1 } else { lines }),
+            large: Contraction::new(alloc, if is_large { lines } else { 1 }),
             is_large,
-        })
+        }
     }
 
     /// Returns the number of lines.

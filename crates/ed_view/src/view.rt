@@ -69,7 +69,7 @@ impl View {
     ///
     /// # Errors
     ///
-    /// `AllocError` if an allocation fails. The view allocates memory for four numbers, however many lines there are.
+    /// None as yet: the view allocates nothing, however many lines there are.
     pub fn new(
         alloc: Global,
         id: u32,
@@ -83,7 +83,7 @@ impl View {
         ensures lines { IfOk result (λ v. (length v.view.flags ≡ lines) × (v.view.large ≡ is_large)) }
         ensures capacity { IfOk result (λ v. (v.capacity ≡ fold_capacity 0 0) × (v.other_capacity ≡ fold_capacity 0 0)) }
     {
-        let lines = LineFlags::new(alloc, lines, is_large)?;
+        let lines = LineFlags::new(alloc, lines, is_large);
         Ok(View {
             id,
             document,

@@ -21,7 +21,7 @@ fn contract_the_second<P: Place>(rt: &impl Abort, view: &mut Contraction<P>) {
 
 fn contracted_lines<P: Place>(rt: &impl Abort, alloc: Global) {
     assert!(rt; 4 <= P::GREATEST);
-    let mut view: Contraction<P> = Contraction::new(alloc, 4).expect(rt, "memory");
+    let mut view: Contraction<P> = Contraction::new(alloc, 4);
     contract_the_second(rt, &mut view);
 }
 

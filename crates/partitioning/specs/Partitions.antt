@@ -1,7 +1,8 @@
 -- What a contract sees of a `Partitioning`.
-use Rattle.std.specs.Prelude.{◌≡◌, ℕ, ◌+◌, ◌-◌, ◌^◌, ◌<◌, ◌≤◌, List, length, take, drop, map, ◌++◌, slice_index, EachIndex, nat_le, if◌then◌else◌, refl}
+use Rattle.std.specs.Prelude.{◌≡◌, ℕ, ◌+◌, ◌-◌, ◌<◌, ◌≤◌, List, length, slice_index, EachIndex, nat_le, if◌then◌else◌, refl}
 use Rattle.std.specs.List.Sorted.{IsStrictlyIncreasing}
-use Rattle.split_vector.specs.Split.{counted, most_held}
+use Rattle.split_vector.specs.Split.{most_held}
+pub use Rattle.rising_numbers.specs.Numbers.{IsLastAtMost, map_from, IsFloorLog, CountsReads}
 use Rattle.std.specs.Coded.{Coded, code_by, coded×, coded_list, coded_ℕ}
 
 -- where each partition starts, the length of the whole, how many starts fit in without an allocation, how many stored
@@ -39,12 +40,6 @@ pub record ArePartitions (starts : List ℕ) (end : ℕ) : Type 0 where
   pub rising : IsStrictlyIncreasing starts
   pub within : EachIndex starts (λ k. slice_index starts k ≤ end)
 
--- partition i is the last that starts at the place or before it
-pub record IsLastAtMost (starts : List ℕ) (place i : ℕ) : Type 0 where
-  pub within : i < length starts
-  pub at_most : slice_index starts i ≤ place
-  pub last : (k : ℕ) → i < k → k < length starts → place < slice_index starts k
-
 -- a partition can be inserted before partition i, or at the end: it starts behind the one before it and before the next
 pub record CanStart (starts : List ℕ) (end i start : ℕ) : Type 0 where
   pub not_first : 0 < i
@@ -67,10 +62,6 @@ step_inserted i step = if nat_le i (step + 1) then step + 1 else step
 abbrev pub step_removed : ℕ → ℕ → ℕ
 step_removed i step = if nat_le i step then step - 1 else step
 
--- the list, with f of each number from place n on
-abbrev pub map_from : (ℕ → ℕ) → ℕ → List ℕ → List ℕ
-map_from f n xs = take n xs ++ map f (drop n xs)
-
 -- the starts, with each one behind partition i raised by n
 abbrev pub raised_behind : List ℕ → ℕ → ℕ → List ℕ
 raised_behind starts i n = map_from (λ s. s + n) (i + 1) starts
@@ -78,11 +69,3 @@ raised_behind starts i n = map_from (λ s. s + n) (i + 1) starts
 -- the starts, with each one behind partition i lowered by n
 abbrev pub lowered_behind : List ℕ → ℕ → ℕ → List ℕ
 lowered_behind starts i n = map_from (λ s. s - n) (i + 1) starts
-
--- k is the greatest number with 2 ^ k at most n
-abbrev pub IsFloorLog : ℕ → ℕ → Type 0
-IsFloorLog k n = (2 ^ k ≤ n) × (n < 2 ^ (k + 1))
-
--- a look-up among n starts reads at least k of them and at most k + extra, where 2 ^ k ≤ n < 2 ^ (k + 1)
-abbrev pub CountsReads : (extra n old new : ℕ) → Type 0
-CountsReads extra n old new = (old ≤ new) × ((k : ℕ) → IsFloorLog k n → (counted old k ≤ new) × (new ≤ old + (extra + k)))

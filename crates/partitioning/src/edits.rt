@@ -4,14 +4,15 @@ ghost use Rattle.partitioning.specs.Partitions.{ArePartitions, CanStart, CanLose
 ghost use Rattle.partitioning.specs.Stored.{stepped_to};
 ghost use Rattle.partitioning.specs.SumLaws.{KeepsTo, steps_of};
 
-use crate::places::Place;
 use crate::table::Partitioning;
+use rising_numbers::Place;
 use std::alloc::Allocator;
 
 impl<P: Place, A: Allocator> Partitioning<P, A> {
     /// Inserts a partition that starts at `start` before the one at `index`, or at the end. There must be room for it.
     /// No other stored start changes: the step stays with its partition, or moves to the new one if that comes right
     /// behind it.
+    #[inline(always)]
     pub fn insert_reserved(&mut self, index: usize, start: usize)
         requires room { StartsFit 1 self.old }
         requires start { CanStart self.old.starts self.old.length index start }
@@ -19,34 +20,23 @@ impl<P: Place, A: Allocator> Partitioning<P, A> {
         ensures few { KeepsTo index (steps_of self.old) (steps_of self.new) }
         ensures sound { ArePartitions self.new.starts self.new.length }
     {
-        self.are_partitions();
-        let place = P::from_usize(start);
-        if index <= self.step_at + 1 {
-            self.body.insert_reserved(index, place);
-            self.step_at += 1;
-        } else {
-            let distance = self.end.minus(place);
-            self.body.insert_reserved(index, distance);
-        }
+        self.starts.insert_reserved(index, start);
     }
 
     /// Joins the partition at `index` with the one before it, by removing its start. The first partition stays. No
     /// other stored start changes: the step stays with its partition, or moves to the one before if its own was joined.
+    #[inline(always)]
     pub fn remove(&mut self, index: usize)
         requires { (0 < index) × (index < length self.old.starts) }
         ensures removed { self.new ≡ record self.old { starts = remove self.old.starts index; step_at = step_removed index self.old.step_at } }
         ensures few { KeepsTo index (steps_of self.old) (steps_of self.new) }
         ensures sound { ArePartitions self.new.starts self.new.length }
     {
-        let count = self.count();
-        prove!(index < count);
-        self.body.delete(index, 1);
-        if index <= self.step_at {
-            self.step_at -= 1;
-        }
+        self.starts.remove(index);
     }
 
     /// Inserts `count` into the partition at `index`: the starts behind it and the length rise by `count`.
+    #[inline(always)]
     pub fn insert_text(&mut self, index: usize, count: usize)
         requires index { index < length self.old.starts }
         requires fits { self.old.length + count ≤ P.GREATEST }
@@ -54,12 +44,13 @@ impl<P: Place, A: Allocator> Partitioning<P, A> {
         ensures few { KeepsTo index (steps_of self.old) (steps_of self.new) }
         ensures sound { ArePartitions self.new.starts self.new.length }
     {
-        self.step_to(index);
-        self.end = self.end.plus(P::from_usize(count));
+        self.are_partitions();
+        self.starts.raise(index + 1, count);
     }
 
     /// Deletes `count` from the partition at `index`: the starts behind it and the length fall by `count`. The
     /// partition must not become empty, unless it is the last.
+    #[inline(always)]
     pub fn delete_text(&mut self, index: usize, count: usize)
         requires index { index < length self.old.starts }
         requires count { CanLose self.old.starts self.old.length index count }
@@ -67,7 +58,7 @@ impl<P: Place, A: Allocator> Partitioning<P, A> {
         ensures few { KeepsTo index (steps_of self.old) (steps_of self.new) }
         ensures sound { ArePartitions self.new.starts self.new.length }
     {
-        self.step_to(index);
-        self.end = self.end.minus(P::from_usize(count));
+        self.are_partitions();
+        self.starts.lower(index + 1, count);
     }
 }

@@ -11,9 +11,9 @@ insert-requires-clause-room g c = λ _.
 pub returns-then-on-clause-flags : goal.returns-then-on-clause-flags
 returns-then-on-clause-flags g c =
     let inside : c.args.line < c.self.inside.hidden.length = grind (arith, kept_length) in
-    rw (← c.self.view_is, c.if-on.true) (set_expanded c.self.inside.hidden c.self.inside.contracted c.remove_range.new.starts c.args.line true inside c.remove_range.ensures)
+    rw (← c.self.view_is, c.if-on.true) (set_expanded c.self.inside.hidden c.self.inside.contracted c.remove_range.new.self c.args.line true inside c.remove_range.ensures)
 
 pub returns-else-on-clause-flags : goal.returns-else-on-clause-flags
 returns-else-on-clause-flags g c =
     let inside : c.args.line < c.self.inside.hidden.length = grind (arith, kept_length) in
-    rw (← c.self.view_is, c.if-on.false) (set_expanded c.self.inside.hidden c.self.inside.contracted c.insert.new.starts c.args.line false inside c.insert.ensures.lines)
+    rw (← c.self.view_is, c.if-on.false) (set_expanded c.self.inside.hidden c.self.inside.contracted c.insert.new.self c.args.line false inside c.insert.ensures)

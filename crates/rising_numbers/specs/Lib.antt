@@ -1,0 +1,4 @@
+pub mod Numbers
+pub mod Stored
+pub mod SumLaws
+pub mod proved
