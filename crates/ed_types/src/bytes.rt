@@ -36,6 +36,24 @@ impl Bytes {
         }
     }
 
+    /// Returns the bytes in their buffer, which may have spare capacity.
+    pub fn into_vec(self) -> Vec<u8>
+        ensures { result.items ≡ self }
+    {
+        let Bytes { bytes } = self;
+        bytes
+    }
+
+    /// Removes the bytes. A buffer of at most `most` bytes is kept; a larger one is freed.
+    pub(crate) fn clear(&mut self, most: usize)
+        ensures { self.new ≡ [] }
+    {
+        self.bytes.clear();
+        if most < self.bytes.capacity() {
+            self.bytes.shrink_to_fit();
+        }
+    }
+
     /// Returns the bytes as a slice.
     pub fn as_slice(&self) -> &[u8]
         ensures { result.now ≡ self.now }

@@ -1,5 +1,9 @@
 //! Why a call is refused.
 
+ghost use Rattle.std.specs.Prelude.{◌≡◌};
+ghost use Rattle.ed_types.specs.declared.refusal.Refusal.TheVariants.{OutOfMemory};
+
+use std::alloc::AllocError;
 use thiserror::Error;
 
 /// Why a call is refused. A refused call has changed nothing. Scripts print `refusal as u8`.
@@ -26,4 +30,12 @@ pub enum Refusal {
     /// The handles, the ids, the references, the depth of groups or the open views are used up.
     #[error("too many")]
     TooMany = 7,
+}
+
+impl From<AllocError> for Refusal {
+    ghost from_gives = { λ _ refusal. refusal ≡ OutOfMemory };
+
+    fn from(_failed: AllocError) -> Refusal {
+        Refusal::OutOfMemory
+    }
 }

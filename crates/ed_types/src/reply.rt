@@ -8,6 +8,10 @@ use std::alloc::Global;
 use std::marker::Model;
 use std::ops::Range;
 
+/// The greatest capacity, in bytes, of a text's buffer that a reply keeps once it has no text. Most lines are shorter, so that reading lines, with
+/// other messages between them, allocates nothing; and a session keeps at most one page beyond its last reply.
+const MOST_KEPT: usize = 4096;
+
 /// A note: a notification that a view gets. Fields that its code does not name are 0, and its text is empty.
 #[derive(Debug, Drop)]
 pub struct Note {
@@ -81,12 +85,36 @@ impl Reply {
         }
     }
 
-    /// Sets the value; the text and the notes stay.
-    pub fn set_value(&mut self, value: i64)
-        ensures { self.new ≡ record self.old { value = value } }
+    /// Removes the text and the notes. Out of line, since most replies are a value alone.
+    #[inline(never)]
+    fn clear(&mut self)
+        ensures { self.new ≡ record { value = self.old.value; text = []; notes = [] } }
+    {
+        self.text.clear(MOST_KEPT);
+        self.notes.clear();
+        self.notes.shrink_to_fit();
+        self.pool.clear(0);
+    }
+
+    /// Replaces the reply by a value alone. A small buffer of its text is kept for the next text; all other memory is
+    /// freed.
+    #[inline(always)]
+    pub fn answer(&mut self, value: i64)
+        ensures { self.new ≡ record { value = value; text = []; notes = [] } }
     {
         let place = &mut self.value;
         *place = value;
+        if !self.text().is_empty() || self.note_count() > 0 {
+            self.clear();
+        }
+    }
+
+    /// Replaces the text, and returns the one before it, in its buffer. The value and the notes stay.
+    pub fn replace_text(&mut self, text: Bytes) -> Bytes
+        ensures before { result ≡ self.old.text }
+        ensures replaced { self.new ≡ record self.old { text = text } }
+    {
+        std::mem::replace(&mut self.text, text)
     }
 
     /// Returns the value of the answer.

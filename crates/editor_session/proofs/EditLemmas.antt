@@ -1,5 +1,5 @@
 -- Edits of the text.
-use Rattle.editor_session.proofs.Names.{◌≡◌, ◌⊎◌, inl, inr, ℕ, ℤ, true, false, List, [], ◌∷◌, ◌++◌, length, refl, ap, sym, ◌∙◌, subst, Some, not, and_parts, eqb-true, Follow, steps_of, source_bytes, has_steps, converted, after_steps, replacement, Scene, scene_of, session_of, edit_made, followed, response, EditStepsFit, IsFitEdit, IsFitSource, IsFitFollow, IsFitPlan, Request, text, size, Document, Session, View, text_of, Step, insertion, Entries, value_at, Gathered, Kept, KeptView, kept_scene, scene_in, views_of, session_in, SessionState, IsKept, IsStoredIn, IsPastedFor, IsEditWithin, TakesWithin, is_turned, stored_bytes, clipboard_need, taken_along, followed_views, followed_clipboard, MakesEdit, edit_steps, takes_nothing_along, needs_no_memory, StepsFitWidth, asked, CanPerform, IsPerformed}
+use Rattle.editor_session.proofs.Names.{◌≡◌, ◌⊎◌, inl, inr, ℕ, ℤ, true, false, List, [], ◌∷◌, ◌++◌, length, refl, ap, sym, ◌∙◌, subst, Option, Some, None, IfSome, not, and_parts, eqb-true, Follow, steps_of, source_bytes, has_steps, converted, after_steps, replacement, Scene, scene_of, session_of, edit_made, followed, response, EditStepsFit, IsFitEdit, IsFitSource, IsFitFollow, IsFitPlan, Request, text, size, Document, Session, View, text_of, Step, insertion, Entries, value_at, Gathered, Kept, KeptView, kept_scene, scene_in, views_of, session_in, SessionState, IsKept, IsStoredIn, IsPastedFor, IsEditWithin, TakesWithin, is_turned, stored_bytes, clipboard_need, taken_along, followed_views, followed_clipboard, MakesEdit, edit_steps, takes_nothing_along, needs_no_memory, StepsFitWidth, request_of, Message, CanPerform, IsPerformed}
 use Rattle.ed_model.specs.declared.plan.Source.{Source}
 use Rattle.ed_model.specs.declared.plan.Source.TheVariants as source
 use Rattle.ed_model.specs.declared.plan.Edit.{Edit}
@@ -41,6 +41,10 @@ pub pasted_none : (change : Edit) (clipboard pasted : List ℕ) (end : _) → is
 pasted_none (edit.Replace start count (source.Clipboard true)) clipboard pasted end h = absurd (cc)
 pasted_none _ clipboard pasted end h = tt
 
+pub all_promised : {X : Type 0} (o : Option X) (P : X → Type 0) → ((x : X) → P x) → IfSome o P
+all_promised None P all = tt
+all_promised (Some x) P all = all x
+
 -- An edit that needs no memory: nothing is converted, nothing is taken along, and there are no steps.
 
 inserts_nothing : (gone : List Step) (start : ℕ) (bytes : List ℕ) → not (has_steps (gone ++ insertion start bytes)) ≡ true → bytes ≡ []
@@ -79,18 +83,18 @@ followed_so : (after : Follow) (view : ℕ) (before taken : List ℕ) (was : Ses
 followed_so follow.Nothing view before taken was views' clipboard' moved held take = rw (moved, held) refl
 followed_so after view before taken was views' clipboard' moved held take = let all = held ∙ ap (λ t. followed_clipboard after t was.clipboard) take in rw (moved, all) refl
 
-module _ {s : SessionState} {document view : ℕ} {bytes : List ℕ} {change : Edit} {value : ℤ} {after : Follow} (kept : IsKept s) (can : CanPerform (session_in s) document view bytes (plan.Edit change value after)) (held pasted : List ℕ)
-    (clipboard : held ≡ s.clipboard.items) (turned : IsPastedFor change s.clipboard.items (asked (session_in s) view bytes).document.line_end pasted) (old : Kept) (at : value_at s.documents.entries document ≡ Some old) where
-  pub steps_are : edit_steps change bytes held pasted old.document ≡ steps_of (asked (session_in s) view bytes) change
+module _ {s : SessionState} {document view : ℕ} {m : Message} {bytes : List ℕ} {change : Edit} {value : ℤ} {after : Follow} (kept : IsKept s) (can : CanPerform (session_in s) document view m (plan.Edit change value after)) (held pasted : List ℕ)
+    (same_text : bytes ≡ m.text) (clipboard : held ≡ s.clipboard.items) (turned : IsPastedFor change s.clipboard.items (request_of (session_in s) view m).document.line_end pasted) (old : Kept) (at : value_at s.documents.entries document ≡ Some old) where
+  pub steps_are : edit_steps change bytes held pasted old.document ≡ steps_of (request_of (session_in s) view m) change
   steps_are =
-      ap (λ x. edit_steps change bytes x pasted old.document) clipboard ∙ ap (edit_steps change bytes s.clipboard.items pasted) (found_is kept can.request old at) ∙ same_edit (asked (session_in s) view bytes) change pasted turned
+      ap (λ x. edit_steps change x held pasted old.document) same_text ∙ ap (λ x. edit_steps change m.text x pasted old.document) clipboard ∙ ap (edit_steps change m.text s.clipboard.items pasted) (found_is kept can.request old at) ∙ same_edit (request_of (session_in s) view m) change pasted turned
 
   pub within_here : IsEditWithin change (length old.document.cells) (length bytes)
-  within_here = subst (λ (d : Document). IsEditWithin change (length d.cells) (length bytes)) (sym (found_is kept can.request old at)) (edit_within (asked (session_in s) view bytes) change can.fit.0)
+  within_here = subst (λ x. IsEditWithin change (length old.document.cells) (length x)) (sym same_text) (subst (λ (d : Document). IsEditWithin change (length d.cells) (length m.text)) (sym (found_is kept can.request old at)) (edit_within (request_of (session_in s) view m) change can.fit.0))
 
   pub wide_here : EditStepsFit → StepsFitWidth old.document (edit_steps change bytes held pasted old.document)
   wide_here fit =
-      let r = asked (session_in s) view bytes in
+      let r = request_of (session_in s) view m in
       subst (λ ss. StepsFitWidth old.document ss) (sym steps_are)
       (subst (λ d. StepsFitWidth d (steps_of r change)) (sym (found_is kept can.request old at)) (steps_fit_width r kept.limits can.request.sound (steps_of r change) (fit r change can.fit.0) can.fit.2))
 
@@ -98,10 +102,10 @@ module _ {s : SessionState} {document view : ℕ} {bytes : List ℕ} {change : E
   pub edit_performed : (new : Kept) (between views' : Entries KeptView) (notes notes' : Gathered) (s' : SessionState) (taken : List ℕ) → MakesEdit (edit_steps change bytes held pasted old.document) old s.views notes new between notes'
       → new.document.id ≡ old.document.id → between.next ≡ s.views.next
       → session_in s' ≡ (let t = session_in (with_scene s document new between) in record t { views = views_of views'.entries; clipboard = s'.clipboard.items })
-      → views_of views'.entries ≡ followed_views view after (views_of between.entries) → s'.clipboard.items ≡ followed_clipboard after taken s.clipboard.items → taken ≡ taken_along after (text_of (asked (session_in s) view bytes).document)
-      → IsPerformed (session_in s) view bytes (plan.Edit change value after) s' notes.notes notes'.notes value []
+      → views_of views'.entries ≡ followed_views view after (views_of between.entries) → s'.clipboard.items ≡ followed_clipboard after taken s.clipboard.items → taken ≡ taken_along after (text_of (request_of (session_in s) view m).document)
+      → IsPerformed (session_in s) view m (plan.Edit change value after) s' notes.notes notes'.notes value []
   edit_performed new between views' notes notes' s' taken made same next after_is moved clip take =
-      let r = asked (session_in s) view bytes in
+      let r = request_of (session_in s) view m in
       let base = edit_made (steps_of r change) (scene_of r) in
       let scene : kept_scene new between notes' ≡ telling notes.notes base =
       made ∙ ap (λ ss. edit_made ss (kept_scene old s.views notes)) steps_are ∙ ap (λ d. edit_made (steps_of r change) (scene_in d s.views.entries notes.notes)) (found_is kept can.request old at)

@@ -1,11 +1,7 @@
 -- What holds of a session between its calls goes on holding.
-use Rattle.editor_session.proofs.Names.{◌≡◌, ℕ, false, length, refl, ap, sym, ◌∙◌, subst, Ok, Err, IfOk, OnOk, OnErr, Result, nat_le, nat_lt, Message, Refusal, Response, Session, is_allowed, IsSound, MessageKeepsSound, OpeningKeepsSound, ClosingKeepsSound, table, opened, closed, AreNamed, session_in, SessionState, IsKept, DocumentsAreNamed, Entry, KeptView, length-map}
+use Rattle.editor_session.proofs.Names.{◌≡◌, ℕ, false, length, refl, ap, sym, ◌∙◌, subst, Ok, Err, IfOk, OnOk, OnErr, Result, nat_le, nat_lt, Refusal, Session, is_allowed, IsSound, OpeningKeepsSound, ClosingKeepsSound, opened, closed, AreNamed, session_in, SessionState, IsKept, DocumentsAreNamed, Entry, KeptView, length-map}
 use Rattle.std.specs.declared.alloc.AllocError.{AllocError}
 use Rattle.editor_session.specs.Opening.{with_view_on_new}
-
--- the session after an answer of the table
-pub sound_after : {R : Type 0} (says : Result (Session × R) Refusal) (new : Session) (r : R) → IfOk says (λ done. IsSound done.0) → says ≡ Ok (new, r) → IsSound new
-sound_after says new r after answer = subst (λ t. IfOk t (λ done. IsSound done.0)) answer after
 
 pub kept_with : (old new : SessionState) → IsKept old → IsSound (session_in new) → new.limits ≡ old.limits → DocumentsAreNamed new.documents.entries → AreNamed new.views.entries → IsKept new
 kept_with old new kept sound same documents views = record { sound = sound; limits = ap is_allowed same ∙ kept.limits; documents = documents; views = views }
@@ -27,8 +23,3 @@ pub kept_after_closing : ClosingKeepsSound → (old new : SessionState) (view : 
 kept_after_closing law old new view (Ok u) kept done same limits documents views =
     kept_with old new kept (subst (λ t. IfOk t IsSound) done (law (session_in old) view kept.sound)) limits documents views
 kept_after_closing law old new view (Err e) kept done same limits documents views = kept_with old new kept (subst IsSound (sym same) kept.sound) limits documents views
-
-pub kept_after_message : MessageKeepsSound → (old new : SessionState) (view : ℕ) (m : Message) (reply : Response) → IsKept old → table (session_in old) view m ≡ Ok (session_in new, reply)
-    → new.limits ≡ old.limits → DocumentsAreNamed new.documents.entries → AreNamed new.views.entries → IsKept new
-kept_after_message law old new view m reply kept answer limits documents views =
-    kept_with old new kept (sound_after (table (session_in old) view m) (session_in new) reply (law (session_in old) view m kept.sound) answer) limits documents views

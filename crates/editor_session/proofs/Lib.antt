@@ -1,7 +1,6 @@
 pub mod Names
 pub mod Finding
 pub mod Questions
-pub mod TextQuestions
 pub mod TableWay
 pub mod Telling
 pub mod PlanLemmas

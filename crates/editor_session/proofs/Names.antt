@@ -5,6 +5,7 @@ pub use Rattle.std.proofs.lemmas.Bool.{and_parts, eqb-true, cond_both, not-true,
 pub use Rattle.std.specs.List.{AllByRecursion, cons_option}
 pub use Rattle.std.proofs.lemmas.List.{map-append, length-map, length-take, length-drop, drop-map}
 pub use Rattle.std.specs.Option.{option_copied_mut}
+pub use Rattle.std.proofs.lemmas.Result.{err_from_is_err_and}
 pub use Rattle.ed_model.specs.Session.{View, document_at, view_at, Document, Session, text_of, with_document, is_allowed, watching, new_document, new_view, living, left_by, references, is_large, limit_of}
 pub use Rattle.ed_model.specs.SoundLaws.{IsSoundView, IsSound, MessageKeepsSound, AreStepsOf, OpeningKeepsSound, ClosingKeepsSound, Rise, IsSoundDocument, ListsItsViews, StandsOn}
 pub use Rattle.ed_model.specs.proved.Elements.{found_all, all_filter}
@@ -13,7 +14,7 @@ pub use Rattle.document.specs.Kept.{Kept, document_of, FitsWidth, bound_of}
 pub use Rattle.ed_view.specs.Kept.{KeptView, view_in}
 pub use Rattle.message_requests.specs.Requested.{session_in, documents_in}
 pub use Rattle.message_requests.specs.declared.state.SessionState.{SessionState}
-pub use Rattle.performing.specs.Asked.{document_asked, view_asked, asked, IsAsked}
+pub use Rattle.performing.specs.Asked.{document_asked, view_asked, asked}
 pub use Rattle.performing.specs.Kept.{IsKept, DocumentsAreNamed}
 pub use Rattle.performing.specs.proved.Finding.{id_of_view, id_of_document, found_some, found_none, found, unchanged, named_with, own_at, still_named, IsKeptAs, kept_as, replaced, changed, staying}
 pub use Rattle.ed_model.specs.declared.plan.Follow.{Follow}
@@ -35,7 +36,6 @@ pub use Rattle.ed_model.specs.declared.plan.DocumentChange.{DocumentChange}
 pub use Rattle.ed_model.specs.declared.plan.Plan.{Plan}
 pub use Rattle.ed_model.specs.Table.{table, request, plan_of, performed, opened, closed, closed_view, with_recording, record_note, table_from_view, table_from_kind, table_from_document, answered}
 pub use Rattle.performing.specs.Fit.{IsFitChange, bytes_read}
-pub use Rattle.message_plans.specs.Frequent.{frequent_changes, frequent_change_of, is_frequent_change, change_planned, change_asked, transactions, transaction_of, performing, is_performed, is_target_message, target_plan_of}
 pub use Rattle.document.specs.Undoing.{changes_of, history_behind}
 pub use Rattle.document.specs.declared.undoing.Direction.{Direction}
 pub use Rattle.ed_types.specs.Notices.{Notice, Response}
@@ -55,9 +55,8 @@ pub use Rattle.ed_model.specs.Text.{Cell, styles_of, bytes_of}
 pub use Rattle.performing.specs.Edits.{MakesEdit}
 pub use Rattle.performing.specs.History.{scene_gone}
 pub use Rattle.performing.specs.Widths.{StepsFitWidth, ChangesFitWidth}
-pub use Rattle.editor_session.specs.Edits.{IsPastedFor, TakesWithin, is_turned, clipboard_need, taken_along, followed_views, followed_clipboard, IsStoredIn, IsEditWithin, stored_bytes, edit_steps}
+pub use Rattle.editor_session.specs.Edits.{IsPastedFor, TakesWithin, is_turned, clipboard_need, taken_along, followed_views, followed_clipboard, with_caret_if, IsStoredIn, IsEditWithin, stored_bytes, edit_steps}
 pub use Rattle.editor_session.specs.Plans.{takes_nothing_along, is_free, needs_no_memory, needs_no_fold_room, planned_without_memory, is_free_request, is_free_from_document, is_free_from_kind, is_free_from_view, is_marked_free, is_recorded_by, MarkedMessagesAreFree}
-pub use Rattle.editor_session.specs.Performing.{CanPerform, IsPerformed, going}
-pub use Rattle.editor_session.specs.Planned.{request_of, IsFound, IsPlannedAs, recording, first_note}
-pub use Rattle.editor_session.specs.Answers.{with_text, AnswersBy, message_with}
-pub use Rattle.editor_session.specs.Asked.{value_from_document, value_from_view, value_from_kind, value_to, reply_handing, reply_from_document, reply_from_view, reply_from_kind, reply_to}
+pub use Rattle.editor_session.specs.Performing.{request_of, IsSent, CanPerform, IsPerformed, going}
+pub use Rattle.editor_session.specs.Planned.{IsFound, IsPlannedAs, recording, first_note}
+pub use Rattle.editor_session.specs.Answers.{with_text, AnswersBy, message_with, IsAnswered, AnswersQuery, value_from_document, value_from_view, value_from_kind, value_to}

@@ -1,5 +1,5 @@
 -- The document that a plan is performed on: it is in the session's table, and it changes there, the views with it.
-use Rattle.editor_session.proofs.Names.{◌≡◌, ℕ, ◌==◌, ◌∙◌, List, [], ◌∷◌, map, refl, ap, sym, subst, Some, None, IfSome, IsSome, IsSomeAnd, if◌then◌else◌, AllByRecursion, Document, View, Session, Response, Notice, Plan, document_at, view_at, with_document, IsSound, IsSoundView, StandsOn, ListsItsViews, PlansKeepSound, Scene, session_of, performed, found_all, Entries, value_at, with_value_at, Kept, KeptView, Gathered, AreNamed, StandsIfOn, IsWatched, kept_scene, session_in, documents_in, SessionState, IsKept, DocumentsAreNamed, views_of, view_in, id_of_view, document_of, id_of_document, unchanged, named_with, own_at, found_some, replaced, IsKeptAs, kept_as, IsAsked, CanPerform, asked}
+use Rattle.editor_session.proofs.Names.{◌≡◌, ℕ, ◌==◌, ◌∙◌, List, [], ◌∷◌, map, refl, ap, sym, subst, Some, None, IfSome, IsSome, IsSomeAnd, if◌then◌else◌, AllByRecursion, Document, View, Session, Response, Notice, Plan, document_at, view_at, with_document, IsSound, IsSoundView, StandsOn, ListsItsViews, PlansKeepSound, Scene, session_of, performed, found_all, Entries, value_at, with_value_at, Kept, KeptView, Gathered, AreNamed, StandsIfOn, IsWatched, kept_scene, session_in, documents_in, SessionState, IsKept, DocumentsAreNamed, views_of, view_in, id_of_view, document_of, id_of_document, unchanged, named_with, own_at, found_some, replaced, IsKeptAs, kept_as, IsSent, CanPerform, request_of, Message}
 use Rattle.editor_session.proofs.Keeping.{kept_with}
 use Rattle.editor_session.proofs.Telling.{telling}
 
@@ -42,22 +42,22 @@ watched_by s d kept there = record {
 }
 
 -- What a plan is performed on, in a session that is kept.
-module _ {s : SessionState} {document view : ℕ} {text : List ℕ} (kept : IsKept s) (by : IsAsked (session_in s) document view text) where
-  document_there : document_at (session_in s).documents document ≡ Some (asked (session_in s) view text).document
+module _ {s : SessionState} {document view : ℕ} {m : Message} (kept : IsKept s) (by : IsSent (session_in s) document view m) where
+  document_there : document_at (session_in s).documents document ≡ Some (request_of (session_in s) view m).document
   document_there =
-      let r = asked (session_in s) view text in
+      let r = request_of (session_in s) view m in
       let own : r.document.id ≡ r.view.document = own_at id_of_document r.session.documents r.view.document r.document by.sound.document in
       ap (document_at r.session.documents) (sym by.document_id ∙ own) ∙ by.sound.document
 
-  kept_at : IsKeptAs document_of id_of_document (value_at s.documents.entries document) (asked (session_in s) view text).document
-  kept_at = kept_as document_of id_of_document s.documents.entries document (asked (session_in s) view text).document kept.documents document_there
+  kept_at : IsKeptAs document_of id_of_document (value_at s.documents.entries document) (request_of (session_in s) view m).document
+  kept_at = kept_as document_of id_of_document s.documents.entries document (request_of (session_in s) view m).document kept.documents document_there
 
   -- what holds of its document holds of the one with the id
-  pub for_document : (P : Document → Type 0) → P (asked (session_in s) view text).document → IsSomeAnd (value_at s.documents.entries document) (λ k. P k.document)
+  pub for_document : (P : Document → Type 0) → P (request_of (session_in s) view m).document → IsSomeAnd (value_at s.documents.entries document) (λ k. P k.document)
   for_document P h = subst (λ o. IsSomeAnd o (λ k. P k.document)) (sym kept_at.there) (subst P (sym kept_at.is) h)
 
   -- and the other way round
-  pub of_document : (P : Document → Type 0) → IfSome (value_at s.documents.entries document) (λ k. P k.document) → P (asked (session_in s) view text).document
+  pub of_document : (P : Document → Type 0) → IfSome (value_at s.documents.entries document) (λ k. P k.document) → P (request_of (session_in s) view m).document
   of_document P h = subst P kept_at.is (subst (λ o. IfSome o (λ k. P k.document)) kept_at.there h)
 
   pub document_here : IsSome (value_at s.documents.entries document)
@@ -66,18 +66,18 @@ module _ {s : SessionState} {document view : ℕ} {text : List ℕ} (kept : IsKe
   pub missing : value_at s.documents.entries document ≡ None → ⊥
   missing none = let there : value_at s.documents.entries document ≡ Some kept_at.value = kept_at.there in cc
 
-  view_kept : IsKeptAs view_in id_of_view (value_at s.views.entries view) (asked (session_in s) view text).view
+  view_kept : IsKeptAs view_in id_of_view (value_at s.views.entries view) (request_of (session_in s) view m).view
   view_kept =
-      let r = asked (session_in s) view text in
+      let r = request_of (session_in s) view m in
       kept_as view_in id_of_view s.views.entries view r.view kept.views (ap (view_at r.session.views) (sym by.view_id) ∙ by.sound.view)
 
   -- a fact of the view that is kept
-  pub for_view : (P : KeptView → Type 0) → ((v : KeptView) → v.view ≡ (asked (session_in s) view text).view → P v) → IsSomeAnd (value_at s.views.entries view) P
+  pub for_view : (P : KeptView → Type 0) → ((v : KeptView) → v.view ≡ (request_of (session_in s) view m).view → P v) → IsSomeAnd (value_at s.views.entries view) P
   for_view P h = subst (λ o. IsSomeAnd o P) (sym view_kept.there) (h view_kept.value view_kept.is)
 
   module _ (old : Kept) (at : value_at s.documents.entries document ≡ Some old) where
     -- the document that is found under the id is that of the request
-    pub found_is : old.document ≡ (asked (session_in s) view text).document
+    pub found_is : old.document ≡ (request_of (session_in s) view m).document
     found_is =
         let there : value_at s.documents.entries document ≡ Some kept_at.value = kept_at.there in
         let same : old ≡ kept_at.value = cc in
@@ -85,7 +85,7 @@ module _ {s : SessionState} {document view : ℕ} {text : List ℕ} (kept : IsKe
 
     pub watched_here : IsWatched old.document s.views
     watched_here =
-        subst (λ d. IsWatched d s.views) (sym found_is) (watched_by s (asked (session_in s) view text).document kept (ap (document_at (session_in s).documents) by.document_id ∙ document_there))
+        subst (λ d. IsWatched d s.views) (sym found_is) (watched_by s (request_of (session_in s) view m).document kept (ap (document_at (session_in s).documents) by.document_id ∙ document_there))
 
 -- One document of a session changes, and the views with it.
 module _ (s : SessionState) (kept : IsKept s) (id : ℕ) (old new : Kept) (at : value_at s.documents.entries id ≡ Some old) where
@@ -118,7 +118,7 @@ module _ (s : SessionState) (kept : IsKept s) (id : ℕ) (old new : Kept) (at : 
         (subst (λ (v : Entries KeptView). AreNamed v.entries) (sym same_views) kept.views)
 
 -- what holds of a session goes on holding when a plan is performed
-pub kept_performed : PlansKeepSound → {s s' : SessionState} {document view : ℕ} {text : List ℕ} {what : Plan} {reply : Response} → IsKept s → CanPerform (session_in s) document view text what
-    → performed (asked (session_in s) view text) what ≡ (session_in s', reply) → s'.limits ≡ s.limits → DocumentsAreNamed s'.documents.entries → AreNamed s'.views.entries → IsKept s'
-kept_performed law {s} {s'} {document} {view} {text} {what} {reply} kept can done limits documents views =
-    kept_with s s' kept (subst (λ (x : Session × Response). IsSound x.0) done (law (asked (session_in s) view text) what can.request.sound can.fit)) limits documents views
+pub kept_performed : PlansKeepSound → {s s' : SessionState} {document view : ℕ} {m : Message} {what : Plan} {reply : Response} → IsKept s → CanPerform (session_in s) document view m what
+    → performed (request_of (session_in s) view m) what ≡ (session_in s', reply) → s'.limits ≡ s.limits → DocumentsAreNamed s'.documents.entries → AreNamed s'.views.entries → IsKept s'
+kept_performed law {s} {s'} {document} {view} {m} {what} {reply} kept can done limits documents views =
+    kept_with s s' kept (subst (λ (x : Session × Response). IsSound x.0) done (law (request_of (session_in s) view m) what can.request.sound can.fit)) limits documents views

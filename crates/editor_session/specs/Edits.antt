@@ -1,5 +1,5 @@
 -- Edits of a document of the session, and what follows them.
-use Rattle.std.specs.Prelude.{◌≡◌, ℕ, ◌+◌, ◌≤◌, Bool, true, false, List, [], take, slice_range}
+use Rattle.std.specs.Prelude.{◌≡◌, ℕ, ◌+◌, ◌≤◌, Bool, true, false, Option, Some, None, List, [], take, slice_range}
 use Rattle.ed_model.specs.declared.plan.LineEnd.{LineEnd}
 use Rattle.ed_model.specs.declared.plan.Source.{Source}
 use Rattle.ed_model.specs.declared.plan.Source.TheVariants as source
@@ -68,6 +68,11 @@ abbrev pub followed_views : ℕ → Follow → List View → List View
 followed_views view (follow.Caret place) views = with_caret view place views
 followed_views view (follow.Target start past) views = with_target view start past views
 followed_views view other views = views
+
+-- the views, once the caret of one stands at the place, if there is a place
+abbrev pub with_caret_if : ℕ → Option ℕ → List View → List View
+with_caret_if view None views = views
+with_caret_if view (Some place) views = with_caret view place views
 
 -- the views are those before it, once the view with the id has followed the edit
 abbrev pub FollowsEdit : ℕ → Follow → Entries KeptView → Entries KeptView → Type 0

@@ -1,8 +1,6 @@
 -- Definitions that the contracts cite.
 pub mod Answers
-pub mod Answering
 pub mod Documents
-pub mod Asked
 pub mod Plans
 pub mod Planned
 pub mod Lent
@@ -12,5 +10,4 @@ pub mod Edits
 pub mod Opening
 pub mod PartLends
 pub mod Performing
-pub mod Left
 pub mod Commands

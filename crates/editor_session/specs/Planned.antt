@@ -7,15 +7,9 @@ use Rattle.ed_types.specs.Notices.{Notice}
 use Rattle.ed_model.specs.Notes as notes
 use Rattle.ed_model.specs.Session.{Session}
 use Rattle.ed_model.specs.PlansFit.{IsSoundRequest}
-use Rattle.ed_model.specs.Requests.{Request}
 use Rattle.ed_model.specs.Table.{table, plan_of, answered}
 use Rattle.ed_model.specs.declared.plan.Plan.{Plan}
-use Rattle.performing.specs.Asked.{asked}
-use Rattle.editor_session.specs.Performing.{CanPerform}
-
--- the request of a message to the view with this id
-abbrev pub request_of : Session → ℕ → Message → Request
-request_of s view m = record (asked s view m.text) { message = m }
+use Rattle.editor_session.specs.Performing.{CanPerform, request_of}
 
 -- a message came this far: its view, its kind and its document are found, and the table's answer is that of its plan
 pub record IsFound (s : Session) (view : ℕ) (m : Message) (kind : Kind) : Type 0 where
@@ -30,7 +24,7 @@ pub record IsPlannedAs (s : Session) (view : ℕ) (m : Message) (document : ℕ)
   pub found : IsFound s view m kind
   pub planned : plan_of kind (request_of s view m) ≡ Ok what
   pub recorded : is_recorded ≡ ((request_of s view m).view.records && (marks_of kind).r)
-  pub can : CanPerform s document view m.text what
+  pub can : CanPerform s document view m what
 
 -- the note by which a view that records hears of the message
 abbrev pub recording : ℕ → Message → Notice

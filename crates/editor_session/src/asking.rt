@@ -4,8 +4,7 @@ ghost use Rattle.std.specs.Prelude.{◌≡◌, Some};
 ghost use Rattle.message_plans.specs.Asking.{question_of};
 ghost use Rattle.message_requests.specs.Requested.{session_in};
 ghost use Rattle.performing.specs.Kept.{IsKept};
-ghost use Rattle.editor_session.specs.Asked.{value_to};
-ghost use Rattle.editor_session.specs.Answering.{AnswersWithAnyText};
+ghost use Rattle.editor_session.specs.Answers.{AnswersQuery};
 
 use crate::attached::{look_up, request_to};
 use ed_types::{Kind, kinds_and_numbers};
@@ -22,8 +21,7 @@ pub(crate) fn ask_as(
 ) -> Option<i64>
     requires kept { IsKept state.now }
     requires question { question_of message.now.number ≡ Some kind }
-    ensures value { result ≡ value_to (session_in state.now) view message.now }
-    ensures answer { AnswersWithAnyText state.now view message.now result }
+    ensures { AnswersQuery (session_in state.now) view message.now result }
 {
     // States that each kind is found by its number.
     kinds_and_numbers();
@@ -39,8 +37,7 @@ pub(crate) fn ask_as(
 #[inline(always)]
 pub(crate) fn ask(state: &SessionState, view: u32, message: &SentMessage) -> Option<i64>
     requires kept { IsKept state.now }
-    ensures value { result ≡ value_to (session_in state.now) view message.now }
-    ensures answer { AnswersWithAnyText state.now view message.now result }
+    ensures { AnswersQuery (session_in state.now) view message.now result }
 {
     match way_of(message.number) {
         Way::Question(kind) => ask_as(state, view, kind, message),

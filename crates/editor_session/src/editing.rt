@@ -1,27 +1,24 @@
 //! Edits of the text: room is made for all of an edit, and then it is made, with what follows it.
 
 ghost use Rattle.ed_model.specs.Session.{text_of};
-ghost use Rattle.std.specs.Prelude.{◌≡◌, [], pos, true, false, length, OnOk, OnErr, IfOk, IfErr, IsOk, IsSome};
-ghost use Rattle.ed_types.specs.declared.refusal.Refusal.TheVariants.{OutOfMemory};
+ghost use Rattle.std.specs.Prelude.{◌≡◌, [], pos, true, false, length, OnOk, OnErr, IfOk, IsOk, IsSome};
 ghost use Rattle.ed_model.specs.declared.plan.Plan.TheVariants as plan;
 ghost use Rattle.ed_model.specs.LineEnds.{converted};
 ghost use Rattle.id_table.specs.Entries.{value_at};
-ghost use Rattle.ed_model.specs.Edits.{steps_of};
 ghost use Rattle.scene.specs.Scenes.{IsWatched};
 ghost use Rattle.performing.specs.Edits.{MakesEdit};
 ghost use Rattle.performing.specs.Widths.{StepsFitWidth};
 ghost use Rattle.message_requests.specs.Requested.{session_in};
-ghost use Rattle.performing.specs.Asked.{asked};
 ghost use Rattle.performing.specs.Kept.{IsKept};
 ghost use Rattle.editor_session.specs.Edits.{taken_along, IsPastedFor, IsEditWithin, TakesWithin, is_turned, clipboard_need, edit_steps};
 ghost use Rattle.editor_session.specs.Documents.{OfDocument, HasDocument};
-ghost use Rattle.editor_session.specs.Performing.{CanPerform, IsPerformed};
+ghost use Rattle.editor_session.specs.Performing.{CanPerform, IsPerformed, request_of};
 ghost use Rattle.editor_session.specs.Plans.{needs_no_memory};
 
 use crate::edits::{follow_edit, source_bytes};
+use crate::perform::Task;
 use document::Document;
 use ed_model::{Edit, Follow, LineEnd, Source, plans_are_fit};
-use ed_types::Refusal;
 use ed_view::View;
 use id_table::IdTable;
 use line_ends::{convert_into, converted_len};
@@ -72,54 +69,6 @@ fn edit_with_room(
     }
 }
 
-/// Like `edit_with_room`, in the document with this id, and then does what follows the edit for `view`. `pasted` is the
-/// clipboard with the document's line ends, if the edit inserts that. `taken` becomes the clipboard, if the edit takes
-/// bytes there.
-///
-/// # Errors
-///
-/// `AllocError` if an allocation fails. The session is then as it was.
-#[inline(always)]
-fn edit_making_room(
-    state: &mut SessionState,
-    document: u32,
-    view: u32,
-    text: &[u8],
-    pasted: &[u8],
-    edit: Edit,
-    follow: Follow,
-    taken: Vec<u8>,
-    notes: &mut NoteList,
-) -> Result<(), AllocError>
-    requires kept { IsKept state.old }
-    requires can { CanPerform (session_in state.old) document view text.now (plan.Edit edit (pos 0) follow) }
-    requires pasted { IsPastedFor edit state.old.clipboard.items (asked (session_in state.old) view text.now).document.line_end pasted.now }
-    requires taken { taken.items ≡ taken_along follow (text_of (asked (session_in state.old) view text.now).document) }
-    ensures done { OnOk result (IsPerformed (session_in state.old) view text.now (plan.Edit edit (pos 0) follow) state.new notes.old.notes notes.new.notes (pos 0) []) }
-    ensures same { OnErr result (session_in state.new ≡ session_in state.old) }
-    ensures kept { IsKept state.new }
-    ensures free { steps_of (asked (session_in state.old) view text.now) edit ≡ [] → IsOk result }
-{
-    // States that the steps of an edit fit the text and its limit, and that performing a plan keeps the session sound.
-    plans_are_fit();
-    let SessionState {
-        documents,
-        views,
-        clipboard,
-        ..
-    } = state;
-    let Some(document) = documents.get_mut(document) else {
-        unreachable!()
-    };
-    match edit_with_room(document, views, notes, text, clipboard, pasted, edit) {
-        Ok(()) => {
-            follow_edit(views, clipboard, view, follow, taken);
-            Ok(())
-        }
-        Err(error) => Err(error),
-    }
-}
-
 /// Returns whether an edit inserts the clipboard with the document's line ends.
 #[inline(always)]
 fn is_turned(edit: Edit) -> bool
@@ -148,10 +97,7 @@ fn converted_clipboard(
     ensures converted { IfOk result (λ bytes. bytes.items ≡ converted line_end clipboard.now) }
     ensures free { converted line_end clipboard.now ≡ [] → IsOk result }
 {
-    let mut bytes = Vec::new(alloc);
-    let Ok(()) = bytes.reserve(converted_len(clipboard, line_end)) else {
-        return Err(AllocError);
-    };
+    let mut bytes = Vec::with_capacity(alloc, converted_len(clipboard, line_end))?;
     convert_into(clipboard, line_end, &mut bytes);
     Ok(bytes)
 }
@@ -207,40 +153,50 @@ fn taken_bytes(
     document.text_to_vec(alloc, start, count, 0)
 }
 
-/// Makes an edit of the document with this id, and then does what follows it for `view`.
+/// Makes an edit of the document, and then does what follows it.
 ///
 /// # Errors
 ///
-/// `OutOfMemory` if an allocation fails. The session is then as it was.
+/// `AllocError` if an allocation fails. The session is then as it was.
 #[inline(always)]
 pub(crate) fn perform_edit(
     alloc: Global,
     state: &mut SessionState,
-    document: u32,
-    view: u32,
-    text: &[u8],
+    task: &Task,
     edit: Edit,
     follow: Follow,
     notes: &mut NoteList,
-) -> Result<(), Refusal>
+) -> Result<(), AllocError>
     requires kept { IsKept state.old }
-    requires can { CanPerform (session_in state.old) document view text.now (plan.Edit edit (pos 0) follow) }
-    ensures done { OnOk result (IsPerformed (session_in state.old) view text.now (plan.Edit edit (pos 0) follow) state.new notes.old.notes notes.new.notes (pos 0) []) }
+    requires can { CanPerform (session_in state.old) task.now.document task.now.view task.now.message.now (plan.Edit edit (pos 0) follow) }
+    ensures done { OnOk result (IsPerformed (session_in state.old) task.now.view task.now.message.now (plan.Edit edit (pos 0) follow) state.new notes.old.notes notes.new.notes (pos 0) []) }
     ensures same { OnErr result (session_in state.new ≡ session_in state.old) }
-    ensures refused { IfErr result (λ refusal. refusal ≡ OutOfMemory) }
     ensures kept { IsKept state.new }
-    ensures free { needs_no_memory (asked (session_in state.old) view text.now) (plan.Edit edit (pos 0) follow) ≡ true → IsOk result }
+    ensures free { needs_no_memory (request_of (session_in state.old) task.now.view task.now.message.now) (plan.Edit edit (pos 0) follow) ≡ true → IsOk result }
 {
-    let Ok(pasted) = pasted_bytes(alloc, state, document, edit) else {
-        return Err(Refusal::OutOfMemory);
+    // States that the steps of an edit fit the text and its limit, and that performing a plan keeps the session sound.
+    plans_are_fit();
+    let pasted = pasted_bytes(alloc, state, task.document, edit)?;
+    let taken = taken_bytes(alloc, state, task.document, follow)?;
+    let SessionState {
+        documents,
+        views,
+        clipboard,
+        ..
+    } = state;
+    let Some(document) = documents.get_mut(task.document) else {
+        unreachable!()
     };
-    let Ok(taken) = taken_bytes(alloc, state, document, follow) else {
-        return Err(Refusal::OutOfMemory);
-    };
-    match edit_making_room(
-        state, document, view, text, &pasted, edit, follow, taken, notes,
-    ) {
-        Ok(()) => Ok(()),
-        Err(_) => Err(Refusal::OutOfMemory),
-    }
+    let message = task.message;
+    edit_with_room(
+        document,
+        views,
+        notes,
+        message.text,
+        clipboard,
+        &pasted,
+        edit,
+    )?;
+    follow_edit(views, clipboard, task.view, follow, taken);
+    Ok(())
 }

@@ -2,9 +2,9 @@
 
 ghost use Rattle.std.specs.Prelude.{◌≡◌, length};
 ghost use Rattle.ed_model.specs.declared.plan.Follow.TheVariants.{Caret, Target as follow_target};
-ghost use Rattle.scene.specs.Scenes.{AreNamed};
+ghost use Rattle.scene.specs.Scenes.{AreNamed, views_of};
 ghost use Rattle.performing.specs.Kept.{ViewsRise};
-ghost use Rattle.editor_session.specs.Edits.{IsStoredIn, stored_bytes, followed_clipboard, FollowsEdit};
+ghost use Rattle.editor_session.specs.Edits.{IsStoredIn, stored_bytes, followed_clipboard, FollowsEdit, with_caret_if};
 
 use ed_model::{Follow, LineEnd, Source};
 use ed_view::{Target, View};
@@ -37,7 +37,7 @@ pub(crate) fn source_bytes<'a>(
 }
 
 /// Sets anchor and caret of the view with this id to `place`.
-pub(crate) fn set_caret(views: &mut IdTable<View>, view: u32, place: usize)
+fn set_caret(views: &mut IdTable<View>, view: u32, place: usize)
     requires named { AreNamed views.old.entries }
     requires rise { ViewsRise views.old }
     ensures views { FollowsEdit view (Caret place) views.old views.new }
@@ -49,8 +49,22 @@ pub(crate) fn set_caret(views: &mut IdTable<View>, view: u32, place: usize)
     }
 }
 
+/// Moves the caret of the view with this id to `place`, if undo or redo made a step of the text.
+pub(crate) fn move_caret(views: &mut IdTable<View>, view: u32, place: Option<usize>)
+    requires named { AreNamed views.old.entries }
+    requires rise { ViewsRise views.old }
+    ensures views { views_of views.new.entries ≡ with_caret_if view place (views_of views.old.entries) }
+    ensures named { AreNamed views.new.entries }
+    ensures next { views.new.next ≡ views.old.next }
+{
+    let Some(place) = place else {
+        return;
+    };
+    set_caret(views, view, place);
+}
+
 /// Sets the target of the view with this id.
-pub(crate) fn set_target(views: &mut IdTable<View>, view: u32, start: usize, end: usize)
+fn set_target(views: &mut IdTable<View>, view: u32, start: usize, end: usize)
     requires named { AreNamed views.old.entries }
     requires rise { ViewsRise views.old }
     ensures views { FollowsEdit view (follow_target start end) views.old views.new }

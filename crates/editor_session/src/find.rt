@@ -5,7 +5,8 @@ ghost use Rattle.ed_types.specs.declared.refusal.Refusal.TheVariants.{OutOfMemor
 ghost use Rattle.ed_model.specs.Table.{table};
 ghost use Rattle.message_requests.specs.Requested.{session_in};
 ghost use Rattle.performing.specs.Kept.{IsKept};
-ghost use Rattle.editor_session.specs.Planned.{IsFound, request_of};
+ghost use Rattle.editor_session.specs.Performing.{request_of};
+ghost use Rattle.editor_session.specs.Planned.{IsFound};
 
 use crate::attached::{look_up, request_to};
 use ed_types::{Kind, Refusal};

@@ -1,12 +1,10 @@
 //! Bytes of a document that a reply hands out.
 
-ghost use Rattle.std.specs.Prelude.{◌≡◌, ◌≤◌, ◌+◌, ◌*◌, ◌++◌, IfOk, IfErr, IsOk, vec_len, vec_capacity};
-ghost use Rattle.ed_types.specs.declared.refusal.Refusal.TheVariants.{OutOfMemory};
+ghost use Rattle.std.specs.Prelude.{◌≡◌, ◌≤◌, ◌+◌, ◌*◌, ◌++◌, IfOk, IsOk, vec_len, vec_capacity};
 ghost use Rattle.editor_session.specs.Documents.{OfDocument, HasDocument};
 ghost use Rattle.editor_session.specs.Ranges.{IsRange, HasRange, styled_range};
 
 use document::Document;
-use ed_types::Refusal;
 use message_requests::SessionState;
 use scene::document_is_small;
 use std::alloc::{AllocError, Global};
@@ -24,37 +22,11 @@ fn append_styled(document: &Document, start: usize, count: usize, target: &mut V
     }
 }
 
-/// Returns bytes of a document, each followed by its style.
-///
-/// # Errors
-///
-/// `AllocError` if the allocation fails.
-fn styled_bytes(
-    alloc: Global,
-    document: &Document,
-    start: usize,
-    count: usize,
-) -> Result<Vec<u8>, AllocError>
-    requires range { HasRange start count document.now }
-    ensures bytes { IfOk result (λ bytes. bytes.items ≡ styled_range start count document.now) }
-    ensures free { count ≡ 0 → IsOk result }
-{
-    let Some(room) = count.checked_mul(2) else {
-        return Err(AllocError);
-    };
-    let mut bytes = Vec::new(alloc);
-    let Ok(()) = bytes.reserve(room) else {
-        return Err(AllocError);
-    };
-    append_styled(document, start, count, &mut bytes);
-    Ok(bytes)
-}
-
 /// Returns bytes of the document with this id.
 ///
 /// # Errors
 ///
-/// `OutOfMemory` if the allocation fails.
+/// `AllocError` if the allocation fails.
 #[inline(never)]
 pub(crate) fn hand_out(
     alloc: Global,
@@ -62,26 +34,22 @@ pub(crate) fn hand_out(
     document: u32,
     start: usize,
     count: usize,
-) -> Result<Vec<u8>, Refusal>
+) -> Result<Vec<u8>, AllocError>
     requires range { HasDocument state.now.documents document (HasRange start count) }
     ensures bytes { IfOk result (λ bytes. OfDocument state.now.documents document (IsRange start count bytes.items)) }
-    ensures refused { IfErr result (λ refusal. refusal ≡ OutOfMemory) }
     ensures free { count ≡ 0 → IsOk result }
 {
     let Some(document) = state.documents.get(document) else {
         unreachable!()
     };
-    let Ok(bytes) = document.text_to_vec(alloc, start, count, 0) else {
-        return Err(Refusal::OutOfMemory);
-    };
-    Ok(bytes)
+    document.text_to_vec(alloc, start, count, 0)
 }
 
 /// Returns bytes of the document with this id, each followed by its style.
 ///
 /// # Errors
 ///
-/// `OutOfMemory` if the allocation fails.
+/// `AllocError` if the allocation fails.
 #[inline(never)]
 pub(crate) fn hand_out_styled(
     alloc: Global,
@@ -89,17 +57,18 @@ pub(crate) fn hand_out_styled(
     document: u32,
     start: usize,
     count: usize,
-) -> Result<Vec<u8>, Refusal>
+) -> Result<Vec<u8>, AllocError>
     requires range { HasDocument state.now.documents document (HasRange start count) }
     ensures bytes { IfOk result (λ bytes. OfDocument state.now.documents document (λ k. bytes.items ≡ styled_range start count k)) }
-    ensures refused { IfErr result (λ refusal. refusal ≡ OutOfMemory) }
     ensures free { count ≡ 0 → IsOk result }
 {
     let Some(document) = state.documents.get(document) else {
         unreachable!()
     };
-    let Ok(bytes) = styled_bytes(alloc, document, start, count) else {
-        return Err(Refusal::OutOfMemory);
+    let Some(room) = count.checked_mul(2) else {
+        return Err(AllocError);
     };
+    let mut bytes = Vec::with_capacity(alloc, room)?;
+    append_styled(document, start, count, &mut bytes);
     Ok(bytes)
 }

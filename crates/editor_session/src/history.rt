@@ -1,42 +1,36 @@
 //! Undo and redo in a document of the session.
 
-ghost use Rattle.std.specs.Prelude.{◌≡◌, pos, [], OnOk, OnErr, IfErr};
-ghost use Rattle.ed_types.specs.declared.refusal.Refusal.TheVariants.{OutOfMemory};
-ghost use Rattle.notify.specs.Gathered.{no_notes};
+ghost use Rattle.std.specs.Prelude.{◌≡◌, pos, [], OnOk, OnErr};
 ghost use Rattle.message_requests.specs.Requested.{session_in};
 ghost use Rattle.performing.specs.Kept.{IsKept};
 ghost use Rattle.editor_session.specs.Performing.{CanPerform, IsPerformed, going};
 
-use crate::edits::set_caret;
+use crate::edits::move_caret;
+use crate::perform::Task;
 use document::Direction;
 use ed_model::plans_are_fit;
-use ed_types::Refusal;
 use message_requests::SessionState;
 use notify::NoteList;
 use performing::go_with_room;
+use std::alloc::AllocError;
 
-/// Performs UNDO or REDO, sent to `view`, in the document with this id, and then moves the caret of `view` behind the
-/// last step. `most` is the greatest number of notes that it may need.
+/// Performs UNDO or REDO in the document, and then moves the caret of the view behind the last step.
 ///
 /// # Errors
 ///
-/// `OutOfMemory` if an allocation fails, or if it may need more notes than `most`. The session is then as it was.
-#[inline(never)]
+/// `AllocError` if an allocation fails. The session is then as it was.
+#[inline(always)]
 pub(crate) fn perform_transaction(
     state: &mut SessionState,
-    document: u32,
-    view: u32,
+    task: &Task,
     direction: Direction,
     notes: &mut NoteList,
-    most: usize,
-) -> Result<(), Refusal>
+) -> Result<(), AllocError>
     requires kept { IsKept state.old }
-    requires can { CanPerform (session_in state.old) document view [] (going direction) }
-    ensures done { OnOk result (IsPerformed (session_in state.old) view [] (going direction) state.new notes.old.notes notes.new.notes (pos 0) []) }
+    requires can { CanPerform (session_in state.old) task.now.document task.now.view task.now.message.now (going direction) }
+    ensures done { OnOk result (IsPerformed (session_in state.old) task.now.view task.now.message.now (going direction) state.new notes.old.notes notes.new.notes (pos 0) []) }
     ensures same { OnErr result (session_in state.new ≡ session_in state.old) }
-    ensures refused { IfErr result (λ refusal. refusal ≡ OutOfMemory) }
     ensures kept { IsKept state.new }
-    ensures unheard { OnOk result (most ≡ 0 → notes.old ≡ no_notes → notes.new.notes ≡ []) }
 {
     // States that the steps of undo and redo fit the text, and that performing a plan keeps the session sound.
     plans_are_fit();
@@ -45,15 +39,10 @@ pub(crate) fn perform_transaction(
         views,
         ..
     } = state;
-    let Some(document) = documents.get_mut(document) else {
+    let Some(document) = documents.get_mut(task.document) else {
         unreachable!()
     };
-    match go_with_room(document, views, notes, direction, most) {
-        Ok(Some(place)) => {
-            set_caret(views, view, place);
-            Ok(())
-        }
-        Ok(None) => Ok(()),
-        Err(_) => Err(Refusal::OutOfMemory),
-    }
+    let place = go_with_room(document, views, notes, direction)?;
+    move_caret(views, task.view, place);
+    Ok(())
 }

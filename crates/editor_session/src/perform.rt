@@ -1,71 +1,81 @@
 //! Performing a plan: room is made for all that it needs, and then all is done. If an allocation fails, nothing has
 //! changed.
 
-ghost use Rattle.std.specs.Prelude.{◌≡◌, [], true, OnErr, IfOk, IfErr, IsOk};
-ghost use Rattle.ed_types.specs.declared.refusal.Refusal.TheVariants.{OutOfMemory};
+ghost use Rattle.std.specs.Prelude.{◌≡◌, [], true, false, OnErr, IfOk, IfNone, IfSome, IsOk};
 ghost use Rattle.message_requests.specs.Requested.{session_in};
-ghost use Rattle.performing.specs.Asked.{asked};
 ghost use Rattle.performing.specs.Kept.{IsKept};
-ghost use Rattle.editor_session.specs.Left.{told, IsLeft};
-ghost use Rattle.editor_session.specs.Plans.{is_free, needs_no_memory};
-ghost use Rattle.editor_session.specs.Answering.{IsAnswer};
+ghost use Rattle.editor_session.specs.Answers.{told, IsLeft, IsAnswered};
+ghost use Rattle.editor_session.specs.Plans.{needs_no_memory};
 ghost use Rattle.editor_session.specs.Planned.{IsPlannedAs};
-ghost use Rattle.editor_session.specs.Performing.{CanPerform, IsPerformed};
+ghost use Rattle.editor_session.specs.Performing.{CanPerform, IsPerformed, request_of};
 
 use crate::changing::{
-    is_free_change, perform_attempt, perform_change, perform_free_change, perform_session_change,
-    perform_view_change,
+    perform_attempt, perform_change, perform_unheard_change, perform_view_change,
 };
 use crate::editing::perform_edit;
 use crate::handing_out::{hand_out, hand_out_styled};
 use crate::history::perform_transaction;
-use crate::left::{answer, keep};
+use crate::left::keep;
 use crate::recording::record_if;
 use document::Direction;
-use ed_model::Plan;
+use ed_model::{Plan, plans_are_fit};
 use ed_types::{Bytes, Refusal, Reply};
 use message_requests::{SentMessage, SessionState};
 use notify::NoteList;
-use std::alloc::Global;
+use performing::change_session;
+use std::alloc::{AllocError, Global};
 
-/// Performs a plan for the view with this id, on the document with that id, and returns the value that its message
-/// answers. Its notes are appended to `notes`, and the bytes that it hands out take the place of `handed_out`.
+/// What a plan is performed on, and for whom.
+#[derive(Clone, Copy)]
+pub(crate) struct Task<'a> {
+    /// The id of the view that the message was sent to.
+    pub view: u32,
+    /// The id of the view's document.
+    pub document: u32,
+    pub message: &'a SentMessage<'a>,
+    /// Whether the view records the message.
+    pub is_recorded: bool,
+    /// Whether the view listens for a frequent kind of change. It is then likely that a change has notes.
+    pub listens: bool,
+}
+
+/// Performs a plan, and returns the value that its message answers. Its notes are appended to `notes`, and the bytes that
+/// it hands out take the place of `handed_out`.
 ///
 /// # Errors
 ///
-/// `OutOfMemory` if an allocation fails. The session is then as it was.
+/// `AllocError` if an allocation fails. The session is then as it was.
 #[inline(always)]
 fn perform(
     alloc: Global,
     state: &mut SessionState,
-    document: u32,
-    view: u32,
-    text: &[u8],
+    task: &Task,
     plan: &Plan,
     handed_out: &mut Vec<u8>,
     notes: &mut NoteList,
-) -> Result<i64, Refusal>
+) -> Result<i64, AllocError>
     requires kept { IsKept state.old }
-    requires can { CanPerform (session_in state.old) document view text.now plan.now }
+    requires can { CanPerform (session_in state.old) task.now.document task.now.view task.now.message.now plan.now }
     requires empty { handed_out.old.items ≡ [] }
-    ensures done { IfOk result (λ value. IsPerformed (session_in state.old) view text.now plan.now state.new notes.old.notes notes.new.notes value handed_out.new.items) }
+    ensures done { IfOk result (λ value. IsPerformed (session_in state.old) task.now.view task.now.message.now plan.now state.new notes.old.notes notes.new.notes value handed_out.new.items) }
     ensures same { OnErr result (session_in state.new ≡ session_in state.old) }
-    ensures refused { IfErr result (λ refusal. refusal ≡ OutOfMemory) }
     ensures kept { IsKept state.new }
-    ensures free { needs_no_memory (asked (session_in state.old) view text.now) plan.now ≡ true → IsOk result }
+    ensures free { needs_no_memory (request_of (session_in state.old) task.now.view task.now.message.now) plan.now ≡ true → IsOk result }
 {
-    match *plan {
-        Plan::Answer { value } => Ok(value),
+    // States that performing a plan keeps the session sound.
+    plans_are_fit();
+    match plan {
+        Plan::Answer { value } => Ok(*value),
         Plan::HandOut {
             value,
             start,
             count,
         } => {
-            *handed_out = hand_out(alloc, state, document, start, count)?;
-            Ok(value)
+            *handed_out = hand_out(alloc, state, task.document, *start, *count)?;
+            Ok(*value)
         }
         Plan::HandOutStyled { start, count } => {
-            *handed_out = hand_out_styled(alloc, state, document, start, count)?;
+            *handed_out = hand_out_styled(alloc, state, task.document, *start, *count)?;
             Ok(handed_out.len() as i64)
         }
         Plan::Edit {
@@ -73,32 +83,40 @@ fn perform(
             value,
             follow,
         } => {
-            perform_edit(alloc, state, document, view, text, edit, follow, notes)?;
-            Ok(value)
+            perform_edit(alloc, state, task, *edit, *follow, notes)?;
+            Ok(*value)
         }
         Plan::Attempt => {
-            perform_attempt(state, document, notes)?;
+            perform_attempt(state, task.document, notes)?;
             Ok(0)
         }
         Plan::Undo => {
-            perform_transaction(state, document, view, Direction::Undo, notes, usize::MAX)?;
+            perform_transaction(state, task, Direction::Undo, notes)?;
             Ok(0)
         }
         Plan::Redo => {
-            perform_transaction(state, document, view, Direction::Redo, notes, usize::MAX)?;
+            perform_transaction(state, task, Direction::Redo, notes)?;
             Ok(0)
         }
         Plan::ChangeDocument { change, value } => {
-            perform_change(alloc, state, document, view, text, change, notes)?;
-            Ok(value)
+            perform_change(alloc, state, task, change, notes)?;
+            Ok(*value)
         }
         Plan::ChangeView { change, value } => {
-            perform_view_change(state, document, view, change)?;
-            Ok(value)
+            perform_view_change(state, task, *change)?;
+            Ok(*value)
         }
         Plan::ChangeSession { change, value } => {
-            perform_session_change(alloc, state, document, view, text, change)?;
-            Ok(value)
+            let message = task.message;
+            change_session(
+                alloc,
+                state,
+                task.document,
+                task.view,
+                message.text,
+                *change,
+            )?;
+            Ok(*value)
         }
     }
 }
@@ -113,43 +131,59 @@ fn perform(
 fn perform_with_notes(
     alloc: Global,
     state: &mut SessionState,
-    document: u32,
-    view: u32,
-    message: &SentMessage,
+    task: &Task,
     plan: &Plan,
-    is_recorded: bool,
     reply: &mut Reply,
 ) -> Result<i64, Refusal>
     requires kept { IsKept state.old }
-    requires planned { IsPlannedAs (session_in state.old) view message.now document plan.now is_recorded }
-    ensures answer { IsAnswer state.old view message.now state.new (told result reply.new) }
+    requires planned { IsPlannedAs (session_in state.old) task.now.view task.now.message.now task.now.document plan.now task.now.is_recorded }
+    ensures answered { IsAnswered (session_in state.old) task.now.view task.now.message.now (session_in state.new) (told result reply.new) }
     ensures place { IsLeft result reply.old reply.new }
-    ensures refused { IfErr result (λ refusal. refusal ≡ OutOfMemory) }
     ensures kept { IsKept state.new }
-    ensures free { is_free (session_in state.old) view message.now ≡ true → IsOk result }
 {
     let mut notes = NoteList::new(alloc);
-    let Ok(()) = record_if(is_recorded, view, message, &mut notes) else {
-        return Err(Refusal::OutOfMemory);
-    };
+    record_if(task.is_recorded, task.view, task.message, &mut notes)?;
     let mut handed_out = Vec::new(alloc);
-    match perform(
-        alloc,
-        state,
-        document,
-        view,
-        message.text,
-        plan,
-        &mut handed_out,
-        &mut notes,
-    ) {
-        Ok(value) => Ok(keep(reply, notes.finish(value, Bytes::new(handed_out)))),
-        Err(refusal) => Err(refusal),
+    let value = perform(alloc, state, task, plan, &mut handed_out, &mut notes)?;
+    keep(reply, notes.finish(value, Bytes::new(handed_out)));
+    Ok(value)
+}
+
+/// Performs a plan without notes, if the message is not recorded and the plan is one of these: an answer; a change of the
+/// view; a change of the document that no view hears. Returns the value that its message answers. `None`, with nothing
+/// changed, for all other plans, and if an allocation fails.
+#[inline(always)]
+fn perform_quietly(state: &mut SessionState, task: &Task, plan: &Plan) -> Option<i64>
+    requires kept { IsKept state.old }
+    requires can { CanPerform (session_in state.old) task.now.document task.now.view task.now.message.now plan.now }
+    ensures done { IfSome result (λ value. IsPerformed (session_in state.old) task.now.view task.now.message.now plan.now state.new [] [] value []) }
+    ensures unrecorded { IfSome result (λ _. task.now.is_recorded ≡ false) }
+    ensures same { IfNone result (session_in state.new ≡ session_in state.old) }
+    ensures kept { IsKept state.new }
+{
+    if task.is_recorded {
+        return None;
+    }
+    match plan {
+        Plan::Answer { value } => Some(*value),
+        Plan::ChangeView { change, value } => {
+            match perform_view_change(state, task, *change) {
+                Ok(()) => Some(*value),
+                Err(_) => None,
+            }
+        }
+        Plan::ChangeDocument { change, value } if !task.listens => {
+            if perform_unheard_change(state, task.document, task.view, task.message, change) {
+                Some(*value)
+            } else {
+                None
+            }
+        }
+        _ => None,
     }
 }
 
-/// Like `perform_with_notes`, but sets up nothing for notes if only a value is answered, or if the view changes without
-/// an allocation.
+/// Like `perform_with_notes`, but sets up nothing for notes if the plan is performed without any.
 ///
 /// # Errors
 ///
@@ -158,36 +192,21 @@ fn perform_with_notes(
 pub(crate) fn perform_message(
     alloc: Global,
     state: &mut SessionState,
-    document: u32,
-    view: u32,
-    message: &SentMessage,
+    task: &Task,
     plan: &Plan,
-    is_recorded: bool,
     reply: &mut Reply,
 ) -> Result<i64, Refusal>
     requires kept { IsKept state.old }
-    requires planned { IsPlannedAs (session_in state.old) view message.now document plan.now is_recorded }
-    ensures answer { IsAnswer state.old view message.now state.new (told result reply.new) }
+    requires planned { IsPlannedAs (session_in state.old) task.now.view task.now.message.now task.now.document plan.now task.now.is_recorded }
+    ensures answered { IsAnswered (session_in state.old) task.now.view task.now.message.now (session_in state.new) (told result reply.new) }
     ensures place { IsLeft result reply.old reply.new }
-    ensures refused { IfErr result (λ refusal. refusal ≡ OutOfMemory) }
     ensures kept { IsKept state.new }
-    ensures free { is_free (session_in state.old) view message.now ≡ true → IsOk result }
 {
-    match *plan {
-        Plan::Answer { value } if !is_recorded => Ok(keep(reply, answer(alloc, value))),
-        Plan::ChangeView { change, value } if !is_recorded && is_free_change(change) => {
-            perform_free_change(state, document, view, change);
-            Ok(keep(reply, answer(alloc, value)))
+    match perform_quietly(state, task, plan) {
+        Some(value) => {
+            reply.answer(value);
+            Ok(value)
         }
-        _ => perform_with_notes(
-            alloc,
-            state,
-            document,
-            view,
-            message,
-            plan,
-            is_recorded,
-            reply,
-        ),
+        None => perform_with_notes(alloc, state, task, plan, reply),
     }
 }

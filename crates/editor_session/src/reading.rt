@@ -1,22 +1,26 @@
-//! Text questions to a session, whose bytes are put into a buffer before any plan is made.
+//! Text queries to a session, whose bytes are put into a reply before any plan is made.
 
-ghost use Rattle.std.specs.Prelude.{◌≡◌, ◌≤◌, ◌+◌, Some, IsOk, OnOk, OnErr, IfNone, length, slice_range, vec_len, vec_capacity};
+ghost use Rattle.std.specs.Prelude.{◌≡◌, ◌≤◌, ◌+◌, Ok, Some, OnOk, OnErr, IfNone, IfSome, length, slice_range};
 ghost use Rattle.ed_model.specs.Session.{text_of};
+ghost use Rattle.ed_model.specs.Table.{table};
 ghost use Rattle.message_plans.specs.Asking.{text_question_of};
+ghost use Rattle.message_requests.specs.Requested.{session_in};
 ghost use Rattle.performing.specs.Kept.{IsKept};
-ghost use Rattle.editor_session.specs.Answering.{RepliesBytes, AnswersBytesWithAnyText, RepliesIfItFits};
 
 use crate::attached::{look_up, request_to};
 use document::Document;
 use ed_model::plans_are_fit;
-use ed_types::{Kind, kinds_and_numbers};
-use message_plans::{Way, handed_of, way_of};
+use ed_types::{Bytes, Kind, Reply, kinds_and_numbers};
+use message_plans::handed_of;
 use message_requests::{SentMessage, SessionState};
 use std::alloc::{AllocError, Global};
 
+/// The greatest capacity, in bytes, of a buffer that stays as large as it is, however short the text that is read.
+const MOST_KEPT: usize = 4096;
+
 /// Replaces the contents of a buffer by the `count` bytes of a document from `start` on. A buffer that is too small is
 /// replaced by a larger one, with so much spare capacity that ever longer texts take amortised constant time for each
-/// byte.
+/// byte. If the bytes fill less than a quarter of a large buffer, the rest of it is freed.
 ///
 /// # Errors
 ///
@@ -30,8 +34,6 @@ fn read_bytes(
 ) -> Result<(), AllocError>
     requires range { start + count ≤ length document.now.document.cells }
     ensures bytes { OnOk result (into.new.items ≡ slice_range (text_of document.now.document) start (start + count)) }
-    ensures room_is_there { count ≤ vec_capacity into.old → IsOk result }
-    ensures room_stays { vec_capacity into.old ≤ vec_capacity into.new }
     ensures err { OnErr result (into.new ≡ into.old) }
 {
     let capacity = into.capacity();
@@ -43,27 +45,29 @@ fn read_bytes(
     let Ok(()) = document.append_text_to(start, count, into) else {
         unreachable!()
     };
+    if MOST_KEPT < capacity && count < capacity / 4 {
+        into.shrink_to_fit();
+    }
     Ok(())
 }
 
-/// Answers this text question to `view`. `None` if the table refuses it, it hands out no bytes or an allocation fails.
-/// Out of line, so that other messages do not pay for its stack frame.
+/// Answers this text query to `view`: replaces `reply` by its value and bytes, in the buffer of the text before, and
+/// returns the value. `None`, with `reply` as it was, if the table refuses the query, it hands out no bytes or an
+/// allocation fails. Out of line, so that other messages do not pay for its stack frame.
 #[inline(never)]
-pub(crate) fn read_as(
+pub(crate) fn read_into(
     alloc: Global,
     state: &SessionState,
     view: u32,
     kind: Kind,
     message: &SentMessage,
-    into: &mut Vec<u8>,
+    reply: &mut Reply,
 ) -> Option<i64>
     requires kept { IsKept state.now }
     requires question { text_question_of message.now.number ≡ Some kind }
-    ensures reply { RepliesBytes state.now view message.now into.new.items result }
-    ensures answer { AnswersBytesWithAnyText state.now view message.now into.new.items result }
-    ensures room { RepliesIfItFits state.now view message.now (vec_capacity into.old) result }
-    ensures room_stays { vec_capacity into.old ≤ vec_capacity into.new }
-    ensures same { IfNone result (into.new ≡ into.old) }
+    ensures answer { IfSome result (λ _. table (session_in state.now) view message.now ≡ Ok (session_in state.now, reply.new)) }
+    ensures value { IfSome result (λ value. reply.new.value ≡ value) }
+    ensures same { IfNone result (reply.new ≡ reply.old) }
 {
     // States that each kind is found by its number, and that what is handed out lies in the text.
     kinds_and_numbers();
@@ -75,31 +79,22 @@ pub(crate) fn read_as(
     let Some(handed) = handed_of(kind, &request) else {
         return None;
     };
-    match read_bytes(alloc, found.document, handed.start, handed.count, into) {
-        Ok(()) => Some(handed.value),
-        Err(_) => None,
-    }
-}
-
-/// Answers a text question to `view`: returns the value, and replaces the contents of a buffer by the bytes. `None` for
-/// all other messages, and if the table refuses the message, it hands out no bytes or an allocation fails.
-#[inline(always)]
-pub(crate) fn read(
-    alloc: Global,
-    state: &SessionState,
-    view: u32,
-    message: &SentMessage,
-    into: &mut Vec<u8>,
-) -> Option<i64>
-    requires kept { IsKept state.now }
-    ensures reply { RepliesBytes state.now view message.now into.new.items result }
-    ensures answer { AnswersBytesWithAnyText state.now view message.now into.new.items result }
-    ensures room { RepliesIfItFits state.now view message.now (vec_capacity into.old) result }
-    ensures room_stays { vec_capacity into.old ≤ vec_capacity into.new }
-    ensures same { IfNone result (into.new ≡ into.old) }
-{
-    match way_of(message.number) {
-        Way::TextQuestion(kind) => read_as(alloc, state, view, kind, message, into),
-        _ => None,
+    let mut bytes = reply.replace_text(Bytes::empty(alloc)).into_vec();
+    match read_bytes(
+        alloc,
+        found.document,
+        handed.start,
+        handed.count,
+        &mut bytes,
+    ) {
+        Ok(()) => {
+            reply.answer(handed.value);
+            let _ = reply.replace_text(Bytes::new(bytes));
+            Some(handed.value)
+        }
+        Err(_) => {
+            let _ = reply.replace_text(Bytes::new(bytes));
+            None
+        }
     }
 }

@@ -1,27 +1,23 @@
 //! The note of a message that is recorded.
 
-ghost use Rattle.std.specs.Prelude.{◌≡◌, ◌++◌, [], ◌∷◌, false, OnOk, IfErr, IsOk};
-ghost use Rattle.ed_types.specs.declared.refusal.Refusal.TheVariants.{OutOfMemory};
+ghost use Rattle.std.specs.Prelude.{◌≡◌, ◌++◌, [], ◌∷◌, false, OnOk, IsOk};
 ghost use Rattle.editor_session.specs.Planned.{first_note, recording};
 
-use ed_types::Refusal;
 use ed_types::notification::MACRO_RECORD;
 use message_requests::SentMessage;
 use notify::{NoteList, blank};
+use std::alloc::AllocError;
 
 /// Appends the note of `message`, which `view` records. Out of line, since few views record.
 ///
 /// # Errors
 ///
-/// `OutOfMemory` if an allocation fails.
+/// `AllocError` if an allocation fails.
 #[inline(never)]
-fn record(view: u32, message: &SentMessage, notes: &mut NoteList) -> Result<(), Refusal>
+fn record(view: u32, message: &SentMessage, notes: &mut NoteList) -> Result<(), AllocError>
     ensures note { OnOk result (notes.new.notes ≡ notes.old.notes ++ recording view message.now ∷ []) }
-    ensures refused { IfErr result (λ refusal. refusal ≡ OutOfMemory) }
 {
-    let Ok(()) = notes.reserve(1, message.text.len()) else {
-        return Err(Refusal::OutOfMemory);
-    };
+    notes.reserve(1, message.text.len())?;
     let mut note = blank(MACRO_RECORD);
     note.view = view;
     note.message = message.number;
@@ -35,14 +31,14 @@ fn record(view: u32, message: &SentMessage, notes: &mut NoteList) -> Result<(), 
 ///
 /// # Errors
 ///
-/// `OutOfMemory` if an allocation fails.
+/// `AllocError` if an allocation fails.
 #[inline(always)]
 pub(crate) fn record_if(
     is_recorded: bool,
     view: u32,
     message: &SentMessage,
     notes: &mut NoteList,
-) -> Result<(), Refusal>
+) -> Result<(), AllocError>
     ensures notes { OnOk result (notes.new.notes ≡ notes.old.notes ++ first_note is_recorded view message.now) }
     ensures free { is_recorded ≡ false → IsOk result }
 {

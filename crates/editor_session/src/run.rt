@@ -5,8 +5,8 @@ ghost use Rattle.ed_types.specs.declared.refusal.Refusal.{Refusal};
 ghost use Rattle.ed_types.specs.declared.refusal.Refusal.TheVariants.{OutOfMemory};
 ghost use Rattle.ed_types.specs.declared.script.Outcome.TheVariants.{Refused};
 ghost use Rattle.ed_model.specs.Run.{starting, after_command, outcomes, run_to};
-ghost use Rattle.editor_session.specs.Answers.{AnswersBy, StopsWithin};
-ghost use Rattle.editor_session.specs.Commands.{takes_no_memory, file_loaded};
+ghost use Rattle.editor_session.specs.Answers.{AnswersBy};
+ghost use Rattle.editor_session.specs.Commands.{takes_no_memory, file_loaded, StopsWithin};
 
 use crate::session::Session;
 use ed_model::plans_are_fit;

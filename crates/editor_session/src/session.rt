@@ -1,21 +1,18 @@
 //! `Session` and its calls.
 
-ghost use Rattle.std.specs.Prelude.{◌≡◌, ◌≢◌, ◌⊎◌, ℕ, List, [], ◌≤◌, length, vec_capacity, Some, true, OnOk, OnErr, IfOk, IfErr, IfNone, IfSome, IsSome, Ok, Err, is_some};
+ghost use Rattle.std.specs.Prelude.{◌≡◌, ◌≢◌, ◌⊎◌, ℕ, List, [], true, OnOk, OnErr, IfOk, IfErr, IfSome, Ok, Err, is_some};
 ghost use Rattle.ed_types.specs.declared.refusal.Refusal.TheVariants.{BadArgument, NoSuchView, OutOfMemory};
 ghost use Rattle.ed_model.specs.Session.{new_session, greatest_limits, is_between_one_and, is_allowed, view_at};
-ghost use Rattle.ed_model.specs.Performing.{quiet, response};
+ghost use Rattle.ed_model.specs.Performing.{quiet};
 ghost use Rattle.ed_model.specs.SoundLaws.{IsSound};
 ghost use Rattle.ed_model.specs.Table.{table, limited, opened, closed};
-ghost use Rattle.editor_session.specs.Answers.{AnswersBy, message_with};
-ghost use Rattle.editor_session.specs.Asked.{reply_to, value_to};
-ghost use Rattle.editor_session.specs.Left.{told, IsLeft};
+ghost use Rattle.editor_session.specs.Answers.{AnswersBy, message_with, value_to, told, IsLeft};
 ghost use Rattle.editor_session.specs.Plans.{is_free};
 ghost use Rattle.editor_session.specs.Lent.{lent_range};
 
 use crate::asking::ask;
 use crate::lending::{document_with, lend};
 use crate::opening::{close, open};
-use crate::reading::read;
 use crate::sending::{answer_into, answer_message};
 use document_table::DocumentTable;
 use ed_model::soundness_is_kept;
@@ -197,8 +194,8 @@ impl Session {
     }
 
     /// Sends any message as `send_lent` does, but replaces `reply` by its reply, and returns the value. If neither reply has a text or
-    /// notes, only the value is written. It tries first whether the message is a numeric query; a text query is planned: use `read`
-    /// for these.
+    /// notes, only the value is written. The bytes of a text query, such as GETTEXTRANGE or GETLINE, are written into the buffer of the
+    /// reply's text, if they fit; a buffer of at most 4,096 bytes is kept by replies without a text.
     ///
     /// # Errors
     ///
@@ -237,29 +234,6 @@ impl Session {
             text: &[],
         };
         ask(&self.state, view, &message)
-    }
-
-    /// Asks a view a text question, such as GETTEXTRANGE or GETLINE: a message that hands out bytes of the document (`text_questions` of
-    /// the definitions), and does not change the session. Replaces the contents of `into` by the bytes, and returns the value; the
-    /// capacity of `into` never shrinks. `send` would answer this value and these bytes, with whatever text. `None` for all other
-    /// messages, for what is refused or hands out no bytes, and if `into` is too small and an allocation fails; `into` is then as it was,
-    /// and `send` says why.
-    #[inline(always)]
-    pub fn read(&self, view: u32, number: u32, w: i64, l: i64, into: &mut Vec<u8>) -> Option<i64>
-        ensures reply { IfSome result (λ value. reply_to self.now view (message_with number w l []) ≡ Some (response value into.new.items [])) }
-        ensures answer { IfSome result (λ value. (text : List ℕ) → table self.now view (message_with number w l text) ≡ Ok (self.now, response value into.new.items [])) }
-        ensures room { IfSome (reply_to self.now view (message_with number w l [])) (λ reply. length reply.text ≤ vec_capacity into.old → IsSome result) }
-        ensures room_stays { vec_capacity into.old ≤ vec_capacity into.new }
-        ensures same { IfNone result (into.new ≡ into.old) }
-    {
-        // No text question reads a text.
-        let message = SentMessage {
-            number,
-            w,
-            l,
-            text: &[],
-        };
-        read(self.alloc, &self.state, view, &message, into)
     }
 
     /// Lends the `count` bytes of the view's document from `start` on as one slice, without a copy. The session does not change.

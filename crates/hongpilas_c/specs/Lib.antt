@@ -8,6 +8,4 @@ pub mod Copies
 pub mod Starts
 pub mod Told
 pub mod Names
-pub mod Replies
-pub mod Questions
 pub mod Asked

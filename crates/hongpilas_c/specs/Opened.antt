@@ -1,14 +1,15 @@
 -- A session that was just opened.
-use Rattle.std.specs.Prelude.{◌≡◌, pos, [], Option, Some, Result, Ok, Err}
+use Rattle.std.specs.Prelude.{◌≡◌, pos, Option, Some, Result, Ok, Err}
 use Rattle.ed_types.specs.declared.limits.Limits.{Limits}
 use Rattle.ed_types.specs.declared.refusal.Refusal.{Refusal}
+use Rattle.ed_model.specs.Performing.{quiet}
 use Rattle.ed_model.specs.Session.{Session}
 use Rattle.hongpilas_c.specs.declared.held.Held.{Held}
 use Rattle.hongpilas_c.specs.declared.opening.LimitsInC.{LimitsInC}
 
 -- the session with an empty reply
 abbrev pub fresh : Session → Held
-fresh session = record { session = session; value = pos 0; read = []; reply = record { value = pos 0; text = []; notes = [] }; asked = [] }
+fresh session = record { session = session; reply = quiet (pos 0); asked = quiet (pos 0) }
 
 -- the value behind the handle is this session, just opened
 abbrev pub IsFresh : Result Session Refusal → Option Held → Type 0

@@ -1,20 +1,21 @@
 //! Questions beside the replies: messages that change nothing, asked without replacing the last reply.
 
-ghost use Rattle.std.specs.Prelude.{◌≡◌, ◌≢◌, [], true, length, is_some, Some, Ok, IfOk, IfErr};
+ghost use Rattle.std.specs.Prelude.{◌≡◌, ◌≢◌, [], true, length, is_some, Ok};
 ghost use Rattle.ed_types.specs.declared.refusal.Refusal.TheVariants.{OutOfMemory};
 ghost use Rattle.ed_model.specs.Printed.{refusal_number};
 ghost use Rattle.ed_model.specs.Table.{table};
 ghost use Rattle.editor_session.specs.Answers.{message_with};
 ghost use Rattle.editor_session.specs.Plans.{is_free};
-ghost use Rattle.hongpilas_c.specs.Asked.{is_query, refused_asking, value_answered, text_answered, IsAsked, IsAskRefused, IsRead, asked_text, without_asked};
-ghost use Rattle.hongpilas_c.specs.Calls.{NeverWantsMemory};
+ghost use Rattle.hongpilas_c.specs.Asked.{is_query, refused_asking, value_answered};
+ghost use Rattle.hongpilas_c.specs.Calls.{session_of, asked_of, IsRead};
 
 use crate::answers::{DONE, number_of};
 use crate::handle::Handle;
-use crate::held::Held;
 use crate::starts::tell_start;
 use ed_model::queries_leave_the_session;
-use ed_types::{Refusal, Reply, columns_of};
+use ed_types::{Bytes, Refusal, Reply, columns_of};
+use editor_session::Session;
+use std::alloc::Global;
 
 /// Returns whether the message with this number is a question: whether it is marked Q.
 fn is_query(number: u32) -> bool
@@ -26,73 +27,33 @@ fn is_query(number: u32) -> bool
     }
 }
 
-impl Held {
-    /// Answers any question by its plan. A message that is no question is unknown.
-    #[inline(never)]
-    fn planned(&mut self, view: u32, number: u32, w: i64, l: i64) -> Result<Reply, Refusal>
-        ensures done { IfOk result (λ reply. table self.old.session view (message_with number w l []) ≡ Ok (self.old.session, reply)) }
-        ensures refused { IfErr result (λ refusal. refusal_number refusal ≡ refused_asking number (table self.old.session view (message_with number w l []))) }
-        ensures query { IfOk result (λ reply. is_query number ≡ true) }
-        ensures same { self.new ≡ self.old }
-        ensures free { is_free self.old.session view (message_with number w l []) ≡ true → IfErr result (λ refusal. refusal ≢ OutOfMemory) }
-    {
-        // States that a question leaves the session unchanged.
-        queries_leave_the_session();
-        if !is_query(number) {
-            return Err(Refusal::UnknownMessage);
-        }
-        self.session.send_lent(view, number, w, l, &[])
+/// Sends a question to a view, and replaces `reply` by its reply. Returns 0 or the number of the refusal, which is that
+/// of `UnknownMessage` for a message that is no question. Out of line, so that a numeric query that was asked first does
+/// not pay for its stack frame.
+#[tactic(auto, using(crate::proofs::Refusing::refused_as_said, crate::proofs::Refusing::memory_alone, crate::proofs::QueryAnswers::question_leaves, crate::proofs::QueryAnswers::question_refused))]
+#[inline(never)]
+fn send_question(
+    session: &mut Session,
+    view: u32,
+    number: u32,
+    w: i64,
+    l: i64,
+    reply: &mut Reply,
+) -> u32
+    ensures done { result ≡ 0 → table session.old view (message_with number w l []) ≡ Ok (session.old, reply.new) }
+    ensures refused { result ≢ 0 → result ≡ refused_asking number (table session.old view (message_with number w l [])) }
+    ensures kept { result ≢ 0 → reply.new ≡ reply.old }
+    ensures same { session.new ≡ session.old }
+    ensures free { is_free session.old view (message_with number w l []) ≡ true → result ≢ refusal_number OutOfMemory }
+{
+    // States that a question leaves the session unchanged.
+    queries_leave_the_session();
+    if !is_query(number) {
+        return number_of(Refusal::UnknownMessage);
     }
-
-    /// Asks a view a question, and writes its value to `value`. Returns 0 or the number of the refusal.
-    fn ask(&mut self, view: u32, number: u32, w: i64, l: i64, value: &mut i64) -> u32
-        ensures done { result ≡ 0 → value_answered (table self.old.session view (message_with number w l [])) ≡ Ok value.new }
-        ensures refused { result ≢ 0 → result ≡ refused_asking number (table self.old.session view (message_with number w l [])) }
-        ensures same { self.new ≡ self.old }
-        ensures value_kept { result ≢ 0 → value.new ≡ value.old }
-        ensures free { NeverWantsMemory view (message_with number w l []) result (Some self.old) }
-    {
-        if let Some(answer) = self.session.ask(view, number, w, l) {
-            *value = answer;
-            return DONE;
-        }
-        match self.planned(view, number, w, l) {
-            Ok(reply) => {
-                *value = reply.value();
-                DONE
-            }
-            Err(refusal) => number_of(refusal),
-        }
-    }
-
-    /// Asks a view a question, keeps its text beside the replies, and writes its value to `value`. Returns 0 or the
-    /// number of the refusal.
-    fn read_beside(&mut self, view: u32, number: u32, w: i64, l: i64, value: &mut i64) -> u32
-        ensures value { result ≡ 0 → value_answered (table self.old.session view (message_with number w l [])) ≡ Ok value.new }
-        ensures text { result ≡ 0 → text_answered (table self.old.session view (message_with number w l [])) ≡ Ok self.new.asked }
-        ensures refused { result ≢ 0 → result ≡ refused_asking number (table self.old.session view (message_with number w l [])) }
-        ensures kept { result ≢ 0 → self.new.asked ≡ self.old.asked }
-        ensures value_kept { result ≢ 0 → value.new ≡ value.old }
-        ensures session { self.new.session ≡ self.old.session }
-        ensures last_value { self.new.value ≡ self.old.value }
-        ensures read { self.new.read ≡ self.old.read }
-        ensures reply { self.new.reply ≡ self.old.reply }
-        ensures free { NeverWantsMemory view (message_with number w l []) result (Some self.old) }
-    {
-        if let Some(answer) = self.asked.read(&self.session, view, number, w, l) {
-            *value = answer;
-            return DONE;
-        }
-        match self.planned(view, number, w, l) {
-            Ok(reply) => match self.asked.replace(reply.text()) {
-                Ok(()) => {
-                    *value = reply.value();
-                    DONE
-                }
-                Err(_) => number_of(Refusal::OutOfMemory),
-            },
-            Err(refusal) => number_of(refusal),
-        }
+    match session.send_into(view, number, w, l, &[], reply) {
+        Ok(_) => DONE,
+        Err(refusal) => number_of(refusal),
     }
 }
 
@@ -101,6 +62,7 @@ impl Held {
 /// that is no question.
 #[unsafe(no_mangle)]
 pub extern "C" fn hongpilas_ask_unchecked(
+    alloc: Global,
     handle: &mut Handle,
     view: u32,
     number: u32,
@@ -109,14 +71,23 @@ pub extern "C" fn hongpilas_ask_unchecked(
     value: &mut i64,
 ) -> u32
     requires { is_some handle.old.held ≡ true }
-    ensures done { result ≡ 0 → IsAsked view (message_with number w l []) value.new handle.old.held }
-    ensures refused { result ≢ 0 → IsAskRefused view (message_with number w l []) result handle.old.held }
+    ensures done { result ≡ 0 → value_answered (table (session_of handle.old.held) view (message_with number w l [])) ≡ Ok value.new }
+    ensures refused { result ≢ 0 → result ≡ refused_asking number (table (session_of handle.old.held) view (message_with number w l [])) }
     ensures same { handle.new.held ≡ handle.old.held }
     ensures value_kept { result ≢ 0 → value.new ≡ value.old }
-    ensures free { NeverWantsMemory view (message_with number w l []) result handle.old.held }
+    ensures free { is_free (session_of handle.old.held) view (message_with number w l []) ≡ true → result ≢ refusal_number OutOfMemory }
 {
     let held = handle.held();
-    held.ask(view, number, w, l, value)
+    if let Some(answer) = held.session.ask(view, number, w, l) {
+        *value = answer;
+        return DONE;
+    }
+    let mut reply = Reply::quiet(alloc, 0, Bytes::empty(alloc));
+    let answer = send_question(&mut held.session, view, number, w, l, &mut reply);
+    if answer == DONE {
+        *value = reply.value();
+    }
+    answer
 }
 
 /// Asks a view a question as `hongpilas_ask_unchecked` does, and lends its text: sets `text` to the address of the first
@@ -133,21 +104,21 @@ pub extern "C" fn hongpilas_read_unchecked(
     value: &mut i64,
 ) -> u32
     requires { is_some handle.old.held ≡ true }
-    ensures value { result ≡ 0 → IsAsked view (message_with number w l []) value.new handle.old.held }
-    ensures text { result ≡ 0 → IsRead view (message_with number w l []) (asked_text handle.new.held) handle.old.held }
-    ensures count { result ≡ 0 → count.new ≡ length (asked_text handle.new.held) }
-    ensures refused { result ≢ 0 → IsAskRefused view (message_with number w l []) result handle.old.held }
-    ensures same { without_asked handle.new.held ≡ without_asked handle.old.held }
+    ensures done { result ≡ 0 → IsRead view (message_with number w l []) handle.old.held handle.new.held }
+    ensures value { result ≡ 0 → value.new ≡ (asked_of handle.new.held).value }
+    ensures count { result ≡ 0 → count.new ≡ length (asked_of handle.new.held).text }
+    ensures refused { result ≢ 0 → result ≡ refused_asking number (table (session_of handle.old.held) view (message_with number w l [])) }
     ensures kept { result ≢ 0 → handle.new.held ≡ handle.old.held }
     ensures text_kept { result ≢ 0 → text.new ≡ text.old }
     ensures count_kept { result ≢ 0 → count.new ≡ count.old }
     ensures value_kept { result ≢ 0 → value.new ≡ value.old }
-    ensures free { NeverWantsMemory view (message_with number w l []) result handle.old.held }
+    ensures free { is_free (session_of handle.old.held) view (message_with number w l []) ≡ true → result ≢ refusal_number OutOfMemory }
 {
     let held = handle.held();
-    let answer = held.read_beside(view, number, w, l, value);
+    let answer = send_question(&mut held.session, view, number, w, l, &mut held.asked);
     if answer == DONE {
-        *count = tell_start(held.asked.as_slice(), text);
+        *value = held.asked.value();
+        *count = tell_start(held.asked.text(), text);
     }
     answer
 }

@@ -11,7 +11,6 @@ ghost use Rattle.hongpilas_c.specs.Opened.{fresh, limits_of, IsFresh};
 use crate::answers::{DONE, number_of};
 use crate::handle::Handle;
 use crate::held::Held;
-use crate::read_text::ReadText;
 use ed_types::{Bytes, Limits, Refusal, Reply};
 use editor_session::Session;
 use std::alloc::Global;
@@ -43,12 +42,11 @@ fn hold(alloc: Global, session: Session, handle: &mut Handle) -> u32
     ensures kept { result ≢ 0 → handle.new.held ≡ handle.old.held }
 {
     let reply = Reply::quiet(alloc, 0, Bytes::empty(alloc));
+    let asked = Reply::quiet(alloc, 0, Bytes::empty(alloc));
     let held = Held {
         session,
-        value: 0,
-        read: ReadText::new(alloc),
         reply,
-        asked: ReadText::new(alloc),
+        asked,
     };
     match Handle::new(alloc, held) {
         Ok(opened) => {

@@ -16,7 +16,7 @@ pub extern "C" fn hongpilas_value_unchecked(handle: &mut Handle) -> i64
     ensures same { handle.new.held ≡ handle.old.held }
 {
     let held = handle.held();
-    held.value
+    held.reply.value()
 }
 
 /// Lends the text of the last reply: sets `text` to the address of its first byte, and returns its length in bytes.
@@ -27,7 +27,7 @@ pub extern "C" fn hongpilas_text_unchecked(handle: &mut Handle, text: &mut *cons
     ensures same { handle.new.held ≡ handle.old.held }
 {
     let held = handle.held();
-    tell_start(held.text(), text)
+    tell_start(held.reply.text(), text)
 }
 
 /// Copies the text of the last reply from `start` on, as many bytes as there are and as fit, and returns how many that
@@ -44,7 +44,7 @@ pub extern "C" fn hongpilas_copy_text_unchecked(
     ensures same { handle.new.held ≡ handle.old.held }
 {
     let held = handle.held();
-    copy_from(held.text(), start, into)
+    copy_from(held.reply.text(), start, into)
 }
 
 /// Returns how many notes the last reply has.

@@ -1,4 +1,3 @@
 -- Definitions that the contracts cite.
 pub mod Asking
-pub mod Frequent
 pub mod Ways

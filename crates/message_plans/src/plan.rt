@@ -10,13 +10,13 @@ use message_requests::answers::{answer, answer_some, hand_out, hand_out_or_zero,
 use state_plans::{folding_plans, line_plans, session_plans, style_plans, undo_plans};
 use text_plans::{key_plans, selection_plans, target_plans, texts};
 
-/// Returns the plan of a message: what it is going to do. Allocates nothing, and changes nothing. Out of line, so that `frequent_plan_of`
-/// does not pay for its stack frame.
+/// Returns the plan of a message: what it is going to do. Allocates nothing, and changes nothing. Inlined where the plan is performed, so that
+/// it is made in its place.
 ///
 /// # Errors
 ///
 /// The first refusal that applies to the message, by the model's table.
-#[inline(never)]
+#[inline(always)]
 pub fn plan_of(kind: Kind, r: &Request) -> Planned
     ensures { result ≡ plan_of kind r.now }
 {

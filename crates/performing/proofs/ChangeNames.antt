@@ -27,7 +27,7 @@ pub use Rattle.scene.specs.Hearing.{hearers}
 pub use Rattle.scene.specs.Scenes.{watchers, IsWatched, views_of, StandsIfOn}
 pub use Rattle.scene.specs.Telling.{with_notes}
 pub use Rattle.performing.specs.declared.note.ChangeNote.{ChangeNote}
-pub use Rattle.performing.specs.Changed.{Changes, IsChanged, IsMade, IsMadeWithoutNotes, Makes}
+pub use Rattle.performing.specs.Changed.{Changes, IsChanged, IsMade, IsMadeUnheard, Makes}
 pub use Rattle.performing.specs.ChangeMemory.{ReservesFor, TakesMemory}
 pub use Rattle.performing.specs.Notes.{IsFitNote, marker_notice, notice_of, notes_of}
 pub use Rattle.performing.specs.ChangeNeeds.{IsReady, change_note_need, is_of_types, needs_room, notes_of_change}

@@ -1,5 +1,5 @@
 -- What undo and redo keep, and what they tell.
-use Rattle.performing.proofs.EditNames.{◌≡◌, ℕ, ap, ◌∙◌, true, false, List, [], ◌∷◌, length, refl, Bool, cond, ◌+◌, max, arith, nil_from_length, Scene, change_performed, changes_performed, transaction_performed, is_last, changes_lines, TextStep, History, Change, ContainerStep, Gathered, NoteCapacity, CanPut, no_notes, with_room}
+use Rattle.performing.proofs.EditNames.{◌≡◌, ℕ, true, false, List, [], ◌∷◌, length, refl, Bool, cond, Scene, change_performed, changes_performed, transaction_performed, is_last, changes_lines, TextStep, History, Change, ContainerStep}
 use Rattle.std.specs.Prelude.{nat_lt}
 use Rattle.ed_model.specs.Notes.{bit_if, multi_step}
 
@@ -16,11 +16,3 @@ changes_keep_id who several lines_changed (ContainerStep token coalesce ∷ cs) 
 
 pub transaction_keeps_id : (who : ℕ) (cs : List Change) (new : History) (scene : Scene) → (transaction_performed who cs new scene).document.id ≡ scene.document.id
 transaction_keeps_id who cs new scene = changes_keep_id who (bit_if (nat_lt 1 (length cs)) multi_step) false cs scene
-
--- No notes came where no room was made for any.
-pub none_told : (old between new : Gathered) (notes bytes : ℕ) → between ≡ with_room notes bytes old → CanPut 0 new → new.capacity ≡ between.capacity
-    → notes ≡ 0 → old ≡ no_notes → new.notes ≡ []
-none_told old between new notes bytes made fits same none empty =
-    let start : between.capacity.notes ≡ max 0 (0 + notes) = ap (λ (g : Gathered). g.capacity.notes) (made ∙ ap (with_room notes bytes) empty) in
-    let room = ap (λ (c : NoteCapacity). c.notes) same in
-    nil_from_length new.notes (omega arith)

@@ -1,5 +1,5 @@
 -- The notes of changes, and how many there are.
-use Rattle.performing.proofs.ChangeNames.{◌≡◌, ℕ, ◌≤◌, Bool, true, false, cond, not, List, [], ◌∷◌, length, refl, ap, sym, ◌∙◌, subst, arith, filter, bit_or, Option, Some, None, length-map, append-nil, Result, Ok, Err, is_ok, Notice, DocumentChange, Document, View, changed_document, told, heard, blank, save_point_reached, save_point_left, change_line_state, change_style, change_indicator, range_note, performed_user, changed_range, styles_of, change_told, range_notes, line_note, line_with_handle, document_row, slice_index_or, Entries, Gathered, KeptView, Kept, watchers, IsWatched, hearers, with_notes, IsMade, Makes, Changes, IsMadeWithoutNotes, ChangeNote, TakesMemory, IsFitNote, notes_of, notice_of, marker_notice, is_of_types, notes_of_change, change_note_need, AllocError, CanPut, with_room, is_full, eqb-true, needs_room, IsReady, ReservesFor}
+use Rattle.performing.proofs.ChangeNames.{◌≡◌, ℕ, ◌≤◌, Bool, true, false, cond, not, List, [], ◌∷◌, length, refl, ap, sym, ◌∙◌, subst, arith, filter, bit_or, Option, Some, None, length-map, append-nil, Result, Ok, Err, is_ok, Notice, DocumentChange, Document, View, changed_document, told, heard, blank, save_point_reached, save_point_left, change_line_state, change_style, change_indicator, range_note, performed_user, changed_range, styles_of, change_told, range_notes, line_note, line_with_handle, document_row, slice_index_or, Entries, Gathered, KeptView, Kept, watchers, IsWatched, hearers, with_notes, IsMade, Makes, Changes, IsMadeUnheard, ChangeNote, TakesMemory, IsFitNote, notes_of, notice_of, marker_notice, is_of_types, notes_of_change, change_note_need, AllocError, CanPut, with_room, is_full, eqb-true, needs_room, IsReady, ReservesFor}
 use Rattle.ed_model.specs.declared.plan.DocumentChange.TheVariants as change
 use Rattle.ed_model.specs.Numbers.{meets}
 use Rattle.performing.specs.declared.note.ChangeNote.TheVariants as note
@@ -113,23 +113,24 @@ free_is_ready (change.StyleBytes count) k h = absurd (cc)
 free_is_ready (change.FillIndicator indicator start count value) k h = absurd (cc)
 free_is_ready _ k h = tt
 
--- Frequent changes that no view hears.
+-- Changes that no view hears.
 
-pub made_unheard : (what : DocumentChange) (old new : Kept) (result : Result ChangeNote AllocError) (views : Entries KeptView) → is_of_types what ≡ false → IsWatched old.document views
-    → change_note_need what old views ≡ 0 → ((text : List ℕ) → Makes text what old new result) → is_ok result ≡ true → IsMadeWithoutNotes what old new views views
-made_unheard what old new (Ok n) views alone watched none makes so = λ text sender notes.
-    changed_untold text what old new n views alone watched (makes text) sender notes notes refl
-    (λ v. let few = few_told text what old new n views alone watched (makes text) v in omega arith)
-made_unheard what old new (Err e) views alone watched none makes so = absurd (cc)
+pub made_unheard : (text : List ℕ) (what : DocumentChange) (old new : Kept) (result : Result ChangeNote AllocError) (views : Entries KeptView) → is_of_types what ≡ false → IsWatched old.document views
+    → change_note_need what old views ≡ 0 → Makes text what old new result → is_ok result ≡ true → IsMadeUnheard text what old new views
+made_unheard text what old new (Ok n) views alone watched none makes so = λ sender notes.
+    changed_untold text what old new n views alone watched makes sender notes notes refl
+    (λ v. let few = few_told text what old new n views alone watched makes v in omega arith)
+made_unheard text what old new (Err e) views alone watched none makes so = absurd (cc)
 
-pub ready_is_made : (what : DocumentChange) (old new : Kept) (result : Result ChangeNote AllocError) → Makes [] what old new result → IsReady what old → is_ok result ≡ true
-ready_is_made what old new (Ok n) makes ready = refl
-ready_is_made what old new (Err e) makes ready = absurd (makes.0 ready)
+pub ready_is_made : (text : List ℕ) (what : DocumentChange) (old new : Kept) (result : Result ChangeNote AllocError) → Makes text what old new result → IsReady what old → is_ok result ≡ true
+ready_is_made text what old new (Ok n) makes ready = refl
+ready_is_made text what old new (Err e) makes ready = absurd (makes.0 ready)
 
-pub memory_taken : (what : DocumentChange) (old new : Kept) (result : Result ChangeNote AllocError) → Makes [] what old new result → is_ok result ≡ true → TakesMemory what old new
-memory_taken what old new (Ok n) makes so = makes.memory
-memory_taken what old new (Err e) makes so = absurd (cc)
+pub memory_taken : (text : List ℕ) (what : DocumentChange) (old new : Kept) (result : Result ChangeNote AllocError) → Makes text what old new result → is_ok result ≡ true → TakesMemory what old new
+memory_taken text what old new (Ok n) makes so = makes.memory
+memory_taken text what old new (Err e) makes so = absurd (cc)
 
-pub refused_within : (what : DocumentChange) (old new : Kept) (result : Result ChangeNote AllocError) → Makes [] what old new result → is_ok result ≡ false → ReservesFor what old new
-refused_within what old new (Ok n) makes so = absurd (cc)
-refused_within what old new (Err e) makes so = makes.2
+pub refused_within : (text : List ℕ) (what : DocumentChange) (old new : Kept) (result : Result ChangeNote AllocError) → Makes text what old new result → is_ok result ≡ false
+    → (new.document ≡ old.document) × ReservesFor what old new
+refused_within text what old new (Ok n) makes so = absurd (cc)
+refused_within text what old new (Err e) makes so = (makes.1, makes.2)

@@ -10,17 +10,13 @@ use Rattle.document.specs.Kept.{Kept, rows_in}
 use Rattle.document.specs.Memory.{KeepsMemoryFilling, ReservesFill, ReservesLines, ReservesRows, ReservesStep, ReservesStyles}
 use Rattle.notify.specs.Gathered.{Gathered, with_room}
 
--- for one more marker
-abbrev pub ReservesMarker : Kept → Kept → Type 0
-ReservesMarker old new = ReservesRows (most_for_markers 1 (rows_in old)) old new
-
 -- At most what the change needs was reserved, and nothing else is another. A history that is forgotten holds no memory.
 abbrev pub ReservesFor : DocumentChange → Kept → Kept → Type 0
 ReservesFor (change.SetLineEndTypes to) old new = ReservesLines (fresh_lines (line_type_edits to old.document)) old new
 ReservesFor change.ForgetHistory old new = new.capacity ≡ (with_forgotten_history old).capacity
 ReservesFor (change.CollectUndo on) old new = new.capacity ≡ (with_collecting on old).capacity
 ReservesFor (change.AppendContainer token coalesce) old new = ReservesStep old new
-ReservesFor (change.AddMarker line number) old new = ReservesMarker old new
+ReservesFor (change.AddMarker line number) old new = ReservesRows (most_for_markers 1 (rows_in old)) old new
 ReservesFor (change.AddMarkers line mask) old new = ReservesRows (most_for_markers (length (numbers_in mask)) (rows_in old)) old new
 ReservesFor (change.SetLevel line level) old new = ReservesRows (most_for_level line (rows_in old)) old new
 ReservesFor (change.SetState line state) old new = ReservesRows (most_for_state line (rows_in old)) old new

@@ -71,13 +71,6 @@ abbrev pub is_of_types : DocumentChange → Bool
 is_of_types (change.SetLineEndTypes to) = true
 is_of_types other = false
 
--- whether the change is one of the frequent ones: a single marker, a fold level, the style of a run
-abbrev pub is_frequent : DocumentChange → Bool
-is_frequent (change.AddMarker line number) = true
-is_frequent (change.SetLevel line level) = true
-is_frequent (change.StyleRun count style) = true
-is_frequent other = false
-
--- If the change is a frequent one that no view hears, and there is room for it, it was made, as `made` says.
+-- a change of the document alone that no view hears, and for which there is room, was made, as `made` says
 abbrev pub IsMadeIfReady : DocumentChange → Kept → Entries KeptView → Bool → Type 0
-IsMadeIfReady what k views made = is_frequent what ≡ true → change_note_need what k views ≡ 0 → IsReady what k → made ≡ true
+IsMadeIfReady what k views made = is_of_types what ≡ false → change_note_need what k views ≡ 0 → IsReady what k → made ≡ true

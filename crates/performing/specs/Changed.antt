@@ -46,9 +46,9 @@ pub record IsChanged (text : List ℕ) (what : DocumentChange) (sender : ℕ) (o
 abbrev pub Changes : List ℕ → DocumentChange → ℕ → Kept → Kept → Entries KeptView → Entries KeptView → Gathered → Gathered → Type 0
 Changes text what sender old new views views' notes notes' = IsChanged text what sender old.document new.document views views' notes notes'
 
--- the change was made, whatever the message's text and sender, and no view was notified of it
-abbrev pub IsMadeWithoutNotes : DocumentChange → Kept → Kept → Entries KeptView → Entries KeptView → Type 0
-IsMadeWithoutNotes what old new views views' = (text : List ℕ) (sender : ℕ) (notes : Gathered) → Changes text what sender old new views views' notes notes
+-- the change was made, whoever sent the message with this text, and no view was notified of it
+abbrev pub IsMadeUnheard : List ℕ → DocumentChange → Kept → Kept → Entries KeptView → Type 0
+IsMadeUnheard text what old new views = (sender : ℕ) (notes : Gathered) → Changes text what sender old new views views notes notes
 
 -- The change was not made. All is as it was, but that more may fit in: into the document no more than the change needs.
 pub record IsUnchanged (what : DocumentChange) (old new : Kept) (old_views new_views : Entries KeptView) (old_notes new_notes : Gathered) : Type 0 where

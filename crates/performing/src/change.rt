@@ -1,12 +1,12 @@
-//! Makes a change, by its kind.
+//! Makes a change of a document, by its kind.
 
-ghost use Rattle.std.specs.Prelude.{◌≡◌, ◌≤◌, List, ℕ, false, length, IsOk, OnOk, OnErr};
+ghost use Rattle.std.specs.Prelude.{◌≡◌, ◌≤◌, ◌⊎◌, List, ℕ, true, false, length, IsOk, OnOk, OnErr};
 ghost use Rattle.notify.specs.Gathered.{CanPut};
 ghost use Rattle.scene.specs.Scenes.{IsWatched};
-ghost use Rattle.performing.specs.Changed.{Changes, IsMade, IsUnchanged, Makes};
+ghost use Rattle.performing.specs.Changed.{Changes, IsMade, IsMadeUnheard, IsUnchanged, Makes};
 ghost use Rattle.performing.specs.Fit.{IsFitChange, bytes_read};
-ghost use Rattle.performing.specs.ChangeMemory.{ReservesNotes, TakesMemory};
-ghost use Rattle.performing.specs.ChangeNeeds.{IfChangeIsFree, IsReady, change_note_need, is_of_types, needs_room};
+ghost use Rattle.performing.specs.ChangeMemory.{ReservesFor, ReservesNotes, TakesMemory};
+ghost use Rattle.performing.specs.ChangeNeeds.{IfChangeIsFree, IsMadeIfReady, IsReady, change_note_need, is_of_types, needs_room};
 
 use crate::history_changes::append_container;
 use crate::marker_changes::{
@@ -26,12 +26,12 @@ use notify::NoteList;
 use std::alloc::{AllocError, Global};
 
 // Makes a change that needs no room. It cannot fail.
-fn make_free(document: &mut Document, change: DocumentChange) -> ChangeNote
-    requires fits { IsFitChange document.old.document change }
-    requires free { needs_room change ≡ false }
-    ensures { (text : List ℕ) → IsMade text change document.old document.new result }
+fn make_free(document: &mut Document, change: &DocumentChange) -> ChangeNote
+    requires fits { IsFitChange document.old.document change.now }
+    requires free { needs_room change.now ≡ false }
+    ensures { (text : List ℕ) → IsMade text change.now document.old document.new result }
 {
-    match change {
+    match *change {
         DocumentChange::SetReadOnly { on } => document.set_read_only(on),
         DocumentChange::SetLineEnd { to } => document.set_line_end(to),
         DocumentChange::SetSavePoint => {
@@ -56,17 +56,18 @@ fn make_free(document: &mut Document, change: DocumentChange) -> ChangeNote
 
 // Makes a change of the document alone, and returns what there is to tell of it. Rare changes are out of line, so that
 // the stack frame of the others stays small.
+#[inline(always)]
 fn make(
     document: &mut Document,
     text: &[u8],
-    change: DocumentChange,
+    change: &DocumentChange,
 ) -> Result<ChangeNote, AllocError>
-    requires fits { IsFitChange document.old.document change }
-    requires text { bytes_read change ≤ length text.now }
-    requires alone { is_of_types change ≡ false }
-    ensures { Makes text.now change document.old document.new result }
+    requires fits { IsFitChange document.old.document change.now }
+    requires text { bytes_read change.now ≤ length text.now }
+    requires alone { is_of_types change.now ≡ false }
+    ensures { Makes text.now change.now document.old document.new result }
 {
-    match change {
+    match *change {
         DocumentChange::AppendContainer { token, coalesce } => {
             append_container(document, token, coalesce)
         }
@@ -103,19 +104,19 @@ pub fn change_document(
     notes: &mut NoteList,
     sender: u32,
     text: &[u8],
-    change: DocumentChange,
+    change: &DocumentChange,
 ) -> Result<(), AllocError>
-    requires fits { IsFitChange document.old.document change }
-    requires text { bytes_read change ≤ length text.now }
+    requires fits { IsFitChange document.old.document change.now }
+    requires text { bytes_read change.now ≤ length text.now }
     requires watched { IsWatched document.old.document views.old }
-    ensures changed { OnOk result (Changes text.now change sender document.old document.new views.old views.new notes.old notes.new) }
-    ensures memory { OnOk result (TakesMemory change document.old document.new) }
-    ensures same { OnErr result (IsUnchanged change document.old document.new views.old views.new notes.old notes.new) }
-    ensures notes { ReservesNotes (change_note_need change document.old views.old) notes.old notes.new }
-    ensures free { IfChangeIsFree change views.old (IsOk result) document.old }
-    ensures room_is_there { IsReady change document.old → CanPut (change_note_need change document.old views.old) notes.old → IsOk result }
+    ensures changed { OnOk result (Changes text.now change.now sender document.old document.new views.old views.new notes.old notes.new) }
+    ensures memory { OnOk result (TakesMemory change.now document.old document.new) }
+    ensures same { OnErr result (IsUnchanged change.now document.old document.new views.old views.new notes.old notes.new) }
+    ensures notes { ReservesNotes (change_note_need change.now document.old views.old) notes.old notes.new }
+    ensures free { IfChangeIsFree change.now views.old (IsOk result) document.old }
+    ensures room_is_there { IsReady change.now document.old → CanPut (change_note_need change.now document.old views.old) notes.old → IsOk result }
 {
-    if let DocumentChange::SetLineEndTypes { to } = change {
+    if let DocumentChange::SetLineEndTypes { to } = *change {
         return set_line_end_types(alloc, document, views, to);
     }
     // States that what the list holds fits in.
@@ -128,4 +129,32 @@ pub fn change_document(
     }
     tell(document, views, notes, sender, note);
     Ok(())
+}
+
+/// Makes a change of the document if no view hears it and it is not which line ends count, and returns whether it did.
+/// No list of notifications is set up. Allocates as `change_document` does. If it does not make the change, also since
+/// an allocation fails, nothing changes, except that more may fit in.
+#[inline(always)]
+pub fn change_unheard(
+    document: &mut Document,
+    views: &IdTable<View>,
+    text: &[u8],
+    change: &DocumentChange,
+) -> bool
+    requires fits { IsFitChange document.old.document change.now }
+    requires text { bytes_read change.now ≤ length text.now }
+    requires watched { IsWatched document.old.document views.now }
+    ensures made { result ≡ true → IsMadeUnheard text.now change.now document.old document.new views.now }
+    ensures memory { result ≡ true → TakesMemory change.now document.old document.new }
+    ensures room_is_there { IsMadeIfReady change.now document.old views.now result }
+    ensures same { result ≡ false → document.new.document ≡ document.old.document }
+    ensures reserved { result ≡ false → (document.new ≡ document.old) ⊎ ReservesFor change.now document.old document.new }
+{
+    if let DocumentChange::SetLineEndTypes { .. } = *change {
+        return false;
+    }
+    if change_note_need(document, views, change) > 0 {
+        return false;
+    }
+    make(document, text, change).is_ok()
 }

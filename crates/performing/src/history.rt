@@ -1,11 +1,10 @@
 //! Undo and redo in a document.
 
-ghost use Rattle.std.specs.Prelude.{◌≡◌, [], OnOk, OnErr, IfOk};
+ghost use Rattle.std.specs.Prelude.{◌≡◌, OnOk, OnErr, IfOk};
 ghost use Rattle.document.specs.Undoing.{changes_of};
 ghost use Rattle.scene.specs.Performed.{HistoryFits};
 ghost use Rattle.scene.specs.Scenes.{IsWatched, kept_scene};
 ghost use Rattle.scene.specs.Undoing.{history_caret};
-ghost use Rattle.notify.specs.Gathered.{no_notes};
 ghost use Rattle.performing.specs.History.{scene_gone};
 ghost use Rattle.performing.specs.Widths.{ChangesFitWidth};
 
@@ -19,19 +18,16 @@ use std::alloc::AllocError;
 /// Undoes or redoes a transaction of the document, with room that it makes first. Returns the position in bytes of the
 /// caret afterwards, if a step of the text was made.
 ///
-/// Listening views are notified of each step, and all views that watch the document follow it. With 0 for `most`, the
-/// transaction is undone or redone only if no view is notified.
+/// Listening views are notified of each step, and all views that watch the document follow it.
 ///
 /// # Errors
 ///
-/// `AllocError` if an allocation fails, or more than `most` notes would be sent. The document and the views are then as
-/// they were.
+/// `AllocError` if an allocation fails. The document and the views are then as they were.
 pub fn go_with_room(
     document: &mut Document,
     views: &mut IdTable<View>,
     notes: &mut NoteList,
     direction: Direction,
-    most: usize,
 ) -> Result<Option<usize>, AllocError>
     requires steps { HistoryFits direction document.old }
     requires wide { ChangesFitWidth document.old.document (changes_of direction document.old.document.history) }
@@ -44,10 +40,9 @@ pub fn go_with_room(
     ensures id { document.new.document.id ≡ document.old.document.id }
     ensures watched { IsWatched document.new.document views.new }
     ensures next { views.new.next ≡ views.old.next }
-    ensures unheard { OnOk result (most ≡ 0 → notes.old ≡ no_notes → notes.new.notes ≡ []) }
 {
     let need = history_need(document, views, direction);
-    if !need.is_counted() || need.notes.notes > most {
+    if !need.is_counted() {
         return Err(AllocError);
     }
     let Ok(()) = notes.reserve(need.notes.notes, need.notes.bytes) else {
@@ -56,8 +51,5 @@ pub fn go_with_room(
     let Ok(()) = document.reserve(need.document) else {
         return Err(AllocError);
     };
-    let place = perform_history(document, views, notes, direction);
-    // States that there are no notes where none fits in.
-    notes.fits_in();
-    Ok(place)
+    Ok(perform_history(document, views, notes, direction))
 }

@@ -2,8 +2,8 @@
 //!
 //! - An edit, undo and redo (`replace_with_room`, `convert_with_room`, `go_with_room`) make several steps. Each counts what all its steps and
 //!   their notes need, reserves that room, and then makes the steps, which cannot fail.
-//! - All else is one change (`change_document`, `change_view`, `change_session`), and one call that may fail. `change_unheard` is a shorter way
-//!   for changes of a document that are sent by the thousand, where no view hears them.
+//! - All else is one change (`change_document`, `change_view`, `change_session`), and one call that may fail. `change_unheard` makes a change of a
+//!   document that no view hears, and needs no list of notifications.
 //!
 //! If an allocation fails, nothing has changed but how much fits in. The function that makes a change of a document knows neither views nor
 //! notes: it returns what there is to tell of the change (`ChangeNote`), and `tell` notifies the views of that.
@@ -25,13 +25,11 @@ mod sessions;
 mod style_changes;
 mod telling;
 mod type_changes;
-mod unheard;
 mod views;
 
-pub use change::change_document;
+pub use change::{change_document, change_unheard};
 pub use converting::convert_with_room;
 pub use history::go_with_room;
 pub use replacing::replace_with_room;
 pub use sessions::change_session;
-pub use unheard::change_unheard;
 pub use views::change_view;

@@ -16,12 +16,12 @@ use scene::{count_hearers, count_watchers, leaving_need};
 pub(crate) fn change_note_need(
     document: &Document,
     views: &IdTable<View>,
-    change: DocumentChange,
+    change: &DocumentChange,
 ) -> usize
     requires named { AreNamed views.now.entries }
-    ensures { result ≡ change_note_need change document.now views.now }
+    ensures { result ≡ change_note_need change.now document.now views.now }
 {
-    match change {
+    match *change {
         DocumentChange::SetSavePoint => count_watchers(document, views),
         DocumentChange::AppendContainer { .. } => leaving_need(document, views),
         DocumentChange::AddMarker { .. }

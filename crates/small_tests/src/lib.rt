@@ -9,3 +9,5 @@ mod large_tests;
 mod macro_script_tests;
 #[cfg(test)]
 mod notify_tests;
+#[cfg(test)]
+mod reply_tests;

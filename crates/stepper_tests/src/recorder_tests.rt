@@ -72,11 +72,14 @@ fn assert_answered(rt: &impl Abort, session: &Session, kind: Kind, value: i64) {
 }
 
 /// Asserts the text of view 1's document.
-fn assert_text(rt: &impl Abort, alloc: Global, session: &Session, text: &[u8]) {
-    let mut bytes = Vec::new(alloc);
-    let value = session.read(1, Kind::GetText.number(), 0, 0, &mut bytes);
-    assert!(rt; value.is_some());
-    assert!(rt; bytes.as_slice() == text);
+fn assert_text(rt: &impl Abort, alloc: Global, run: &mut Run, text: &[u8]) {
+    let outcome = run
+        .step(&[], &plain(alloc, Kind::GetText))
+        .expect(rt, "memory");
+    let Outcome::Replied(reply) = outcome else {
+        return assert!(rt; false);
+    };
+    assert!(rt; reply.text() == text);
 }
 
 /// Asserts that the macro leaves `ac`, with the caret behind the a, and two transactions: the letters, and the
@@ -86,14 +89,14 @@ fn assert_replayed(rt: &impl Abort, alloc: Global, run: &mut Run, commands: &[Co
     for command in commands {
         perform(rt, run, command);
     }
-    assert_text(rt, alloc, run.session(), b"ac");
+    assert_text(rt, alloc, run, b"ac");
     assert_answered(rt, run.session(), Kind::GetCurrentPos, 1);
     assert_answered(rt, run.session(), Kind::GetAnchor, 1);
     let undo = plain(alloc, Kind::Undo);
     for text in [b"abc".as_slice(), b"".as_slice()] {
         assert_answered(rt, run.session(), Kind::CanUndo, 1);
         perform(rt, run, &undo);
-        assert_text(rt, alloc, run.session(), text);
+        assert_text(rt, alloc, run, text);
     }
     assert_answered(rt, run.session(), Kind::CanUndo, 0);
     assert_answered(rt, run.session(), Kind::GetModify, 0);

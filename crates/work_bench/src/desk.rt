@@ -1,16 +1,16 @@
 //! A session at work, and the digest of all its replies.
 
 use crate::digest::Digest;
-use ed_types::{Kind, Outcome, Reply};
+use ed_types::{Bytes, Kind, Outcome, Reply};
 use editor_session::Session;
 use std::alloc::Global;
 
-/// A session, the digest of its replies so far, and a buffer for the texts of questions.
+/// A session, the digest of its replies so far, and the reply to the last text query, whose buffer is used again.
 #[derive(Drop)]
 pub struct Desk {
     session: Session,
     digest: Digest,
-    buffer: Vec<u8>,
+    reply: Reply,
 }
 
 /// Returns a place as an argument of a message.
@@ -41,7 +41,7 @@ impl Desk {
         Desk {
             session: Session::new(alloc),
             digest: Digest::new(),
-            buffer: Vec::new(alloc),
+            reply: Reply::quiet(alloc, 0, Bytes::empty(alloc)),
         }
     }
 
@@ -117,20 +117,20 @@ impl Desk {
         value
     }
 
-    /// Asks a text question, and returns the length of the text: -1 if there is none.
+    /// Sends a text query, and returns the value that is answered: -1 if it is refused.
     pub fn read(&mut self, view: u32, kind: Kind, w: i64, l: i64) -> i64 {
         let value = self
             .session
-            .read(view, kind.number(), w, l, &mut self.buffer);
-        self.digest.bytes(self.buffer.as_slice());
+            .send_into(view, kind.number(), w, l, &[], &mut self.reply);
+        self.digest.bytes(self.reply.text());
         let value = value.unwrap_or(-1);
         self.digest.integer(value);
         value
     }
 
-    /// Returns the text of the last text question.
+    /// Returns the text of the last text query.
     pub fn last_text(&self) -> &[u8] {
-        self.buffer.as_slice()
+        self.reply.text()
     }
 
     /// Returns how many bytes the document has.

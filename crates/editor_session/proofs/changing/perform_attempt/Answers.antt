@@ -17,11 +17,11 @@ attempt-requires-clause-room c =
     let room : CanPut (length d.views) c.reserve.new.self = search rules in
     omega (arith, few, room)
 
-pub returns-clause-told : goal.returns-clause-told
-returns-clause-told c =
+pub returns : goal.returns
+returns c =
     let a = c.args in let s = a.state.now in let old = c.in-Some.document.now in let n = c.attempt.new.notes in
     let at = sym c.get.ensures ∙ ap option_copied c.in-Some.is in
     let same : c.reserve.new.self.notes ≡ a.notes.now.notes = search rules in
     let put : n.notes ≡ a.notes.now.notes ++ told (watching (views_of s.views.entries) old.document) (blank modify_attempt) =
     ap (λ (g : Gathered). g.notes) c.attempt.ensures ∙ ap (λ ns. ns ++ told (watching (views_of s.views.entries) old.document) (blank modify_attempt)) same in
-    subst (λ o. IfSome o (λ k. n.notes ≡ a.notes.now.notes ++ told (watching (views_of s.views.entries) k.document) (blank modify_attempt))) (sym at) put
+    record { told = subst (λ o. IfSome o (λ k. n.notes ≡ a.notes.now.notes ++ told (watching (views_of s.views.entries) k.document) (blank modify_attempt))) (sym at) put }

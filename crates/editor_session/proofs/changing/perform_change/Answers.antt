@@ -1,5 +1,6 @@
-use Rattle.editor_session.proofs.Names.{rules, ◌≡◌, false, true, refl, sym, ap, ◌∙◌, option_copied_mut, Document}
+use Rattle.editor_session.proofs.Names.{rules, ◌≡◌, false, true, refl, sym, subst, ap, ◌∙◌, option_copied_mut, Document, err_from_is_err_and}
 use Rattle.ed_model.specs.proved.Changes.{changed_id}
+use Rattle.performing.specs.Changed.{Changes}
 use Rattle.editor_session.proofs.OneDocument.{missing, watched_here, still_named, same_session, still_kept, kept_performed}
 use Rattle.editor_session.proofs.DocumentChanges.{fits_here, text_read, change_performed, change_free}
 use Rattle.editor_session.proofs.changing.perform_change.Goals as goal
@@ -11,31 +12,32 @@ pub change_document-requires : goal.change_document-requires
 change_document-requires c =
     let old = c.in-Some.document.now in let kept = c.requires.kept in let can = c.requires.can in
     let at = sym c.get_mut.ensures.value ∙ ap option_copied_mut c.in-Some.is in
-    record { fits = fits_here kept can old at; text = text_read kept can; watched = watched_here kept can.request old at }
+    record { fits = fits_here kept can old at; text = text_read kept can c.message.inside.text.now (search rules); watched = watched_here kept can.request old at }
 
-pub returns-in-Ok : goal.returns-in-Ok
-returns-in-Ok c =
+pub returns : goal.returns
+returns c =
     let a = c.args in let s = a.state.now in let old = c.in-Some.document.now in let kept = c.requires.kept in let can = c.requires.can in
-    let n = c.change_document.new in let e = c.in-Ok.ensures.changed in
+    let n = c.change_document.new in let m = a.task.now.message.now in
+    let same : c.message.inside.text.now ≡ m.text = search rules in
+    let e = subst (λ x. Changes x a.change.now a.task.now.view old n.document s.views n.views a.notes.now n.notes) same c.in_ok-change_document.ensures.changed in
     let at = sym c.get_mut.ensures.value ∙ ap option_copied_mut c.in-Some.is in
     let made = change_performed kept can old at n.document n.views a.notes.now.notes n.notes.notes e.document e.lines e.next e.told in
     record {
       done = made;
       same = search rules;
-      refused = search rules;
-      kept = kept_performed c.plans_are_fit.ensures.keep_sound kept can made.done refl (still_named s kept a.document old n.document at (ap (λ (d : Document). d.id) e.document ∙ changed_id a.text.now a.change old.document)) e.watched.named;
+      kept = kept_performed c.plans_are_fit.ensures.keep_sound kept can made.done refl (still_named s kept a.task.now.document old n.document at (ap (λ (d : Document). d.id) e.document ∙ changed_id m.text a.change.now old.document)) e.watched.named;
       free = search rules;
     }
 
-pub returns-in-Err : goal.returns-in-Err
-returns-in-Err c =
-    let a = c.args in let s = a.state.now in let old = c.in-Some.document.now in let n = c.change_document.new in let kept = c.requires.kept in
-    let e = c.in-Err.ensures in
+pub returns-in_err-change_document : goal.returns-in_err-change_document
+returns-in_err-change_document c =
+    let a = c.args in let s = a.state.now in let id = a.task.now.document in let old = c.in-Some.document.now in let n = c.change_document.new in let kept = c.requires.kept in
+    let e = c.in_err-change_document.ensures in
     let at = sym c.get_mut.ensures.value ∙ ap option_copied_mut c.in-Some.is in
-    record {
-      done = search rules;
-      same = same_session s kept a.document old n.document at n.views e.same.document e.same.views;
-      refused = search rules;
-      kept = still_kept s kept a.document old n.document at n.views e.same.document e.same.views;
+    rw (err_from_is_err_and c.from_residual.result c.from_residual.ensures.1).1
+    (record {
+      done = tt;
+      same = same_session s kept id old n.document at n.views e.same.document e.same.views;
+      kept = still_kept s kept id old n.document at n.views e.same.document e.same.views;
       free = change_free kept c.requires.can old at (false ≡ true) e.free;
-    }
+    })

@@ -1,6 +1,5 @@
 use Rattle.editor_session.proofs.Names.{rules, value_at, Kept, IsPastedFor}
-use Rattle.editor_session.proofs.EditLemmas.{pasted_none}
-use Rattle.editor_session.proofs.TextQuestions.{all_promised}
+use Rattle.editor_session.proofs.EditLemmas.{all_promised, pasted_none}
 use Rattle.editor_session.proofs.editing.pasted_bytes.Goals as goal
 
 pub returns-then-not-is_turned-clause-pasted : goal.returns-then-not-is_turned-clause-pasted

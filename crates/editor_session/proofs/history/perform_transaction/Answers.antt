@@ -1,5 +1,5 @@
-use Rattle.editor_session.proofs.Names.{reverse, refl, sym, ap, ◌∙◌, latest_text_step, changes_of, views_of, option_copied_mut, rules}
-use Rattle.editor_session.proofs.Going.{steps_here, wide_here, caret_set, caret_left, gone_performed}
+use Rattle.editor_session.proofs.Names.{reverse, refl, sym, ap, ◌∙◌, latest_text_step, changes_of, views_of, option_copied_mut, rules, err_from_is_err_and}
+use Rattle.editor_session.proofs.Going.{steps_here, wide_here, caret_moved, gone_performed}
 use Rattle.editor_session.proofs.OneDocument.{missing, watched_here, still_named, same_session, still_kept, kept_performed}
 use Rattle.editor_session.proofs.history.perform_transaction.Goals as goal
 
@@ -16,44 +16,26 @@ go_with_room-requires c =
       watched = watched_here q.kept q.can.request old at;
     }
 
-pub returns-in-Ok-Some : goal.returns-in-Ok-Some
-returns-in-Ok-Some c =
-    let a = c.args in let s = a.state.now in let q = c.requires in let old = c.in-Some.document.now in let n = c.go_with_room.new in
-    let e = c.in-Ok-Some.ensures in let f = c.set_caret in
+pub returns : goal.returns
+returns c =
+    let a = c.args in let t = a.task.now in let s = a.state.now in let q = c.requires in let old = c.in-Some.document.now in let n = c.go_with_room.new in
+    let e = c.in_ok-place.ensures in let f = c.move_caret in
     let at = sym c.get_mut.ensures.value ∙ ap option_copied_mut c.in-Some.is in
-    let caret = caret_set a.view c.in-Ok-Some.place (latest_text_step (reverse (changes_of a.direction old.document.history))) (views_of n.views.entries) (sym c.in-Ok-Some.field-0-is ∙ e.place) in
+    let caret = caret_moved t.view c.in_ok-place.place (latest_text_step (reverse (changes_of a.direction old.document.history))) (views_of n.views.entries) e.place in
     let made = gone_performed a.direction q.kept q.can old at n.document n.views f.new.views a.notes.now n.notes e.scene e.id (f.ensures.views ∙ caret) e.next f.ensures.next in
     record {
       done = made;
       same = search rules;
-      refused = search rules;
-      kept = kept_performed c.plans_are_fit.ensures.keep_sound q.kept q.can made.done refl (still_named s q.kept a.document old n.document at e.id) f.ensures.named;
-      unheard = e.unheard;
+      kept = kept_performed c.plans_are_fit.ensures.keep_sound q.kept q.can made.done refl (still_named s q.kept t.document old n.document at e.id) f.ensures.named;
     }
 
-pub returns-in-Ok-None : goal.returns-in-Ok-None
-returns-in-Ok-None c =
-    let a = c.args in let s = a.state.now in let q = c.requires in let old = c.in-Some.document.now in let n = c.go_with_room.new in
-    let e = c.in-Ok-None.ensures in
+pub returns-in_err-place : goal.returns-in_err-place
+returns-in_err-place c =
+    let s = c.args.state.now in let id = c.args.task.now.document in let old = c.in-Some.document.now in let n = c.go_with_room.new in let e = c.in_err-place.ensures in
     let at = sym c.get_mut.ensures.value ∙ ap option_copied_mut c.in-Some.is in
-    let caret = caret_left a.view (latest_text_step (reverse (changes_of a.direction old.document.history))) (views_of n.views.entries) (sym c.in-Ok-None.field-0-is ∙ e.place) in
-    let made = gone_performed a.direction q.kept q.can old at n.document n.views n.views a.notes.now n.notes e.scene e.id caret e.next refl in
-    record {
-      done = made;
-      same = search rules;
-      refused = search rules;
-      kept = kept_performed c.plans_are_fit.ensures.keep_sound q.kept q.can made.done refl (still_named s q.kept a.document old n.document at e.id) e.watched.named;
-      unheard = e.unheard;
-    }
-
-pub returns-in-Err : goal.returns-in-Err
-returns-in-Err c =
-    let a = c.args in let s = a.state.now in let old = c.in-Some.document.now in let n = c.go_with_room.new in let e = c.in-Err.ensures in
-    let at = sym c.get_mut.ensures.value ∙ ap option_copied_mut c.in-Some.is in
-    record {
-      done = search rules;
-      same = same_session s c.requires.kept a.document old n.document at n.views e.same e.same_views;
-      refused = search rules;
-      kept = still_kept s c.requires.kept a.document old n.document at n.views e.same e.same_views;
-      unheard = search rules;
-    }
+    rw (err_from_is_err_and c.from_residual.result c.from_residual.ensures.1).1
+    (record {
+      done = tt;
+      same = same_session s c.requires.kept id old n.document at n.views e.same e.same_views;
+      kept = still_kept s c.requires.kept id old n.document at n.views e.same e.same_views;
+    })

@@ -1,18 +1,18 @@
-use Rattle.editor_session.proofs.Names.{◌≡◌, ◌++◌, ◌+◌, ◌≤◌, ℕ, List, [], pos, false, true, IfSome, value_at, SessionState, IsKept, IsAsked, rules, refl, ap, sym, subst, length, slice_range, eqb-true, IsFitPlan, Document, text_of, watching, views_of, told, modify_attempt, blank, response, styled_text, session_in, asked}
+use Rattle.editor_session.proofs.Names.{◌≡◌, ◌++◌, ◌+◌, ◌≤◌, ℕ, List, [], pos, false, true, IfSome, value_at, SessionState, IsKept, IsSent, rules, refl, ap, sym, subst, length, slice_range, eqb-true, IsFitPlan, Document, text_of, watching, views_of, told, modify_attempt, blank, response, styled_text, session_in, request_of, Message, quiet, IsSound, not-true, CanPerform, ◌∙◌}
 use Rattle.ed_model.specs.declared.plan.Plan.TheVariants as plan
-use Rattle.document.specs.declared.undoing.Direction.TheVariants as direction
-use Rattle.editor_session.proofs.Going.{can_go, went}
-use Rattle.editor_session.proofs.OneDocument.{document_here, for_document, of_document}
-use Rattle.editor_session.proofs.PlanLemmas.{can_as, performed_as, revalued}
+use Rattle.performing.specs.SessionMemory.{takes_memory}
+use Rattle.editor_session.proofs.Keeping.{kept_with}
+use Rattle.editor_session.proofs.OneDocument.{document_here, for_document, kept_performed, of_document}
+use Rattle.editor_session.proofs.PlanLemmas.{can_as, can_change_session, performed_as, revalued, session_changed_so}
 use Rattle.editor_session.proofs.TableWay.{quietly}
 use Rattle.editor_session.proofs.perform.perform.Goals as goal
 
 -- the bytes that are handed out are those of the request's document
-module _ {s : SessionState} {document view : ℕ} {text : List ℕ} (kept : IsKept s) (by : IsAsked (session_in s) document view text) (start count : ℕ) (out : List ℕ) where
-  handed : IfSome (value_at s.documents.entries document) (λ k. out ≡ slice_range (text_of k.document) start (start + count)) → out ≡ slice_range (text_of (asked (session_in s) view text).document) start (start + count)
+module _ {s : SessionState} {document view : ℕ} {m : Message} (kept : IsKept s) (by : IsSent (session_in s) document view m) (start count : ℕ) (out : List ℕ) where
+  handed : IfSome (value_at s.documents.entries document) (λ k. out ≡ slice_range (text_of k.document) start (start + count)) → out ≡ slice_range (text_of (request_of (session_in s) view m).document) start (start + count)
   handed h = of_document kept by (λ (d : Document). out ≡ slice_range (text_of d) start (start + count)) h
 
-  styled : IfSome (value_at s.documents.entries document) (λ k. out ≡ styled_text (slice_range k.document.cells start (start + count))) → out ≡ styled_text (slice_range (asked (session_in s) view text).document.cells start (start + count))
+  styled : IfSome (value_at s.documents.entries document) (λ k. out ≡ styled_text (slice_range k.document.cells start (start + count))) → out ≡ styled_text (slice_range (request_of (session_in s) view m).document.cells start (start + count))
   styled h = of_document kept by (λ (d : Document). out ≡ styled_text (slice_range d.cells start (start + count))) h
 
 pub returns-in-Answer-clause-done : goal.returns-in-Answer-clause-done
@@ -36,38 +36,54 @@ returns-in_ok-perform_change-in-ChangeDocument-clause-done c = performed_as c.in
 pub returns-in_err-perform_change-in-ChangeDocument-clause-free : goal.returns-in_err-perform_change-in-ChangeDocument-clause-free
 returns-in_err-perform_change-in-ChangeDocument-clause-free c = rw c.in-ChangeDocument.is (λ h. let bad : false ≡ true = c.in_err-perform_change-in-ChangeDocument.ensures.free h in absurd (cc))
 
-pub perform_session_change-requires-clause-can : goal.perform_session_change-requires-clause-can
-perform_session_change-requires-clause-can c = can_as c.requires.can c.in-ChangeSession.is (λ h. h)
+pub change_session-requires : goal.change_session-requires
+change_session-requires c =
+    let t = c.args.task.now in let p = c.in-ChangeSession in
+    let can : CanPerform (session_in c.args.state.now) t.document t.view t.message.now (plan.ChangeSession p.change p.value) = can_as c.requires.can p.is (λ h. h) in
+    record { kept = c.requires.kept; can = can_change_session p.change c.message.inside.text.now (search rules) can }
 
-pub returns-in_ok-perform_session_change-in-ChangeSession-clause-done : goal.returns-in_ok-perform_session_change-in-ChangeSession-clause-done
-returns-in_ok-perform_session_change-in-ChangeSession-clause-done c = performed_as c.in-ChangeSession.is (revalued c.in-ChangeSession.value (quietly {text = c.args.text.now} {what = plan.ChangeSession c.in-ChangeSession.change (pos 0)} c.args.notes.now.notes c.in_ok-perform_session_change-in-ChangeSession.ensures.done) refl) (search rules) c.requires.empty
+pub returns-in_ok-change_session-in-ChangeSession-clause-done : goal.returns-in_ok-change_session-in-ChangeSession-clause-done
+returns-in_ok-change_session-in-ChangeSession-clause-done c =
+    let t = c.args.task.now in let p = c.in-ChangeSession in
+    let changed = c.in_ok-change_session-in-ChangeSession.ensures.changed ∙ session_changed_so (session_in c.args.state.now) t.view t.message.now p.change c.message.inside.text.now (search rules) in
+    performed_as p.is (quietly {what = plan.ChangeSession p.change p.value} c.args.notes.now.notes (ap (λ x. (x, quiet p.value)) (sym changed))) (search rules) c.requires.empty
 
-pub returns-in_err-perform_session_change-in-ChangeSession-clause-free : goal.returns-in_err-perform_session_change-in-ChangeSession-clause-free
-returns-in_err-perform_session_change-in-ChangeSession-clause-free c = rw c.in-ChangeSession.is (λ h. let bad : false ≡ true = c.in_err-perform_session_change-in-ChangeSession.ensures.free h in absurd (cc))
+pub returns-in_ok-change_session-in-ChangeSession-clause-kept : goal.returns-in_ok-change_session-in-ChangeSession-clause-kept
+returns-in_ok-change_session-in-ChangeSession-clause-kept c =
+    let e = c.in_ok-change_session-in-ChangeSession.ensures.stays in
+    kept_performed c.plans_are_fit.ensures.keep_sound c.requires.kept c.requires.can (returns-in_ok-change_session-in-ChangeSession-clause-done c).done e.limits e.documents e.views
+
+pub returns-in_err-change_session-in-ChangeSession-clause-kept : goal.returns-in_err-change_session-in-ChangeSession-clause-kept
+returns-in_err-change_session-in-ChangeSession-clause-kept c =
+    let e = c.in_err-change_session-in-ChangeSession.ensures in
+    kept_with c.args.state.now c.change_session.new.state c.requires.kept (subst IsSound (sym e.same) c.requires.kept.sound) e.stays.limits e.stays.documents e.stays.views
+
+pub returns-in_err-change_session-in-ChangeSession-clause-free : goal.returns-in_err-change_session-in-ChangeSession-clause-free
+returns-in_err-change_session-in-ChangeSession-clause-free c = rw c.in-ChangeSession.is (λ h. let bad : false ≡ true = c.in_err-change_session-in-ChangeSession.ensures.free (not-true (takes_memory c.in-ChangeSession.change) h) in absurd (cc))
 
 pub perform_view_change-requires-clause-can : goal.perform_view_change-requires-clause-can
 perform_view_change-requires-clause-can c = can_as c.requires.can c.in-ChangeView.is (λ h. h)
 
 pub returns-in_ok-perform_view_change-in-ChangeView-clause-done : goal.returns-in_ok-perform_view_change-in-ChangeView-clause-done
-returns-in_ok-perform_view_change-in-ChangeView-clause-done c = performed_as c.in-ChangeView.is (revalued c.in-ChangeView.value (quietly {text = []} {what = plan.ChangeView c.in-ChangeView.change (pos 0)} c.args.notes.now.notes c.in_ok-perform_view_change-in-ChangeView.ensures.done) refl) (search rules) c.requires.empty
+returns-in_ok-perform_view_change-in-ChangeView-clause-done c = performed_as c.in-ChangeView.is (revalued c.in-ChangeView.value (quietly {what = plan.ChangeView c.in-ChangeView.change (pos 0)} c.args.notes.now.notes c.in_ok-perform_view_change-in-ChangeView.ensures.done) refl) (search rules) c.requires.empty
 
 pub returns-in_err-perform_view_change-in-ChangeView-clause-free : goal.returns-in_err-perform_view_change-in-ChangeView-clause-free
 returns-in_err-perform_view_change-in-ChangeView-clause-free c = rw c.in-ChangeView.is (λ h. let bad : false ≡ true = c.in_err-perform_view_change-in-ChangeView.ensures.free h in absurd (cc))
 
 pub perform_transaction-requires-clause-can : goal.perform_transaction-requires-clause-can
-perform_transaction-requires-clause-can c = can_go direction.Undo c.in-Undo.is c.requires.can
+perform_transaction-requires-clause-can c = can_as c.requires.can c.in-Undo.is (λ h. h)
 
 pub returns-in_ok-perform_transaction-in-Undo-clause-done : goal.returns-in_ok-perform_transaction-in-Undo-clause-done
-returns-in_ok-perform_transaction-in-Undo-clause-done c = performed_as refl (went direction.Undo c.in-Undo.is c.in_ok-perform_transaction-in-Undo.ensures.done) refl c.requires.empty
+returns-in_ok-perform_transaction-in-Undo-clause-done c = performed_as c.in-Undo.is c.in_ok-perform_transaction-in-Undo.ensures.done refl c.requires.empty
 
 pub returns-in_err-perform_transaction-in-Undo-clause-free : goal.returns-in_err-perform_transaction-in-Undo-clause-free
 returns-in_err-perform_transaction-in-Undo-clause-free c = rw c.in-Undo.is (λ h. let bad : false ≡ true = h in absurd (cc))
 
 pub perform_transaction-requires-in-Redo-clause-can : goal.perform_transaction-requires-in-Redo-clause-can
-perform_transaction-requires-in-Redo-clause-can c = can_go direction.Redo c.in-Redo.is c.requires.can
+perform_transaction-requires-in-Redo-clause-can c = can_as c.requires.can c.in-Redo.is (λ h. h)
 
 pub returns-in_ok-perform_transaction-in-Redo-clause-done : goal.returns-in_ok-perform_transaction-in-Redo-clause-done
-returns-in_ok-perform_transaction-in-Redo-clause-done c = performed_as refl (went direction.Redo c.in-Redo.is c.in_ok-perform_transaction-in-Redo.ensures.done) refl c.requires.empty
+returns-in_ok-perform_transaction-in-Redo-clause-done c = performed_as c.in-Redo.is c.in_ok-perform_transaction-in-Redo.ensures.done refl c.requires.empty
 
 pub returns-in_err-perform_transaction-in-Redo-clause-free : goal.returns-in_err-perform_transaction-in-Redo-clause-free
 returns-in_err-perform_transaction-in-Redo-clause-free c = rw c.in-Redo.is (λ h. let bad : false ≡ true = h in absurd (cc))
@@ -80,7 +96,7 @@ returns-in_ok-perform_attempt-in-Attempt-clause-done c =
     let s = c.args.state.now in let before = c.args.notes.now.notes in
     performed_as c.in-Attempt.is
     (record {
-      told = told (watching (views_of s.views.entries) (asked (session_in s) c.args.view c.args.text.now).document) (blank modify_attempt);
+      told = told (watching (views_of s.views.entries) (request_of (session_in s) c.args.task.now.view c.args.task.now.message.now).document) (blank modify_attempt);
       done = refl;
       heard = of_document c.requires.kept c.requires.can.request (λ (d : Document). c.perform_attempt.new.notes.notes ≡ before ++ told (watching (views_of s.views.entries) d) (blank modify_attempt)) c.in_ok-perform_attempt-in-Attempt.ensures.told;
     })
@@ -92,7 +108,7 @@ returns-in_err-perform_attempt-in-Attempt-clause-free c = rw c.in-Attempt.is (λ
 pub hand_out-requires : goal.hand_out-requires
 hand_out-requires c =
     let p = c.in-HandOut in let q = c.requires in
-    record { range = for_document q.kept q.can.request (λ (d : Document). p.start + p.count ≤ length d.cells) (subst (IsFitPlan (asked (session_in c.args.state.now) c.args.view c.args.text.now)) p.is q.can.fit) }
+    record { range = for_document q.kept q.can.request (λ (d : Document). p.start + p.count ≤ length d.cells) (subst (IsFitPlan (request_of (session_in c.args.state.now) c.args.task.now.view c.args.task.now.message.now)) p.is q.can.fit) }
 
 pub returns-in_ok-handed_out-in-HandOut-clause-done : goal.returns-in_ok-handed_out-in-HandOut-clause-done
 returns-in_ok-handed_out-in-HandOut-clause-done c =
@@ -106,7 +122,7 @@ returns-in_err-handed_out-in-HandOut-clause-free c = rw c.in-HandOut.is (λ h. l
 pub hand_out_styled-requires : goal.hand_out_styled-requires
 hand_out_styled-requires c =
     let p = c.in-HandOutStyled in let q = c.requires in
-    record { range = for_document q.kept q.can.request (λ (d : Document). p.start + p.count ≤ length d.cells) (subst (IsFitPlan (asked (session_in c.args.state.now) c.args.view c.args.text.now)) p.is q.can.fit) }
+    record { range = for_document q.kept q.can.request (λ (d : Document). p.start + p.count ≤ length d.cells) (subst (IsFitPlan (request_of (session_in c.args.state.now) c.args.task.now.view c.args.task.now.message.now)) p.is q.can.fit) }
 
 pub returns-in_ok-handed_out-in-HandOutStyled-clause-done : goal.returns-in_ok-handed_out-in-HandOutStyled-clause-done
 returns-in_ok-handed_out-in-HandOutStyled-clause-done c =

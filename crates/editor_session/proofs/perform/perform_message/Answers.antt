@@ -1,23 +1,21 @@
-use Rattle.editor_session.proofs.Names.{rules, ◌≡◌, [], pos, false, Ok, sym, refl, ap, subst, ◌∙◌, quiet, session_in, IsPlannedAs}
-use Rattle.ed_model.specs.declared.plan.Plan.TheVariants as plan
-use Rattle.editor_session.proofs.PlanLemmas.{can_as, performed_as, revalued}
-use Rattle.editor_session.proofs.TableWay.{answered_so, quietly}
+use Rattle.editor_session.proofs.Names.{rules, ◌≡◌, ◌∙◌, Ok, refl, sym, ap, subst, quiet, Session, session_in, IsPlannedAs, IsAnswered}
+use Rattle.editor_session.specs.Answers.{told}
+use Rattle.editor_session.proofs.TableWay.{answered_so, replied_so}
 use Rattle.editor_session.proofs.perform.perform_message.Goals as goal
 
-pub returns-in-Answer-clause-answer : goal.returns-in-Answer-clause-answer
-returns-in-Answer-clause-answer c =
-    let a = c.args in let s = session_in a.state.now in
-    let unrecorded : a.is_recorded ≡ false = search rules in
-    let answered : quiet c.in-Answer.value ≡ c.answer.result = search rules in
-    answered_so (subst (IsPlannedAs s a.view a.message.now a.document a.plan.now) unrecorded c.requires.planned) refl (performed_as c.in-Answer.is (quietly {new = a.state.now} [] refl) refl refl) ∙ ap (λ x. Ok (s, x)) (answered ∙ sym c.keep.ensures.whole)
+pub returns-in-Some-clause-answered : goal.returns-in-Some-clause-answered
+returns-in-Some-clause-answered c =
+    let a = c.args in let t = a.task.now in
+    let left : quiet c.in-Some.value ≡ c.answer.new.self = search rules in
+    let unrecorded = subst (IsPlannedAs (session_in a.state.now) t.view t.message.now t.document a.plan.now) c.in-Some.ensures.unrecorded c.requires.planned in
+    replied_so (answered_so unrecorded refl c.in-Some.ensures.done ∙ ap (λ x. Ok (session_in c.perform_quietly.new.state, x)) left)
 
-pub perform_free_change-requires-clause-can : goal.perform_free_change-requires-clause-can
-perform_free_change-requires-clause-can c = can_as c.requires.planned.can c.in-ChangeView.is (λ h. h)
+pub perform_with_notes-requires-clause-planned : goal.perform_with_notes-requires-clause-planned
+perform_with_notes-requires-clause-planned c =
+    let a = c.args in let t = a.task.now in
+    subst (λ (s : Session). IsPlannedAs s t.view t.message.now t.document a.plan.now t.is_recorded) (sym c.in-None.ensures.same) c.requires.planned
 
-pub returns-in-ChangeView-clause-answer : goal.returns-in-ChangeView-clause-answer
-returns-in-ChangeView-clause-answer c =
-    let a = c.args in let p = c.in-ChangeView in
-    let unrecorded : a.is_recorded ≡ false = search rules in
-    let answered : quiet p.value ≡ c.answer-in-ChangeView.result = search rules in
-    answered_so (subst (IsPlannedAs (session_in a.state.now) a.view a.message.now a.document a.plan.now) unrecorded c.requires.planned) refl (performed_as p.is (revalued p.value (quietly {text = []} {what = plan.ChangeView p.change (pos 0)} {new = c.perform_free_change.new.state} [] c.perform_free_change.ensures.done) refl) refl refl)
-    ∙ ap (λ x. Ok (session_in c.perform_free_change.new.state, x)) (answered ∙ sym c.keep-in-ChangeView.ensures.whole)
+pub returns-in-None-clause-answered : goal.returns-in-None-clause-answered
+returns-in-None-clause-answered c =
+    let n = c.perform_with_notes in
+    subst (λ (s : Session). IsAnswered s c.args.task.now.view c.args.task.now.message.now (session_in n.new.state) (told n.result n.new.reply)) c.in-None.ensures.same n.ensures.answered

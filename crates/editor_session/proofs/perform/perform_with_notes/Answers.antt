@@ -1,24 +1,20 @@
-use Rattle.editor_session.proofs.Names.{rules, ◌≡◌, false, true, Ok, sym, ap, subst, ◌∙◌, response, session_in, first_note, asked, needs_no_memory}
-use Rattle.editor_session.proofs.PlanLemmas.{can_for, performed_for}
-use Rattle.editor_session.proofs.TableWay.{answered_so, free_plan}
+use Rattle.editor_session.proofs.Names.{rules, ◌≡◌, false, true, Ok, refl, ap, ◌∙◌, response, session_in, first_note, err_from_is_err_and}
+use Rattle.editor_session.proofs.TableWay.{answered_so, free_plan, replied_so, unperformed}
 use Rattle.editor_session.proofs.perform.perform_with_notes.Goals as goal
 
-pub perform-requires-clause-can : goal.perform-requires-clause-can
-perform-requires-clause-can c = can_for c.requires.planned.can (search rules)
-
-pub returns-in-Ok-perform-clause-answer : goal.returns-in-Ok-perform-clause-answer
-returns-in-Ok-perform-clause-answer c =
+pub returns-clause-answered : goal.returns-clause-answered
+returns-clause-answered c =
     let a = c.args in let n = c.perform.new in
-    let first : c.record_if.new.notes.notes ≡ first_note a.is_recorded a.view a.message.now = search rules in
-    let finished : response c.in-Ok-perform.value n.handed_out.items n.notes.notes ≡ c.finish.result = search rules in
-    let same : c.message.inside.text.now ≡ a.message.now.text = search rules in
-    answered_so c.requires.planned first (performed_for c.in-Ok-perform.ensures.done same) ∙ ap (λ x. Ok (session_in n.state, x)) (finished ∙ sym c.keep.ensures.whole)
+    let first : c.record_if.new.notes.notes ≡ first_note a.task.now.is_recorded a.task.now.view a.task.now.message.now = search rules in
+    let left : response c.in_ok-value.value n.handed_out.items n.notes.notes ≡ c.keep.new.reply = search rules in
+    replied_so (answered_so c.requires.planned first c.in_ok-value.ensures.done ∙ ap (λ x. Ok (session_in n.state, x)) left)
 
-pub returns-in-Err-clause-free : goal.returns-in-Err-clause-free
-returns-in-Err-clause-free c free =
-    let a = c.args in
-    let same : a.message.now.text ≡ c.message.inside.text.now = search rules in
-    c.in-Err.ensures.free (subst (λ x. needs_no_memory (asked (session_in a.state.now) a.view x) a.plan.now ≡ true) same (free_plan c.requires.planned free).0)
+pub returns-in_err-record_if-clause-answered : goal.returns-in_err-record_if-clause-answered
+returns-in_err-record_if-clause-answered c =
+    let p = err_from_is_err_and c.from_residual.result c.from_residual.ensures.1 in
+    rw (p.1, p.2) (unperformed c.requires.planned refl (λ free. let bad : false ≡ true = c.in_err-record_if.ensures.free (free_plan c.requires.planned free).1 in cc))
 
-pub returns-in_default-clause-free : goal.returns-in_default-clause-free
-returns-in_default-clause-free c free = let bad : false ≡ true = c.in_default.ensures.free (free_plan c.requires.planned free).1 in absurd (cc)
+pub returns-in_err-value-clause-answered : goal.returns-in_err-value-clause-answered
+returns-in_err-value-clause-answered c =
+    let p = err_from_is_err_and c.from_residual-in_err-value.result c.from_residual-in_err-value.ensures.1 in
+    rw (p.1, p.2) (unperformed c.requires.planned c.in_err-value.ensures.same (λ free. let bad : false ≡ true = c.in_err-value.ensures.free (free_plan c.requires.planned free).0 in cc))

@@ -1,14 +1,18 @@
-use Rattle.editor_session.proofs.Names.{◌≡◌, ℤ, sym, subst, ap, Ok, Err, IfErr, Result, Refusal, Response, table, session_in}
-use Rattle.ed_types.specs.proved.Refusals.{refusing}
+use Rattle.editor_session.proofs.Names.{rules, ◌≡◌, ◌∙◌, Ok, Err, ap, subst, IsFitPlanned, answered, plan_of, request_of, session_in, err_from_is_err_and}
+use Rattle.editor_session.proofs.TableWay.{has_plan, refused_so}
 use Rattle.editor_session.proofs.sending.answer_by_plan.Goals as goal
 
--- what refuses a value refuses a reply
-refused_too : {S : Type 0} (says : Result S Refusal) (refusal : Refusal) → IfErr says (λ r. refusing ℤ refusal ≡ Err r) → IfErr says (λ r. refusing Response refusal ≡ Err r)
-refused_too (Ok x) refusal h = tt
-refused_too (Err r) refusal h = let same : refusal ≡ r = cc in ap (refusing Response) same
+pub returns-in_err-kind-clause-answered : goal.returns-in_err-kind-clause-answered
+returns-in_err-kind-clause-answered c = let p = err_from_is_err_and c.from_residual.result c.from_residual.ensures.1 in rw (p.1, p.2) (refused_so c.in_err-kind.ensures.refused c.in_err-kind.ensures.memory)
 
-pub returns-in-Ok-clause-refused : goal.returns-in-Ok-clause-refused
-returns-in-Ok-clause-refused c = subst (λ t. IfErr t (λ refusal. Ok c.answer_into_by_plan.new.reply ≡ Err refusal)) (sym c.in-Ok.ensures.answer) tt
+pub returns-in-Err-clause-answered : goal.returns-in-Err-clause-answered
+returns-in-Err-clause-answered c =
+    let kind = c.in_ok-kind.kind in let r = request_of (session_in c.args.state.now) c.args.view c.args.message.now in let e = c.in_ok-kind.ensures in let refusal = c.in-Err.refusal in
+    let found : plan_of kind c.in_ok-kind.request ≡ Err refusal = search rules in
+    let planned : plan_of kind r ≡ Err refusal = subst (λ x. plan_of kind x ≡ Err refusal) e.request found in
+    refused_so (e.found.answer ∙ ap (answered kind r) planned) (subst (IsFitPlanned r) planned (c.plans_are_fit.ensures.in_range kind r e.found.sound))
 
-pub returns-in-Err-clause-refused : goal.returns-in-Err-clause-refused
-returns-in-Err-clause-refused c = refused_too (table (session_in c.args.state.now) c.args.view c.args.message.now) c.in-Err.refusal c.in-Err.ensures.refused
+pub perform_message-requires-clause-planned : goal.perform_message-requires-clause-planned
+perform_message-requires-clause-planned c =
+    let e = c.in_ok-kind.ensures in
+    has_plan c.plans_are_fit.ensures.in_range c.in_ok-kind.request e.request e.found (search rules) _ (search rules) _ (search rules)

@@ -21,37 +21,37 @@ returns-in_err-note-clause-same c =
     (record { document = refused.1; reserved = inr refused.2; views = refl; notes = ap (λ (g : Gathered). g.notes) reserved })
 
 pub returns-in_err-note-clause-free : goal.returns-in_err-note-clause-free
-returns-in_err-note-clause-free c = λ no none. absurd (c.in_err-note.ensures.0 (free_is_ready c.args.change c.args.document.now no))
+returns-in_err-note-clause-free c = λ no none. absurd (c.in_err-note.ensures.0 (free_is_ready c.args.change.now c.args.document.now no))
 
 pub tell-requires : goal.tell-requires
 tell-requires c =
     let a = c.args in let made = c.in_ok-note.ensures in let new = c.make.new.document in
-    let alone : is_of_types a.change ≡ false = search rules in
+    let alone : is_of_types a.change.now ≡ false = search rules in
     let reserved = rw c.change_note_need.ensures at c.in_ok-reserve.ensures.ok in
     record {
       fits = made.fits;
       named = c.requires.watched.named;
-      room = λ v. rw reserved (room_for (length (notes_of v (watchers new.document a.views.now) new.document c.in_ok-note.note)) (change_note_need a.change a.document.now a.views.now) a.notes.now
-          (few_told a.text.now a.change a.document.now new c.in_ok-note.note a.views.now alone c.requires.watched made v));
+      room = λ v. rw reserved (room_for (length (notes_of v (watchers new.document a.views.now) new.document c.in_ok-note.note)) (change_note_need a.change.now a.document.now a.views.now) a.notes.now
+          (few_told a.text.now a.change.now a.document.now new c.in_ok-note.note a.views.now alone c.requires.watched made v));
     }
 
 pub returns-then-is_full-clause-changed : goal.returns-then-is_full-clause-changed
 returns-then-is_full-clause-changed c =
     let a = c.args in let made = c.in_ok-note.ensures in let new = c.make.new.document in
-    let alone : is_of_types a.change ≡ false = search rules in
+    let alone : is_of_types a.change.now ≡ false = search rules in
     let reserved = rw c.change_note_need.ensures at c.in_ok-reserve.ensures.ok in
-    changed_untold a.text.now a.change a.document.now new c.in_ok-note.note a.views.now alone c.requires.watched made a.sender a.notes.now c.reserve.new.self
+    changed_untold a.text.now a.change.now a.document.now new c.in_ok-note.note a.views.now alone c.requires.watched made a.sender a.notes.now c.reserve.new.self
     (ap (λ (g : Gathered). g.notes) reserved)
     (λ v. let count = length (notes_of v (watchers new.document a.views.now) new.document c.in_ok-note.note) in
     nothing_fits count c.reserve.new.self
-    (rw reserved (room_for count (change_note_need a.change a.document.now a.views.now) a.notes.now (few_told a.text.now a.change a.document.now new c.in_ok-note.note a.views.now alone c.requires.watched made v)))
+    (rw reserved (room_for count (change_note_need a.change.now a.document.now a.views.now) a.notes.now (few_told a.text.now a.change.now a.document.now new c.in_ok-note.note a.views.now alone c.requires.watched made v)))
     (sym c.is_full.ensures ∙ c.if-is_full.true))
 
 pub returns-clause-changed : goal.returns-clause-changed
 returns-clause-changed c =
     let a = c.args in let new = c.make.new.document in
-    let alone : is_of_types a.change ≡ false = search rules in
-    changed_and_told a.text.now a.change a.document.now new c.in_ok-note.note a.views.now alone c.requires.watched c.in_ok-note.ensures a.sender a.notes.now c.reserve.new.self c.tell.new.notes
+    let alone : is_of_types a.change.now ≡ false = search rules in
+    changed_and_told a.text.now a.change.now a.document.now new c.in_ok-note.note a.views.now alone c.requires.watched c.in_ok-note.ensures a.sender a.notes.now c.reserve.new.self c.tell.new.notes
     (ap (λ (g : Gathered). g.notes) c.in_ok-reserve.ensures.ok) c.tell.ensures
 
 pub returns-clause-notes : goal.returns-clause-notes

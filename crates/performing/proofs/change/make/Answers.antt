@@ -1,6 +1,10 @@
 use Rattle.performing.proofs.ChangeNames.{rules, subst, w64, to_z-of_z, SFits, ℤ, Makes}
+use Rattle.performing.specs.Fit.{IsFitChange}
 use Rattle.ed_model.specs.declared.plan.DocumentChange.TheVariants as change
 use Rattle.performing.proofs.change.make.Goals as goal
+
+pub add_markers-requires-clause-handles : goal.add_markers-requires-clause-handles
+add_markers-requires-clause-handles c = (subst (IsFitChange c.args.document.now.document) c.in-AddMarkers.is c.requires.fits).1
 
 pub returns-in-AddMarker : goal.returns-in-AddMarker
 returns-in-AddMarker c = rw c.in-AddMarker.is (c.add_marker.ensures c.args.text.now)
