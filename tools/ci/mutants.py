@@ -16,10 +16,10 @@ IMPL = re.compile(r"^(?:unsafe )?impl\b.*", re.M)
 MOST = 24
 
 
-def libraries():
+def libraries(top=TOP):
     """The libraries that crates.txt lists for each crate."""
     found = {}
-    with open(f"{TOP}/crates.txt", encoding="utf-8") as rows:
+    with open(f"{top}/crates.txt", encoding="utf-8") as rows:
         for row in rows:
             head, _, names = row.partition("#")[0].partition(":")
             if head.strip():
