@@ -1,11 +1,14 @@
--- Changes of a document.
-use Rattle.editor_session.proofs.Names.{◌≡◌, ℕ, ◌-◌, ◌^◌, ◌≤◌, ◌==◌, ◌++◌, ℤ, List, [], length, map, refl, ap, sym, ◌∙◌, subst, arith, true, false, Some, not, and_parts, eqb-true, not-true, Notice, Limits, DocumentChange, Request, Session, Document, View, is_allowed, watching, with_document, changed_document, changed_lines, change_told, IsFitDocumentChange, response, value_at, Kept, KeptView, Entries, IsFitChange, bytes_read, views_of, watchers, session_in, documents_in, SessionState, IsKept, needs_no_memory, request_of, Message, CanPerform, IsPerformed}
+-- Changes of documents, and the room that a change of a view's lines needs in the view.
+use Rattle.editor_session.proofs.Names.{◌≡◌, ℕ, ◌-◌, ◌^◌, ◌≤◌, ◌==◌, ◌++◌, ℤ, List, [], length, map, refl, ap, sym, ◌∙◌, subst, arith, true, false, Some, not, and_parts, eqb-true, not-true, Notice, Limits, DocumentChange, Request, Session, Document, View, is_allowed, watching, with_document, changed_document, changed_lines, change_told, IsFitDocumentChange, response, value_at, Kept, KeptView, Entries, IsFitChange, bytes_read, views_of, watchers, session_in, documents_in, SessionState, IsKept, needs_no_memory, request_of, Message, CanPerform, IsPerformed, ViewChange, needs_no_fold_room, IsSent}
 use Rattle.ed_model.specs.declared.plan.DocumentChange.TheVariants as change
 use Rattle.ed_model.specs.declared.plan.Plan.TheVariants as plan
 use Rattle.ed_model.specs.proved.Changes.{changed_id}
 use Rattle.std.proofs.lemmas.Bool.Decides.{nat_tests}
 use Rattle.performing.specs.ChangeNeeds.{needs_room, notes_of_change}
-use Rattle.editor_session.proofs.OneDocument.{with_one, with_scene, documents_put, found_is}
+use Rattle.editor_session.proofs.OneDocument.{with_one, with_scene, documents_put, found_is, for_view}
+use Rattle.ed_model.specs.declared.plan.ViewChange.TheVariants as view_change
+use Rattle.ed_view.specs.Folding.{fold_need, HasFoldRoom}
+use Rattle.performing.specs.Folding.{takes_fold_room, HasFoldRoomAt}
 
 -- A fit change fits its document.
 
@@ -64,3 +67,21 @@ module _ {s : SessionState} {document view : ℕ} {m : Message} {what : Document
           done = ap (λ x. (x, response value [] (tells r.document))) (sym (session ∙ ap after same));
           heard = told r.view can.request.view_id ∙ ap (λ x. ns ++ change_told r.view (watchers old.document s.views) old.document x what) is ∙ ap (λ d. ns ++ tells d) same;
         }
+
+no_fold_room : (what : ViewChange) (v : KeptView) → takes_fold_room what ≡ false → HasFoldRoom v.capacity (fold_need v.view.flags what)
+no_fold_room (view_change.HideLines first past) v h = absurd (cc)
+no_fold_room (view_change.SetExpanded line false) v h = absurd (cc)
+no_fold_room (view_change.Contract line) v h = absurd (cc)
+no_fold_room (view_change.Expand line) v h = absurd (cc)
+no_fold_room (view_change.EnsureVisible line) v h = absurd (cc)
+no_fold_room _ v h = (omega arith, omega arith)
+
+has_fold_room : (v : KeptView) (what : ViewChange) → needs_no_fold_room v.view.flags what ≡ true → HasFoldRoom v.capacity (fold_need v.view.flags what)
+has_fold_room v (view_change.EnsureVisible line) h = rw h (omega arith, omega arith)
+has_fold_room v other h = no_fold_room other v (not-true (takes_fold_room other) h)
+
+module _ {s : SessionState} {document view : ℕ} {m : Message} (kept : IsKept s) (by : IsSent (session_in s) document view m) (what : ViewChange) where
+  pub fold_room : needs_no_fold_room (request_of (session_in s) view m).view.flags what ≡ true → HasFoldRoomAt s.views.entries view what
+  fold_room free =
+      for_view kept by (λ v. HasFoldRoom v.capacity (fold_need v.view.flags what))
+      (λ v is. has_fold_room v what (subst (λ (x : View). needs_no_fold_room x.flags what ≡ true) (sym is) free))

@@ -6,7 +6,7 @@ use Rattle.ed_model.specs.declared.plan.Edit.{Edit}
 use Rattle.ed_model.specs.declared.plan.Edit.TheVariants as edit
 use Rattle.ed_model.specs.declared.plan.Follow.TheVariants as follow
 use Rattle.ed_model.specs.declared.plan.Plan.TheVariants as plan
-use Rattle.editor_session.proofs.OneDocument.{with_scene, found_is, scene_put}
+use Rattle.editor_session.proofs.OneDocument.{with_scene, found_is, of_document, scene_put}
 use Rattle.editor_session.proofs.Telling.{telling, edit_told_from}
 use Rattle.editor_session.proofs.Widths.{steps_fit_width}
 
@@ -83,11 +83,17 @@ followed_so : (after : Follow) (view : ℕ) (before taken : List ℕ) (was : Ses
 followed_so follow.Nothing view before taken was views' clipboard' moved held take = rw (moved, held) refl
 followed_so after view before taken was views' clipboard' moved held take = let all = held ∙ ap (λ t. followed_clipboard after t was.clipboard) take in rw (moved, all) refl
 
-module _ {s : SessionState} {document view : ℕ} {m : Message} {bytes : List ℕ} {change : Edit} {value : ℤ} {after : Follow} (kept : IsKept s) (can : CanPerform (session_in s) document view m (plan.Edit change value after)) (held pasted : List ℕ)
-    (same_text : bytes ≡ m.text) (clipboard : held ≡ s.clipboard.items) (turned : IsPastedFor change s.clipboard.items (request_of (session_in s) view m).document.line_end pasted) (old : Kept) (at : value_at s.documents.entries document ≡ Some old) where
+module _ {s : SessionState} {document view : ℕ} {m : Message} {bytes : List ℕ} {change : Edit} {value : ℤ} {after : Follow} (kept : IsKept s) (can : CanPerform (session_in s) document view m (plan.Edit change value after)) (held pasted turned : List ℕ)
+    (same_text : bytes ≡ m.text) (clipboard : held ≡ s.clipboard.items) (lent : pasted ≡ turned) (turned_for : IfSome (value_at s.documents.entries document) (λ k. IsPastedFor change s.clipboard.items k.document.line_end turned))
+    (old : Kept) (at : value_at s.documents.entries document ≡ Some old) where
+  turned_here : IsPastedFor change s.clipboard.items (request_of (session_in s) view m).document.line_end pasted
+  turned_here =
+      subst (λ x. IsPastedFor change s.clipboard.items (request_of (session_in s) view m).document.line_end x) (sym lent)
+      (of_document kept can.request (λ (d : Document). IsPastedFor change s.clipboard.items d.line_end turned) turned_for)
+
   pub steps_are : edit_steps change bytes held pasted old.document ≡ steps_of (request_of (session_in s) view m) change
   steps_are =
-      ap (λ x. edit_steps change x held pasted old.document) same_text ∙ ap (λ x. edit_steps change m.text x pasted old.document) clipboard ∙ ap (edit_steps change m.text s.clipboard.items pasted) (found_is kept can.request old at) ∙ same_edit (request_of (session_in s) view m) change pasted turned
+      ap (λ x. edit_steps change x held pasted old.document) same_text ∙ ap (λ x. edit_steps change m.text x pasted old.document) clipboard ∙ ap (edit_steps change m.text s.clipboard.items pasted) (found_is kept can.request old at) ∙ same_edit (request_of (session_in s) view m) change pasted turned_here
 
   pub within_here : IsEditWithin change (length old.document.cells) (length bytes)
   within_here = subst (λ x. IsEditWithin change (length old.document.cells) (length x)) (sym same_text) (subst (λ (d : Document). IsEditWithin change (length d.cells) (length m.text)) (sym (found_is kept can.request old at)) (edit_within (request_of (session_in s) view m) change can.fit.0))

@@ -1,5 +1,5 @@
 -- Undo and redo at once.
-use Rattle.editor_session.proofs.Names.{◌≡◌, ℕ, ℤ, Notice, List, pos, [], refl, sym, ap, ◌∙◌, subst, reverse, Option, Some, None, history_performed, UndoStepsFit, RedoStepsFit, IsSoundRequest, IsFitPlan, IsRoomFor, Request, text, Session, Document, View, text_of, with_caret_if, AreStepsOf, Step, latest_text_step, Scene, scene_of, session_of, transaction_performed, with_caret, caret_behind, place_behind, place_behind_any, response, performed, changes_of, history_behind, Direction, Plan, value_at, Entries, Kept, KeptView, Gathered, views_of, kept_scene, scene_gone, bits_of, session_in, SessionState, IsKept, ChangesFitWidth, request_of, Message, CanPerform, IsPerformed, going}
+use Rattle.editor_session.proofs.Names.{◌≡◌, ℕ, List, pos, [], refl, sym, ap, ◌∙◌, subst, reverse, Option, Some, None, history_performed, UndoStepsFit, RedoStepsFit, IsSoundRequest, IsFitPlan, IsRoomFor, Request, text, Session, Document, View, text_of, with_caret_if, AreStepsOf, Step, latest_text_step, Scene, scene_of, session_of, transaction_performed, caret_behind, place_behind_any, response, performed, changes_of, history_behind, Direction, value_at, Entries, Kept, KeptView, Gathered, views_of, kept_scene, scene_gone, bits_of, session_in, SessionState, IsKept, ChangesFitWidth, request_of, Message, CanPerform, IsPerformed, going}
 use Rattle.ed_model.specs.UndoPlans.{text_steps}
 use Rattle.document.specs.declared.undoing.Direction.TheVariants.{Undo, Redo}
 use Rattle.editor_session.proofs.OneDocument.{with_scene, found_is, scene_put}

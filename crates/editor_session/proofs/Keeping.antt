@@ -1,5 +1,5 @@
 -- What holds of a session between its calls goes on holding.
-use Rattle.editor_session.proofs.Names.{◌≡◌, ℕ, false, length, refl, ap, sym, ◌∙◌, subst, Ok, Err, IfOk, OnOk, OnErr, Result, nat_le, nat_lt, Refusal, Session, is_allowed, IsSound, OpeningKeepsSound, ClosingKeepsSound, opened, closed, AreNamed, session_in, SessionState, IsKept, DocumentsAreNamed, Entry, KeptView, length-map}
+use Rattle.editor_session.proofs.Names.{◌≡◌, ℕ, false, length, refl, ap, sym, ◌∙◌, subst, Ok, Err, IfOk, OnOk, OnErr, Result, nat_le, nat_lt, Refusal, is_allowed, IsSound, OpeningKeepsSound, ClosingKeepsSound, opened, closed, AreNamed, session_in, SessionState, IsKept, DocumentsAreNamed, Entry, KeptView, length-map}
 use Rattle.std.specs.declared.alloc.AllocError.{AllocError}
 use Rattle.editor_session.specs.Opening.{with_view_on_new}
 

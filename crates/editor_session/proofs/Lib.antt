@@ -1,14 +1,11 @@
 pub mod Names
-pub mod Finding
 pub mod Questions
 pub mod TableWay
 pub mod Telling
-pub mod PlanLemmas
 pub mod Keeping
 pub mod RunLemmas
 pub mod EditLemmas
 pub mod Going
-pub mod Folding
 pub mod Widths
 pub mod OneDocument
 pub mod DocumentChanges

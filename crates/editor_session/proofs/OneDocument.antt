@@ -1,5 +1,5 @@
--- The document that a plan is performed on: it is in the session's table, and it changes there, the views with it.
-use Rattle.editor_session.proofs.Names.{◌≡◌, ℕ, ◌==◌, ◌∙◌, List, [], ◌∷◌, map, refl, ap, sym, subst, Some, None, IfSome, IsSome, IsSomeAnd, if◌then◌else◌, AllByRecursion, Document, View, Session, Response, Notice, Plan, document_at, view_at, with_document, IsSound, IsSoundView, StandsOn, ListsItsViews, PlansKeepSound, Scene, session_of, performed, found_all, Entries, value_at, with_value_at, Kept, KeptView, Gathered, AreNamed, StandsIfOn, IsWatched, kept_scene, session_in, documents_in, SessionState, IsKept, DocumentsAreNamed, views_of, view_in, id_of_view, document_of, id_of_document, unchanged, named_with, own_at, found_some, replaced, IsKeptAs, kept_as, IsSent, CanPerform, request_of, Message}
+-- The document that a plan is performed on: it is in the session's table, and it changes there, the views with it; and views that the table has.
+use Rattle.editor_session.proofs.Names.{◌≡◌, ℕ, ◌==◌, ◌∙◌, List, [], ◌∷◌, map, refl, ap, sym, subst, Some, None, IfSome, IsSome, IsSomeAnd, if◌then◌else◌, AllByRecursion, Document, View, Session, Response, Notice, Plan, document_at, view_at, with_document, IsSound, IsSoundView, StandsOn, ListsItsViews, PlansKeepSound, Scene, session_of, performed, found_all, Entries, value_at, with_value_at, Kept, KeptView, Gathered, AreNamed, StandsIfOn, IsWatched, kept_scene, session_in, documents_in, SessionState, IsKept, DocumentsAreNamed, views_of, view_in, id_of_view, document_of, id_of_document, unchanged, named_with, own_at, found_some, replaced, IsKeptAs, kept_as, IsSent, CanPerform, request_of, Message, true, false, cond, Option, option_map, is_some, Entry, found}
 use Rattle.editor_session.proofs.Keeping.{kept_with}
 use Rattle.editor_session.proofs.Telling.{telling}
 
@@ -122,3 +122,22 @@ pub kept_performed : PlansKeepSound → {s s' : SessionState} {document view : �
     → performed (request_of (session_in s) view m) what ≡ (session_in s', reply) → s'.limits ≡ s.limits → DocumentsAreNamed s'.documents.entries → AreNamed s'.views.entries → IsKept s'
 kept_performed law {s} {s'} {document} {view} {m} {what} {reply} kept can done limits documents views =
     kept_with s s' kept (subst (λ (x : Session × Response). IsSound x.0) done (law (request_of (session_in s) view m) what can.request.sound can.fit)) limits documents views
+
+-- Where the view of an id is not there, no change of it changes any.
+
+none_changes : (g : View → View) (id : ℕ) (views : List View) → view_at views id ≡ None → views ≡ map (λ (v : View). if v.id == id then g v else v) views
+none_changes g id [] e = refl
+none_changes g id (v ∷ vs) e =
+    let each = λ (w : View). if w.id == id then g w else w in
+    elim (v.id == id) as (λ b. cond b (Some v) (view_at vs id) ≡ None → v ∷ vs ≡ cond b (g v) v ∷ map each vs) [ true ↦ λ e. absurd (cc) | false ↦ λ e. ap (λ ws. v ∷ ws) (none_changes g id vs e) ] e
+
+pub no_view_changed : (g : View → View) (entries : List (Entry KeptView)) (id : ℕ) → AreNamed entries → value_at entries id ≡ None → views_of entries ≡ map (λ (v : View). if v.id == id then g v else v) (views_of entries)
+no_view_changed g entries id named none = none_changes g id (views_of entries) (found view_in id_of_view entries id named ∙ ap (option_map view_in) none)
+
+some_kept : (o : Option KeptView) → is_some o ≡ is_some (option_map view_in o)
+some_kept None = refl
+some_kept (Some k) = refl
+
+-- a view is open where the table has its id
+pub some_seen : (entries : List (Entry KeptView)) (id : ℕ) → AreNamed entries → is_some (value_at entries id) ≡ is_some (view_at (views_of entries) id)
+some_seen entries id named = some_kept (value_at entries id) ∙ ap is_some (sym (found view_in id_of_view entries id named))

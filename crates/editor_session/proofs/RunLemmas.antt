@@ -1,16 +1,11 @@
 -- What a run makes of a command that is refused.
-use Rattle.editor_session.proofs.Names.{◌≡◌, ◌⊎◌, ◌↔◌, ℕ, pos, refl, ap, sym, ◌∙◌, inl, inr, Some, None, Ok, Err, List, [], ◌∷◌, ◌++◌, take, drop, zero, suc, ◌+◌, slice_get, arith, IfOk, OnOk, IsErr, true, false, ◌||◌, ◌<◌, ◌-◌, length, subst, ◌≢◌, Result, Option, IsOk, IfErr, is_some, nat_le, nat_lt, cond_both, Refusal, OutOfMemory, Kind, Message, kind_of, Response, Session, View, Document, view_at, document_at, IsSound, PlansFit, IsFitPlanned, Request, Planned, opened, closed, closed_view, table, table_from_view, table_from_kind, table_from_document, answered, request, plan_of, Running, outcomes, run_to, after_command, after_message, after_opening, loaded, file_at, set_text_message, AnswersBy, append_assoc}
+use Rattle.editor_session.proofs.Names.{◌≡◌, ◌⊎◌, ◌↔◌, ℕ, refl, ap, sym, ◌∙◌, inl, inr, Some, None, Ok, Err, List, [], ◌∷◌, ◌++◌, take, drop, zero, suc, ◌+◌, slice_get, arith, IfOk, OnOk, IsErr, true, false, ◌||◌, ◌<◌, ◌-◌, length, subst, ◌≢◌, Result, Option, IsOk, IfErr, is_some, nat_le, nat_lt, cond_both, Refusal, OutOfMemory, Kind, Message, kind_of, Response, Session, View, Document, view_at, document_at, IsSound, PlansFit, IsFitPlanned, Request, Planned, opened, closed, closed_view, table, table_from_view, table_from_kind, table_from_document, answered, request, plan_of, Running, outcomes, run_to, after_command, after_message, loaded, file_at, set_text_message, AnswersBy, append_assoc}
 use Rattle.std.specs.declared.alloc.AllocError.{AllocError}
 use Rattle.ed_types.specs.declared.script.Command.{Command}
-use Rattle.ed_types.specs.declared.script.Command.TheVariants.{OpenView}
 use Rattle.ed_types.specs.declared.script.Outcome.{Outcome}
 use Rattle.ed_types.specs.declared.script.Outcome.TheVariants.{Refused}
 use Rattle.ed_model.specs.proved.Lists.{drop_at_index}
 use Rattle.editor_session.proofs.Questions.{sound_request}
-
-pub opened_state : (files : List (List ℕ)) (run : Running) (new : Session) (id : ℕ) → opened run.session ≡ Ok (new, id) →
-    record { session = new; value = Some (pos id) } ≡ (after_command files OpenView run).0
-opened_state files run new id e = ap (λ o. (after_opening run.session o).0) (sym e)
 
 -- a refusal that did not end the run is one that is said
 said_so : {says : Result (Session × Response) Refusal} {refusal : Refusal} → (refusal ≡ OutOfMemory) ⊎ (says ≡ Err refusal) → ((false ≡ true) ↔ (refusal ≡ OutOfMemory)) → says ≡ Err refusal
@@ -39,11 +34,7 @@ goes_on (Err e) refusal memory other = absurd (other (memory.0 refl))
 
 -- and closing is refused for no other than that no view has the id
 pub closing_refused : (s : Session) (view : ℕ) (refusal : Refusal) → closed s view ≡ Err refusal → refusal ≢ OutOfMemory
-closing_refused s view refusal = go (view_at s.views view)
-  where
-    go : (o : Option View) → closed_view s o ≡ Err refusal → refusal ≢ OutOfMemory
-    go None e = λ is. absurd (cc)
-    go (Some v) e = absurd (cc)
+closing_refused s view refusal = elim (view_at s.views view) as (λ o. closed_view s o ≡ Err refusal → refusal ≢ OutOfMemory) [ None ↦ λ e is. absurd (cc) | Some v ↦ λ e. absurd (cc) ]
 
 -- Commands that are refused.
 

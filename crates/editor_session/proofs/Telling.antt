@@ -15,12 +15,10 @@ steps_told ns later [] scene = refl
 steps_told ns later (step ∷ steps) scene = ap (steps_made true steps) (step_told ns later step scene) ∙ steps_told ns true steps (step_made later step scene)
 
 edit_told : (ns : List Notice) (steps : List Step) (scene : Scene) → edit_made steps (telling ns scene) ≡ telling ns (edit_made steps scene)
-edit_told ns steps scene = go (nat_lt 1 (length steps))
-  where
-    go : (b : Bool) → cond b (sealed_scene (steps_made false steps (sealed_scene (telling ns scene)))) (steps_made false steps (telling ns scene))
-        ≡ telling ns (cond b (sealed_scene (steps_made false steps (sealed_scene scene))) (steps_made false steps scene))
-    go true = ap sealed_scene (steps_told ns false steps (sealed_scene scene))
-    go false = steps_told ns false steps scene
+edit_told ns steps scene =
+    elim (nat_lt 1 (length steps))
+    as (λ b. cond b (sealed_scene (steps_made false steps (sealed_scene (telling ns scene)))) (steps_made false steps (telling ns scene)) ≡ telling ns (cond b (sealed_scene (steps_made false steps (sealed_scene scene))) (steps_made false steps scene)))
+    [ true ↦ ap sealed_scene (steps_told ns false steps (sealed_scene scene)) | false ↦ steps_told ns false steps scene ]
 
 pub edit_told_from : (ns : List Notice) (steps : List Step) (d : Document) (views : List View)
     → edit_made steps (record { document = d; views = views; notes = ns }) ≡ telling ns (edit_made steps (record { document = d; views = views; notes = [] }))

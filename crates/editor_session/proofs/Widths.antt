@@ -1,5 +1,5 @@
 -- A text that keeps to its limit is within the width of its document's places.
-use Rattle.editor_session.proofs.Names.{arith, ◌≡◌, ◌==◌, ℕ, ◌+◌, ◌-◌, ◌≤◌, ◌<◌, ◌^◌, min, nat_le, Bool, true, false, cond, List, [], ◌∷◌, map, length, refl, ap, sym, subst, slice_range, and_parts, leb-true, length-take, length-drop, length-map, Limits, stays_within, Change, TextStep, ContainerStep, IsRoomFor, IsSoundRequest, Request, text, Document, is_allowed, is_large, limit_of, text_of, AreStepsOf, IsSoundDocument, Step, Insert, Delete, edited, Cell, length-inserted, length-deleted_within, found_all, FitsWidth, bound_of, room_of_steps_beside, free_behind, rooms_beside, StepsFitWidth, ChangesFitWidth}
+use Rattle.editor_session.proofs.Names.{arith, ◌≡◌, ◌==◌, ℕ, ◌+◌, ◌-◌, ◌≤◌, ◌<◌, ◌^◌, min, nat_le, true, false, cond, List, [], ◌∷◌, map, length, refl, ap, sym, subst, slice_range, and_parts, leb-true, length-take, length-drop, length-map, Limits, stays_within, Change, TextStep, ContainerStep, IsRoomFor, IsSoundRequest, Request, text, Document, is_allowed, is_large, limit_of, text_of, AreStepsOf, IsSoundDocument, Step, Insert, Delete, edited, Cell, length-inserted, length-deleted_within, found_all, FitsWidth, bound_of, room_of_steps_beside, free_behind, rooms_beside, StepsFitWidth, ChangesFitWidth}
 use Rattle.ed_model.specs.declared.plan.LineEndTypes.{LineEndTypes}
 use Rattle.ed_model.specs.InverseLaws.{Fits}
 use Rattle.ed_model.specs.UndoPlans.{text_steps}
@@ -65,11 +65,10 @@ text_steps_of (step ∷ steps) = ap (λ ss. step ∷ ss) (text_steps_of steps)
 
 -- a limit is less than the width of places, and than the greatest `usize`
 limit_below : (l : Limits) (d : Document) → is_allowed l ≡ true → (limit_of l d < bound_of (is_large d)) × (limit_of l d < 2 ^ 64 - 1)
-limit_below l d h = go (is_large d) (allowed_lengths l h)
-  where
-    go : (b : Bool) → (l.doc_bytes ≤ 2 ^ 31 - 1) × (l.large_bytes ≤ 2 ^ 40) → (cond b l.large_bytes l.doc_bytes < bound_of b) × (cond b l.large_bytes l.doc_bytes < 2 ^ 64 - 1)
-    go true m = (let x = m.1 in omega (arith, x), let x = m.1 in omega (arith, x))
-    go false m = (let x = m.0 in omega (arith, x), let x = m.0 in omega (arith, x))
+limit_below l d h =
+    let large = (allowed_lengths l h).1 in let small = (allowed_lengths l h).0 in
+    elim (is_large d) as (λ b. (cond b l.large_bytes l.doc_bytes < bound_of b) × (cond b l.large_bytes l.doc_bytes < 2 ^ 64 - 1))
+    [ true ↦ (omega (arith, large), omega (arith, large)) | false ↦ (omega (arith, small), omega (arith, small)) ]
 
 module _ (r : Request) (allowed : is_allowed r.session.limits ≡ true) (sound : IsSoundRequest r) where
   -- changes whose texts keep to the limit

@@ -1,17 +1,349 @@
--- Whole sessions: references, a view that is attached, and a new document.
-use Rattle.performing.proofs.SessionNames.{◌≡◌, ◌≢◌, ℕ, ◌+◌, ◌-◌, ◌<◌, ◌≤◌, ◌==◌, ◌^◌, max, Bool, true, false, cond, List, [], ◌∷◌, ◌++◌, map, length, refl, ap, sym, ◌∙◌, subst, arith, Some, IsSomeAnd, AllByRecursion, eq-eqb, ne_eqb, if◌then◌else◌, length-map, map-append, Document, View, view_at, document_at, text_of, lines_in, references, living, left_by, is_allowed, is_large, attached_to, new_document, with_view, Rise, IsSoundDocument, ListsItsViews, held_less, attached, attached_last, with_attached, with_new_document, documents_added, all_added, all_append, all_weaker, append-nil, Kept, HasViewRoom, document_of, new_kept, let_go, released, LeavesTheLiving, KeptView, view_in, HasFewLines, capacities, AreFewLines, Entry, Entries, entry, value_at, with_value_at, views_of, session_in, documents_in, SessionState, SessionChange, Attach, IsKept, DocumentsAreNamed, IsAsked, asked, DocumentsRise, CanMove, CanAttach, KeepsRoom, with_added, KeepsClipboard, TableGrows, RoomsGrow, attaches_to, AllStays, TableStays, Stays, id_of_view, id_of_document, own_at, holds_at, found_some, replaced, unchanged, keeping, named_with, for_replaced, without_itself, none_listed, nat_tests, Limits, allowed_lengths, few_lines, Cell}
+-- Sessions: the view and the document of a request, a view that is moved, and what fits in after a change.
+pub use Rattle.performing.proofs.Names.{◌≡◌, ℕ, ◌==◌, List, [], map, length, refl, ap, sym, ◌∙◌, subst, arith, Option, Some, None, IfSome, IsSomeAnd, if◌then◌else◌, ViewChange, Document, View, Session, Row, view_at, document_at, lines_in, IsSoundView, StandsOn, changed_view, view_change_performed, changed_view_id, FitChangesAreWithin, IsWithin, FoldCapacity, KeptView, view_in, Kept, document_of, value_at, with_value_at, views_of, documents_in, session_in, SessionState, IsKept, IsAsked, CanChangeView, asked, view_asked, document_asked, GrowsAtMost, OnlyViewChanges, id_of_view, id_of_document, own_at, found_all, found_some, found_none, replaced, unchanged, named_with, other_replaced, value_replaced, ◌≢◌, ◌+◌, ◌<◌, Bool, true, false, cond, ◌∷◌, ◌++◌, map-map, filter, option_map, nat_lt, not, AllByRecursion, eqb-true, eqb-false, lt-ltb, cond_both, length-append, length-filter_both, all_map, all_two, all_weaker, map_where, mapped_ids, references, living, left_by, without, Rise, attached_last, Entry, Entries, value_of, HasViewRoom, let_go, LeavesTheLiving, DocumentsAreNamed, CanMove, ◌≤◌, max, option_or, unwrap_or, eq-eqb, ne_eqb, find-append, SessionChange, Attach, entry, new_kept, KeepsRest, DocumentsRise, found_below, TableGrows, attaches_to, kept_or_new, KeepsRoom, RoomsGrow, KeepsClipboard, Stays, TableStays, AllStays, ◌-◌, ◌^◌, length-map, map-append, text_of, is_allowed, is_large, attached_to, new_document, with_view, IsSoundDocument, ListsItsViews, held_less, attached, with_attached, with_new_document, documents_added, all_added, all_append, append-nil, released, HasFewLines, capacities, AreFewLines, CanAttach, with_added, keeping, nat_tests, Limits, allowed_lengths, few_lines, Cell, option_copied_mut, rules, option_copied, err_from_is_err_and, HasRoomFor, changed, with_attached_view, AttachNew, Create, with_held_by_callers, IsFitSessionChange, session_changed, text_from, ids_of, ChangesAlike, living_left, named_left, stays_alike}
 use Rattle.document_table.specs.Leaving.{documents_in as entries_in}
-use Rattle.performing.proofs.AskedLemmas.{some_same, is_some_and, document_is, no_document_at, sender_of, document_for, view_found, on_document, document_found, same_view, no_view, stands}
-use Rattle.performing.proofs.MovingLemmas.{ChangesAlike, living_left}
-use Rattle.performing.proofs.MemoryLemmas.{more, last_at, rooms_added, rooms_reserved, has_room}
+use Rattle.std.specs.Prelude.{find}
 
--- References.
+-- The view and the document of a request, as the session keeps them; and a change of the view.
+
+pub some_same : {V : Type 0} (a b : V) → Some a ≡ Some b → a ≡ b
+some_same a b e = cc
+
+pub not_both : {V : Type 0} (o : Option V) (v : V) → o ≡ None → o ≡ Some v → ⊥
+not_both o v none some = absurd (cc)
+
+pub for_some : {V : Type 0} (P : V → Type 0) (o : Option V) (v : V) → o ≡ Some v → P v → IfSome o P
+for_some P o v e h = subst (λ x. IfSome x P) (sym e) h
+
+pub is_some_and : {V : Type 0} (P : V → Type 0) (o : Option V) → (o ≡ None → ⊥) → ((v : V) → o ≡ Some v → P v) → IsSomeAnd o P
+is_some_and P None there has = there refl
+is_some_and P (Some v) there has = has v refl
+
+-- A document that the model finds.
+module _ {s : SessionState} (kept : IsKept s) (id : ℕ) (d : Document) (found : document_at (documents_in s.documents) id ≡ Some d) where
+  pub document_is : (k : Kept) → value_at s.documents.entries id ≡ Some k → k.document ≡ d
+  document_is k at = some_same k.document d (sym (found_some document_of id_of_document s.documents.entries id k kept.documents at) ∙ found)
+
+  pub no_document_at : value_at s.documents.entries id ≡ None → ⊥
+  no_document_at none = not_both (document_at (documents_in s.documents) id) d (found_none document_of id_of_document s.documents.entries id kept.documents none) found
+
+abbrev pub sender_of : SessionState → ℕ → View
+sender_of s view = view_asked (views_of s.views.entries) view
+
+abbrev pub document_for : SessionState → ℕ → Document
+document_for s view = document_asked (documents_in s.documents) (sender_of s view).document
+
+-- a request with another text is as sound
+pub without_text : {s : Session} {document view : ℕ} {text : List ℕ} → IsAsked s document view text → IsAsked s document view []
+without_text is = record { sound = record { sound = is.sound.sound; view = is.sound.view; document = is.sound.document }; document_id = is.document_id; view_id = is.view_id }
+
+module _ {s : SessionState} {document view : ℕ} {text : List ℕ} (kept : IsKept s) (is : IsAsked (session_in s) document view text) where
+  pub view_found : view_at (views_of s.views.entries) view ≡ Some (sender_of s view)
+  view_found = ap (view_at (views_of s.views.entries)) (sym is.view_id) ∙ is.sound.view
+
+  pub on_document : (sender_of s view).document ≡ document
+  on_document = sym (own_at id_of_document (documents_in s.documents) (sender_of s view).document (document_for s view) is.sound.document) ∙ is.document_id
+
+  pub document_found : document_at (documents_in s.documents) document ≡ Some (document_for s view)
+  document_found = ap (document_at (documents_in s.documents)) (sym on_document) ∙ is.sound.document
+
+  pub same_view : (v : KeptView) → value_at s.views.entries view ≡ Some v → v.view ≡ sender_of s view
+  same_view v at = some_same v.view (sender_of s view) (sym (found_some view_in id_of_view s.views.entries view v kept.views at) ∙ view_found)
+
+  pub no_view : value_at s.views.entries view ≡ None → ⊥
+  no_view none = not_both (view_at (views_of s.views.entries) view) (sender_of s view) (found_none view_in id_of_view s.views.entries view kept.views none) view_found
+
+  pub same_document : (k : Kept) → value_at s.documents.entries document ≡ Some k → k.document ≡ document_for s view
+  same_document = document_is kept document (document_for s view) document_found
+
+  pub no_document : value_at s.documents.entries document ≡ None → ⊥
+  no_document = no_document_at kept document (document_for s view) document_found
+
+  pub stands : StandsOn (document_for s view) (sender_of s view)
+  stands =
+      let v = sender_of s view in
+      let sound : IsSoundView (documents_in s.documents) v = found_all (IsSoundView (documents_in s.documents)) (λ (v : View). v.id == view) (views_of s.views.entries) v kept.sound.views view_found in
+      subst (λ d. StandsOn d v) (some_same sound.document (document_for s view) (sym sound.found ∙ is.sound.document)) sound.stands
+
+-- A view changes.
+
+abbrev pub levels_in : Document → List ℕ
+levels_in d = map (λ (row : Row). row.level) d.rows
+
+-- what fits into the view stays
+pub capacity_stays : (change : ViewChange) (old new : KeptView) → new.capacity ≡ old.capacity → new.other_capacity ≡ old.other_capacity → GrowsAtMost change old new
+capacity_stays change old new same other =
+    let hidden : new.capacity.hidden ≡ old.capacity.hidden = ap (λ (c : FoldCapacity). c.hidden) same in
+    let contracted : new.capacity.contracted ≡ old.capacity.contracted = ap (λ (c : FoldCapacity). c.contracted) same in
+    record { other = other; enough = λ _. same; hidden = omega arith; contracted = omega arith }
+
+module _ {s : SessionState} {document view : ℕ} (kept : IsKept s) (is : IsAsked (session_in s) document view []) (change : ViewChange) (old : KeptView) (at : value_at s.views.entries view ≡ Some old) where
+  -- the lines of its document are those of the view, and a fit change is within them
+  pub lines_same : (k : Kept) → value_at s.documents.entries document ≡ Some k → lines_in k.document ≡ length old.view.flags
+  lines_same k there = ap lines_in (same_document kept is k there) ∙ sym (stands kept is).lines ∙ sym (ap (λ (v : View). length v.flags) (same_view kept is old at))
+
+  pub is_within : FitChangesAreWithin → CanChangeView (session_in s) document view change → IsWithin (length old.view.flags) change
+  is_within law can =
+      subst (λ n. IsWithin n change) (sym (stands kept is).lines ∙ sym (ap (λ (v : View). length v.flags) (same_view kept is old at))) (law (asked (session_in s) view []) change can.fit)
+
+  module _ (new : KeptView) where
+    abbrev pub with_new : SessionState
+    with_new = record s { views = record s.views { entries = with_value_at view new s.views.entries } }
+
+    -- the session is the model's after the change
+    pub view_changed : (levels : List ℕ) → levels ≡ levels_in (document_for s view) → new.view ≡ changed_view levels change old.view
+        → session_in with_new ≡ view_change_performed (asked (session_in s) view []) change
+    view_changed levels are made =
+        let ls = levels_in (document_for s view) in let changed = changed_view ls change (sender_of s view) in
+        let same : new.view ≡ changed = made ∙ ap (λ ls. changed_view ls change old.view) are ∙ ap (changed_view ls change) (same_view kept is old at) in
+        ap (λ views. let x = session_in s in record x { views = views })
+        (replaced view_in id_of_view s.views.entries view new kept.views
+        ∙ ap (λ id. map (λ (v : View). if v.id == id then new.view else v) (views_of s.views.entries)) (sym (changed_view_id ls change (sender_of s view) ∙ is.view_id))
+        ∙ ap (λ w. map (λ (v : View). if v.id == changed.id then w else v) (views_of s.views.entries)) same)
+
+    -- the model sees no change
+    pub view_unchanged : new.view ≡ old.view → session_in with_new ≡ session_in s
+    view_unchanged same =
+        ap (λ views. let x = session_in s in record x { views = views }) (unchanged view_in id_of_view s.views.entries view s.views.next kept.views kept.sound.view_ids old new at same)
+
+    pub only_view : new.view.id ≡ old.view.id → GrowsAtMost change old new → OnlyViewChanges view change s with_new
+    only_view same grows = record {
+      rest = refl;
+      views = named_with view_in id_of_view s.views.entries view s.views.next kept.views kept.sound.view_ids old new at same;
+      others = λ other differs. other_replaced s.views.entries view other new differs;
+      room = for_some _ _ old at (for_some _ _ new (value_replaced s.views.entries view old new at) grows);
+    }
+
+-- The view is attached behind the others.
+
+abbrev pub with_view_last : ℕ → Document → Document
+with_view_last view d = record d { views = d.views ++ view ∷ [] }
+
+has_reference : (view : ℕ) (d : Document) → 0 < references (with_view_last view d)
+has_reference view d = omega (arith, length-append d.views (view ∷ []))
+
+abbrev IsElsewhere : ℕ → ℕ → Document → Type 0
+IsElsewhere view from d = d.id ≢ from → left_by view d ≡ d
+
+all_living : (ds : List Document) → AllByRecursion (λ (d : Document). 0 < references d) ds → living ds ≡ ds
+all_living [] all = refl
+all_living (d ∷ ds) all = let t : nat_lt 0 (references d) ≡ true = lt-ltb 0 (references d) all.0 in rw t (ap (λ xs. d ∷ xs) (all_living ds all.1))
+
+module _ (view to : ℕ) where
+  abbrev pub one_last : Document → Document
+  one_last d = if d.id == to then with_view_last view d else d
+
+  abbrev after_giving : Document → Document
+  after_giving d = if d.id == to then d else left_by view d
+
+  abbrev pub moved_last : Document → Document
+  moved_last d = if d.id == to then with_view_last view (left_by view d) else d
+
+  is_last : (b : Bool) (d : Document) → (d.id == to) ≡ b → attached_last view to d ≡ cond b (with_view_last view (left_by view d)) (left_by view d)
+  is_last b d t = ap (λ b. cond b (with_view_last view (left_by view d)) (left_by view d)) t
+
+  -- To another document: the view is attached to it, and then detached from its own.
+  module _ (from : ℕ) (other : from ≢ to) where
+    gives : (d : Document) → IsElsewhere view from d → ChangesAlike from (left_by view) after_giving (one_last d)
+    gives d elsewhere =
+        cond_both (d.id == to) (with_view_last view d) d (ChangesAlike from (left_by view) after_giving)
+        (λ t. (λ is. absurd (other (sym is ∙ eqb-true d.id to t)), λ _. ap (λ b. cond b (with_view_last view d) (left_by view (with_view_last view d))) t))
+        (λ f. (λ is. ap (λ b. cond b d (left_by view d)) f, λ differs. ap (λ b. cond b d (left_by view d)) f ∙ elsewhere differs))
+
+    given : (d : Document) → IsElsewhere view from d → after_giving (one_last d) ≡ attached_last view to d
+    given d elsewhere =
+        cond_both (d.id == to) (with_view_last view d) d (λ x. after_giving x ≡ attached_last view to d)
+        (λ t.
+        ap (λ b. cond b (with_view_last view d) (left_by view (with_view_last view d))) t
+        ∙ ap (with_view_last view) (sym (elsewhere (λ is. other (sym is ∙ eqb-true d.id to t)))) ∙ sym (is_last true d t))
+        (λ f. ap (λ b. cond b d (left_by view d)) f ∙ sym (is_last false d f))
+
+    pub passed_on : LeavesTheLiving → (old put left : Entries Kept) → CanMove old from view to → documents_in put ≡ map one_last (documents_in old) → DocumentsAreNamed put.entries → put.next ≡ old.next
+        → entries_in left.entries ≡ let_go from (left_by view) (entries_in put.entries) → documents_in left ≡ living (map (attached_last view to) (documents_in old))
+    passed_on law old put left can is named next gone =
+        let ds = documents_in old in
+        let ids : ids_of (documents_in put) ≡ ids_of ds =
+        ap ids_of is ∙ mapped_ids (λ (d : Document). d.id) one_last (λ d. cond_both (d.id == to) (with_view_last view d) d (λ (x : Document). x.id ≡ d.id) (λ _. refl) (λ _. refl)) ds in
+        let referenced : AllByRecursion (λ (d : Document). 0 < references d) (map one_last ds) =
+        all_map (λ (d : Document). d.id ≢ to → 0 < references d) (λ (d : Document). 0 < references d) one_last
+        (λ d h. cond_both (d.id == to) (with_view_last view d) d (λ (x : Document). 0 < references x) (λ _. has_reference view d) (λ f. h (eqb-false d.id to f))) ds can.referenced in
+        living_left law from put.next (left_by view) after_giving put.entries left.entries named (subst (λ is. Rise 0 put.next is) (sym ids) (subst (λ n. Rise 0 n (ids_of ds)) (sym next) can.rise))
+        (subst (AllByRecursion (λ (d : Document). 0 < references d)) (sym is) referenced)
+        (subst (AllByRecursion (ChangesAlike from (left_by view) after_giving)) (sym is)
+        (all_map (IsElsewhere view from) (ChangesAlike from (left_by view) after_giving) one_last gives ds can.elsewhere))
+        gone ∙ ap (λ xs. living (map after_giving xs)) is
+        ∙ ap living (map-map after_giving one_last ds ∙ map_where (λ d. after_giving (one_last d)) (attached_last view to) ds (all_weaker (IsElsewhere view from) (λ d. after_giving (one_last d) ≡ attached_last view to d) given ds can.elsewhere))
+
+  -- To the end of its own document's list.
+
+  -- a document that has room for a view has room for one once a view was detached from it
+  pub room_behind : (old new : Kept) → new ≡ record old { document = left_by view old.document } → HasViewRoom old → HasViewRoom new
+  room_behind old new is room =
+      let parts : length (filter (λ k. k == view) old.document.views) + length (without view old.document.views) ≡ length old.document.views =
+      length-filter_both (λ k. k == view) (λ k. not (k == view)) (λ _. refl) old.document.views in
+      let left : length (without view old.document.views) < old.capacity.views = omega (arith, room, parts) in
+      subst HasViewRoom (sym is) left
+
+  moves : (d : Document) → IsElsewhere view to d → moved_last d ≡ attached_last view to d
+  moves d elsewhere =
+      cond_both (d.id == to) (with_view_last view (left_by view d)) d (λ x. x ≡ attached_last view to d) (λ t. sym (is_last true d t))
+      (λ f. sym (elsewhere (eqb-false d.id to f)) ∙ sym (is_last false d f))
+
+  stays_referenced : (d : Document) → IsElsewhere view to d → (d.id ≢ to → 0 < references d) → 0 < references (attached_last view to d)
+  stays_referenced d elsewhere referenced =
+      cond_both (d.id == to) (with_view_last view (left_by view d)) (left_by view d) (λ (x : Document). 0 < references x) (λ _. has_reference view (left_by view d))
+      (λ f. subst (λ (x : Document). 0 < references x) (sym (elsewhere (eqb-false d.id to f))) (referenced (eqb-false d.id to f)))
+
+  pub moved_within : (old : Entries Kept) (new : List Document) → CanMove old to view to → new ≡ map moved_last (documents_in old) → new ≡ living (map (attached_last view to) (documents_in old))
+  moved_within old new can is =
+      let ds = documents_in old in
+      is ∙ map_where moved_last (attached_last view to) ds (all_weaker (IsElsewhere view to) (λ d. moved_last d ≡ attached_last view to d) moves ds can.elsewhere)
+      ∙ sym (all_living (map (attached_last view to) ds) (all_map (λ d. 0 < references (attached_last view to d)) (λ (d : Document). 0 < references d) (attached_last view to) (λ d h. h) ds
+      (all_two (IsElsewhere view to) (λ (d : Document). d.id ≢ to → 0 < references d) (λ d. 0 < references (attached_last view to d)) ds stays_referenced can.elsewhere can.referenced)))
+
+-- Documents that keep what is stored of them, and what fits in but perhaps for views.
+
+abbrev Keeps : Bool → Option Kept → Option Kept → Type 0
+Keeps b old new = IfSome new (λ now. IsSomeAnd old (λ was. KeepsRoom b was now))
+
+keeps_itself : (b : Bool) (o : Option Kept) → Keeps b o o
+keeps_itself b None = tt
+keeps_itself false (Some k) = refl
+keeps_itself true (Some k) = (refl, omega arith)
+
+keeps_then : (b : Bool) (o m n : Option Kept) → Keeps b o m → Keeps false m n → Keeps b o n
+keeps_then b o m None first after = tt
+keeps_then b o None (Some n) first after = absurd after
+keeps_then b None (Some m) (Some n) first after = absurd first
+keeps_then false (Some o) (Some m) (Some n) first after = after ∙ ap (λ (k : Kept). record k { document = n.document }) first
+keeps_then true (Some o) (Some m) (Some n) first after = subst (KeepsRoom true o) (sym after) (ap (λ (k : Kept). record k { document = n.document }) first.0, first.1)
+
+-- what holds of one id, and of all others
+by_id : (P : ℕ → Type 0) (id : ℕ) → P id → ((other : ℕ) → other ≢ id → P other) → (k : ℕ) → P k
+by_id P id here others k = go (k == id) refl
+  where
+    go : (b : Bool) → (k == id) ≡ b → P k
+    go true t = subst P (sym (eqb-true k id t)) here
+    go false f = others k (eqb-false k id f)
+
+rest_of_all : (id : ℕ) (old new : List (Entry Kept)) → ((other : ℕ) → other ≢ id → value_at new other ≡ value_at old other) → KeepsRest id old new → (k : ℕ) → KeepsRest k old new
+rest_of_all id old new others here = by_id (λ k. KeepsRest k old new) id here (λ k differs. subst (Keeps false (value_at old k)) (sym (others k differs)) (keeps_itself false (value_at old k)))
+
+-- one document changes, but not in what is stored of it
+pub one_stays : (table : Entries Kept) (id : ℕ) → DocumentsAreNamed table.entries → DocumentsRise table → (old new : Kept) → value_at table.entries id ≡ Some old → new ≡ record old { document = new.document }
+    → new.document.id ≡ old.document.id → TableStays table (record table { entries = with_value_at id new table.entries })
+one_stays table id named rise old new at is same = record {
+  next = refl;
+  capacity = refl;
+  named = named_with document_of id_of_document table.entries id table.next named rise old new at same;
+  rest = rest_of_all id table.entries (with_value_at id new table.entries) (λ other differs. other_replaced table.entries id other new differs)
+      (for_some (λ left. IsSomeAnd (value_at table.entries id) (λ was. left ≡ record was { document = left.document })) (value_at (with_value_at id new table.entries) id) new (value_replaced table.entries id old new at)
+      (subst (λ o. IsSomeAnd o (λ was. new ≡ record was { document = new.document })) (sym at) is));
+}
+
+-- one document lost a reference
+pub one_left : (id : ℕ) (change : Document → Document) → ((d : Document) → (change d).id ≡ d.id) → (old new : Entries Kept) → DocumentsAreNamed old.entries
+    → entries_in new.entries ≡ let_go id change (entries_in old.entries) → ((other : ℕ) → other ≢ id → value_at new.entries other ≡ value_at old.entries other) → KeepsRest id old.entries new.entries
+    → new.next ≡ old.next → new.capacity ≡ old.capacity → TableStays old new
+one_left id change stays old new named is others rest next capacity = record {
+  next = next;
+  capacity = capacity;
+  named = named_left id change stays old.entries new.entries named is;
+  rest = rest_of_all id old.entries new.entries others rest;
+}
+
+pub stays_twice : (old mid new : Entries Kept) → TableStays old mid → TableStays mid new → TableStays old new
+stays_twice old mid new a b = record {
+  next = b.next ∙ a.next;
+  capacity = b.capacity ∙ a.capacity;
+  named = b.named;
+  rest = λ id. keeps_then false (value_at old.entries id) (value_at mid.entries id) (value_at new.entries id) (a.rest id) (b.rest id);
+}
+
+-- Documents of which one may get room for a view.
+
+pub has_room : (old new : Kept) → new ≡ record old { capacity = record old.capacity { views = new.capacity.views } }
+    → new.capacity.views ≤ max old.capacity.views (length old.document.views + max 1 (length old.document.views)) → KeepsRoom true old new
+has_room old new is most = (is ∙ ap (λ d. record old { document = d; capacity = record old.capacity { views = new.capacity.views } }) (sym (ap document_of is)), most)
+
+rooms_stay : (change : SessionChange) (old : Entries Kept) → RoomsGrow change old old.entries
+rooms_stay change old id = go (attaches_to change old.next id) (value_at old.entries id) (keeps_itself (attaches_to change old.next id) (value_at old.entries id))
+  where
+    go : (b : Bool) (o : Option Kept) → Keeps b o o → IfSome o (KeepsRoom b (unwrap_or o (new_kept id 0)))
+    go b None h = tt
+    go b (Some k) h = h
+
+-- only that of one id changes
+rooms_but : (change : SessionChange) (old : Entries Kept) (new : List (Entry Kept)) (id : ℕ) → ((other : ℕ) → other ≢ id → value_at new other ≡ value_at old.entries other)
+    → IfSome (value_at new id) (KeepsRoom (attaches_to change old.next id) (kept_or_new old.entries id)) → RoomsGrow change old new
+rooms_but change old new id others here =
+    by_id (λ k. IfSome (value_at new k) (KeepsRoom (attaches_to change old.next k) (kept_or_new old.entries k))) id here
+    (λ k differs. subst (λ o. IfSome o (KeepsRoom (attaches_to change old.next k) (kept_or_new old.entries k))) (sym (others k differs)) (rooms_stay change old k))
+
+pub rooms_reserved : (old : Entries Kept) (to : ℕ) (was now : Kept) → value_at old.entries to ≡ Some was → KeepsRoom true was now → RoomsGrow (Attach to) old (with_value_at to now old.entries)
+rooms_reserved old to was now at room =
+    rooms_but (Attach to) old (with_value_at to now old.entries) to (λ other differs. other_replaced old.entries to other now differs)
+    (for_some (KeepsRoom (to == to) (kept_or_new old.entries to)) (value_at (with_value_at to now old.entries) to) now (value_replaced old.entries to was now at)
+    (subst (λ b. KeepsRoom b (kept_or_new old.entries to) now) (sym (eq-eqb to to refl)) (subst (λ o. KeepsRoom true (unwrap_or o (new_kept to 0)) now) (sym at) room)))
+
+-- A document is added.
+module _ (table : Entries Kept) (named : DocumentsAreNamed table.entries) (rise : DocumentsRise table) (k : Kept) where
+  abbrev pub more : List (Entry Kept)
+  more = table.entries ++ entry table.next k ∷ []
+
+  value_added : (id : ℕ) → value_at more id ≡ option_or (value_at table.entries id) (cond (table.next == id) (Some k) None)
+  value_added id =
+      ap (option_map value_of) (find-append (λ (e : Entry Kept). e.id == id) table.entries (entry table.next k ∷ [])) ∙ go (find (λ (e : Entry Kept). e.id == id) table.entries) (table.next == id)
+    where
+      go : (o : Option (Entry Kept)) (b : Bool) → option_map value_of (option_or o (cond b (Some (entry table.next k)) None)) ≡ option_or (option_map value_of o) (cond b (Some k) None)
+      go (Some e) b = refl
+      go None true = refl
+      go None false = refl
+
+  none_next : value_at table.entries table.next ≡ None
+  none_next = go (value_at table.entries table.next) refl
+    where
+      go : (o : Option Kept) → value_at table.entries table.next ≡ o → o ≡ None
+      go None e = refl
+      go (Some w) e =
+          let below : table.next < table.next =
+          found_below 0 table.next (documents_in table) table.next w.document rise (found_some document_of id_of_document table.entries table.next w named e) in
+          absurd (omega (arith, below))
+
+  pub last_at : value_at more table.next ≡ Some k
+  last_at =
+      value_added table.next ∙ ap (λ o. option_or o (cond (table.next == table.next) (Some k) None)) none_next ∙ ap (λ b. cond b (Some k) None) (eq-eqb table.next table.next refl)
+
+  pub rooms_added : (change : SessionChange) → KeepsRoom (attaches_to change table.next table.next) (new_kept table.next 0) k → RoomsGrow change table more
+  rooms_added change room id =
+      subst (λ o. IfSome o (KeepsRoom (attaches_to change table.next id) (kept_or_new table.entries id))) (sym (value_added id)) (go (value_at table.entries id) (table.next == id) refl)
+    where
+      go : (o : Option Kept) (b : Bool) → (table.next == id) ≡ b → IfSome (option_or o (cond b (Some k) None)) (KeepsRoom (attaches_to change table.next id) (unwrap_or o (new_kept id 0)))
+      go (Some w) b e = keeps_itself (attaches_to change table.next id) (Some w)
+      go None true e = subst (λ id. KeepsRoom (attaches_to change table.next id) (new_kept id 0) k) (eqb-true table.next id e) room
+      go None false e = tt
+
+pub documents_alone : {s : SessionState} → IsKept s → (documents : Entries Kept) → TableStays s.documents documents → AllStays s (record s { documents = documents })
+documents_alone kept documents stays = record { limits = refl; clipboard = refl; documents = stays; views = kept.views; fold_capacities = refl; view_capacity = refl }
+
+pub stays_then : (change : SessionChange) (old mid new : SessionState) → Stays change old mid → AllStays mid new → Stays change old new
+stays_then change old mid new a b = record {
+  limits = b.limits ∙ a.limits;
+  clipboard = subst (KeepsClipboard change old.clipboard) (sym b.clipboard) a.clipboard;
+  documents = b.documents.named;
+  table = subst (TableGrows change old.documents) (sym b.documents.capacity) a.table;
+  rooms = λ id.
+      keeps_then (attaches_to change old.documents.next id) (Some (kept_or_new old.documents.entries id)) (value_at mid.documents.entries id)
+      (value_at new.documents.entries id) (a.rooms id) (b.documents.rest id);
+  views = b.views;
+  fold_capacities = b.fold_capacities ∙ a.fold_capacities;
+  view_capacity = b.view_capacity ∙ a.view_capacity;
+}
+
+allowed_few : (l : Limits) → is_allowed l ≡ true → (l.ids ≤ 2 ^ 31 - 1) × (l.refs ≤ 2 ^ 31 - 1)
+allowed_few l h = (grind (arith, nat_tests), grind (arith, nat_tests))
 
 pub few_ids : {s : SessionState} → IsKept s → s.documents.next ≤ s.limits.ids → s.documents.next + 1 < 2 ^ 32
-few_ids {s} kept few = let most = ids_few s.limits kept.limits in omega (arith, few, most)
-  where
-    ids_few : (l : Limits) → is_allowed l ≡ true → l.ids ≤ 2 ^ 31 - 1
-    ids_few l h = grind (arith, nat_tests)
+few_ids {s} kept few = let most = (allowed_few s.limits kept.limits).0 in omega (arith, few, most)
 
 -- one more caller can hold a document that is below its limit of references
 pub few_held : {s : SessionState} → IsKept s → (id : ℕ) (d : Document) → document_at (documents_in s.documents) id ≡ Some d → references d < s.limits.refs
@@ -20,10 +352,7 @@ few_held {s} kept id d found few =
     is_some_and (λ k. k.document.held_by_callers + 1 < 2 ^ 32) (value_at s.documents.entries id) (no_document_at kept id d found)
     (λ k at.
     let held : k.document.held_by_callers ≡ d.held_by_callers = ap (λ (x : Document). x.held_by_callers) (document_is kept id d found k at) in
-    let most = refs_few s.limits kept.limits in omega (arith, few, most, held))
-  where
-    refs_few : (l : Limits) → is_allowed l ≡ true → l.refs ≤ 2 ^ 31 - 1
-    refs_few l h = grind (arith, nat_tests)
+    let most = (allowed_few s.limits kept.limits).1 in omega (arith, few, most, held))
 
 all_referenced : {s : SessionState} → IsKept s → AllByRecursion (λ (d : Document). 0 < references d) (documents_in s.documents)
 all_referenced {s} kept = all_weaker (IsSoundDocument s.limits) (λ (d : Document). 0 < references d) (λ d sound. sound.referenced) (documents_in s.documents) kept.sound.documents
@@ -48,30 +377,24 @@ limit_few : (b : Bool) (l : Limits) (n : ℕ) → (l.doc_bytes ≤ 2 ^ 31 - 1) �
 limit_few true l n h few = (let large = h.1 in omega (arith, large), λ e. absurd (cc))
 limit_few false l n h few = (let small = h.0 in omega (arith, small), λ e. let small = h.0 in omega (arith, small))
 
-listed_elsewhere : (views : List View) (v : View) (view from : ℕ) (ds : List Document) → view_at views view ≡ Some v → v.document ≡ from → AllByRecursion (ListsItsViews views) ds
-    → AllByRecursion (λ (d : Document). d.id ≢ from → left_by view d ≡ d) ds
-listed_elsewhere views v view from ds found on lists =
-    all_weaker (ListsItsViews views) (λ (d : Document). d.id ≢ from → left_by view d ≡ d)
-    (λ d listed other. ap (λ ids. record d { views = ids }) (without_itself view d.views (none_listed views v view d.id d.views found (λ is. other (is ∙ on)) listed))) ds lists
-
 module _ {s : SessionState} {document view : ℕ} {text : List ℕ} (kept : IsKept s) (is_asked : IsAsked (session_in s) document view text) where
   few_flags : IsSomeAnd (value_at s.views.entries view) HasFewLines
   few_flags =
       is_some_and HasFewLines (value_at s.views.entries view) (no_view kept is_asked)
       (λ v at.
-      let d = document_for s view in
-      let same = same_view kept is_asked v at in
+      let d = document_for s view in let same = same_view kept is_asked v at in
       let flags : length v.view.flags ≡ lines_in d = ap (λ (x : View). length x.flags) same ∙ (stands kept is_asked).lines in
-      let sound : IsSoundDocument s.limits d = holds_at id_of_document (IsSoundDocument s.limits) (documents_in s.documents) document d kept.sound.documents (document_found kept is_asked) in
+      let sound : IsSoundDocument s.limits d = found_all (IsSoundDocument s.limits) (λ (d : Document). d.id == document) (documents_in s.documents) d kept.sound.documents (document_found kept is_asked) in
       let cells : length (text_of d) ≡ length d.cells = length-map d.cells (λ (c : Cell). c.byte) in
       subst (λ large. AreFewLines large (length v.view.flags + 1)) (sym (ap (λ (x : View). x.large) same ∙ (stands kept is_asked).large))
       (limit_few (is_large d) s.limits (length v.view.flags) (allowed_lengths s.limits kept.limits) (omega (arith, flags, few_lines d.line_end_types (text_of d), cells, sound.bounded))))
 
   elsewhere : AllByRecursion (λ (d : Document). d.id ≢ document → left_by view d ≡ d) (documents_in s.documents)
-  elsewhere = listed_elsewhere (views_of s.views.entries) (sender_of s view) view document (documents_in s.documents) (view_found kept is_asked) (on_document kept is_asked) kept.sound.lists
-
-  with_reference : (to : ℕ) → AllByRecursion (λ (d : Document). d.id ≢ to → 0 < references d) (documents_in s.documents)
-  with_reference to = all_weaker (IsSoundDocument s.limits) (λ (d : Document). d.id ≢ to → 0 < references d) (λ d sound other. sound.referenced) (documents_in s.documents) kept.sound.documents
+  elsewhere =
+      let views = views_of s.views.entries in
+      all_weaker (ListsItsViews views) (λ (d : Document). d.id ≢ document → left_by view d ≡ d)
+      (λ d listed other. stays_alike views (sender_of s view) view d (view_found kept is_asked) (λ is. other (is ∙ on_document kept is_asked)) listed)
+      (documents_in s.documents) kept.sound.lists
 
   -- the view can be attached to a document of these, which are those of the session and perhaps more
   pub can_attach : (documents : Entries Kept) (to : ℕ) (more : List Document) → documents_in documents ≡ documents_in s.documents ++ more → DocumentsAreNamed documents.entries → DocumentsRise documents
@@ -83,7 +406,7 @@ module _ {s : SessionState} {document view : ℕ} {text : List ℕ} (kept : IsKe
         named = named;
         rise = rise;
         elsewhere = subst (AllByRecursion Alone) (sym is) (all_append Alone (documents_in s.documents) more elsewhere alone);
-        referenced = subst (AllByRecursion Referenced) (sym is) (all_append Referenced (documents_in s.documents) more (with_reference to) referenced);
+        referenced = subst (AllByRecursion Referenced) (sym is) (all_append Referenced (documents_in s.documents) more (all_weaker (IsSoundDocument s.limits) Referenced (λ d sound other. sound.referenced) (documents_in s.documents) kept.sound.documents) referenced);
         place = place;
       } in
       record { documents = moves; views = kept.views; rise = kept.sound.view_ids; there = view_found kept is_asked; few = few_flags }
@@ -96,8 +419,8 @@ module _ {s : SessionState} {document view : ℕ} {text : List ℕ} (kept : IsKe
     documents_same : documents_in with_place.documents ≡ documents_in s.documents
     documents_same = unchanged document_of id_of_document s.documents.entries to s.documents.next kept.documents kept.sound.document_ids old new at (ap document_of rest)
 
-    still_named : DocumentsAreNamed with_place.documents.entries
-    still_named = named_with document_of id_of_document s.documents.entries to s.documents.next kept.documents kept.sound.document_ids old new at (ap (λ (k : Kept). k.document.id) rest)
+    named_there : DocumentsAreNamed with_place.documents.entries
+    named_there = named_with document_of id_of_document s.documents.entries to s.documents.next kept.documents kept.sound.document_ids old new at (ap (λ (k : Kept). k.document.id) rest)
 
     pub session_same : session_in with_place ≡ session_in s
     session_same = ap (λ ds. let x = session_in s in record x { documents = ds }) documents_same
@@ -106,7 +429,7 @@ module _ {s : SessionState} {document view : ℕ} {text : List ℕ} (kept : IsKe
     place_stays most = record {
       limits = refl;
       clipboard = refl;
-      documents = still_named;
+      documents = named_there;
       table = refl;
       rooms = rooms_reserved s.documents to old new at (has_room old new rest most);
       views = kept.views;
@@ -116,9 +439,9 @@ module _ {s : SessionState} {document view : ℕ} {text : List ℕ} (kept : IsKe
 
     pub can_attach_there : HasViewRoom new → CanAttach with_place document view to
     can_attach_there room =
-        can_attach with_place.documents to [] (documents_same ∙ sym (append-nil (documents_in s.documents))) still_named
+        can_attach with_place.documents to [] (documents_same ∙ sym (append-nil (documents_in s.documents))) named_there
         (subst (λ ds. Rise 0 s.documents.next (map (λ (d : Document). d.id) ds)) (sym documents_same) kept.sound.document_ids) tt tt
-        (for_replaced HasViewRoom s.documents.entries to old new at room)
+        (subst (λ o. IsSomeAnd o HasViewRoom) (sym (value_replaced s.documents.entries to old new at)) room)
 
 -- the session after the view is attached
 module _ {s : SessionState} {from view to : ℕ} (can : CanAttach s from view to) (k : Kept) (document_at_to : value_at s.documents.entries to ≡ Some k) (old new : KeptView) (at : value_at s.views.entries view ≡ Some old)
@@ -131,8 +454,7 @@ module _ {s : SessionState} {from view to : ℕ} (can : CanAttach s from view to
   attached_so documents moved next =
       let x = session_in s in let d = k.document in let v = sender_of s view in
       let found : document_at x.documents to ≡ Some d = found_some document_of id_of_document s.documents.entries to k can.documents.named document_at_to in
-      let id : d.id ≡ to = own_at id_of_document x.documents to d found in
-      let own : v.id ≡ view = own_at id_of_view x.views view v can.there in
+      let id : d.id ≡ to = own_at id_of_document x.documents to d found in let own : v.id ≡ view = own_at id_of_view x.views view v can.there in
       let same : old.view ≡ v = some_same old.view v (sym (found_some view_in id_of_view s.views.entries view old can.views at) ∙ can.there) in
       let ds : documents_in documents ≡ living (map (attached_last v.id d.id) x.documents) =
       moved ∙ ap (λ n. living (map (attached_last n to) x.documents)) (sym own) ∙ ap (λ n. living (map (attached_last v.id n) x.documents)) (sym id) in
@@ -140,8 +462,7 @@ module _ {s : SessionState} {from view to : ℕ} (can : CanAttach s from view to
       replaced view_in id_of_view s.views.entries view new can.views ∙ ap (λ n. map (λ (w : View). if w.id == n then new.view else w) x.views) (sym own)
       ∙ ap (λ y. map (λ (w : View). if w.id == v.id then y else w) x.views) (made ∙ ap (attached_to d) same) in
       ap (λ y. record x { documents = y; views = views_of (with_value_at view new s.views.entries); next_document = documents.next }) ds
-      ∙ ap (λ y. record (with_attached (Some d) v x) { views = y; next_document = documents.next }) vs
-      ∙ ap (λ n. record (with_attached (Some d) v x) { next_document = n }) next
+      ∙ ap (λ y. record (with_attached (Some d) v x) { views = y; next_document = documents.next }) vs ∙ ap (λ n. record (with_attached (Some d) v x) { next_document = n }) next
       ∙ ap (λ o. with_attached o v x) (sym found)
 
   pub attached_stays : capacities new ≡ capacities old → (documents : Entries Kept) → TableStays s.documents documents → AllStays s (with_moved documents)
@@ -190,8 +511,7 @@ module _ {s : SessionState} (kept : IsKept s) (k : Kept) (table : Entries Kept) 
   pub can_attach_new : {document view : ℕ} {text : List ℕ} → IsAsked (session_in s) document view text → k.document ≡ new_document s.documents.next 0 → HasViewRoom k
       → CanAttach (record s { documents = table }) document view s.documents.next
   can_attach_new {document} {view} asked made room =
-      let own : k.document.id ≡ s.documents.next = ap id_of_document made in
-      let next : table.next ≡ s.documents.next + 1 = ap (λ (t : Entries Kept). t.next) is in
+      let own : k.document.id ≡ s.documents.next = ap id_of_document made in let next : table.next ≡ s.documents.next + 1 = ap (λ (t : Entries Kept). t.next) is in
       can_attach kept asked table s.documents.next (k.document ∷ []) documents_more (named_more own)
       (subst (λ ds. Rise 0 table.next (map (λ (d : Document). d.id) ds)) (sym documents_more)
       (subst (λ n. Rise 0 n (map (λ (d : Document). d.id) (documents_in s.documents ++ k.document ∷ []))) (sym next)

@@ -62,15 +62,7 @@ needs_room (change.StyleBytes count) = true
 needs_room (change.FillIndicator indicator start count value) = true
 needs_room other = false
 
--- if the change needs no room in the document and has no notes, this holds
-abbrev pub IfChangeIsFree : DocumentChange → Entries KeptView → Type 0 → Kept → Type 0
-IfChangeIsFree what views P k = needs_room what ≡ false → change_note_need what k views ≡ 0 → P
-
 -- whether the change sets which line ends count
 abbrev pub is_of_types : DocumentChange → Bool
 is_of_types (change.SetLineEndTypes to) = true
 is_of_types other = false
-
--- a change of the document alone that no view hears, and for which there is room, was made, as `made` says
-abbrev pub IsMadeIfReady : DocumentChange → Kept → Entries KeptView → Bool → Type 0
-IsMadeIfReady what k views made = is_of_types what ≡ false → change_note_need what k views ≡ 0 → IsReady what k → made ≡ true

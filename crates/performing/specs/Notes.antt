@@ -5,6 +5,9 @@ use Rattle.ed_model.specs.Lines.{start_of_line}
 use Rattle.ed_model.specs.Notes as notes
 use Rattle.ed_model.specs.Session.{Document, View, lines_in, text_of}
 use Rattle.ed_model.specs.Changes.{line_note}
+use Rattle.scene.specs.declared.telling.Audience.{Audience}
+use Rattle.scene.specs.declared.telling.Audience.TheVariants.{Everyone, Hearers}
+use Rattle.scene.specs.Hearing.{audience_of}
 use Rattle.performing.specs.declared.note.ChangeNote.{ChangeNote}
 use Rattle.performing.specs.declared.note.ChangeNote.TheVariants as note
 
@@ -32,13 +35,17 @@ notice_of d (note.State line) = line_note notes.change_line_state line
 notice_of d (note.Range kind start count) = notes.range_note kind start count
 notice_of d (note.StyleNeeded past) = let n = notes.blank notes.style_needed in record n { position = pos past }
 
+-- which of the views that watch the document are told: of the save point all of them
+abbrev pub audience_for : ChangeNote → Audience
+audience_for note.SavePointReached = Everyone
+audience_for note.SavePointLeft = Everyone
+audience_for other = Hearers
+
 -- the notes to the sending view, and to these views of the document
 abbrev pub notes_of : View → List View → Document → ChangeNote → List Notice
 notes_of sender views d note.Nothing = []
-notes_of sender views d note.SavePointReached = notes.told views (notice_of d note.SavePointReached)
-notes_of sender views d note.SavePointLeft = notes.told views (notice_of d note.SavePointLeft)
 notes_of sender views d (note.StyleNeeded past) = notes.told (sender ∷ []) (notice_of d (note.StyleNeeded past))
-notes_of sender views d other = notes.heard views (notice_of d other)
+notes_of sender views d other = let n = notice_of d other in notes.told (audience_of (audience_for other) n.kind views) n
 
 -- it names a line of the document, and places that are small
 abbrev pub IsFitNote : Document → ChangeNote → Type 0

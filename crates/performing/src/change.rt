@@ -3,16 +3,13 @@
 ghost use Rattle.std.specs.Prelude.{◌≡◌, ◌≤◌, ◌⊎◌, List, ℕ, true, false, length, IsOk, OnOk, OnErr};
 ghost use Rattle.notify.specs.Gathered.{CanPut};
 ghost use Rattle.scene.specs.Scenes.{IsWatched};
-ghost use Rattle.performing.specs.Changed.{Changes, IsMade, IsMadeUnheard, IsUnchanged, Makes};
+ghost use Rattle.performing.specs.Changed.{Changes, IsMade, IsMadeUnheard, IsUnchanged, Makes, ReservesFor, ReservesNotes, TakesMemory};
 ghost use Rattle.performing.specs.Fit.{IsFitChange, bytes_read};
-ghost use Rattle.performing.specs.ChangeMemory.{ReservesFor, ReservesNotes, TakesMemory};
-ghost use Rattle.performing.specs.ChangeNeeds.{IfChangeIsFree, IsMadeIfReady, IsReady, change_note_need, is_of_types, needs_room};
+ghost use Rattle.performing.specs.ChangeNeeds.{IsReady, change_note_need, is_of_types, needs_room};
 
 use crate::history_changes::append_container;
-use crate::marker_changes::{
-    add_marker, add_markers, delete_handle, delete_marker, delete_markers,
-};
-use crate::note::ChangeNote;
+use crate::marker_changes::{add_marker, add_markers, delete_handle};
+use crate::note::{ChangeNote, note_if};
 use crate::note_need::change_note_need;
 use crate::row_changes::{set_level, set_state};
 use crate::style_changes::{fill_indicator, need_style, style_bytes, style_run};
@@ -44,9 +41,13 @@ fn make_free(document: &mut Document, change: &DocumentChange) -> ChangeNote
         DocumentChange::CollectUndo { on } => document.set_collecting(on),
         DocumentChange::SetEndStyled { place } => document.set_end_styled(place),
         DocumentChange::DeleteMarker { line, number } => {
-            return delete_marker(document, line, number);
+            let changed = document.delete_marker(line, number);
+            return note_if(changed, ChangeNote::Markers { line });
         }
-        DocumentChange::DeleteMarkers { number } => return delete_markers(document, number),
+        DocumentChange::DeleteMarkers { number } => {
+            let changed = document.delete_markers(number);
+            return note_if(changed, ChangeNote::AllMarkers);
+        }
         DocumentChange::DeleteHandle { handle } => return delete_handle(document, handle),
         DocumentChange::NeedStyle { start, end } => return need_style(document, start, end),
         _ => {}
@@ -113,7 +114,7 @@ pub fn change_document(
     ensures memory { OnOk result (TakesMemory change.now document.old document.new) }
     ensures same { OnErr result (IsUnchanged change.now document.old document.new views.old views.new notes.old notes.new) }
     ensures notes { ReservesNotes (change_note_need change.now document.old views.old) notes.old notes.new }
-    ensures free { IfChangeIsFree change.now views.old (IsOk result) document.old }
+    ensures free { needs_room change.now ≡ false → change_note_need change.now document.old views.old ≡ 0 → IsOk result }
     ensures room_is_there { IsReady change.now document.old → CanPut (change_note_need change.now document.old views.old) notes.old → IsOk result }
 {
     if let DocumentChange::SetLineEndTypes { to } = *change {
@@ -146,7 +147,7 @@ pub fn change_unheard(
     requires watched { IsWatched document.old.document views.now }
     ensures made { result ≡ true → IsMadeUnheard text.now change.now document.old document.new views.now }
     ensures memory { result ≡ true → TakesMemory change.now document.old document.new }
-    ensures room_is_there { IsMadeIfReady change.now document.old views.now result }
+    ensures room_is_there { is_of_types change.now ≡ false → change_note_need change.now document.old views.now ≡ 0 → IsReady change.now document.old → result ≡ true }
     ensures same { result ≡ false → document.new.document ≡ document.old.document }
     ensures reserved { result ≡ false → (document.new ≡ document.old) ⊎ ReservesFor change.now document.old document.new }
 {

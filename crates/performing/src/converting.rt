@@ -52,12 +52,8 @@ pub fn convert_with_room(
     if !need.is_counted() {
         return Err(AllocError);
     }
-    let Ok(()) = notes.reserve(need.notes.notes, need.notes.bytes) else {
-        return Err(AllocError);
-    };
-    let Ok(()) = document.reserve(need.document) else {
-        return Err(AllocError);
-    };
+    notes.reserve(need.notes.notes, need.notes.bytes)?;
+    document.reserve(need.document)?;
     convert(document, views, notes, to);
     Ok(())
 }

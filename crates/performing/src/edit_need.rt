@@ -1,69 +1,29 @@
 //! The memory that a replacement of bytes needs, counted before any is allocated.
 
-ghost use Rattle.std.specs.Prelude.{◌≡◌, ◌≤◌, ◌+◌, ◌-◌, [], length};
-ghost use Rattle.document.specs.TextSteps.{IsStepOn};
-ghost use Rattle.scene.specs.Needs.{note_room};
+ghost use Rattle.std.specs.Prelude.{◌≡◌, ◌≤◌, ◌+◌, [], ◌∷◌, length};
+ghost use Rattle.document.specs.TextSteps.{IsStepOn, step_on};
 ghost use Rattle.scene.specs.Scenes.{scene_in, AreNamed};
-ghost use Rattle.performing.specs.EditNeeds.{no_need, need_sum, need_of_lent, edit_need};
-ghost use Rattle.performing.specs.Edits.{replacement_in};
+ghost use Rattle.performing.specs.Edits.{edit_need, replacement_in};
 
 use document::{Document, DocumentNeed, TextStep};
 use ed_view::View;
 use id_table::IdTable;
 use scene::{NoteRoom, SceneNeed, leaving_need, note_need};
 
-/// Returns the need of nothing.
-fn none() -> SceneNeed
-    ensures { result ≡ no_need }
-{
-    SceneNeed {
-        notes: NoteRoom::none(),
-        document: DocumentNeed::none(),
-    }
-}
-
-/// Returns the sum of both needs.
-fn plus(first: SceneNeed, second: SceneNeed) -> SceneNeed
-    ensures { result ≡ need_sum first second }
-{
-    SceneNeed {
-        notes: first.notes.plus(second.notes),
-        document: first.document.plus(second.document),
-    }
-}
-
-/// Returns the need after steps that delete `freed` bytes of the text, whose capacity is there again.
-fn beside(need: SceneNeed, freed: usize) -> SceneNeed
-    ensures { result ≡ record need { document = record need.document { text = need.document.text - freed } } }
-{
-    SceneNeed {
-        document: DocumentNeed {
-            text: need.document.text.saturating_sub(freed),
-            ..need.document
-        },
-        ..need
-    }
-}
-
-/// Returns the need of so many notes without texts.
-fn of_notes(notes: usize) -> SceneNeed
-    ensures { result ≡ record no_need { notes = note_room notes 0 } }
-{
-    SceneNeed {
-        notes: NoteRoom { notes, bytes: 0 },
-        ..none()
-    }
-}
-
-/// Returns what a step needs of the document and for its notes, except those that say that the save point is left.
+/// Returns what an edit of this one step needs.
 fn step_need(document: &Document, views: &IdTable<View>, step: TextStep) -> SceneNeed
     requires fits { IsStepOn step (length document.now.document.cells) }
     requires named { AreNamed views.now.entries }
-    ensures { result ≡ need_of_lent step.entry document.now views.now }
+    ensures { result ≡ edit_need (step_on document.now step.entry ∷ []) (scene_in document.now.document views.now.entries []) }
 {
+    let leaving = NoteRoom {
+        notes: leaving_need(document, views),
+        bytes: 0,
+    };
     SceneNeed {
-        notes: note_need(document, views, step),
-        document: document.step_need(step),
+        notes: note_need(document, views, step).plus(leaving),
+        // `plus` caps each amount, as `edit_need` does.
+        document: document.step_need(step).plus(DocumentNeed::none()),
     }
 }
 
@@ -81,25 +41,32 @@ pub(crate) fn replacement_need(
     ensures { let steps = replacement_in start count bytes.now document.now in
         result ≡ edit_need steps (scene_in document.now.document views.now.entries []) }
 {
-    let deletion = TextStep::Delete {
-        place: start,
-        count,
-    };
     let insertion = TextStep::Insert {
         place: start,
         bytes,
     };
     if count == 0 {
         if bytes.is_empty() {
-            return none();
+            return SceneNeed {
+                notes: NoteRoom::none(),
+                document: DocumentNeed::none(),
+            };
         }
-        let leaving = of_notes(leaving_need(document, views));
-        return plus(step_need(document, views, insertion), leaving);
+        return step_need(document, views, insertion);
     }
-    let leaving = of_notes(leaving_need(document, views));
-    let need = plus(step_need(document, views, deletion), leaving);
+    let deletion = TextStep::Delete {
+        place: start,
+        count,
+    };
+    let need = step_need(document, views, deletion);
     if bytes.is_empty() {
         return need;
     }
-    plus(need, beside(step_need(document, views, insertion), count))
+    let mut room = document.step_need(insertion);
+    // The deletion frees as many bytes.
+    room.text = room.text.saturating_sub(count);
+    SceneNeed {
+        notes: need.notes.plus(note_need(document, views, insertion)),
+        document: need.document.plus(room),
+    }
 }

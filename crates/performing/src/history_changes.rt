@@ -1,6 +1,6 @@
 //! Changes of the history.
 
-ghost use Rattle.std.specs.Prelude.{List, ℕ};
+ghost use Rattle.std.specs.Prelude.{[]};
 ghost use Rattle.ed_model.specs.declared.plan.DocumentChange.TheVariants.{AppendContainer};
 ghost use Rattle.performing.specs.Changed.{Makes};
 
@@ -16,7 +16,7 @@ pub(crate) fn append_container(
     token: i64,
     coalesce: bool,
 ) -> Result<ChangeNote, AllocError>
-    ensures { (text : List ℕ) → Makes text (AppendContainer token coalesce) document.old document.new result }
+    ensures { Makes [] (AppendContainer token coalesce) document.old document.new result }
 {
     document.reserve_container()?;
     let is_left = leaves_save_point(document);

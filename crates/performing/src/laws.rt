@@ -1,8 +1,8 @@
 //! Laws: functions that do nothing, whose contracts state what holds for all documents.
 
-ghost use Rattle.std.specs.Prelude.{◌≡◌, length};
+ghost use Rattle.std.specs.Prelude.{◌≡◌, List, ℕ, length};
+ghost use Rattle.std.specs.List.{AllByRecursion};
 ghost use Rattle.ed_model.specs.Session.{lines_in};
-ghost use Rattle.performing.specs.Changed.{IndicatorsCoverText};
 
 use document::Document;
 
@@ -10,7 +10,7 @@ use document::Document;
 #[inline(always)]
 pub(crate) fn parts_match_text(document: &Document)
     ensures rows { length document.now.document.rows ≡ lines_in document.now.document }
-    ensures indicators { IndicatorsCoverText document.now.document }
+    ensures indicators { let d = document.now.document in AllByRecursion (λ (values : List ℕ). length values ≡ length d.cells) d.indicators }
 {
     document.rows();
     document.indicators().length();

@@ -1,6 +1,6 @@
 //! Adding and deleting markers.
 
-ghost use Rattle.std.specs.Prelude.{◌<◌, ◌+◌, ◌^◌, List, ℕ, length};
+ghost use Rattle.std.specs.Prelude.{◌<◌, ◌+◌, ◌^◌, length, []};
 ghost use Rattle.ed_model.specs.declared.plan.DocumentChange.TheVariants as change;
 ghost use Rattle.ed_model.specs.LinePlans.{numbers_in};
 ghost use Rattle.ed_model.specs.Session.{lines_in};
@@ -22,7 +22,7 @@ pub(crate) fn add_marker(
     requires line { line < lines_in document.old.document }
     requires number { number < 32 }
     requires handles { document.old.document.next_handle + 1 < 2 ^ 32 }
-    ensures { (text : List ℕ) → Makes text (change.AddMarker line number) document.old document.new result }
+    ensures { Makes [] (change.AddMarker line number) document.old document.new result }
 {
     parts_match_text(document);
     document.reserve_markers(1)?;
@@ -39,7 +39,7 @@ pub(crate) fn add_markers(
 ) -> Result<ChangeNote, AllocError>
     requires line { line < lines_in document.old.document }
     requires handles { document.old.document.next_handle + length (numbers_in mask) < 2 ^ 32 }
-    ensures { (text : List ℕ) → Makes text (change.AddMarkers line mask) document.old document.new result }
+    ensures { Makes [] (change.AddMarkers line mask) document.old document.new result }
 {
     parts_match_text(document);
     let count = count_numbers(mask);
@@ -48,30 +48,11 @@ pub(crate) fn add_markers(
     Ok(note_if(count > 0, ChangeNote::Markers { line }))
 }
 
-/// Deletes the first marker of a line with this number, or all markers of the line if `number` is `None`.
-#[inline(never)]
-pub(crate) fn delete_marker(document: &mut Document, line: usize, number: Option<u32>) -> ChangeNote
-    requires { line < lines_in document.old.document }
-    ensures { (text : List ℕ) → IsMade text (change.DeleteMarker line number) document.old document.new result }
-{
-    let changed = document.delete_marker(line, number);
-    note_if(changed, ChangeNote::Markers { line })
-}
-
-/// Deletes all markers with this number, or all markers if `number` is `None`.
-#[inline(never)]
-pub(crate) fn delete_markers(document: &mut Document, number: Option<u32>) -> ChangeNote
-    ensures { (text : List ℕ) → IsMade text (change.DeleteMarkers number) document.old document.new result }
-{
-    let changed = document.delete_markers(number);
-    note_if(changed, ChangeNote::AllMarkers)
-}
-
 /// Deletes the marker with this handle, if there is one.
 #[inline(never)]
 pub(crate) fn delete_handle(document: &mut Document, handle: u64) -> ChangeNote
     requires { handle < document.old.document.next_handle }
-    ensures { (text : List ℕ) → IsMade text (change.DeleteHandle handle) document.old document.new result }
+    ensures { IsMade [] (change.DeleteHandle handle) document.old document.new result }
 {
     document_is_small(document);
     parts_match_text(document);

@@ -5,9 +5,8 @@ ghost use Rattle.ed_model.specs.Changes.{attached, attached_last};
 ghost use Rattle.ed_model.specs.Session.{living};
 ghost use Rattle.scene.specs.Scenes.{views_of};
 ghost use Rattle.message_requests.specs.Requested.{documents_in, session_in};
-ghost use Rattle.performing.specs.Asked.{view_asked};
+ghost use Rattle.performing.specs.Asked.{view_asked, CanAttach, CanMove};
 ghost use Rattle.performing.specs.SessionMemory.{AllStays, TableStays};
-ghost use Rattle.performing.specs.Moving.{CanAttach, CanMove};
 
 use document_table::{DocumentTable, the_living_are_left};
 use message_requests::SessionState;

@@ -1,10 +1,9 @@
 //! Replaces bytes of a document by others.
 
-ghost use Rattle.std.specs.Prelude.{◌≡◌, ◌≤◌, ◌<◌, ◌+◌, [], length, OnOk, OnErr, IsOk};
+ghost use Rattle.std.specs.Prelude.{◌≡◌, ◌≤◌, ◌+◌, [], length, OnOk, OnErr, IsOk};
 ghost use Rattle.scene.specs.Needs.{CanHoldEdit};
 ghost use Rattle.scene.specs.Scenes.{IsWatched, kept_scene};
-ghost use Rattle.performing.specs.Edits.{replacement_in, MakesEdit};
-ghost use Rattle.performing.specs.EditNeeds.{StepsFit};
+ghost use Rattle.performing.specs.Edits.{replacement_in, MakesEdit, StepsFit};
 ghost use Rattle.performing.specs.Widths.{StepsFitWidth};
 
 use crate::edit_need::replacement_need;
@@ -15,42 +14,8 @@ use notify::NoteList;
 use scene::{make_step, needs_are_enough};
 use std::alloc::AllocError;
 
-/// Replaces the `count` bytes from `start` on by `bytes`, neither of which is empty: a deletion and then an insertion,
-/// in a transaction of their own. There must be room for both.
-fn replace_some(
-    document: &mut Document,
-    views: &mut IdTable<View>,
-    notes: &mut NoteList,
-    start: usize,
-    count: usize,
-    bytes: &[u8],
-)
-    requires some { (0 < count) × (0 < length bytes.now) }
-    requires range { start + count ≤ length document.old.document.cells }
-    requires watched { IsWatched document.old.document views.old }
-    requires room { StepsFit (replacement_in start count bytes.now document.old) document.old }
-    requires notes { CanHoldEdit (replacement_in start count bytes.now document.old) (kept_scene document.old views.old notes.old) notes.old }
-    ensures scene { let steps = replacement_in start count bytes.now document.old in
-        MakesEdit steps document.old views.old notes.old document.new views.new notes.new }
-    ensures watched { IsWatched document.new.document views.new }
-    ensures next { views.new.next ≡ views.old.next }
-{
-    let deletion = TextStep::Delete {
-        place: start,
-        count,
-    };
-    let insertion = TextStep::Insert {
-        place: start,
-        bytes,
-    };
-    document.seal_outside_groups();
-    make_step(document, views, notes, false, deletion);
-    make_step(document, views, notes, true, insertion);
-    document.seal_outside_groups();
-}
-
-/// Replaces the `count` bytes from `start` on by `bytes`: a deletion, then an insertion, each only if it has bytes.
-/// There must be room for them.
+/// Replaces the `count` bytes from `start` on by `bytes`: a deletion, then an insertion, each only if it has bytes, and
+/// both in a transaction of their own. There must be room for them.
 fn replace_bytes(
     document: &mut Document,
     views: &mut IdTable<View>,
@@ -68,24 +33,27 @@ fn replace_bytes(
     ensures watched { IsWatched document.new.document views.new }
     ensures next { views.new.next ≡ views.old.next }
 {
+    let insertion = TextStep::Insert {
+        place: start,
+        bytes,
+    };
     if count == 0 {
         if bytes.is_empty() {
             return;
         }
-        let insertion = TextStep::Insert {
-            place: start,
-            bytes,
-        };
         return make_step(document, views, notes, false, insertion);
     }
+    let deletion = TextStep::Delete {
+        place: start,
+        count,
+    };
     if bytes.is_empty() {
-        let deletion = TextStep::Delete {
-            place: start,
-            count,
-        };
         return make_step(document, views, notes, false, deletion);
     }
-    replace_some(document, views, notes, start, count, bytes);
+    document.seal_outside_groups();
+    make_step(document, views, notes, false, deletion);
+    make_step(document, views, notes, true, insertion);
+    document.seal_outside_groups();
 }
 
 /// Replaces the `count` bytes from position `start` on by `bytes`, with room that it makes first.
@@ -128,12 +96,8 @@ pub fn replace_with_room(
     if !need.is_counted() {
         return Err(AllocError);
     }
-    let Ok(()) = notes.reserve(need.notes.notes, need.notes.bytes) else {
-        return Err(AllocError);
-    };
-    let Ok(()) = document.reserve(need.document) else {
-        return Err(AllocError);
-    };
+    notes.reserve(need.notes.notes, need.notes.bytes)?;
+    document.reserve(need.document)?;
     replace_bytes(document, views, notes, start, count, bytes);
     Ok(())
 }

@@ -1,6 +1,6 @@
 //! Setting the fold levels and the states of lines.
 
-ghost use Rattle.std.specs.Prelude.{◌≡◌, ◌<◌, ◌-◌, ◌^◌, List, ℕ, true, pos, negsuc, int_le, OnErr};
+ghost use Rattle.std.specs.Prelude.{◌≡◌, ◌<◌, ◌-◌, ◌^◌, true, pos, negsuc, int_le, OnErr, []};
 ghost use Rattle.ed_model.specs.declared.plan.DocumentChange.TheVariants as change;
 ghost use Rattle.ed_model.specs.Session.{lines_in};
 ghost use Rattle.performing.specs.Changed.{Makes};
@@ -17,7 +17,7 @@ pub(crate) fn set_level(
     level: u32,
 ) -> Result<ChangeNote, AllocError>
     requires { line < lines_in document.old.document }
-    ensures made { (text : List ℕ) → Makes text (change.SetLevel line level) document.old document.new result }
+    ensures made { Makes [] (change.SetLevel line level) document.old document.new result }
     ensures err { OnErr result (document.new ≡ document.old) }
 {
     document.reserve_level(line)?;
@@ -49,7 +49,7 @@ pub(crate) fn set_state(
 ) -> Result<ChangeNote, AllocError>
     requires line { line < lines_in document.old.document }
     requires state { (int_le (negsuc (2 ^ 31 - 1)) state ≡ true) × (int_le state (pos (2 ^ 31 - 1)) ≡ true) }
-    ensures { (text : List ℕ) → Makes text (change.SetState line state) document.old document.new result }
+    ensures { Makes [] (change.SetState line state) document.old document.new result }
 {
     document.reserve_state(line)?;
     let state = narrowed(state);

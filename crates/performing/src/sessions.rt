@@ -4,10 +4,9 @@ ghost use Rattle.std.specs.Prelude.{◌≡◌, ◌+◌, ◌<◌, ◌≤◌, ◌^
 ghost use Rattle.ed_model.specs.Changes.{held_less, held_more, session_changed, with_new_document};
 ghost use Rattle.ed_model.specs.Session.{living, new_document};
 ghost use Rattle.id_table.specs.Entries.{value_at};
-ghost use Rattle.document.specs.Kept.{text_from};
 ghost use Rattle.message_requests.specs.Requested.{session_in};
 ghost use Rattle.performing.specs.Kept.{IsKept};
-ghost use Rattle.performing.specs.Asked.{CanChangeSession, asked, document_asked};
+ghost use Rattle.performing.specs.Asked.{CanChangeSession, asked};
 ghost use Rattle.performing.specs.SessionMemory.{AllStays, GrowsForOne, HasPlaceFor, Stays, takes_memory, with_added};
 
 use crate::moving::attach;
@@ -17,53 +16,15 @@ use ed_model::SessionChange;
 use message_requests::SessionState;
 use std::alloc::{AllocError, Global};
 
-/// Replaces the clipboard by the `count` bytes of the document with this id from `start` on (COPY, COPYRANGE).
-///
-/// # Errors
-///
-/// `AllocError` if the allocation fails. The session is then as it was.
-fn copy(
-    alloc: Global,
-    state: &mut SessionState,
-    document: u32,
-    start: usize,
-    count: usize,
-) -> Result<(), AllocError>
-    requires kept { IsKept state.old }
-    requires within { IsSomeAnd (value_at state.old.documents.entries document) (λ k. start + count ≤ length k.document.cells) }
-    ensures copied { let s = session_in state.old in OnOk result (session_in state.new ≡ record s { clipboard = text_from start count (document_asked s.documents document) }) }
-    ensures rest { state.new ≡ record state.old { clipboard = state.new.clipboard } }
-    ensures same { OnErr result (state.new ≡ state.old) }
-    ensures free { count ≡ 0 → IsOk result }
-{
-    let Some(document) = state.documents.get(document) else {
-        unreachable!()
-    };
-    state.clipboard = document.text_to_vec(alloc, start, count, 0)?;
-    Ok(())
-}
-
-/// Replaces the clipboard by the first `count` bytes of a message's text (COPYTEXT).
-///
-/// # Errors
-///
-/// `AllocError` if the allocation fails. The session is then as it was.
-fn copy_text(
-    alloc: Global,
-    state: &mut SessionState,
-    text: &[u8],
-    count: usize,
-) -> Result<(), AllocError>
-    requires within { count ≤ length text.now }
-    ensures copied { let s = session_in state.old in OnOk result (session_in state.new ≡ record s { clipboard = take count text.now }) }
-    ensures rest { state.new ≡ record state.old { clipboard = state.new.clipboard } }
-    ensures same { OnErr result (state.new ≡ state.old) }
+/// Returns the first `count` bytes of a text in a new `Vec`. Allocates nothing if `count` is 0.
+fn copied(alloc: Global, text: &[u8], count: usize) -> Result<Vec<u8>, AllocError>
+    requires { count ≤ length text.now }
+    ensures bytes { IfOk result (λ bytes. bytes.items ≡ take count text.now) }
     ensures free { count ≡ 0 → IsOk result }
 {
     let mut bytes = Vec::with_capacity(alloc, count)?;
     bytes.extend_from_slice(&text[..count])?;
-    state.clipboard = bytes;
-    Ok(())
+    Ok(bytes)
 }
 
 /// Attaches the view to a document that exists (SETDOCPOINTER).
@@ -87,9 +48,7 @@ fn attach_existing(
     let Some(other) = state.documents.get_mut(to) else {
         unreachable!()
     };
-    let Ok(()) = other.reserve_view() else {
-        return Err(AllocError);
-    };
+    other.reserve_view()?;
     attach(state, document, view, to);
     Ok(())
 }
@@ -106,9 +65,7 @@ fn add(documents: &mut DocumentTable, document: Document) -> Result<u32, AllocEr
     ensures same { OnErr result (documents.new ≡ record documents.old { capacity = documents.new.capacity }) }
     ensures grows { GrowsForOne documents.old documents.new.capacity }
 {
-    let Ok(()) = documents.reserve(1) else {
-        return Err(AllocError);
-    };
+    documents.reserve(1)?;
     Ok(documents.insert_reserved(document))
 }
 
@@ -130,9 +87,7 @@ fn attach_new(
     ensures stays { Stays SessionChange.AttachNew state.old state.new }
 {
     let mut new = Document::new(alloc, state.documents.next(), 0)?;
-    let Ok(()) = new.reserve_view() else {
-        return Err(AllocError);
-    };
+    new.reserve_view()?;
     let id = add(&mut state.documents, new)?;
     attach(state, document, view, id);
     Ok(())
@@ -181,7 +136,8 @@ fn release(state: &mut SessionState, document: u32)
     state.documents.release(document);
 }
 
-/// Makes a change of the session for a message with this text to `view`, which is attached to `document`.
+/// Makes a change of the session for a message with this text to `view`, which is attached to `document`. COPY and
+/// COPYRANGE copy bytes of the document to the clipboard, and COPYTEXT those of the text.
 ///
 /// # Errors
 ///
@@ -204,8 +160,17 @@ pub fn change_session(
     ensures clipboard { OnErr result (state.new.clipboard ≡ state.old.clipboard) }
 {
     match change {
-        SessionChange::Copy { start, count } => copy(alloc, state, document, start, count),
-        SessionChange::CopyText { count } => copy_text(alloc, state, text, count),
+        SessionChange::Copy { start, count } => {
+            let Some(document) = state.documents.get(document) else {
+                unreachable!()
+            };
+            state.clipboard = document.text_to_vec(alloc, start, count, 0)?;
+            Ok(())
+        }
+        SessionChange::CopyText { count } => {
+            state.clipboard = copied(alloc, text, count)?;
+            Ok(())
+        }
         SessionChange::Attach { document: to } => attach_existing(state, document, view, to),
         SessionChange::AttachNew => attach_new(alloc, state, document, view),
         SessionChange::Create { options } => create(alloc, state, options),

@@ -1,6 +1,6 @@
 //! Setting styles and indicators, and requests for styles.
 
-ghost use Rattle.std.specs.Prelude.{◌≡◌, ◌≤◌, ◌<◌, ◌+◌, List, ℕ, length, OnErr};
+ghost use Rattle.std.specs.Prelude.{◌≡◌, ◌≤◌, ◌<◌, ◌+◌, length, OnErr, []};
 ghost use Rattle.ed_model.specs.declared.plan.DocumentChange.TheVariants.{StyleRun, StyleBytes, NeedStyle, FillIndicator};
 ghost use Rattle.performing.specs.Changed.{IsMade, Makes};
 
@@ -20,7 +20,7 @@ pub(crate) fn style_run(
 ) -> Result<ChangeNote, AllocError>
     requires within { document.old.document.end_styled + count ≤ length document.old.document.cells }
     requires style { style ≤ 255 }
-    ensures made { (text : List ℕ) → Makes text (StyleRun count style) document.old document.new result }
+    ensures made { Makes [] (StyleRun count style) document.old document.new result }
     ensures err { OnErr result (document.new ≡ document.old) }
 {
     document_is_small(document);
@@ -49,7 +49,7 @@ pub(crate) fn style_bytes(
 #[inline(never)]
 pub(crate) fn need_style(document: &mut Document, start: usize, end: usize) -> ChangeNote
     requires { end ≤ length document.old.document.cells }
-    ensures { (text : List ℕ) → IsMade text (NeedStyle start end) document.old document.new result }
+    ensures { IsMade [] (NeedStyle start end) document.old document.new result }
 {
     document_is_small(document);
     let styled = document.end_styled();
@@ -68,7 +68,7 @@ pub(crate) fn fill_indicator(
 ) -> Result<ChangeNote, AllocError>
     requires indicator { indicator < 32 }
     requires within { start + count ≤ length document.old.document.cells }
-    ensures { (text : List ℕ) → Makes text (FillIndicator indicator start count value) document.old document.new result }
+    ensures { Makes [] (FillIndicator indicator start count value) document.old document.new result }
 {
     document_is_small(document);
     parts_match_text(document);

@@ -8,7 +8,7 @@ ghost use Rattle.ed_model.specs.Changes.{line_note as note_of_line};
 ghost use Rattle.notify.specs.Gathered.{CanPut};
 ghost use Rattle.scene.specs.Scenes.{watchers, AreNamed};
 ghost use Rattle.scene.specs.Telling.{with_notes};
-ghost use Rattle.performing.specs.Notes.{IsFitNote, notes_of, notice_of};
+ghost use Rattle.performing.specs.Notes.{IsFitNote, audience_for, notes_of, notice_of};
 
 use crate::note::ChangeNote;
 use document::Document;
@@ -92,6 +92,16 @@ fn prepare(document: &Document, note: ChangeNote) -> Note
     }
 }
 
+/// Returns which of the views that watch the document are told.
+fn audience_for(note: ChangeNote) -> Audience
+    ensures { result ≡ audience_for note }
+{
+    match note {
+        ChangeNote::SavePointReached | ChangeNote::SavePointLeft => Audience::Everyone,
+        _ => Audience::Hearers,
+    }
+}
+
 /// Notifies the views that watch the document and hear of this change, and asks the view `sender` for styles. There
 /// must be room for the notes. Out of line, so that the hot path does not prepare a note.
 #[inline(never)]
@@ -108,15 +118,15 @@ pub(crate) fn tell(
     ensures { (v : ModelView) → v.id ≡ sender → notes.new ≡ with_notes (notes_of v (watchers document.now.document views.now) document.now.document note) notes.old }
 {
     let mut prepared = prepare(document, note);
-    let audience = match note {
-        ChangeNote::Nothing => return,
+    match note {
+        ChangeNote::Nothing => {}
         ChangeNote::StyleNeeded { .. } => {
             prepared.view = sender;
             notes.put_bare(prepared);
-            return;
         }
-        ChangeNote::SavePointReached | ChangeNote::SavePointLeft => Audience::Everyone,
-        _ => Audience::Hearers,
-    };
-    scene::tell(document, views, notes, &prepared, audience, NoteText::Empty);
+        _ => {
+            let audience = audience_for(note);
+            scene::tell(document, views, notes, &prepared, audience, NoteText::Empty);
+        }
+    }
 }

@@ -4,8 +4,7 @@ ghost use Rattle.std.specs.Prelude.{List, ℕ, IsOk, OnOk, OnErr};
 ghost use Rattle.ed_model.specs.declared.plan.DocumentChange.TheVariants as change;
 ghost use Rattle.notify.specs.Gathered.{Gathered};
 ghost use Rattle.scene.specs.Scenes.{IsWatched};
-ghost use Rattle.performing.specs.Changed.{Changes, IsUnchanged};
-ghost use Rattle.performing.specs.ChangeMemory.{TakesMemory};
+ghost use Rattle.performing.specs.Changed.{Changes, IsUnchanged, TakesMemory};
 ghost use Rattle.performing.specs.ChangeNeeds.{IsReady};
 
 use document::Document;

@@ -1,43 +1,19 @@
 //! Changes of a view: its settings, its selection, and which lines it shows.
 
-ghost use Rattle.std.specs.Prelude.{◌≡◌, [], length, IsOk, OnOk, OnErr};
-ghost use Rattle.ed_model.specs.Changes.{changed_view, view_change_performed};
-ghost use Rattle.ed_view.specs.Folding.{IsWithin};
+ghost use Rattle.std.specs.Prelude.{◌≡◌, [], IsOk, OnOk, OnErr};
+ghost use Rattle.ed_model.specs.Changes.{view_change_performed};
 ghost use Rattle.message_requests.specs.Requested.{session_in};
 ghost use Rattle.performing.specs.Kept.{IsKept};
 ghost use Rattle.performing.specs.Asked.{CanChangeView, asked};
-ghost use Rattle.performing.specs.Folding.{GrowsAtMost, HasFoldRoomAt, HasRoomFor, OnlyViewChanges};
+ghost use Rattle.performing.specs.Folding.{HasFoldRoomAt, OnlyViewChanges};
 
-use contraction::Levels;
 use ed_model::ViewChange;
-use ed_view::{View, fit_changes_are_within, is_setting};
+use ed_view::{fit_changes_are_within, is_setting};
 use message_requests::SessionState;
 use std::alloc::AllocError;
 
-/// Makes a change of a view, and makes room for it before, for lines that it hides or contracts. `levels` are the fold
-/// levels of the view's document.
-///
-/// # Errors
-///
-/// `AllocError` if an allocation fails. The view is then as it was.
-fn change_with_room(view: &mut View, levels: &Levels, change: ViewChange) -> Result<(), AllocError>
-    requires levels { length levels.now ≡ length view.old.view.flags }
-    requires within { IsWithin (length view.old.view.flags) change }
-    ensures changed { OnOk result (view.new.view ≡ changed_view levels.now change view.old.view) }
-    ensures same { OnErr result (view.new.view ≡ view.old.view) }
-    ensures free { HasRoomFor change view.old → IsOk result }
-    ensures room { GrowsAtMost change view.old view.new }
-{
-    let need = view.fold_need(change);
-    let Ok(()) = view.reserve_folding(need) else {
-        return Err(AllocError);
-    };
-    view.change(levels, change);
-    Ok(())
-}
-
-/// Makes a change of `view` by the fold levels of its document. Out of line, so that a change of a setting does not pay
-/// for its stack frame.
+/// Makes a change of `view` by the fold levels of its document, with room that it makes first for lines that it hides
+/// or contracts. Out of line, so that a change of a setting does not pay for its stack frame.
 #[inline(never)]
 fn change_by_levels(
     state: &mut SessionState,
@@ -65,7 +41,10 @@ fn change_by_levels(
     let Some(view) = views.get_mut(view) else {
         unreachable!()
     };
-    change_with_room(view, &document.rows().fold_levels(), change)
+    let need = view.fold_need(change);
+    view.reserve_folding(need)?;
+    view.change(&document.rows().fold_levels(), change);
+    Ok(())
 }
 
 /// Makes a change of `view`, which is attached to `document`: of a setting, of the selection, or of the lines that it

@@ -1,5 +1,5 @@
 -- Values that are kept by id, and what the model finds by id.
-use Rattle.std.proofs.Common.{◌≡◌, ◌≢◌, ℕ, ◌==◌, Bool, true, false, cond, List, [], ◌∷◌, map, map-id, refl, ap, sym, ◌∙◌, subst, Option, Some, None, option_map, IsSomeAnd}
+use Rattle.std.proofs.Common.{◌≡◌, ◌≢◌, ℕ, ◌==◌, Bool, true, false, cond, List, [], ◌∷◌, map, map-id, refl, ap, sym, ◌∙◌, subst, Option, Some, None, option_map}
 use Rattle.std.specs.Prelude.{find, if◌then◌else◌}
 use Rattle.std.specs.List.{AllByRecursion}
 use Rattle.std.proofs.lemmas.Bool.{cond_both, eqb-true, ne_eqb}
@@ -7,7 +7,7 @@ use Rattle.std.proofs.lemmas.Simd.{map-map}
 use Rattle.ed_model.specs.SoundLaws.{Rise}
 use Rattle.ed_model.specs.Session.{Document, View}
 use Rattle.ed_types.specs.proved.Found.{found_test}
-use Rattle.ed_model.specs.proved.Elements.{all_map, all_weaker, found_all, map_where}
+use Rattle.ed_model.specs.proved.Elements.{all_map, all_weaker, map_where}
 use Rattle.ed_model.specs.proved.Finding.{found_once, mapped_found}
 use Rattle.id_table.specs.Entries.{Entry, entry, id_of, in_place_at, value_of, value_at, with_value_at}
 
@@ -19,11 +19,7 @@ module _ {X : Type 0} (own : X → ℕ) where
   pub own_at : (xs : List X) (id : ℕ) (x : X) → at_id xs id ≡ Some x → own x ≡ id
   own_at xs id x e = eqb-true (own x) id (found_test (λ x. own x == id) xs x e)
 
-  pub holds_at : (P : X → Type 0) (xs : List X) (id : ℕ) (x : X) → AllByRecursion P xs → at_id xs id ≡ Some x → P x
-  holds_at P xs id x all e = found_all P (λ x. own x == id) xs x all e
-
-  one_changes : (g : X → X) (id : ℕ) (w : X) (xs : List X) → AllByRecursion (λ x. own x ≡ id → x ≡ w) xs
-      → map (λ x. if own x == id then g w else x) xs ≡ map (λ x. if own x == id then g x else x) xs
+  one_changes : (g : X → X) (id : ℕ) (w : X) (xs : List X) → AllByRecursion (λ x. own x ≡ id → x ≡ w) xs → map (λ x. if own x == id then g w else x) xs ≡ map (λ x. if own x == id then g x else x) xs
   one_changes g id w xs all =
       map_where (λ x. cond (own x == id) (g w) x) (λ x. cond (own x == id) (g x) x) xs
       (all_weaker (λ x. own x ≡ id → x ≡ w) (λ x. cond (own x == id) (g w) x ≡ cond (own x == id) (g x) x) (λ x is. go (own x == id) x (λ t. is (eqb-true (own x) id t))) xs all)
@@ -57,9 +53,6 @@ module _ {V : Type 0} where
       go : (o : Option (Entry V)) → find (λ (e : Entry V). e.id == id) entries ≡ o → option_map value_of o ≡ Some old → option_map value_of (option_map (in_place_at id new) o) ≡ Some new
       go None f at = absurd (cc)
       go (Some e) f at = ap (λ b. Some (value_of (cond b (entry id new) e))) (found_test (λ (e : Entry V). e.id == id) entries e f)
-
-  pub for_replaced : (P : V → Type 0) (entries : List (Entry V)) (id : ℕ) (old new : V) → value_at entries id ≡ Some old → P new → IsSomeAnd (value_at (with_value_at id new entries) id) P
-  for_replaced P entries id old new at is = subst (λ o. IsSomeAnd o P) (sym (value_replaced entries id old new at)) is
 
 -- Entries whose values have the entry's id.
 module _ {V X : Type 0} (f : V → X) (own : X → ℕ) where
@@ -97,11 +90,9 @@ module _ {V X : Type 0} (f : V → X) (own : X → ℕ) where
   pub kept_as : (entries : List (Entry V)) (id : ℕ) (x : X) → AllByRecursion IsNamed entries → at_id own (seen entries) id ≡ Some x → IsKeptAs (value_at entries id) x
   kept_as entries id x all e = some_kept (value_at entries id) x (sym (found entries id all) ∙ e)
 
-  pub replaced : (entries : List (Entry V)) (id : ℕ) (w : V) → AllByRecursion IsNamed entries
-      → seen (with_value_at id w entries) ≡ map (λ x. if own x == id then f w else x) (seen entries)
+  pub replaced : (entries : List (Entry V)) (id : ℕ) (w : V) → AllByRecursion IsNamed entries → seen (with_value_at id w entries) ≡ map (λ x. if own x == id then f w else x) (seen entries)
   replaced entries id w all =
-      map-map (λ (e : Entry V). f e.value) (in_place_at id w) entries
-      ∙ map_where (λ e. f (in_place_at id w e).value) (λ (e : Entry V). cond (own (f e.value) == id) (f w) (f e.value)) entries
+      map-map (λ (e : Entry V). f e.value) (in_place_at id w) entries ∙ map_where (λ e. f (in_place_at id w e).value) (λ (e : Entry V). cond (own (f e.value) == id) (f w) (f e.value)) entries
       (all_weaker IsNamed (λ (e : Entry V). f (in_place_at id w e).value ≡ cond (own (f e.value) == id) (f w) (f e.value))
       (λ e is. go (e.id == id) e ∙ ap (λ n. cond (n == id) (f w) (f e.value)) is) entries all)
       ∙ sym (map-map (λ x. cond (own x == id) (f w) x) (λ (e : Entry V). f e.value) entries)
@@ -141,8 +132,7 @@ module _ {V X : Type 0} (f : V → X) (own : X → ℕ) where
     -- what is the same of the old and the new value stays the same of all values
     pub keeping : {Y : Type 0} (g : V → Y) → g new ≡ g old → map (λ (e : Entry V). g e.value) (with_value_at id new entries) ≡ map (λ (e : Entry V). g e.value) entries
     keeping g same =
-        map-map (λ (e : Entry V). g e.value) (in_place_at id new) entries
-        ∙ map_where (λ e. g (in_place_at id new e).value) (λ (e : Entry V). g e.value) entries
+        map-map (λ (e : Entry V). g e.value) (in_place_at id new) entries ∙ map_where (λ e. g (in_place_at id new e).value) (λ (e : Entry V). g e.value) entries
         (all_weaker (λ (e : Entry V). e.id ≡ id → e.value ≡ old) (λ e. g (in_place_at id new e).value ≡ g e.value)
         (λ e is. cond_both (e.id == id) (entry id new) e (λ (x : Entry V). g x.value ≡ g e.value) (λ t. same ∙ ap g (sym (is (eqb-true e.id id t)))) (λ _. refl))
         entries (kept_once high entries id old named rise at))

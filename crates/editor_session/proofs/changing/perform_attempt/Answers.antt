@@ -4,11 +4,9 @@ use Rattle.editor_session.proofs.changing.perform_attempt.Goals as goal
 -- no more views watch than the document lists
 watched_few : (views : List View) (ids : List ℕ) → length (filter_map (view_at views) ids) ≤ length ids
 watched_few views [] = omega arith
-watched_few views (id ∷ ids) = go (view_at views id) (watched_few views ids)
-  where
-    go : (o : Option View) → length (filter_map (view_at views) ids) ≤ length ids → length (cons_option o (filter_map (view_at views) ids)) ≤ length (id ∷ ids)
-    go None h = omega arith
-    go (Some v) h = omega arith
+watched_few views (id ∷ ids) =
+    let rest = watched_few views ids in
+    elim (view_at views id) as (λ (o : Option View). length (cons_option o (filter_map (view_at views) ids)) ≤ length (id ∷ ids)) [ None ↦ omega (arith, rest) | Some v ↦ omega (arith, rest) ]
 
 pub attempt-requires-clause-room : goal.attempt-requires-clause-room
 attempt-requires-clause-room c =

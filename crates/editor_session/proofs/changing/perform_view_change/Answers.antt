@@ -1,8 +1,8 @@
 use Rattle.editor_session.proofs.Names.{pos, ap, sym, subst, quiet, IsSound, DocumentsAreNamed, SessionState, err_from_is_err_and}
-use Rattle.editor_session.proofs.Folding.{fold_room}
+use Rattle.editor_session.proofs.DocumentChanges.{fold_room}
 use Rattle.editor_session.proofs.Keeping.{kept_with}
 use Rattle.editor_session.proofs.OneDocument.{kept_performed}
-use Rattle.editor_session.proofs.PlanLemmas.{can_change_view}
+use Rattle.editor_session.proofs.TableWay.{can_change_view}
 use Rattle.editor_session.proofs.changing.perform_view_change.Goals as goal
 
 pub change_view-requires : goal.change_view-requires

@@ -1,4 +1,4 @@
-use Rattle.editor_session.proofs.Names.{◌≡◌, [], pos, false, true, length, refl, sym, ap, ◌∙◌, subst, Document, text_of, converted, session_in, request_of, option_copied_mut, SessionState, TakesWithin, IsPastedFor, taken_along, rules, err_from_is_err_and}
+use Rattle.editor_session.proofs.Names.{◌≡◌, [], pos, false, true, length, refl, sym, ap, ◌∙◌, Document, text_of, converted, session_in, request_of, option_copied_mut, SessionState, TakesWithin, taken_along, rules, err_from_is_err_and}
 use Rattle.editor_session.proofs.EditLemmas.{edit_takes, free_steps, free_taken, free_pasted, steps_are, within_here, wide_here, edit_performed}
 use Rattle.editor_session.proofs.OneDocument.{document_here, for_document, of_document, missing, watched_here, with_scene, still_named, same_session, still_kept, kept_performed}
 use Rattle.editor_session.proofs.editing.perform_edit.Goals as goal
@@ -16,31 +16,25 @@ unreachable-requires c = missing c.requires.kept c.requires.can.request (sym c.g
 
 pub edit_with_room-requires : goal.edit_with_room-requires
 edit_with_room-requires c =
-    let a = c.args in let s = a.state.now in let q = c.requires in let old = c.in-Some.document.now in let held = c.deref.result.now in let clipboard = c.deref.ensures.value in
+    let a = c.args in let q = c.requires in let old = c.in-Some.document.now in let held = c.deref.result.now in let pasted = c.in_ok-pasted in
     let at = sym c.get_mut.ensures.value ∙ ap option_copied_mut c.in-Some.is in
     let same : c.message.inside.text.now ≡ a.task.now.message.now.text = search rules in
-    let line_end = (request_of (session_in s) a.task.now.view a.task.now.message.now).document.line_end in
-    let pasted : IsPastedFor a.edit s.clipboard.items line_end c.deref-2.result.now = subst (λ x. IsPastedFor a.edit s.clipboard.items line_end x) (sym c.deref-2.ensures.value)
-    (of_document q.kept q.can.request (λ (d : Document). IsPastedFor a.edit s.clipboard.items d.line_end c.in_ok-pasted.pasted.items) c.in_ok-pasted.ensures.pasted) in
     record {
-      within = within_here q.kept q.can held c.deref-2.result.now same clipboard pasted old at;
-      wide = wide_here q.kept q.can held c.deref-2.result.now same clipboard pasted old at c.plans_are_fit.ensures.edit_steps;
+      within = within_here q.kept q.can held c.deref-2.result.now pasted.pasted.items same c.deref.ensures.value c.deref-2.ensures.value pasted.ensures.pasted old at;
+      wide = wide_here q.kept q.can held c.deref-2.result.now pasted.pasted.items same c.deref.ensures.value c.deref-2.ensures.value pasted.ensures.pasted old at c.plans_are_fit.ensures.edit_steps;
       watched = watched_here q.kept q.can.request old at;
     }
 
 pub returns : goal.returns
 returns c =
     let a = c.args in let s = a.state.now in let q = c.requires in let old = c.in-Some.document.now in let n = c.edit_with_room.new in
-    let e = c.in_ok-edit_with_room.ensures in let f = c.follow_edit in let next = f.ensures.next in
+    let e = c.in_ok-edit_with_room.ensures in let f = c.follow_edit in let next = f.ensures.next in let pasted = c.in_ok-pasted in
     let at = sym c.get_mut.ensures.value ∙ ap option_copied_mut c.in-Some.is in
     let same : c.message.inside.text.now ≡ a.task.now.message.now.text = search rules in
-    let line_end = (request_of (session_in s) a.task.now.view a.task.now.message.now).document.line_end in
-    let pasted : IsPastedFor a.edit s.clipboard.items line_end c.deref-2.result.now = subst (λ x. IsPastedFor a.edit s.clipboard.items line_end x) (sym c.deref-2.ensures.value)
-    (of_document q.kept q.can.request (λ (d : Document). IsPastedFor a.edit s.clipboard.items d.line_end c.in_ok-pasted.pasted.items) c.in_ok-pasted.ensures.pasted) in
     let taken = of_document q.kept q.can.request (λ (d : Document). c.in_ok-taken.taken.items ≡ taken_along a.follow (text_of d)) c.in_ok-taken.ensures.taken in
     let put : SessionState = with_scene s a.task.now.document n.document f.new.views in
     let s' : SessionState = record put { clipboard = f.new.clipboard } in
-    let made = edit_performed q.kept q.can c.deref.result.now c.deref-2.result.now same c.deref.ensures.value pasted old at n.document n.views f.new.views a.notes.now n.notes s' c.in_ok-taken.taken.items e.scene e.id e.next
+    let made = edit_performed q.kept q.can c.deref.result.now c.deref-2.result.now pasted.pasted.items same c.deref.ensures.value c.deref-2.ensures.value pasted.ensures.pasted old at n.document n.views f.new.views a.notes.now n.notes s' c.in_ok-taken.taken.items e.scene e.id e.next
     (rw next refl) f.ensures.views f.ensures.clipboard taken in
     record {
       done = made;
@@ -52,18 +46,15 @@ returns c =
 pub returns-in_err-edit_with_room : goal.returns-in_err-edit_with_room
 returns-in_err-edit_with_room c =
     let a = c.args in let s = a.state.now in let id = a.task.now.document in let q = c.requires in let old = c.in-Some.document.now in let n = c.edit_with_room.new in
-    let e = c.in_err-edit_with_room.ensures in
+    let e = c.in_err-edit_with_room.ensures in let pasted = c.in_ok-pasted in
     let at = sym c.get_mut.ensures.value ∙ ap option_copied_mut c.in-Some.is in
     let same : c.message.inside.text.now ≡ a.task.now.message.now.text = search rules in
-    let line_end = (request_of (session_in s) a.task.now.view a.task.now.message.now).document.line_end in
-    let pasted : IsPastedFor a.edit s.clipboard.items line_end c.deref-2.result.now = subst (λ x. IsPastedFor a.edit s.clipboard.items line_end x) (sym c.deref-2.ensures.value)
-    (of_document q.kept q.can.request (λ (d : Document). IsPastedFor a.edit s.clipboard.items d.line_end c.in_ok-pasted.pasted.items) c.in_ok-pasted.ensures.pasted) in
     rw (err_from_is_err_and c.from_residual-in_err-edit_with_room.result c.from_residual-in_err-edit_with_room.ensures.1).1
     (record {
       done = tt;
       same = same_session s q.kept id old n.document at n.views e.same e.same_views;
       kept = still_kept s q.kept id old n.document at n.views e.same e.same_views;
-      free = λ free. e.free (steps_are q.kept q.can c.deref.result.now c.deref-2.result.now same c.deref.ensures.value pasted old at ∙ free_steps (request_of (session_in s) a.task.now.view a.task.now.message.now) a.edit (pos 0) a.follow free);
+      free = λ free. e.free (steps_are q.kept q.can c.deref.result.now c.deref-2.result.now pasted.pasted.items same c.deref.ensures.value c.deref-2.ensures.value pasted.ensures.pasted old at ∙ free_steps (request_of (session_in s) a.task.now.view a.task.now.message.now) a.edit (pos 0) a.follow free);
     })
 
 pub returns-in_err-pasted-clause-free : goal.returns-in_err-pasted-clause-free

@@ -1,6 +1,6 @@
 use Rattle.editor_session.proofs.Names.{sym, ap, ◌∙◌, option_copied_mut, KeptView, view_in, id_of_view, changed, named_with, rules}
 use Rattle.selection.specs.declared.selections.Selection.{Selection}
-use Rattle.editor_session.proofs.Finding.{no_view_changed}
+use Rattle.editor_session.proofs.OneDocument.{no_view_changed}
 use Rattle.editor_session.proofs.edits.set_caret.Goals as goal
 
 pub returns-in-Some : goal.returns-in-Some

@@ -3,8 +3,7 @@ use Rattle.ed_model.specs.declared.plan.Plan.TheVariants as plan
 use Rattle.performing.specs.SessionMemory.{takes_memory}
 use Rattle.editor_session.proofs.Keeping.{kept_with}
 use Rattle.editor_session.proofs.OneDocument.{document_here, for_document, kept_performed, of_document}
-use Rattle.editor_session.proofs.PlanLemmas.{can_as, can_change_session, performed_as, revalued, session_changed_so}
-use Rattle.editor_session.proofs.TableWay.{quietly}
+use Rattle.editor_session.proofs.TableWay.{can_as, can_change_session, performed_as, revalued, session_changed_so, quietly}
 use Rattle.editor_session.proofs.perform.perform.Goals as goal
 
 -- the bytes that are handed out are those of the request's document

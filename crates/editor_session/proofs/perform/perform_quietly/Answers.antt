@@ -1,7 +1,6 @@
 use Rattle.editor_session.proofs.Names.{rules, [], pos, refl}
 use Rattle.ed_model.specs.declared.plan.Plan.TheVariants as plan
-use Rattle.editor_session.proofs.PlanLemmas.{can_as, performed_as, revalued}
-use Rattle.editor_session.proofs.TableWay.{quietly}
+use Rattle.editor_session.proofs.TableWay.{can_as, performed_as, revalued, quietly}
 use Rattle.editor_session.proofs.perform.perform_quietly.Goals as goal
 
 pub returns-in-Answer-clause-done : goal.returns-in-Answer-clause-done

@@ -1,4 +1,4 @@
-use Rattle.editor_session.proofs.Names.{rules, ◌≡◌, ◌∙◌, Ok, Err, ap, subst, IsFitPlanned, answered, plan_of, request_of, session_in, err_from_is_err_and}
+use Rattle.editor_session.proofs.Names.{rules, ◌≡◌, ◌∙◌, Err, ap, subst, IsFitPlanned, answered, plan_of, request_of, session_in, err_from_is_err_and}
 use Rattle.editor_session.proofs.TableWay.{has_plan, refused_so}
 use Rattle.editor_session.proofs.sending.answer_by_plan.Goals as goal
 

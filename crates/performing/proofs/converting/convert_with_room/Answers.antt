@@ -1,8 +1,6 @@
-use Rattle.performing.proofs.EditNames.{◌≡◌, ap, sym, ◌∙◌, subst, rules, CanHoldEdit, Document, text_of, Kept, Scene, edit_made, edit_made_id, scene_in, room_of_steps}
 use Rattle.ed_model.specs.LineEnds.{conversion_steps}
 use Rattle.scene.specs.declared.need.NoteRoom.{NoteRoom}
-use Rattle.performing.proofs.Asked.{capped_fits, no_steps, room_made}
-use Rattle.performing.proofs.Stepping.{edit_held}
+use Rattle.performing.proofs.Edits.{◌≡◌, ap, sym, ◌∙◌, subst, rules, CanHoldEdit, Document, text_of, Kept, Scene, edit_made, edit_made_id, scene_in, room_of_steps, capped_fits, no_steps, room_made, edit_held}
 use Rattle.performing.proofs.converting.convert_with_room.Goals as goal
 
 pub returns-then-need-eq0-clause-scene : goal.returns-then-need-eq0-clause-scene
@@ -18,8 +16,7 @@ reserve-requires-2 c =
 
 pub convert-requires : goal.convert-requires
 convert-requires c =
-    let a = c.args in let d = a.document.now.document in let need = c.conversion_need-need in
-    let same = ap (λ (k : Kept). k.document) c.reserve-2.ensures.grown.0 in
+    let a = c.args in let d = a.document.now.document in let need = c.conversion_need-need in let same = ap (λ (k : Kept). k.document) c.reserve-2.ensures.grown.0 in
     let counted = c.is_counted.ensures.counted c.if-not-is_counted.false in
     let holds = edit_held c.needs_are_enough.ensures (conversion_steps a.to (text_of d)) d a.views.now.entries a.notes.now c.reserve.new.self need.result (search rules)
     (ap (λ (n : NoteRoom). n.notes) need.ensures.notes) (ap (λ (n : NoteRoom). n.bytes) need.ensures.notes) counted in
@@ -31,10 +28,8 @@ convert-requires c =
 
 pub returns-clause-scene : goal.returns-clause-scene
 returns-clause-scene c =
-    let a = c.args in let d = a.document.now.document in let views = a.views.now.entries in
-    let before : c.reserve.new.self.notes ≡ a.notes.now.notes = search rules in
-    c.convert.ensures.scene
-    ∙ ap (λ (k : Kept). edit_made (conversion_steps a.to (text_of k.document)) (scene_in k.document views c.reserve.new.self.notes)) c.reserve-2.ensures.grown.0
+    let a = c.args in let d = a.document.now.document in let views = a.views.now.entries in let before : c.reserve.new.self.notes ≡ a.notes.now.notes = search rules in
+    c.convert.ensures.scene ∙ ap (λ (k : Kept). edit_made (conversion_steps a.to (text_of k.document)) (scene_in k.document views c.reserve.new.self.notes)) c.reserve-2.ensures.grown.0
     ∙ ap (λ ns. edit_made (conversion_steps a.to (text_of d)) (scene_in d views ns)) before
 
 pub returns-clause-id : goal.returns-clause-id

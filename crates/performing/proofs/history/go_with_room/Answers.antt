@@ -1,7 +1,5 @@
-use Rattle.performing.proofs.EditNames.{◌≡◌, ap, ◌∙◌, rules, Kept, Scene, scene_in, bits_of, room_of_changes}
 use Rattle.document.specs.Undoing.{changes_of, history_behind}
-use Rattle.performing.proofs.Asked.{capped_fits, room_made}
-use Rattle.performing.proofs.Going.{transaction_keeps_id}
+use Rattle.performing.proofs.Edits.{ap, ◌∙◌, rules, Kept, Scene, scene_in, bits_of, room_of_changes, capped_fits, room_made, transaction_keeps_id}
 use Rattle.performing.proofs.history.go_with_room.Goals as goal
 
 pub reserve-requires-2 : goal.reserve-requires-2

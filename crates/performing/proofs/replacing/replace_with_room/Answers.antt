@@ -1,6 +1,4 @@
-use Rattle.performing.proofs.EditNames.{◌≡◌, ap, sym, ◌∙◌, subst, rules, CanHoldEdit, Document, text_of, Kept, Scene, edit_made, edit_made_id, replacement, scene_in, room_of_steps, SceneNeed}
-use Rattle.performing.proofs.Asked.{capped_fits, no_steps, room_made}
-use Rattle.performing.proofs.Stepping.{edit_held}
+use Rattle.performing.proofs.Edits.{◌≡◌, ap, sym, ◌∙◌, subst, rules, CanHoldEdit, Document, text_of, Kept, Scene, edit_made, edit_made_id, replacement, scene_in, room_of_steps, SceneNeed, capped_fits, no_steps, room_made, edit_held}
 use Rattle.performing.proofs.replacing.replace_with_room.Goals as goal
 
 pub returns-then-need-eq0-clause-scene : goal.returns-then-need-eq0-clause-scene
@@ -30,8 +28,7 @@ replace_bytes-requires-clause-notes c =
 
 pub returns-clause-scene : goal.returns-clause-scene
 returns-clause-scene c =
-    let a = c.args in let d = a.document.now.document in let views = a.views.now.entries in
-    let before : c.reserve.new.self.notes ≡ a.notes.now.notes = search rules in
+    let a = c.args in let d = a.document.now.document in let views = a.views.now.entries in let before : c.reserve.new.self.notes ≡ a.notes.now.notes = search rules in
     c.replace_bytes.ensures.scene
     ∙ ap (λ (k : Kept). edit_made (replacement a.start a.count a.bytes.now (text_of k.document)) (scene_in k.document views c.reserve.new.self.notes)) c.reserve-2.ensures.grown.0
     ∙ ap (λ ns. edit_made (replacement a.start a.count a.bytes.now (text_of d)) (scene_in d views ns)) before

@@ -1,5 +1,4 @@
-use Rattle.performing.proofs.SessionNames.{◌+◌, ap, sym, ◌∙◌, option_copied_mut, Kept, session_in, document_of, id_of_document, changed}
-use Rattle.performing.proofs.MemoryLemmas.{documents_alone, one_stays}
+use Rattle.performing.proofs.SessionLemmas.{◌+◌, ap, sym, ◌∙◌, option_copied_mut, Kept, session_in, document_of, id_of_document, changed, documents_alone, one_stays}
 use Rattle.performing.proofs.sessions.add_reference.Goals as goal
 
 pub returns-clause-stays : goal.returns-clause-stays

@@ -1,7 +1,4 @@
-use Rattle.performing.proofs.SessionNames.{◌≤◌, ◌+◌, max, length, ap, sym, ◌∙◌, refl, subst, AttachNew, Kept, KeepsRoom, CanAttach, attached, document_of, new_document, new_kept, session_in, eq-eqb}
-use Rattle.performing.proofs.AskedLemmas.{sender_of}
-use Rattle.performing.proofs.MemoryLemmas.{has_room, stays_then}
-use Rattle.performing.proofs.SessionLemmas.{can_attach_new, few_ids, session_more, stays_more}
+use Rattle.performing.proofs.SessionLemmas.{◌≤◌, ◌+◌, max, length, ap, sym, ◌∙◌, refl, subst, AttachNew, Kept, KeepsRoom, CanAttach, attached, document_of, new_document, new_kept, session_in, eq-eqb, sender_of, has_room, stays_then, can_attach_new, few_ids, session_more, stays_more}
 use Rattle.performing.proofs.sessions.attach_new.Goals as goal
 
 pub add-requires : goal.add-requires
@@ -9,12 +6,11 @@ add-requires c = record { few = few_ids c.requires.kept c.requires.can.fit }
 
 pub attach-requires : goal.attach-requires
 attach-requires c =
-    let s = c.args.state.now in
-    let made = c.in_ok-new.ensures ∙ ap (λ id. new_kept id 0) c.next.ensures.next in
+    let s = c.args.state.now in let made = c.in_ok-new.ensures ∙ ap (λ id. new_kept id 0) c.next.ensures.next in
     let new = c.reserve_view.ensures.grown.0 ∙ ap (λ (k : Kept). record k { capacity = record k.capacity { views = c.reserve_view.new.self.capacity.views } }) made in
     record {
       can = subst (CanAttach (record s { documents = c.add.new.documents }) c.args.document c.args.view) (sym c.in_ok-id.ensures.id)
-          (can_attach_new c.requires.kept c.reserve_view.new.self c.add.new.documents c.in_ok-id.ensures.added c.requires.can.request (ap document_of new) c.in-Ok.ensures.reserved.0);
+          (can_attach_new c.requires.kept c.reserve_view.new.self c.add.new.documents c.in_ok-id.ensures.added c.requires.can.request (ap document_of new) c.in_ok-reserve_view.ensures.reserved.0);
     }
 
 pub returns : goal.returns

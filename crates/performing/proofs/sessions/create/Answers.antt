@@ -1,5 +1,4 @@
-use Rattle.performing.proofs.SessionNames.{◌≡◌, ◌+◌, ap, sym, ◌∙◌, refl, subst, Create, Kept, document_of, new_document, new_kept, with_held_by_callers}
-use Rattle.performing.proofs.SessionLemmas.{few_ids, session_more, stays_more}
+use Rattle.performing.proofs.SessionLemmas.{◌≡◌, ◌+◌, ap, sym, ◌∙◌, refl, subst, Create, Kept, document_of, new_document, new_kept, with_held_by_callers, few_ids, session_more, stays_more}
 use Rattle.performing.proofs.sessions.create.Goals as goal
 
 pub add-requires : goal.add-requires

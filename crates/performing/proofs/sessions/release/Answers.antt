@@ -1,6 +1,4 @@
-use Rattle.performing.proofs.SessionNames.{refl, released}
-use Rattle.performing.proofs.MemoryLemmas.{documents_alone, one_left}
-use Rattle.performing.proofs.SessionLemmas.{released_so}
+use Rattle.performing.proofs.SessionLemmas.{refl, released, documents_alone, one_left, released_so}
 use Rattle.performing.proofs.sessions.release.Goals as goal
 
 pub returns : goal.returns

@@ -1,22 +1,18 @@
-use Rattle.performing.proofs.ChangeNames.{◌≡◌, refl, ap, ◌∙◌, subst, take, arith, common_steps, length-map, Option, ℕ, change_style, range_notes, notes_of, Cell, Kept, styled, styles_of}
-use Rattle.performing.proofs.Ranges.{range_small, take_own}
+use Rattle.performing.proofs.Changes.{◌≡◌, refl, ap, ◌∙◌, subst, take, arith, common_steps, length-map, Option, ℕ, change_style, range_notes, notes_of, Cell, Kept, styled, styles_of, range_small, length, take_all}
 use Rattle.performing.proofs.style_changes.style_bytes.Goals as goal
 
 pub range_note-requires : goal.range_note-requires
 range_note-requires c =
-    let d = c.args.document.now.document in
-    let same : c.reserve_styles.new.self.document ≡ d = ap (λ (k : Kept). k.document) c.reserve_styles.ensures.grown.0 in
-    let l = length-map d.cells (λ (c : Cell). c.style) in
-    let small = c.document_is_small.ensures.text in
+    let d = c.args.document.now.document in let same : c.reserve_styles.new.self.document ≡ d = ap (λ (k : Kept). k.document) c.reserve_styles.ensures.grown.0 in
+    let l = length-map d.cells (λ (c : Cell). c.style) in let small = c.document_is_small.ensures.text in
     range_small c.style_bytes-changed.result (styles_of d.cells) (styles_of c.style_bytes-changed.new.self.document.cells) (rw same at c.style_bytes-changed.ensures.changed) (omega arith)
 
 pub returns : goal.returns
 returns c =
-    let d = c.args.document.now.document in
-    let new = c.style_bytes-changed.new.self in
+    let d = c.args.document.now.document in let new = c.style_bytes-changed.new.self in
     let same : c.reserve_styles.new.self.document ≡ d = ap (λ (k : Kept). k.document) c.reserve_styles.ensures.grown.0 in
     record {
-      document = ap (λ (k : Kept). k.document) c.style_bytes-changed.ensures.document ∙ rw same (ap (λ ss. styled ss d) (take_own (take c.args.count c.args.text.now)));
+      document = ap (λ (k : Kept). k.document) c.style_bytes-changed.ensures.document ∙ rw same (ap (λ ss. styled ss d) (take_all (length (take c.args.count c.args.text.now)) (take c.args.count c.args.text.now) (omega arith)));
       told = λ v views. subst (λ (o : Option (ℕ × ℕ)). range_notes change_style o views ≡ notes_of v views new.document c.range_note.result) (rw same at c.style_bytes-changed.ensures.changed)
           (c.range_note.ensures.told change_style v views new.document refl);
       fits = c.range_note.ensures.fits new.document;

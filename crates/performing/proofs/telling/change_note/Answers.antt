@@ -1,4 +1,4 @@
-use Rattle.performing.proofs.ChangeNames.{[], ap, Notice}
+use Rattle.performing.proofs.Names.{[], ap, Notice}
 use Rattle.performing.proofs.telling.change_note.Goals as goal
 
 pub returns : goal.returns

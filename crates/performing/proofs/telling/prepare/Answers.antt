@@ -1,4 +1,4 @@
-use Rattle.performing.proofs.ChangeNames.{◌≡◌, [], ap, arith, w64, to_z, pos, ints, Notice}
+use Rattle.performing.proofs.Names.{◌≡◌, [], ap, arith, w64, to_z, pos, ints, Notice}
 use Rattle.performing.proofs.telling.prepare.Goals as goal
 
 pub returns-in-Nothing : goal.returns-in-Nothing
@@ -12,7 +12,5 @@ returns-in-SavePointLeft c = rw c.in-SavePointLeft.is (c.blank-in-SavePointLeft.
 
 pub returns-in-StyleNeeded : goal.returns-in-StyleNeeded
 returns-in-StyleNeeded c =
-    let past = c.in-StyleNeeded.end in
-    let fits = rw c.in-StyleNeeded.is at c.requires in
-    let p : to_z w64 past ≡ pos past = omega (arith, ints, fits) in
+    let past = c.in-StyleNeeded.end in let fits = rw c.in-StyleNeeded.is at c.requires in let p : to_z w64 past ≡ pos past = omega (arith, ints, fits) in
     rw (c.in-StyleNeeded.is, p) (ap (λ (n : Notice). record n { position = pos past }) (c.blank-request.ensures []))

@@ -1,5 +1,4 @@
-use Rattle.performing.proofs.SessionNames.{[], refl, ap, sym, ◌∙◌, option_copied_mut, KeptView, changed_view_id, view_in}
-use Rattle.performing.proofs.AskedLemmas.{no_view, document_for, levels_in, view_changed, only_view, capacity_stays}
+use Rattle.performing.proofs.SessionLemmas.{[], refl, ap, sym, ◌∙◌, option_copied_mut, KeptView, changed_view_id, view_in, no_view, document_for, levels_in, view_changed, only_view, capacity_stays}
 use Rattle.performing.proofs.views.change_view.Goals as goal
 
 pub unreachable-requires : goal.unreachable-requires

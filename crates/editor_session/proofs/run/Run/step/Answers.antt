@@ -1,8 +1,8 @@
-use Rattle.editor_session.proofs.Names.{rules, ◌≡◌, Some, None, Ok, Err, pos, OnOk, sym, ap, subst, true, false, ◌∙◌, Response, Running, after_command, loaded, file_at, Session, view_at, IsSound, table, opened, AnswersBy, after_opening, after_message, ℕ}
+use Rattle.editor_session.proofs.Names.{rules, ◌≡◌, Some, None, Ok, Err, pos, OnOk, sym, ap, subst, true, false, ◌∙◌, Response, Running, after_command, loaded, file_at, Session, view_at, IsSound, is_free, table, opened, AnswersBy, after_opening, after_message, ℕ}
 use Rattle.ed_types.specs.declared.script.Command.TheVariants.{OpenView, LoadFile, SendMessage}
 use Rattle.ed_types.specs.declared.script.Outcome.TheVariants.{Refused}
 use Rattle.editor_session.specs.Commands.{takes_no_memory}
-use Rattle.editor_session.proofs.RunLemmas.{opened_state, refused_state, refused_outcome, goes_on, closing_refused, IsSaid, said_goes_on, opening_is_other, message_is_other, loading_is_other}
+use Rattle.editor_session.proofs.RunLemmas.{refused_state, refused_outcome, goes_on, closing_refused, IsSaid, said_goes_on, opening_is_other, message_is_other, loading_is_other}
 use Rattle.editor_session.proofs.run.Run.step.Goals as goal
 
 pub returns-in-Ok-clause-state : goal.returns-in-Ok-clause-state
@@ -10,24 +10,7 @@ returns-in-Ok-clause-state c =
     let command : c.args.command.now ≡ OpenView = search rules in
     let made : opened c.args.self.now.session ≡ Ok (c.new_view.new.self, c.in-Ok.view) = search rules in
     let state : c.done.new.self ≡ record { session = c.new_view.new.self; value = Some (pos c.in-Ok.view) } = search rules in
-    rw command (state ∙ opened_state c.args.files.now c.args.self.now c.new_view.new.self c.in-Ok.view made)
-
-pub returns-in-Err-send-clause-state : goal.returns-in-Err-send-clause-state
-returns-in-Err-send-clause-state c =
-    let p = c.in-SendMessage in let run = c.args.self.now in
-    let command : c.args.command.now ≡ SendMessage p.view p.message = search rules in
-    let says = table run.session p.view p.message in
-    let answer : AnswersBy {R = Response} says run.session c.send.new.self (Err c.in-Err-send.refusal) = search rules in
-    let state : OnOk c.refused-in-Err-send.result (c.refused-in-Err-send.new.self ≡ record { session = c.send.new.self; value = None }) = search rules in
-    rw command (refused_state run c.refused-in-Err-send.new.self says c.send.new.self c.in-Err-send.refusal c.refused-in-Err-send.result answer c.refused-in-Err-send.ensures.memory state)
-
-pub returns-in-Err-send-clause-outcome : goal.returns-in-Err-send-clause-outcome
-returns-in-Err-send-clause-outcome c =
-    let p = c.in-SendMessage in let run = c.args.self.now in
-    let command : c.args.command.now ≡ SendMessage p.view p.message = search rules in
-    let says = table run.session p.view p.message in
-    let answer : AnswersBy {R = Response} says run.session c.send.new.self (Err c.in-Err-send.refusal) = search rules in
-    rw command (refused_outcome run says c.send.new.self c.in-Err-send.refusal c.refused-in-Err-send.result answer c.refused-in-Err-send.ensures.memory c.refused-in-Err-send.ensures.outcome)
+    rw command (state ∙ ap (λ t. (after_opening c.args.self.now.session t).0) (sym made))
 
 -- commands that may take memory
 
@@ -49,15 +32,6 @@ pub returns-in-Err-close_view-clause-free : goal.returns-in-Err-close_view-claus
 returns-in-Err-close_view-clause-free c free =
     let e = c.in-Err-close_view in let r = c.refused-in-Err-close_view in
     goes_on r.result e.refusal r.ensures.memory (closing_refused c.self.inside.session c.in-CloseView.view e.refusal e.ensures.refused)
-
-pub returns-in-Err-send-clause-free : goal.returns-in-Err-send-clause-free
-returns-in-Err-send-clause-free c free =
-    let e = c.in-Err-send in let r = c.refused-in-Err-send in
-    let command : c.args.command.now ≡ SendMessage c.in-SendMessage.view c.in-SendMessage.message = search rules in
-    let is_free = subst (λ k. takes_no_memory c.args.self.now.session k ≡ true) command free in
-    let own = ap (λ (r : Running). r.session) c.self.view_is in
-    goes_on r.result e.refusal r.ensures.memory
-    (e.ensures.free (subst (λ (s : Session). takes_no_memory s (SendMessage c.in-SendMessage.view c.in-SendMessage.message) ≡ true) (sym own) is_free))
 
 -- commands that are refused
 
@@ -86,13 +60,21 @@ returns-in-Err-load-clause-refused c came is =
     said_goes_on Response says e.refusal came r.result (λ t. (after_message run.session t).1) (λ done e. absurd (cc)) other said r.ensures.memory
     (subst (λ k. (after_command c.args.files.now k run).1 ≡ Refused came) command is)
 
-pub returns-in-Err-send-clause-refused : goal.returns-in-Err-send-clause-refused
-returns-in-Err-send-clause-refused c came is =
+pub returns-in-Err-send : goal.returns-in-Err-send
+returns-in-Err-send c =
     let run = c.args.self.now in let e = c.in-Err-send in let r = c.refused-in-Err-send in let p = c.in-SendMessage in
     let command : c.args.command.now ≡ SendMessage p.view p.message = search rules in
-    let sound : IsSound run.session = search rules in
     let says = table run.session p.view p.message in
+    let answer : AnswersBy {R = Response} says run.session c.send.new.self (Err e.refusal) = search rules in
+    let state : OnOk r.result (r.new.self ≡ record { session = c.send.new.self; value = None }) = search rules in
+    let sound : IsSound run.session = search rules in
     let own = ap (λ (r : Running). r.session) c.self.view_is in
     let said = subst (λ (s : Session). IsSaid {B = Response} (table s p.view p.message) (Err e.refusal)) own e.ensures.refused in
-    said_goes_on Response says e.refusal came r.result (λ t. (after_message run.session t).1) (λ done e. absurd (cc)) (message_is_other c.plans_are_fit.ensures.in_range run.session sound p.view p.message) said r.ensures.memory
-    (subst (λ k. (after_command c.args.files.now k run).1 ≡ Refused came) command is)
+    rw command
+    (record {
+      state = refused_state run r.new.self says c.send.new.self e.refusal r.result answer r.ensures.memory state;
+      outcome = refused_outcome run says c.send.new.self e.refusal r.result answer r.ensures.memory r.ensures.outcome;
+      err = search rules;
+      refused = λ came is. said_goes_on Response says e.refusal came r.result (λ t. (after_message run.session t).1) (λ done e. absurd (cc)) (message_is_other c.plans_are_fit.ensures.in_range run.session sound p.view p.message) said r.ensures.memory is;
+      free = λ free. goes_on r.result e.refusal r.ensures.memory (e.ensures.free (subst (λ (s : Session). is_free s p.view p.message ≡ true) (sym own) free));
+    })

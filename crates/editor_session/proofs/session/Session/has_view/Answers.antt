@@ -1,5 +1,5 @@
 use Rattle.editor_session.proofs.Names.{◌≡◌, subst, ◌∙◌, is_some, Session, view_at}
-use Rattle.editor_session.proofs.Finding.{some_seen}
+use Rattle.editor_session.proofs.OneDocument.{some_seen}
 use Rattle.editor_session.proofs.session.Session.has_view.Goals as goal
 
 pub returns : goal.returns
