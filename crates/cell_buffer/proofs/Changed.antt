@@ -116,7 +116,7 @@ range_in_front xs ys zs l =
     ∙ append-nil (differing 0 xs ys)
     ∙ sym (places xs ys l))
 
--- the loops of `overwrite` and `fill`: so many items are written, the range of those that changed is known, and nothing moved
+-- the loop of `overwrite`: so many items are written, the range of those that changed is known, and nothing moved
 pub record Written (start : ℕ) (done : List ℕ) (ends : ℕ × ℕ) (old now : Split ℕ) : Type 0 where
   pub items : now.items ≡ overwritten old.items start done
   pub changed : range_of ends ≡ changed_range old.items now.items

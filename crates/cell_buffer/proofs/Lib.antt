@@ -3,3 +3,4 @@ pub mod Pairs
 pub mod Stored
 pub mod Costs
 pub mod Changed
+pub mod Filled

@@ -1,5 +1,5 @@
 //! Overwriting of styles, and which of them changed.
-ghost use Rattle.std.specs.Prelude.{◌≡◌, ◌<◌, ◌≤◌, ◌+◌, length, replicate, slice_set};
+ghost use Rattle.std.specs.Prelude.{◌≡◌, ◌≢◌, ◌<◌, ◌≤◌, ◌+◌, ◌-◌, ℕ, length, replicate, slice_index, slice_set};
 ghost use Rattle.ed_model.specs.Indicators.{changed_range};
 ghost use Rattle.cell_buffer.specs.Buffer.{range_of, range_with, Overwrites};
 
@@ -59,16 +59,52 @@ pub(crate) fn overwrite(styles: &mut SplitVector<u8>, start: usize, new: &[u8]) 
     between(ends)
 }
 
-/// Replaces `count` styles from `start` on by `style`, and returns the smallest range with all that changed.
+// Returns the first place from `start` up to `end` whose style is another one, or `end` if there is none.
+fn first_other(styles: &SplitVector<u8>, start: usize, end: usize, style: u8) -> usize
+    requires { (start ≤ end) × (end ≤ length styles.now.items) }
+    ensures range { (start ≤ result) × (result ≤ end) }
+    ensures alike { (k : ℕ) → start ≤ k → k < result → slice_index styles.now.items k ≡ style }
+    ensures other { result < end → slice_index styles.now.items result ≢ style }
+{
+    for place in start..end {
+        if styles.get(place) != style {
+            return place;
+        }
+    }
+    end
+}
+
+// Returns the place behind the last one from `start` up to `end` whose style is another one, or `start` if there is none.
+fn past_others(styles: &SplitVector<u8>, start: usize, end: usize, style: u8) -> usize
+    requires { (start ≤ end) × (end ≤ length styles.now.items) }
+    ensures range { (start ≤ result) × (result ≤ end) }
+    ensures alike { (k : ℕ) → result ≤ k → k < end → slice_index styles.now.items k ≡ style }
+    ensures other { start < result → slice_index styles.now.items (result - 1) ≢ style }
+{
+    let mut past = end;
+    'seeking: while past > start {
+        if styles.get(past - 1) != style {
+            return past;
+        }
+        past -= 1;
+    }
+    past
+}
+
+/// Replaces `count` styles from `start` on by `style`, and returns the smallest range with all that changed. It looks for
+/// the ends of that range, and fills what lies between them.
 pub(crate) fn fill(styles: &mut SplitVector<u8>, start: usize, count: usize, style: u8) -> Range
     requires { start + count ≤ length styles.old.items }
     ensures styles { Overwrites start (replicate count style) styles.old styles.new }
     ensures changed { result ≡ changed_range styles.old.items styles.new.items }
 {
     size_is_small(styles);
-    let mut ends = (0, 0);
-    for i in 0..count {
-        ends = put(styles, start + i, style, ends);
+    let end = start + count;
+    let first = first_other(styles, start, end, style);
+    if first == end {
+        return None;
     }
-    between(ends)
+    let past = past_others(styles, first, end, style);
+    styles.update(first, past, |_| style);
+    Some((first, past - first))
 }
