@@ -1,5 +1,5 @@
 -- The index of a document's lines, before a step and after it.
-use Rattle.document.proofs.Names.{◌≡◌, ℕ, ◌+◌, ◌≤◌, List, ◌++◌, length, take, drop, slice_range, refl, ap, sym, ◌∙◌, arith, length-append, length-map, length-take, length-drop, LineEndTypes, Buffer, Cell, bytes_of, line_starts, line_count, end_of_line, end_of, put_in, Step, Insert, Delete, place_of, edited, edited_cells, end_in_range, bytes_of_edited_cells, length_of_bytes, length_of_range, Index, IsIndexOf, IsBefore, bytes_near, DeletionAddsFewLines, change_about, change_of, LinesOf, CanTakeOut, WereEdited, WereEditedBy, deletion_of}
+use Rattle.document.proofs.Names.{◌≡◌, ℕ, ◌+◌, ◌≤◌, List, ◌++◌, length, take, drop, slice_range, refl, ap, sym, ◌∙◌, arith, length-append, length-map, length-take, length-drop, LineEndTypes, Buffer, Cell, bytes_of, line_starts, line_count, end_of_line, end_of, put_in, Step, Insert, Delete, place_of, edited, edited_cells, end_in_range, bytes_of_edited_cells, length_of_bytes, length_of_range, Index, IsIndexOf, IsBefore, bytes_near, DeletionAddsFewLines, change_about, change_of, Decorated, CanTakeOut, WereEdited, WereEditedBy, deletion_of}
 use Rattle.line_index.specs.declared.change.LineChange.{LineChange}
 
 -- The end of a line lies in the text.
@@ -36,13 +36,13 @@ told_of_step step cells new lines near text indexed within is read reads fits = 
 }
 
 pub told_of_deletion :
-    (cells new : Buffer) (lines : LinesOf) (place count : ℕ) (near text : List ℕ) → DeletionAddsFewLines → CanTakeOut place count cells lines → new.cells ≡ edited_cells (deletion_of place count (bytes_of cells.cells)) cells.cells
-    → text ≡ bytes_of new.cells → near ≡ bytes_near place 0 text → IsBefore (deletion_of place count (bytes_of cells.cells)) near (bytes_of cells.cells) lines.index
-told_of_deletion cells new lines place count near text deletion can is read reads =
+    (cells new : Buffer) (lines : Index) (indicators : Decorated) (place count : ℕ) (near text : List ℕ) → DeletionAddsFewLines → CanTakeOut place count cells lines indicators → new.cells ≡ edited_cells (deletion_of place count (bytes_of cells.cells)) cells.cells
+    → text ≡ bytes_of new.cells → near ≡ bytes_near place 0 text → IsBefore (deletion_of place count (bytes_of cells.cells)) near (bytes_of cells.cells) lines
+told_of_deletion cells new lines indicators place count near text deletion can is read reads =
     let step = deletion_of place count (bytes_of cells.cells) in
     let within : end_of step ≤ length cells.cells = omega (arith, can.within, length_of_range cells.cells place count can.within) in
-    let few = deletion lines.index.types place (length (slice_range (bytes_of cells.cells) place (place + count))) (bytes_of cells.cells) (omega (arith, within, length_of_bytes cells.cells)) in
-    told_of_step step cells.cells new.cells lines.index near text can.indexed within is read reads (omega (arith, can.starts, ap length can.indexed.starts, few))
+    let few = deletion lines.types place (length (slice_range (bytes_of cells.cells) place (place + count))) (bytes_of cells.cells) (omega (arith, within, length_of_bytes cells.cells)) in
+    told_of_step step cells.cells new.cells lines near text can.indexed within is read reads (omega (arith, can.starts, ap length can.indexed.starts, few))
 
 -- the index of the text afterwards is that of the cells
 pub index_after : (step : Step) (cells new : List Cell) (i : Index) → new ≡ edited_cells step cells → IsIndexOf (edited step (bytes_of cells)) i → IsIndexOf (bytes_of new) i
@@ -50,14 +50,14 @@ index_after step cells new i is index = rw (is, bytes_of_edited_cells step cells
 
 -- the effect on the lines
 pub edited_by :
-    (step : Step) (change : LineChange) (cells new : Buffer) (lines new_lines : LinesOf) → IsIndexOf (bytes_of cells.cells) lines.index → WereEdited step cells new lines new_lines
-    → change ≡ change_about (place_of step) (end_of step) (place_of step + length (put_in step)) lines.index.starts new_lines.index.starts new_lines.index.length → WereEditedBy step change cells new lines new_lines
+    (step : Step) (change : LineChange) (cells new : Buffer) (lines new_lines : Index) → IsIndexOf (bytes_of cells.cells) lines → WereEdited step cells new lines new_lines
+    → change ≡ change_about (place_of step) (end_of step) (place_of step + length (put_in step)) lines.starts new_lines.starts new_lines.length → WereEditedBy step change cells new lines new_lines
 edited_by step change cells new lines new_lines indexed edit told =
     let text : bytes_of new.cells ≡ edited step (bytes_of cells.cells) = ap bytes_of edit.cells ∙ bytes_of_edited_cells step cells.cells in
-    let after : new_lines.index.starts ≡ line_starts lines.index.types (edited step (bytes_of cells.cells)) =
-    edit.index.starts ∙ ap (λ t. line_starts t (bytes_of new.cells)) edit.lines.1 ∙ ap (line_starts lines.index.types) text in
-    let long : new_lines.index.length ≡ length (edited step (bytes_of cells.cells)) = edit.index.length ∙ ap length text in
-    let same : change_about (place_of step) (end_of step) (place_of step + length (put_in step)) lines.index.starts new_lines.index.starts new_lines.index.length ≡ change_of lines.index.types step (bytes_of cells.cells) =
+    let after : new_lines.starts ≡ line_starts lines.types (edited step (bytes_of cells.cells)) =
+    edit.index.starts ∙ ap (λ t. line_starts t (bytes_of new.cells)) edit.lines.0 ∙ ap (line_starts lines.types) text in
+    let long : new_lines.length ≡ length (edited step (bytes_of cells.cells)) = edit.index.length ∙ ap length text in
+    let same : change_about (place_of step) (end_of step) (place_of step + length (put_in step)) lines.starts new_lines.starts new_lines.length ≡ change_of lines.types step (bytes_of cells.cells) =
     rw (indexed.starts, after, long) refl in
     record { edit = edit; is = told ∙ same }
 

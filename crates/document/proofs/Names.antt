@@ -5,6 +5,7 @@ pub use Rattle.std.proofs.lemmas.List.{length-map, map-append, set-get_or, get_o
 pub use Rattle.std.specs.List.{range_with_len, list_any}
 pub use Rattle.std.specs.Prelude.{find, ◌||◌, slice_set}
 pub use Rattle.cell_buffer.specs.Buffer.{Buffer}
+pub use Rattle.decorations.specs.Decorated.{Decorated}
 pub use Rattle.ed_model.specs.Changes.{marker_count, without_markers, line_with_handle, with_markers, new_markers, with_new_markers}
 pub use Rattle.ed_model.specs.LinePlans.{numbers_in}
 pub use Rattle.ed_model.specs.Lines.{line_starts, line_count, end_of_line}
@@ -29,8 +30,8 @@ pub use Rattle.line_rows.specs.Kept.{row_at, has_handle, first_from, KeptRows}
 pub use Rattle.document.specs.Changes.{after_change, line_it_left, with_more_markers}
 unfoldable pub use Rattle.document.specs.Changes.{numbers_of}
 pub use Rattle.document.specs.Kept.{Kept, bound_of}
-pub use Rattle.document.specs.Parts.{document_in, kept_in, AreTogether, AreParts, CanPut, CanTakeOut, CanCarry, WereEdited, WereEditedBy, WereCarried, CanTakeNeed, AreStepped}
+pub use Rattle.document.specs.Parts.{document_in, kept_in, AreTogether, AreParts, CanPut, CanPutIn, CanTakeOut, CanCarry, WereEdited, WereEditedBy, WereCarried, CanTakeNeed, AreStepped, WereMarked}
 pub use Rattle.document.specs.declared.making.TextParts.{TextParts}
-pub use Rattle.document.specs.Places.{LinesOf, IndicatorsOf}
+pub use Rattle.document.specs.Places.{PlacesOf, places_of}
 pub use Rattle.document.specs.TextSteps.{deletion_of}
 pub use Rattle.document.specs.Undoing.{CanMake, IsLentOf}

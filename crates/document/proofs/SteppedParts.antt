@@ -1,11 +1,9 @@
 -- The effect of a step on the parts of a document.
-use Rattle.document.proofs.Names.{◌≡◌, ◌≤◌, ◌<◌, ◌+◌, ◌^◌, ℕ, Bool, true, false, length, refl, sym, ap, ◌∙◌, subst, arith, LineEndTypes, Cell, List, bytes_of, line_count, few_lines, Step, Insert, Delete, edited, edited_cells, end_of, bytes_of_edited_cells, length_of_bytes, Row, rows_together, JoinsRows, lines_for_step, change_of, edits_of, fresh_lines, after_edits, LineEdit, KeptRows, bound_of, kept_in, AreParts, AreStepped, AreTogether, CanCarry, TextParts, WereCarried, WereEditedBy}
+use Rattle.document.proofs.Names.{◌≡◌, ◌≤◌, ◌<◌, ◌+◌, ◌^◌, ℕ, Bool, true, false, length, refl, sym, ap, ◌∙◌, subst, arith, LineEndTypes, Cell, List, bytes_of, line_count, few_lines, Step, Insert, Delete, edited, edited_cells, end_of, bytes_of_edited_cells, length_of_bytes, Row, rows_together, JoinsRows, lines_for_step, change_of, edits_of, fresh_lines, after_edits, LineEdit, KeptRows, bound_of, kept_in, AreParts, AreStepped, AreTogether, CanCarry, TextParts, WereCarried, WereEditedBy, WereMarked}
 use Rattle.ed_model.specs.CarryLaws.{StepsLeaveARowForEachLine}
-use Rattle.ed_model.specs.Indicators.{indicators_after}
 use Rattle.line_index.specs.declared.change.LineChange.{LineChange}
 use Rattle.line_index.specs.StepEdits.{EditsBringFewLines, EditsCarryRows, EditsFitLines}
 use Rattle.line_rows.specs.Kept.{HasRoomForLines}
-use Rattle.decorations.specs.Decorated.{HasRoomForInsertions, KeepsRuns}
 use Rattle.document.specs.declared.kept.Document.TheInside.{Inside}
 use Rattle.document.specs.declared.need.DocumentNeed.{DocumentNeed}
 use Rattle.document.specs.Memory.{KeepsMemory}
@@ -24,8 +22,8 @@ small_bound true = omega arith
 small_bound false = omega arith
 
 -- a text has at most as many lines as bytes, and one
-pub few_starts : (options : ℕ) (p : TextParts) → AreTogether options p → length p.lines.index.starts ≤ length p.cells.cells + 1
-few_starts options p are = omega (arith, ap length are.indexed.starts, few_lines p.lines.index.types (bytes_of p.cells.cells), length_of_bytes p.cells.cells)
+pub few_starts : (options : ℕ) (p : TextParts) → AreTogether options p → length p.places.index.starts ≤ length p.cells.cells + 1
+few_starts options p are = omega (arith, ap length are.indexed.starts, few_lines p.places.index.types (bytes_of p.cells.cells), length_of_bytes p.cells.cells)
 
 -- what comes later needs no more of the text and of the lines than what the step leaves
 
@@ -42,7 +40,7 @@ lines_left (Delete place bytes) types rest = refl
 -- A step at which parts of a document are, with its effect on the lines of their text.
 module _ (step : Step) (change : LineChange) (options : ℕ) (old : TextParts) (are : AreTogether options old) (within : end_of step ≤ length old.cells.cells) (few : EditsBringFewLines) where
   abbrev types : LineEndTypes
-  types = old.lines.index.types
+  types = old.places.index.types
 
   abbrev text : List ℕ
   text = bytes_of old.cells.cells
@@ -69,25 +67,22 @@ module _ (step : Step) (change : LineChange) (options : ℕ) (old : TextParts) (
   pub stepped :
       (new : TextParts) → EditsCarryRows Row → JoinsRows rows_together → StepsLeaveARowForEachLine Row
       → line_count types (edited step text) ≤ line_count types text + lines_for_step types step
-      → WereEditedBy step change old.cells new.cells old.lines new.lines → WereCarried (edits_of change) old.rows new.rows → length new.cells.cells < bound_of old.lines.is_large
-      → new.indicators.is_large ≡ old.indicators.is_large → new.indicators.decorated.length ≡ length new.cells.cells → new.indicators.decorated.values ≡ indicators_after step old.indicators.decorated.values
-      → KeepsRuns old.indicators.decorated new.indicators.decorated
-      → ((rest : DocumentNeed) → HasRoomForInsertions (need_then types step rest).insertions old.indicators.decorated → HasRoomForInsertions rest.insertions new.indicators.decorated) → AreStepped step change old new
-  stepped new carry joins each lines put carried fits indicator_width indicator_count values runs runs_left =
+      → new.places.is_large ≡ old.places.is_large → WereEditedBy step change old.cells new.cells old.places.index new.places.index → WereMarked step new.cells old.places.decorated new.places.decorated
+      → WereCarried (edits_of change) old.rows new.rows → length new.cells.cells < bound_of old.places.is_large → AreStepped step change old new
+  stepped new carry joins each lines width put marked carried fits =
       let edit = put.edit in
       let after : bytes_of new.cells.cells ≡ edited step text = ap bytes_of edit.cells ∙ bytes_of_edited_cells step old.cells.cells in
       let rows : new.rows.rows ≡ after_edits rows_together (edits_of change) old.rows.rows = ap (λ (k : KeptRows). k.rows) carried.0 in
       let as_model = rows ∙ ap (λ (es : List LineEdit). after_edits rows_together es old.rows.rows) (ap edits_of put.is) ∙ sym (carry rows_together joins types step text old.rows.rows inside rows_of_text) in
-      let starts : length new.lines.index.starts ≡ line_count types (edited step text) = lines_of_index types (bytes_of new.cells.cells) new.lines.index edit.index edit.lines.1 ∙ ap (line_count types) after in
+      let starts : length new.places.index.starts ≡ line_count types (edited step text) = lines_of_index types (bytes_of new.cells.cells) new.places.index edit.index edit.lines.0 ∙ ap (line_count types) after in
       record {
         together =
             λ options parts. record {
               indexed = edit.index;
               row_count = ap length as_model ∙ each rows_together types step text old.rows.rows ∙ sym starts;
-              indicator_count = indicator_count;
-              line_width = edit.lines.0 ∙ parts.line_width;
-              indicator_width = indicator_width ∙ parts.indicator_width;
-              fits = subst (λ large. length new.cells.cells < bound_of large) parts.line_width fits;
+              indicator_count = marked.as_long;
+              width = width ∙ parts.width;
+              fits = subst (λ large. length new.cells.cells < bound_of large) parts.width fits;
             };
         text = put;
         rows = as_model;
@@ -95,19 +90,19 @@ module _ (step : Step) (change : LineChange) (options : ℕ) (old : TextParts) (
         stored_levels = ap (λ (k : KeptRows). k.stored_levels) carried.0;
         stored_states = ap (λ (k : KeptRows). k.stored_states) carried.0;
         row_capacity = ap (λ (k : KeptRows). k.capacity) carried.0;
-        values = values;
-        runs = runs;
+        values = marked.values;
+        runs = marked.runs;
         room =
             λ rest room.
             let left = text_left step types old.cells.cells rest within in
             let short : length new.cells.cells + rest.text ≤ length old.cells.cells + (need_then types step rest).text = omega (arith, left, ap (λ (cells : List Cell). length cells) edit.cells) in
             let many = lines_left step types rest in
             record {
-              width = subst (λ large. length new.cells.cells + rest.text < bound_of large) (sym edit.lines.0) (omega (arith, short, room.width));
+              width = subst (λ large. length new.cells.cells + rest.text < bound_of large) (sym width) (omega (arith, short, room.width));
               cells = cells_left old.cells new.cells rest.text (need_then types step rest).text edit.keeps_styles edit.capacity short room.cells;
-              starts = omega (arith, edit.lines.2, lines, many, room.starts, ap length are.indexed.starts, starts);
+              starts = omega (arith, edit.lines.1, lines, many, room.starts, ap length are.indexed.starts, starts);
               rows = carried.1 rest.lines (fewer_lines (fresh_lines (edits_of change) + rest.lines) (need_then types step rest).lines old.rows (omega (arith, many, few_fresh put.is)) room.rows);
-              runs = runs_left rest room.runs;
+              runs = marked.room types rest room.runs;
             };
       }
 
@@ -117,11 +112,11 @@ module _ (step : Step) (change : LineChange) (d : Inside) (styled : ℕ) (new : 
   after = record d { parts = new; end_styled = styled }
 
   pub text_room_left : LeavesTextRoom step (kept_in d) (kept_in after)
-  text_room_left = λ rest room. document_takes rest after (made.together d.options parts) (made.room rest (parts_take (need_then d.parts.lines.index.types step rest) d parts room))
+  text_room_left = λ rest room. document_takes rest after (made.together d.options parts) (made.room rest (parts_take (need_then d.parts.places.index.types step rest) d parts room))
 
   pub memory_kept : KeepsMemory (kept_in d) (kept_in after)
   memory_kept = record {
-    others = rw (made.text.edit.capacity, made.text.edit.lines.2, made.row_capacity) refl;
+    others = rw (made.text.edit.capacity, made.text.edit.lines.1, made.row_capacity) refl;
     runs = record {
       runs = λ k below. let has = made.runs.runs k below in record { used = has.used; clear = has.clear };
       spare = made.runs.spare;

@@ -4,10 +4,9 @@ use Rattle.document.proofs.Names.{◌≡◌, ℕ, List, length, sym, subst, ◌�
 -- the parts of a document whose cells have other styles
 pub parts_restyled : (options : ℕ) (p : TextParts) (new : Buffer) → AreTogether options p → bytes_of new.cells ≡ bytes_of p.cells.cells → length new.cells ≡ length p.cells.cells → AreTogether options (record p { cells = new })
 parts_restyled options p new parts bytes as_long = record {
-  indexed = subst (λ (text : List ℕ). IsIndexOf text p.lines.index) (sym bytes) parts.indexed;
+  indexed = subst (λ (text : List ℕ). IsIndexOf text p.places.index) (sym bytes) parts.indexed;
   row_count = parts.row_count;
   indicator_count = parts.indicator_count ∙ sym as_long;
-  line_width = parts.line_width;
-  indicator_width = parts.indicator_width;
+  width = parts.width;
   fits = omega (arith, parts.fits, as_long);
 }

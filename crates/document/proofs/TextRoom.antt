@@ -8,7 +8,7 @@ use Rattle.document.specs.proved.Room.{fewer_styles}
 
 pub parts_take : (need : DocumentNeed) (d : Inside) → AreParts d → HasTextRoom need (kept_in d) → CanTakeNeed need d.parts
 parts_take need d parts room = record {
-  width = subst (λ large. length d.parts.cells.cells + need.text < bound_of large) (sym parts.line_width) room.width;
+  width = subst (λ large. length d.parts.cells.cells + need.text < bound_of large) (sym parts.width) room.width;
   cells = (room.bytes, room.styles);
   starts = omega (arith, room.lines.0, ap length parts.indexed.starts);
   rows = room.lines.1;
@@ -17,7 +17,7 @@ parts_take need d parts room = record {
 
 pub document_takes : (need : DocumentNeed) (d : Inside) → AreParts d → CanTakeNeed need d.parts → HasTextRoom need (kept_in d)
 document_takes need d parts room = record {
-  width = subst (λ large. length d.parts.cells.cells + need.text < bound_of large) parts.line_width room.width;
+  width = subst (λ large. length d.parts.cells.cells + need.text < bound_of large) parts.width room.width;
   bytes = room.cells.0;
   styles = room.cells.1;
   lines = (omega (arith, room.starts, ap length parts.indexed.starts), room.rows);

@@ -105,10 +105,7 @@ impl Document {
         ensures grown { ReservesView self.old self.new }
         ensures err { OnErr result (self.new ≡ self.old) }
     {
-        let Ok(()) = vec_room::reserve(&mut self.views, 1) else {
-            return Err(AllocError);
-        };
-        Ok(())
+        vec_room::reserve(&mut self.views, 1)
     }
 
     /// Attaches a view, behind those that are attached. There must be room for it.

@@ -7,7 +7,7 @@ ghost use Rattle.line_index.specs.Index.{IsIndexOf};
 ghost use Rattle.document.specs.Kept.{FitsWidth, new_kept, text_from};
 
 use crate::making::TextParts;
-use crate::places::{Indicators, Lines};
+use crate::places::Places;
 use cell_buffer::Cells;
 use ed_model::{LineEnd, LineEndTypes};
 use ed_types::document_option;
@@ -57,16 +57,15 @@ impl Document {
         ensures { IfOk result (λ k. k ≡ new_kept id options) }
     {
         let is_large = options & document_option::TEXT_LARGE != 0;
-        let lines = Lines::new(alloc, is_large)?;
+        let places = Places::new(alloc, is_large)?;
         let rows = LineRows::new(alloc);
         Ok(Document {
             id,
             options,
             parts: TextParts {
                 cells: Cells::new(alloc),
-                lines,
+                places,
                 rows,
-                indicators: Indicators::new(alloc, is_large),
             },
             end_styled: 0,
             history: UndoHistory::new(alloc),
@@ -205,15 +204,7 @@ impl Document {
     pub fn line_end_types(&self) -> LineEndTypes
         ensures { result ≡ self.now.document.line_end_types }
     {
-        self.parts.lines.types()
-    }
-
-    /// Lends the starts of the lines.
-    pub fn lines(&self) -> &Lines
-        ensures index { IsIndexOf (text_of self.now.document) result.now.index }
-        ensures types { result.now.index.types ≡ self.now.document.line_end_types }
-    {
-        &self.parts.lines
+        self.parts.places.types()
     }
 
     /// Lends the rows of the lines: markers, fold levels and line states.
@@ -226,11 +217,11 @@ impl Document {
     }
 
     /// Lends the indicators.
-    pub fn indicators(&self) -> &Indicators
+    pub fn indicators(&self) -> &Places
         ensures values { result.now.decorated.values ≡ self.now.document.indicators }
         ensures length { result.now.decorated.length ≡ length self.now.document.cells }
     {
-        &self.parts.indicators
+        &self.parts.places
     }
 
     /// Lends the undo history.

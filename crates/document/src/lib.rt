@@ -21,7 +21,7 @@ mod undoing;
 
 pub use kept::Document;
 pub use need::DocumentNeed;
-pub use places::{Indicators, Lines};
+pub use places::Places;
 pub use row_changes::count_numbers;
 pub use text_step::TextStep;
 pub use undoing::{ChangeOutline, Direction};

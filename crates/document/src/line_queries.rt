@@ -17,7 +17,7 @@ impl Document {
         ensures few { result ≤ length self.now.document.cells + 1 }
         ensures narrow { is_large self.now.document ≡ false → result < 2 ^ 32 }
     {
-        self.parts.lines.count()
+        self.parts.places.line_count()
     }
 
     /// Returns where a line starts, in bytes from 0 (`SCI_POSITIONFROMLINE`).
@@ -27,7 +27,7 @@ impl Document {
         ensures within { result ≤ length self.now.document.cells }
         ensures small { result < 2 ^ 61 }
     {
-        self.parts.lines.start(line)
+        self.parts.places.line_start(line)
     }
 
     /// Returns where the line behind a line starts, or the length of the text if there is none.
@@ -36,10 +36,10 @@ impl Document {
         ensures within { result ≤ length self.now.document.cells }
         ensures small { result < 2 ^ 61 }
     {
-        if line < self.parts.lines.count() - 1 {
-            return self.parts.lines.start(line + 1);
+        if line < self.parts.places.line_count() - 1 {
+            return self.parts.places.line_start(line + 1);
         }
-        self.parts.lines.length()
+        self.parts.cells.len()
     }
 
     /// Returns where the line end of a line begins (`SCI_GETLINEENDPOSITION`). For the last line and all lines behind
@@ -49,11 +49,11 @@ impl Document {
         ensures within { result ≤ length self.now.document.cells }
         ensures small { result < 2 ^ 61 }
     {
-        if line < self.parts.lines.count() {
+        if line < self.parts.places.line_count() {
             let (before, after) = self.parts.cells.halves();
-            return self.parts.lines.end(line, before, after);
+            return self.parts.places.line_end(line, before, after);
         }
-        self.parts.lines.length()
+        self.parts.cells.len()
     }
 
     /// Returns the line that holds `place` (`SCI_LINEFROMPOSITION`): the last one that starts at `place` or before it.
@@ -64,6 +64,6 @@ impl Document {
         ensures small { result < 2 ^ 63 }
     {
         let mut probes = Probes::new();
-        self.parts.lines.line_of(place, &mut probes)
+        self.parts.places.line_of(place, &mut probes)
     }
 }

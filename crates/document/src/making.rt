@@ -7,8 +7,8 @@ ghost use Rattle.line_index.specs.RoomLaws.{lines_for_deletion, lines_for_insert
 ghost use Rattle.document.specs.Parts.{AreStepped, AreSteppedBy, HaveRoom, HaveRoomFor};
 ghost use Rattle.document.specs.TextSteps.{IsStepOn, deletion_of};
 
-use crate::pieces::{carry_rows, put_in, take_out};
-use crate::places::{Indicators, Lines};
+use crate::pieces::carry_rows;
+use crate::places::Places;
 use crate::text_step::TextStep;
 use cell_buffer::Cells;
 use ed_model::{rows_match_lines, rows_that_meet};
@@ -19,25 +19,23 @@ use line_rows::LineRows;
 #[derive(Drop)]
 pub(crate) struct TextParts {
     pub(crate) cells: Cells,
-    pub(crate) lines: Lines,
+    pub(crate) places: Places,
     pub(crate) rows: LineRows,
-    pub(crate) indicators: Indicators,
 }
 
 // Inserts bytes. Inlined into its caller, like `delete`, so that the `LineChange` is written once.
 #[inline(always)]
 fn insert(parts: &mut TextParts, place: usize, bytes: &[u8]) -> LineChange
     requires fits { place ≤ length parts.old.cells.cells }
-    requires room { HaveRoom (length bytes.now) (lines_for_insertion parts.old.lines.index.types bytes.now) 1 parts.old }
+    requires room { HaveRoom (length bytes.now) (lines_for_insertion parts.old.places.index.types bytes.now) 1 parts.old }
     ensures { AreStepped (Insert place bytes.now) result parts.old parts.new }
 {
     room_for_steps();
     edits_of_steps();
     rows_that_meet();
     rows_match_lines();
-    let change = put_in(&mut parts.cells, &mut parts.lines, place, bytes);
+    let change = parts.places.insert(&mut parts.cells, place, bytes);
     carry_rows(&mut parts.rows, &change);
-    parts.indicators.insert(place, bytes.len());
     change
 }
 
@@ -52,9 +50,8 @@ fn delete(parts: &mut TextParts, place: usize, count: usize) -> LineChange
     edits_of_steps();
     rows_that_meet();
     rows_match_lines();
-    let change = take_out(&mut parts.cells, &mut parts.lines, place, count);
+    let change = parts.places.delete(&mut parts.cells, place, count);
     carry_rows(&mut parts.rows, &change);
-    parts.indicators.delete(place, count);
     change
 }
 

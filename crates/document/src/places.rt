@@ -1,133 +1,143 @@
 //! Line starts and indicators of a text whose places are stored in 32 bits, or in 64 if the text may be large.
 
-ghost use Rattle.std.specs.Prelude.{◌≡◌, ℕ, pos, ◌<◌, ◌≤◌, ◌+◌, ◌*◌, ◌^◌, ◌++◌, [], List, length, replicate, slice_index};
+ghost use Rattle.std.specs.Prelude.{◌≡◌, ℕ, pos, ◌<◌, ◌≤◌, ◌+◌, ◌*◌, ◌^◌, ◌++◌, [], length, replicate, slice_index};
 ghost use Rattle.std.specs.Prelude.{IfOk, IsOk, vec_len, vec_capacity};
 ghost use Rattle.ed_model.specs.Lines.{line_count, line_of, end_of_line};
 ghost use Rattle.std.specs.List.{AllByRecursion};
-ghost use Rattle.ed_model.specs.Indicators.{indicators_after};
-ghost use Rattle.ed_model.specs.Steps.{Insert, Delete};
+ghost use Rattle.ed_model.specs.Steps.{Insert};
+ghost use Rattle.ed_model.specs.Text.{bytes_of};
 ghost use Rattle.ed_model.specs.TextPlans.{at_place};
-ghost use Rattle.line_index.specs.Index.{Deletes, Follows, Inserts, IsIndexOf, MoreLinesFit, WasBefore};
-ghost use Rattle.line_index.specs.Change.{change_about, change_since, lines_about};
+ghost use Rattle.line_index.specs.Index.{IsIndexOf, MoreLinesFit};
 ghost use Rattle.line_index.specs.Settings.{edits_of_setting};
 ghost use Rattle.vec_room.specs.Reserved.{IsReserved};
 ghost use Rattle.decorations.specs.Decorated.{HasRoomForFill, HasRoomForInsertions, IsCapacityForFill, IsCapacityForRuns, WereFilledFrom, decorated, filled_range, mask_of, no_capacity, run_about, values_of};
 ghost use Rattle.document.specs.Kept.{bound_of};
-ghost use Rattle.document.specs.Places.{AreFilled, ChangeCapacity, GrowsLines, IndicatorsOf, KeepsLines, LeavesRuns, LinesOf};
+ghost use Rattle.document.specs.Parts.{CanPutIn, CanTakeOut, WereEditedBy, WereMarked};
+ghost use Rattle.document.specs.Places.{AreFilled, ChangeCapacity, GrowsLines, PlacesOf};
+ghost use Rattle.document.specs.TextSteps.{deletion_of};
 
+use crate::pieces::{put_in, take_out};
+use cell_buffer::Cells;
 use decorations::Decorations;
 use ed_model::LineEndTypes;
-use line_index::{LineChange, LineEdit, LineIndex, LinesAbout};
-use partitioning::Probes;
+use line_index::{LineChange, LineEdit, LineIndex};
+use partitioning::{Place, Probes};
 use std::alloc::{AllocError, Global};
 use std::marker::Model;
 
-/// The line starts by the width of places.
+/// The line starts and the indicators of a text, in places of one width.
 #[derive(Drop)]
-pub(crate) enum LinesByWidth {
-    Small(LineIndex<u32>),
-    Large(LineIndex<u64>),
+pub(crate) struct PlacesIn<P: Place> {
+    pub(crate) lines: LineIndex<P>,
+    pub(crate) indicators: Decorations<P>,
 }
 
-/// Where the lines of a document start.
+/// The same by the width of places.
 #[derive(Drop)]
-pub struct Lines {
-    pub(crate) kept: LinesByWidth,
+pub(crate) enum PlacesByWidth {
+    Small(PlacesIn<u32>),
+    Large(PlacesIn<u64>),
 }
 
-impl Model for Lines {
-    ghost use Rattle.document.specs.Places.{LinesOf, lines_by_width};
-
-    ghost Value = { LinesOf };
-
-    ghost view = { λ l. lines_by_width l.kept };
+// The same call for places of either width.
+macro_rules! of_either_width {
+    ($kept:expr, $places:ident => $answer:expr) => {
+        match $kept {
+            PlacesByWidth::Small($places) => $answer,
+            PlacesByWidth::Large($places) => $answer,
+        }
+    };
 }
 
-impl Lines {
-    /// Returns the line starts of the empty text, which has one line. CR LF, CR and LF end lines. `is_large` selects
-    /// places of 64 bits.
+/// All places that a document keeps: where its lines start, and its indicators.
+#[derive(Drop)]
+pub struct Places {
+    pub(crate) kept: PlacesByWidth,
+}
+
+impl Model for Places {
+    ghost use Rattle.document.specs.Places.{PlacesOf, places_by_width};
+
+    ghost Value = { PlacesOf };
+
+    ghost view = { λ p. places_by_width p.kept };
+}
+
+impl<P: Place> PlacesIn<P> {
+    // Returns those of the empty text. CR LF, CR and LF end lines.
+    fn new(alloc: Global) -> Result<Self, AllocError>
+        ensures lines { IfOk result (λ p. (p.lines.types ≡ LineEndTypes.Default) × IsIndexOf [] p.lines × (p.lines.capacity ≡ 1)) }
+        ensures indicators { IfOk result (λ p. p.indicators ≡ decorated 0 (replicate 32 []) no_capacity) }
+    {
+        Ok(PlacesIn {
+            lines: LineIndex::new(alloc, LineEndTypes::Default)?,
+            indicators: Decorations::new(alloc),
+        })
+    }
+}
+
+impl Places {
+    /// Returns the places of the empty text, which has one line. CR LF, CR and LF end lines. `is_large` selects places
+    /// of 64 bits. Allocates memory for the start of the line.
     ///
     /// # Errors
     ///
     /// `AllocError` if the allocation fails.
     pub(crate) fn new(alloc: Global, is_large: bool) -> Result<Self, AllocError>
-        ensures { IfOk result (λ l. (l.index.types ≡ LineEndTypes.Default) × IsIndexOf [] l.index × (l.index.capacity ≡ 1) × (l.is_large ≡ is_large)) }
+        ensures lines { IfOk result (λ p. (p.index.types ≡ LineEndTypes.Default) × IsIndexOf [] p.index × (p.index.capacity ≡ 1)) }
+        ensures indicators { IfOk result (λ p. p.decorated ≡ decorated 0 (replicate 32 []) no_capacity) }
+        ensures width { IfOk result (λ p. p.is_large ≡ is_large) }
     {
         let kept = if is_large {
-            LinesByWidth::Large(LineIndex::new(alloc, LineEndTypes::Default)?)
+            PlacesByWidth::Large(PlacesIn::new(alloc)?)
         } else {
-            LinesByWidth::Small(LineIndex::new(alloc, LineEndTypes::Default)?)
+            PlacesByWidth::Small(PlacesIn::new(alloc)?)
         };
-        Ok(Lines { kept })
+        Ok(Places { kept })
     }
 
     /// Returns which line ends count.
-    pub fn types(&self) -> LineEndTypes
+    pub(crate) fn types(&self) -> LineEndTypes
         ensures { result ≡ self.now.index.types }
     {
-        match &self.kept {
-            LinesByWidth::Small(lines) => lines.types(),
-            LinesByWidth::Large(lines) => lines.types(),
-        }
+        of_either_width!(&self.kept, places => places.lines.types())
     }
 
     /// Returns the number of lines, which is at least 1.
-    pub fn count(&self) -> usize
+    pub(crate) fn line_count(&self) -> usize
         ensures count { result ≡ length self.now.index.starts }
         ensures some { 0 < length self.now.index.starts }
         ensures fits { (length self.now.index.starts ≤ self.now.index.capacity) × (self.now.index.capacity < 2 ^ 63) }
     {
-        match &self.kept {
-            LinesByWidth::Small(lines) => lines.count(),
-            LinesByWidth::Large(lines) => lines.count(),
-        }
-    }
-
-    /// Returns the length of the text, in bytes.
-    pub fn length(&self) -> usize
-        ensures { result ≡ self.now.index.length }
-    {
-        match &self.kept {
-            LinesByWidth::Small(lines) => lines.length(),
-            LinesByWidth::Large(lines) => lines.length(),
-        }
+        of_either_width!(&self.kept, places => places.lines.count())
     }
 
     /// Returns where the line starts, in bytes from 0. Lines are counted from 0.
-    pub fn start(&self, line: usize) -> usize
+    pub(crate) fn line_start(&self, line: usize) -> usize
         requires { line < length self.now.index.starts }
         ensures start { result ≡ slice_index self.now.index.starts line }
         ensures within { result ≤ self.now.index.length }
     {
-        match &self.kept {
-            LinesByWidth::Small(lines) => lines.start(line),
-            LinesByWidth::Large(lines) => lines.start(line),
-        }
+        of_either_width!(&self.kept, places => places.lines.start(line))
     }
 
     /// Returns where the line end of `line` begins, in bytes from 0, or for the last line the end of the text. `before`
     /// and `after` are the halves of the text. At most two of their bytes are read.
-    pub fn end(&self, line: usize, before: &[u8], after: &[u8]) -> usize
+    pub(crate) fn line_end(&self, line: usize, before: &[u8], after: &[u8]) -> usize
         requires line { line < length self.now.index.starts }
         requires text { IsIndexOf (before.now ++ after.now) self.now.index }
         ensures { result ≡ end_of_line self.now.index.types (before.now ++ after.now) line }
     {
-        match &self.kept {
-            LinesByWidth::Small(lines) => lines.end(line, before, after),
-            LinesByWidth::Large(lines) => lines.end(line, before, after),
-        }
+        of_either_width!(&self.kept, places => places.lines.end(line, before, after))
     }
 
     /// Returns the line that holds `place`: the last one that starts at `place` or before it. For a place past the end
     /// this is the last of all. Counts each start that it reads in `probes`.
-    pub fn line_of(&self, place: usize, probes: &mut Probes) -> usize
+    pub(crate) fn line_of(&self, place: usize, probes: &mut Probes) -> usize
         ensures line { result ≡ line_of self.now.index.starts place }
         ensures within { result < length self.now.index.starts }
     {
-        match &self.kept {
-            LinesByWidth::Small(lines) => lines.line_of(place, probes),
-            LinesByWidth::Large(lines) => lines.line_of(place, probes),
-        }
+        of_either_width!(&self.kept, places => places.lines.line_of(place, probes))
     }
 
     /// Makes room for `count` more lines.
@@ -136,56 +146,11 @@ impl Lines {
     ///
     /// `AllocError` if the allocation fails. Nothing has changed then.
     #[inline(always)]
-    pub(crate) fn reserve(&mut self, count: usize) -> Result<(), AllocError>
-        ensures reserved { IsReserved (λ (l : LinesOf). MoreLinesFit count l.index) result self.old self.new }
+    pub(crate) fn reserve_lines(&mut self, count: usize) -> Result<(), AllocError>
+        ensures reserved { IsReserved (λ (p : PlacesOf). MoreLinesFit count p.index) result self.old self.new }
         ensures grown { GrowsLines count self.old self.new }
     {
-        match &mut self.kept {
-            LinesByWidth::Small(lines) => lines.reserve(count),
-            LinesByWidth::Large(lines) => lines.reserve(count),
-        }
-    }
-
-    /// Like `line_index::LineIndex::inserted`.
-    #[inline(always)]
-    pub(crate) fn inserted(
-        &mut self,
-        place: usize,
-        count: usize,
-        before: &[u8],
-        after: &[u8],
-    ) -> LineChange
-        requires was { WasBefore (Inserts place count) (before.now ++ after.now) self.old.index }
-        requires fits { self.old.index.length + count < bound_of self.old.is_large }
-        ensures kept { KeepsLines self.old self.new }
-        ensures index { Follows (Inserts place count) (before.now ++ after.now) self.old.index self.new.index }
-        ensures change { result ≡ change_about place place (place + count) self.old.index.starts self.new.index.starts self.new.index.length }
-    {
-        match &mut self.kept {
-            LinesByWidth::Small(lines) => lines.inserted(place, count, before, after),
-            LinesByWidth::Large(lines) => lines.inserted(place, count, before, after),
-        }
-    }
-
-    /// Like `line_index::LineIndex::deleted`.
-    #[inline(always)]
-    pub(crate) fn deleted(
-        &mut self,
-        place: usize,
-        count: usize,
-        before: &[u8],
-        after: &[u8],
-    ) -> LineChange
-        requires was { WasBefore (Deletes place count) (before.now ++ after.now) self.old.index }
-        requires short { self.old.index.length < 2 ^ 63 }
-        ensures kept { KeepsLines self.old self.new }
-        ensures index { Follows (Deletes place count) (before.now ++ after.now) self.old.index self.new.index }
-        ensures change { result ≡ change_about place (place + count) place self.old.index.starts self.new.index.starts self.new.index.length }
-    {
-        match &mut self.kept {
-            LinesByWidth::Small(lines) => lines.deleted(place, count, before, after),
-            LinesByWidth::Large(lines) => lines.deleted(place, count, before, after),
-        }
+        of_either_width!(&mut self.kept, places => places.lines.reserve(count))
     }
 
     /// Like `line_index::LineIndex::edits_for_types`.
@@ -202,10 +167,7 @@ impl Lines {
         ensures free { edits_of_setting self.now.index.types types (before.now ++ after.now) ≡ [] → IsOk result }
         ensures at_most { IfOk result (λ edits. vec_capacity edits ≤ 2 * vec_len edits) }
     {
-        match &self.kept {
-            LinesByWidth::Small(lines) => lines.edits_for_types(alloc, types, before, after),
-            LinesByWidth::Large(lines) => lines.edits_for_types(alloc, types, before, after),
-        }
+        of_either_width!(&self.kept, places => places.lines.edits_for_types(alloc, types, before, after))
     }
 
     /// Like `line_index::LineIndex::set_types`.
@@ -213,68 +175,35 @@ impl Lines {
         requires text { IsIndexOf (before.now ++ after.now) self.old.index }
         requires fits { line_count types (before.now ++ after.now) ≤ self.old.index.capacity }
         requires short { self.old.index.length < 2 ^ 63 }
-        ensures set { (self.new.is_large ≡ self.old.is_large) × (self.new.index.types ≡ types) × (self.new.index.capacity ≡ self.old.index.capacity) }
+        ensures others { self.new ≡ record self.old { index = self.new.index } }
+        ensures set { (self.new.index.types ≡ types) × (self.new.index.capacity ≡ self.old.index.capacity) }
         ensures index { IsIndexOf (before.now ++ after.now) self.new.index }
     {
-        match &mut self.kept {
-            LinesByWidth::Small(lines) => lines.set_types(types, before, after),
-            LinesByWidth::Large(lines) => lines.set_types(types, before, after),
-        }
+        of_either_width!(&mut self.kept, places => places.lines.set_types(types, before, after))
     }
 
-    /// Like `line_index::LineIndex::lines_about`.
-    pub(crate) fn lines_about(&self, place: usize, end: usize) -> LinesAbout
-        ensures { result ≡ lines_about place end self.now.index.starts }
+    /// Inserts bytes into the text, its line starts and its indicators, and returns the effect on the lines. There must
+    /// be room for them and for the lines that they may add.
+    #[inline(always)]
+    pub(crate) fn insert(&mut self, cells: &mut Cells, place: usize, bytes: &[u8]) -> LineChange
+        requires can { CanPutIn place bytes.now cells.old self.old.index self.old.decorated }
+        requires fits { length cells.old.cells + length bytes.now < bound_of self.old.is_large }
+        ensures width { self.new.is_large ≡ self.old.is_large }
+        ensures text { WereEditedBy (Insert place bytes.now) result cells.old cells.new self.old.index self.new.index }
+        ensures indicators { WereMarked (Insert place bytes.now) cells.new self.old.decorated self.new.decorated }
     {
-        match &self.kept {
-            LinesByWidth::Small(lines) => lines.lines_about(place, end),
-            LinesByWidth::Large(lines) => lines.lines_about(place, end),
-        }
+        of_either_width!(&mut self.kept, places => put_in(cells, places, place, bytes))
     }
 
-    /// Like `line_index::LineIndex::change_since`.
-    pub(crate) fn change_since(&self, about: LinesAbout, end: usize) -> LineChange
-        ensures { result ≡ change_since about end self.now.index.starts self.now.index.length }
+    /// Deletes `count` bytes from `place` on, likewise. There must be room for the lines that a deletion may add.
+    #[inline(always)]
+    pub(crate) fn delete(&mut self, cells: &mut Cells, place: usize, count: usize) -> LineChange
+        requires { CanTakeOut place count cells.old self.old.index self.old.decorated }
+        ensures width { self.new.is_large ≡ self.old.is_large }
+        ensures text { WereEditedBy (deletion_of place count (bytes_of cells.old.cells)) result cells.old cells.new self.old.index self.new.index }
+        ensures indicators { WereMarked (deletion_of place count (bytes_of cells.old.cells)) cells.new self.old.decorated self.new.decorated }
     {
-        match &self.kept {
-            LinesByWidth::Small(lines) => lines.change_since(about, end),
-            LinesByWidth::Large(lines) => lines.change_since(about, end),
-        }
-    }
-}
-
-/// The indicators by the width of places.
-#[derive(Drop)]
-pub(crate) enum IndicatorsByWidth {
-    Small(Decorations<u32>),
-    Large(Decorations<u64>),
-}
-
-/// The indicators of a document.
-#[derive(Drop)]
-pub struct Indicators {
-    pub(crate) kept: IndicatorsByWidth,
-}
-
-impl Model for Indicators {
-    ghost use Rattle.document.specs.Places.{IndicatorsOf, indicators_by_width};
-
-    ghost Value = { IndicatorsOf };
-
-    ghost view = { λ i. indicators_by_width i.kept };
-}
-
-impl Indicators {
-    /// Returns the indicators of the empty text. `is_large` selects places of 64 bits. Allocates nothing.
-    pub(crate) fn new(alloc: Global, is_large: bool) -> Self
-        ensures { result ≡ record { decorated = decorated 0 (replicate 32 []) no_capacity; is_large = is_large } }
-    {
-        let kept = if is_large {
-            IndicatorsByWidth::Large(Decorations::new(alloc))
-        } else {
-            IndicatorsByWidth::Small(Decorations::new(alloc))
-        };
-        Indicators { kept }
+        of_either_width!(&mut self.kept, places => take_out(cells, places, place, count))
     }
 
     /// Returns the length of the text in bytes, which is the number of values of each indicator.
@@ -283,10 +212,7 @@ impl Indicators {
         ensures count { length self.now.decorated.values ≡ 32 }
         ensures each { AllByRecursion (λ values. length values ≡ self.now.decorated.length) self.now.decorated.values }
     {
-        match &self.kept {
-            IndicatorsByWidth::Small(indicators) => indicators.length(),
-            IndicatorsByWidth::Large(indicators) => indicators.length(),
-        }
+        of_either_width!(&self.kept, places => places.indicators.length())
     }
 
     /// Returns the value of an indicator at a place, or 0 past the end of the text (`SCI_INDICATORVALUEAT`).
@@ -294,10 +220,7 @@ impl Indicators {
         requires { indicator < 32 }
         ensures { result ≡ at_place (values_of self.now.decorated.values indicator) (pos place) }
     {
-        match &self.kept {
-            IndicatorsByWidth::Small(indicators) => indicators.value(indicator, place),
-            IndicatorsByWidth::Large(indicators) => indicators.value(indicator, place),
-        }
+        of_either_width!(&self.kept, places => places.indicators.value(indicator, place))
     }
 
     /// Returns the longest range of equal values of an indicator around a place, as its first place and the place
@@ -307,10 +230,7 @@ impl Indicators {
         requires place { place < self.now.decorated.length }
         ensures { result ≡ run_about (values_of self.now.decorated.values indicator) place }
     {
-        match &self.kept {
-            IndicatorsByWidth::Small(indicators) => indicators.run(indicator, place),
-            IndicatorsByWidth::Large(indicators) => indicators.run(indicator, place),
-        }
+        of_either_width!(&self.kept, places => places.indicators.run(indicator, place))
     }
 
     /// Returns the indicators that are not 0 at a place, bit `k` for indicator `k`, and 0 past the end of the text
@@ -318,56 +238,20 @@ impl Indicators {
     pub fn mask_at(&self, place: usize) -> u32
         ensures { result ≡ mask_of self.now.decorated.values place }
     {
-        match &self.kept {
-            IndicatorsByWidth::Small(indicators) => indicators.mask_at(place),
-            IndicatorsByWidth::Large(indicators) => indicators.mask_at(place),
-        }
+        of_either_width!(&self.kept, places => places.indicators.mask_at(place))
     }
 
-    /// Makes room for `insertions` insertions.
+    /// Makes room for `insertions` insertions into the indicators.
     ///
     /// # Errors
     ///
     /// `AllocError` if an allocation fails. Nothing has changed then, except that more runs may fit in.
     #[inline(always)]
-    pub(crate) fn reserve(&mut self, insertions: usize) -> Result<(), AllocError>
-        ensures reserved { IsReserved (λ (i : IndicatorsOf). HasRoomForInsertions insertions i.decorated) result self.old self.new }
+    pub(crate) fn reserve_insertions(&mut self, insertions: usize) -> Result<(), AllocError>
+        ensures reserved { IsReserved (λ (p : PlacesOf). HasRoomForInsertions insertions p.decorated) result self.old self.new }
         ensures grown { ChangeCapacity self.old self.new × IsCapacityForRuns (insertions + 2) self.old.decorated self.new.decorated.capacity }
     {
-        match &mut self.kept {
-            IndicatorsByWidth::Small(indicators) => indicators.reserve(insertions),
-            IndicatorsByWidth::Large(indicators) => indicators.reserve(insertions),
-        }
-    }
-
-    /// Like `decorations::Decorations::insert`.
-    pub(crate) fn insert(&mut self, place: usize, count: usize)
-        requires within { place ≤ self.old.decorated.length }
-        requires fits { self.old.decorated.length + count < bound_of self.old.is_large }
-        requires room { HasRoomForInsertions 1 self.old.decorated }
-        ensures width { self.new.is_large ≡ self.old.is_large }
-        ensures length { self.new.decorated.length ≡ self.old.decorated.length + count }
-        ensures values { (bytes : List ℕ) → length bytes ≡ count → self.new.decorated.values ≡ indicators_after (Insert place bytes) self.old.decorated.values }
-        ensures runs { LeavesRuns (λ n. n + 1) self.old.decorated self.new.decorated }
-    {
-        match &mut self.kept {
-            IndicatorsByWidth::Small(indicators) => indicators.insert(place, count),
-            IndicatorsByWidth::Large(indicators) => indicators.insert(place, count),
-        }
-    }
-
-    /// Like `decorations::Decorations::delete`.
-    pub(crate) fn delete(&mut self, place: usize, count: usize)
-        requires { place + count ≤ self.old.decorated.length }
-        ensures width { self.new.is_large ≡ self.old.is_large }
-        ensures length { self.new.decorated.length + count ≡ self.old.decorated.length }
-        ensures values { (bytes : List ℕ) → length bytes ≡ count → self.new.decorated.values ≡ indicators_after (Delete place bytes) self.old.decorated.values }
-        ensures runs { LeavesRuns (λ n. n) self.old.decorated self.new.decorated }
-    {
-        match &mut self.kept {
-            IndicatorsByWidth::Small(indicators) => indicators.delete(place, count),
-            IndicatorsByWidth::Large(indicators) => indicators.delete(place, count),
-        }
+        of_either_width!(&mut self.kept, places => places.indicators.reserve(insertions))
     }
 
     /// Like `decorations::Decorations::reserve_fill`.
@@ -377,13 +261,10 @@ impl Indicators {
     /// `AllocError` if an allocation fails. Nothing has changed then, except that more slots and runs may fit in.
     pub(crate) fn reserve_fill(&mut self, indicator: usize) -> Result<(), AllocError>
         requires { indicator < 32 }
-        ensures reserved { IsReserved (λ (i : IndicatorsOf). HasRoomForFill indicator i.decorated) result self.old self.new }
+        ensures reserved { IsReserved (λ (p : PlacesOf). HasRoomForFill indicator p.decorated) result self.old self.new }
         ensures grown { ChangeCapacity self.old self.new × IsCapacityForFill indicator self.old.decorated self.new.decorated.capacity }
     {
-        match &mut self.kept {
-            IndicatorsByWidth::Small(indicators) => indicators.reserve_fill(indicator),
-            IndicatorsByWidth::Large(indicators) => indicators.reserve_fill(indicator),
-        }
+        of_either_width!(&mut self.kept, places => places.indicators.reserve_fill(indicator))
     }
 
     /// Like `decorations::Decorations::fill`.
@@ -401,13 +282,6 @@ impl Indicators {
         ensures capacity { WereFilledFrom indicator self.old.decorated self.new.decorated }
         ensures changed { result ≡ filled_range self.old.decorated indicator start count value }
     {
-        match &mut self.kept {
-            IndicatorsByWidth::Small(indicators) => {
-                indicators.fill(indicator, start, count, value)
-            }
-            IndicatorsByWidth::Large(indicators) => {
-                indicators.fill(indicator, start, count, value)
-            }
-        }
+        of_either_width!(&mut self.kept, places => places.indicators.fill(indicator, start, count, value))
     }
 }

@@ -26,7 +26,7 @@ impl Document {
         match step {
             TextStep::Insert { bytes, .. } => DocumentNeed {
                 text: bytes.len(),
-                lines: lines_for_insertion(self.parts.lines.types(), bytes),
+                lines: lines_for_insertion(self.parts.places.types(), bytes),
                 insertions: 1,
                 steps: 1,
                 bytes: bytes.len(),
@@ -53,22 +53,11 @@ impl Document {
         ensures reserved { IsReserved (HasRoom need) result self.old self.new }
         ensures grown { ReservesSteps need self.old self.new }
     {
-        let Ok(()) = self.parts.cells.reserve(need.text) else {
-            return Err(AllocError);
-        };
-        let Ok(()) = self.parts.lines.reserve(need.lines) else {
-            return Err(AllocError);
-        };
-        let Ok(()) = self.parts.rows.reserve_lines(need.lines) else {
-            return Err(AllocError);
-        };
-        let Ok(()) = self.parts.indicators.reserve(need.insertions) else {
-            return Err(AllocError);
-        };
-        let Ok(()) = self.history.reserve(need.steps, need.bytes) else {
-            return Err(AllocError);
-        };
-        Ok(())
+        self.parts.cells.reserve(need.text)?;
+        self.parts.places.reserve_lines(need.lines)?;
+        self.parts.rows.reserve_lines(need.lines)?;
+        self.parts.places.reserve_insertions(need.insertions)?;
+        self.history.reserve(need.steps, need.bytes)
     }
 
     /// Makes a step of the text, and returns its effect on the lines. The cells, the line starts, the rows, the

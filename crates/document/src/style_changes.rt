@@ -83,7 +83,7 @@ impl Document {
         ensures reserved { IsReserved (HasFillRoom indicator) result self.old self.new }
         ensures grown { ReservesFill indicator self.old self.new }
     {
-        self.parts.indicators.reserve_fill(indicator)
+        self.parts.places.reserve_fill(indicator)
     }
 
     /// Sets an indicator to a value at the `count` bytes from `start` on (`SCI_INDICATORFILLRANGE`). Returns the
@@ -103,6 +103,6 @@ impl Document {
         ensures memory { KeepsMemoryFilling indicator self.old self.new }
         ensures changed { result ≡ changed_range (values_of self.old.document.indicators indicator) (values_of self.new.document.indicators indicator) }
     {
-        self.parts.indicators.fill(indicator, start, count, value)
+        self.parts.places.fill(indicator, start, count, value)
     }
 }

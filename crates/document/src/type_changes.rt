@@ -34,7 +34,7 @@ impl Document {
         edits_of_settings();
         let (before, after) = self.parts.cells.halves();
         self.parts
-            .lines
+            .places
             .edits_for_types(alloc, types, before, after)
     }
 
@@ -48,9 +48,7 @@ impl Document {
         ensures reserved { IsReserved (HasLineRoom lines) result self.old self.new }
         ensures grown { ReservesLines lines self.old self.new }
     {
-        let Ok(()) = self.parts.lines.reserve(lines) else {
-            return Err(AllocError);
-        };
+        self.parts.places.reserve_lines(lines)?;
         self.parts.rows.reserve_lines(lines)
     }
 
@@ -66,7 +64,7 @@ impl Document {
         rows_that_meet();
         rows_match_lines();
         let (before, after) = self.parts.cells.halves();
-        self.parts.lines.set_types(types, before, after);
+        self.parts.places.set_types(types, before, after);
         self.parts.rows.carry(edits);
     }
 

@@ -189,7 +189,7 @@ impl Document {
             } => {
                 let need = DocumentNeed {
                     text: count,
-                    lines: lines_for_insertion(self.parts.lines.types(), change.bytes),
+                    lines: lines_for_insertion(self.parts.places.types(), change.bytes),
                     insertions: 1,
                     ..DocumentNeed::none()
                 };

@@ -9,7 +9,7 @@ pub make_step-requires-clause-room : goal.make_step-requires-clause-room
 make_step-requires-clause-room c =
     let d = c.self.inside in
     let room = subst (λ (k : Kept). HasTextRoom (need_on k c.args.step) k) (sym c.self.view_is) c.requires.room in
-    (record { options = d.options; are = c.self.invariant }, parts_take (need_of d.parts.lines.index.types c.args.step) d c.self.invariant room)
+    (record { options = d.options; are = c.self.invariant }, parts_take (need_of d.parts.places.index.types c.args.step) d c.self.invariant room)
 
 pub returns-clause-lines : goal.returns-clause-lines
 returns-clause-lines c = rw (← c.self.view_is) c.make_step.ensures.text.is
