@@ -82,10 +82,7 @@ fn reserve_in<P: Place>(slot: &mut Slot<P>, insertions: usize) -> Result<(), All
     };
     // Brings the bound on a capacity: so many runs never fit in.
     runs.fits_in();
-    let Some(count) = insertions.checked_add(2) else {
-        return Err(AllocError);
-    };
-    runs.reserve(count)
+    runs.reserve(insertions.checked_add(2).ok_or(AllocError)?)
 }
 
 /// Makes room for what `insertions` insertions and a fill bring in each slot that has runs.

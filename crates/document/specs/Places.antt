@@ -1,9 +1,8 @@
 -- Line starts and indicators of a text by the width of its places.
-use Rattle.std.specs.Prelude.{◌≡◌, ℕ, ◌+◌, ◌≤◌, Bool, true, false, length, slice_set}
-use Rattle.ed_model.specs.Indicators.{filled}
+use Rattle.std.specs.Prelude.{◌≡◌, ℕ, ◌+◌, ◌≤◌, Bool, true, false, length}
 use Rattle.line_index.specs.Index.{Index}
 use Rattle.split_vector.specs.Split.{most_held}
-use Rattle.decorations.specs.Decorated.{Decorated, values_of}
+use Rattle.decorations.specs.Decorated.{Decorated, IsFilled}
 use Rattle.document.specs.declared.places.PlacesByWidth.{PlacesByWidth}
 use Rattle.document.specs.declared.places.PlacesByWidth.TheVariants.{Small, Large}
 
@@ -35,12 +34,7 @@ GrowsLines count old new =
 abbrev pub ChangeCapacity : PlacesOf → PlacesOf → Type 0
 ChangeCapacity old new = new ≡ record old { decorated = record old.decorated { capacity = new.decorated.capacity } }
 
--- the indicator has the value at `count` places from `start` on, and besides, only how many runs fit in may be another
+-- nothing has changed but the indicators: one of them has the value at `count` places from `start` on
 abbrev pub AreFilled : ℕ → ℕ → ℕ → ℕ → PlacesOf → PlacesOf → Type 0
 AreFilled indicator start count value old new =
-    new ≡ record old {
-      decorated = record old.decorated {
-        values = slice_set old.decorated.values indicator (filled start count value (values_of old.decorated.values indicator));
-        capacity = new.decorated.capacity;
-      };
-    }
+    (new ≡ record old { decorated = new.decorated }) × IsFilled indicator start count value old.decorated new.decorated

@@ -1,4 +1,4 @@
-//! Bytes of a step, inserted into a text and what is kept of its places, piece by piece, or deleted from them.
+//! The bytes of a step, put into a text, its line starts and its indicators, or taken out of them.
 
 ghost use Rattle.std.specs.Prelude.{◌≡◌, ◌+◌, ◌≤◌, length};
 ghost use Rattle.ed_model.specs.Lines.{line_count};
@@ -61,8 +61,8 @@ fn put_pieces<P: Place>(
     lines.change_since(about, place + bytes.len())
 }
 
-/// Inserts bytes at `place`, and returns the effect of all of them on the lines. There must be room for them and for
-/// the lines that they may add.
+/// Inserts bytes at `place` into the text, its line starts and its indicators, and returns the effect of all of them on
+/// the lines. There must be room for them and for the lines that they may add.
 #[inline(always)]
 pub(crate) fn put_in<P: Place>(
     cells: &mut Cells,
@@ -85,8 +85,7 @@ pub(crate) fn put_in<P: Place>(
     change
 }
 
-/// Deletes `count` bytes from `place` on, and returns the effect on the lines. There must be room for the lines that a
-/// deletion may add.
+/// Deletes `count` bytes from `place` on, likewise. There must be room for the lines that a deletion may add.
 #[inline(always)]
 pub(crate) fn take_out<P: Place>(
     cells: &mut Cells,
