@@ -5,7 +5,7 @@ use Rattle.split_vector.specs.Split.{most_held}
 use Rattle.cell_buffer.specs.Buffer.{Grows}
 use Rattle.cell_buffer.specs.Buffer as buffer
 use Rattle.decorations.specs.Decorated.{Decorated, HasRoomForInsertions, IsCapacityForRuns}
-use Rattle.line_index.specs.Index.{MoreLinesFit}
+use Rattle.line_index.specs.Index.{Index, MoreLinesFit}
 use Rattle.line_rows.specs.Kept.{GrowsTo, HasRoomForLines, most_for_lines}
 use Rattle.undo_history.specs.Kept as history
 use Rattle.document.specs.declared.kept.Document.TheInside.{Inside}
@@ -40,14 +40,14 @@ module _ (need : DocumentNeed) (d : Inside) (cells : Buffer) (lines runs : Place
       let index : runs.index ≡ lines.index = ap (λ (p : PlacesOf). p.index) for_runs.0 in
       let marked : lines.decorated ≡ d.parts.places.decorated = ap (λ (p : PlacesOf). p.decorated) for_lines.0 in
       let grown = subst (λ (was : Decorated). IsCapacityForRuns (need.insertions + 2) was runs.decorated.capacity) marked for_runs.1 in (
-        rw (for_cells.0, for_runs.0, for_lines.0, for_rows.0, for_history.0) refl,
+        rw (for_cells.0, for_runs.0, for_lines.0, for_lines.1.0, for_rows.0, for_history.0) refl,
         record {
           bytes = for_cells.2.0;
           styles = for_cells.2.1;
           cells_kept = for_cells.1;
           lines = record {
-            starts = rw index (subst (λ n. lines.index.capacity ≤ most_held d.parts.places.index.capacity (n + need.lines)) (ap length parts.indexed.starts) for_lines.2);
-            starts_kept = rw index for_lines.1;
+            starts = rw index (subst (λ n. lines.index.capacity ≤ most_held d.parts.places.index.capacity (n + need.lines)) (ap length parts.indexed.starts) for_lines.1.2);
+            starts_kept = rw index for_lines.1.1;
             rows = for_rows.2;
             rows_kept = for_rows.1;
           };
@@ -59,18 +59,18 @@ module _ (need : DocumentNeed) (d : Inside) (cells : Buffer) (lines runs : Place
       )
 
   pub all_fit :
-      cells ≡ record d.parts.cells { capacity = cells.capacity } → lines ≡ record d.parts.places { index = record d.parts.places.index { capacity = lines.index.capacity } } → ChangeCapacity lines runs
+      cells ≡ record d.parts.cells { capacity = cells.capacity } → GrowsLines need.lines d.parts.places lines → ChangeCapacity lines runs
       → FitsWidth (document_in d) (length d.parts.cells.cells + need.text)
       → buffer.HasRoom need.text cells → MoreLinesFit need.lines lines.index → HasRoomForLines need.lines rows → HasRoomForInsertions need.insertions runs.decorated
       → {T E : Type 0} (result : Result T E) → OnOk result (history.HasRoom need.steps need.bytes told) → OnOk result (HasRoom need (kept_in reserved))
-  all_fit same_cells same_lines same_runs wide cells_fit starts_fit rows_fit runs_fit result told_fits =
+  all_fit same_cells for_lines same_runs wide cells_fit starts_fit rows_fit runs_fit result told_fits =
       let index : runs.index ≡ lines.index = ap (λ (p : PlacesOf). p.index) same_runs in
-      let text = ap (λ (b : Buffer). line_count lines.index.types (bytes_of b.cells)) same_cells ∙ ap (λ (p : PlacesOf). line_count p.index.types (bytes_of d.parts.cells.cells)) same_lines in
+      let text = ap (λ (b : Buffer). line_count lines.index.types (bytes_of b.cells)) same_cells ∙ ap (λ (i : Index). line_count i.types (bytes_of d.parts.cells.cells)) for_lines.1.0 in
       with_history_room result need (kept_in reserved) (record {
         width = omega (arith, wide, ap (λ (b : Buffer). length b.cells) same_cells);
         bytes = cells_fit.0;
         styles = cells_fit.1;
-        lines = (rw index (omega (arith, starts_fit, text, ap (λ (p : PlacesOf). length p.index.starts) same_lines, ap length parts.indexed.starts)), rows_fit);
+        lines = (rw index (omega (arith, starts_fit, text, ap (λ (i : Index). length i.starts) for_lines.1.0, ap length parts.indexed.starts)), rows_fit);
         runs = runs_fit;
       }) told_fits
 

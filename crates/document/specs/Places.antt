@@ -1,7 +1,6 @@
 -- Line starts and indicators of a text by the width of its places.
-use Rattle.std.specs.Prelude.{◌≡◌, ℕ, ◌+◌, ◌≤◌, Bool, true, false, length}
-use Rattle.line_index.specs.Index.{Index}
-use Rattle.split_vector.specs.Split.{most_held}
+use Rattle.std.specs.Prelude.{◌≡◌, ℕ, Bool, true, false}
+use Rattle.line_index.specs.Index.{Grows, Index}
 use Rattle.decorations.specs.Decorated.{Decorated, IsFilled}
 use Rattle.document.specs.declared.places.PlacesByWidth.{PlacesByWidth}
 use Rattle.document.specs.declared.places.PlacesByWidth.TheVariants.{Small, Large}
@@ -21,12 +20,9 @@ places_by_width (Large places) = places_of places.lines places.indicators true
 
 -- The line starts.
 
--- nothing but the capacity has changed: it has grown for `count` more lines at most
+-- nothing has changed but the capacity for lines: it has grown for `count` more at most
 abbrev pub GrowsLines : ℕ → PlacesOf → PlacesOf → Type 0
-GrowsLines count old new =
-    (new ≡ record old { index = record old.index { capacity = new.index.capacity } })
-    × (old.index.capacity ≤ new.index.capacity)
-    × (new.index.capacity ≤ most_held old.index.capacity (length old.index.starts + count))
+GrowsLines count old new = (new ≡ record old { index = new.index }) × Grows count old.index new.index
 
 -- The indicators.
 

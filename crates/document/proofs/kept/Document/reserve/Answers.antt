@@ -32,7 +32,7 @@ returns-clause-reserved c =
     let runs = c.in_ok-reserve_insertions.ensures in
     let told = c.reserve-2.ensures.reserved in
     let wide = rw (← c.self.view_is) at c.requires.wide in
-    let fits = all_fit c.args.need d c.reserve.new.self c.reserve_lines.new.self c.reserve_insertions.new.self c.reserve_lines-2.new.self c.reserve-2.new.self c.self.invariant cells.grown.0 lines.grown.0 runs.grown.0 wide
+    let fits = all_fit c.args.need d c.reserve.new.self c.reserve_lines.new.self c.reserve_insertions.new.self c.reserve_lines-2.new.self c.reserve-2.new.self c.self.invariant cells.grown.0 lines.grown runs.grown.0 wide
     cells.reserved.0 lines.reserved.0 rows.0 runs.reserved.0 c.reserve-2.result told.0 in (
       fits,
       rw (← c.self.view_is) (
