@@ -233,8 +233,8 @@ changed_sound limits bytes (change.FillIndicator indicator start count value) d 
 
 -- The views on it.
 
-pub stands_kept : (d d' : Document) (v : View) → length d'.cells ≡ length d.cells → lines_in d' ≡ lines_in d → d'.views ≡ d.views → d'.options ≡ d.options → StandsOn d v → StandsOn d' v
-stands_kept d d' v n l vs o on = record {
+pub stands_kept : (d d' : Document) (v : View) → length d'.cells ≡ length d.cells → lines_in d' ≡ lines_in d → d'.views ≡ d.views → StandsOn d v → StandsOn d' v
+stands_kept d d' v n l vs on = record {
   anchor = subst (λ k. v.anchor ≤ k) (sym n) on.anchor;
   caret = subst (λ k. v.caret ≤ k) (sym n) on.caret;
   target_start = subst (λ k. v.target_start ≤ k) (sym n) on.target_start;
@@ -242,7 +242,6 @@ stands_kept d d' v n l vs o on = record {
   lines = on.lines ∙ sym l;
   first_line = on.first_line;
   indicator = on.indicator;
-  large = on.large ∙ ap (λ options. meets options 0x100) (sym o);
   listed = ap (occurrences v.id) vs ∙ on.listed;
 }
 
@@ -256,13 +255,12 @@ regrouped_stands d to rows v on = record {
   lines = length-carried flags_together (λ start. start) (line_starts d.line_end_types (text_of d)) (line_starts to (text_of d)) v.flags;
   first_line = first_regrouped d.line_end_types to (text_of d) v.flags on.first_line;
   indicator = on.indicator;
-  large = on.large;
   listed = on.listed;
 }
 
 styled_stands : (new : List ℕ) (d : Document) (v : View) → StandsOn d v → StandsOn (styled new d) v
 styled_stands new d v on =
-    stands_kept d (styled new d) v (length_from_bytes (styled new d).cells d.cells (text_of_styled new d)) (ap (line_count d.line_end_types) (text_of_styled new d)) refl refl on
+    stands_kept d (styled new d) v (length_from_bytes (styled new d).cells d.cells (text_of_styled new d)) (ap (line_count d.line_end_types) (text_of_styled new d)) refl on
 
 pub changed_stands : (bytes : List ℕ) (what : DocumentChange) (d : Document) (v : View) → v.document ≡ d.id → StandsOn d v → StandsOn (changed_document bytes what d) (changed_lines what d v)
 changed_stands bytes (change.SetLineEndTypes to) d v e on =
@@ -270,7 +268,7 @@ changed_stands bytes (change.SetLineEndTypes to) d v e on =
     rw t (regrouped_stands d to (regrouped rows_together d.line_end_types to (text_of d) d.rows) v on)
 changed_stands bytes (change.StyleRun count style) d v e on = styled_stands (replicate count style) d v on
 changed_stands bytes (change.StyleBytes count) d v e on = styled_stands (take count bytes) d v on
-changed_stands bytes _ d v e on = stands_kept d _ v refl refl refl refl on
+changed_stands bytes _ d v e on = stands_kept d _ v refl refl refl on
 
 pub changed_lines_others : (what : DocumentChange) (d : Document) (v : View) → (v.document ≡ d.id → ⊥) → changed_lines what d v ≡ v
 changed_lines_others (change.SetLineEndTypes to) d v ne =

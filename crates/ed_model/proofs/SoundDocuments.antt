@@ -65,7 +65,6 @@ view_made d step h v stands = record {
   lines = length-carried_by flags_together d.line_end_types step (text_of d) v.flags ∙ ap (line_count d.line_end_types) (sym (text_after d step));
   first_line = first_carried_by d.line_end_types step (text_of d) v.flags stands.first_line;
   indicator = stands.indicator;
-  large = stands.large;
   listed = stands.listed;
 }
   where

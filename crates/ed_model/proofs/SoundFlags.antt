@@ -81,16 +81,16 @@ with_flags : (d : Document) (v : View) (flags : List Flags) → StandsOn d v
     → ((f : AreFlags (lines_in d) v.flags) → AreFlags (lines_in d) flags) → StandsOn d (record v { flags = flags })
 with_flags d v flags on h =
     let f = h (record { count = on.lines; first = on.first_line }) in
-    record { anchor = on.anchor; caret = on.caret; target_start = on.target_start; target_end = on.target_end; lines = f.count; first_line = f.first; indicator = on.indicator; large = on.large; listed = on.listed }
+    record { anchor = on.anchor; caret = on.caret; target_start = on.target_start; target_end = on.target_end; lines = f.count; first_line = f.first; indicator = on.indicator; listed = on.listed }
 
 -- a view fits its document after a change that does
 pub changed_view_stands : (levels : List ℕ) (what : ViewChange) (d : Document) (v : View) → StandsOn d v → IsFitHere d what → StandsOn d (changed_view levels what v)
 changed_view_stands levels (view_change.Select anchor caret) d v on fit =
-    record { anchor = fit.0; caret = fit.1; target_start = on.target_start; target_end = on.target_end; lines = on.lines; first_line = on.first_line; indicator = on.indicator; large = on.large; listed = on.listed }
+    record { anchor = fit.0; caret = fit.1; target_start = on.target_start; target_end = on.target_end; lines = on.lines; first_line = on.first_line; indicator = on.indicator; listed = on.listed }
 changed_view_stands levels (view_change.SetTarget start past) d v on fit =
-    record { anchor = on.anchor; caret = on.caret; target_start = fit.0; target_end = fit.1; lines = on.lines; first_line = on.first_line; indicator = on.indicator; large = on.large; listed = on.listed }
+    record { anchor = on.anchor; caret = on.caret; target_start = fit.0; target_end = fit.1; lines = on.lines; first_line = on.first_line; indicator = on.indicator; listed = on.listed }
 changed_view_stands levels (view_change.SetIndicator indicator) d v on fit =
-    record { anchor = on.anchor; caret = on.caret; target_start = on.target_start; target_end = on.target_end; lines = on.lines; first_line = on.first_line; indicator = fit; large = on.large; listed = on.listed }
+    record { anchor = on.anchor; caret = on.caret; target_start = on.target_start; target_end = on.target_end; lines = on.lines; first_line = on.first_line; indicator = fit; listed = on.listed }
 changed_view_stands levels (view_change.ShowLines first past) d v on fit = with_flags d v (lines_shown first past v.flags) on (lines_shown_flags _ first past v.flags)
 changed_view_stands levels (view_change.HideLines first past) d v on fit = with_flags d v (lines_hidden first past v.flags) on (lines_hidden_flags _ first past v.flags)
 changed_view_stands levels (view_change.SetExpanded line shown) d v on fit = with_flags d v (with_expanded line shown v.flags) on (with_expanded_flags _ line shown v.flags)
@@ -98,4 +98,4 @@ changed_view_stands levels (view_change.Contract line) d v on fit = with_flags d
 changed_view_stands levels (view_change.Expand line) d v on fit = with_flags d v (expanded levels line v.flags) on (expanded_flags _ levels line v.flags)
 changed_view_stands levels (view_change.EnsureVisible line) d v on fit = with_flags d v (revealed levels line v.flags) on (revealed_flags _ levels line v.flags)
 changed_view_stands levels _ d v on fit =
-    record { anchor = on.anchor; caret = on.caret; target_start = on.target_start; target_end = on.target_end; lines = on.lines; first_line = on.first_line; indicator = on.indicator; large = on.large; listed = on.listed }
+    record { anchor = on.anchor; caret = on.caret; target_start = on.target_start; target_end = on.target_end; lines = on.lines; first_line = on.first_line; indicator = on.indicator; listed = on.listed }

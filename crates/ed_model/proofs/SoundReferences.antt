@@ -35,7 +35,6 @@ relisted_stands d v views held_by_callers on listed = record {
   lines = on.lines;
   first_line = on.first_line;
   indicator = on.indicator;
-  large = on.large;
   listed = listed;
 }
 
@@ -192,8 +191,8 @@ fresh_visible zero = refl
 fresh_visible (suc n) = refl
 
 pub fresh_stands : (d : Document) (v : View) → occurrences v.id d.views ≡ 1 → v.anchor ≡ 0 → v.caret ≡ 0 → v.target_start ≡ 0 → v.target_end ≡ 0 → v.flags ≡ replicate (lines_in d) fresh_flags
-    → v.indicator < 32 → v.large ≡ is_large d → StandsOn d v
-fresh_stands d v listed a b c e l i w = record {
+    → v.indicator < 32 → StandsOn d v
+fresh_stands d v listed a b c e l i = record {
   anchor = omega arith;
   caret = omega arith;
   target_start = omega arith;
@@ -201,7 +200,6 @@ fresh_stands d v listed a b c e l i w = record {
   lines = ap length l ∙ length-replicate (lines_in d) fresh_flags;
   first_line = ap (λ f. is_visible f 0) l ∙ fresh_visible (lines_in d);
   indicator = i;
-  large = w;
   listed = listed;
 }
 
@@ -247,7 +245,7 @@ attached_sound s id d v h there indicator found = record {
               (mapped_found (attached_last v.id d.id) (attached_relists v.id d.id) s.documents d.id d at) some;
           stands = subst (λ (e : Document). StandsOn e (attached_to d v)) (sym ((attached_relists v.id d.id).is d))
               (fresh_stands (with_references ((attached_relists v.id d.id).views d) d.held_by_callers d) (attached_to d v)
-              (ap (λ (e : Document). occurrences v.id e.views) (sym ((attached_relists v.id d.id).is d)) ∙ once) refl refl refl refl refl indicator refl);
+              (ap (λ (e : Document). occurrences v.id e.views) (sym ((attached_relists v.id d.id).is d)) ∙ once) refl refl refl refl refl indicator);
         }
     go w k false t =
         living_view (attached_last v.id d.id) (attached_relists v.id d.id) s.documents w k
@@ -405,7 +403,7 @@ opened_session_sound s h = record {
           document = with_references (s.next_view ∷ []) 0 (new_document s.next_document 0);
           found = found_last 0 s.next_document s.documents (with_references (s.next_view ∷ []) 0 (new_document s.next_document 0)) refl h.document_ids;
           stands = fresh_stands (with_references (s.next_view ∷ []) 0 (new_document s.next_document 0)) (new_view s.next_view (with_references (s.next_view ∷ []) 0 (new_document s.next_document 0)))
-              (let t : (s.next_view == s.next_view) ≡ true = eq-eqb s.next_view s.next_view refl in rw t refl) refl refl refl refl refl (omega arith) refl;
+              (let t : (s.next_view == s.next_view) ≡ true = eq-eqb s.next_view s.next_view refl in rw t refl) refl refl refl refl refl (omega arith);
         },
         tt,
       );

@@ -39,11 +39,11 @@ clipboard_sound s bytes h = record { document_ids = h.document_ids; view_ids = h
 
 caret_stands : (d : Document) (place : ℕ) → place ≤ length d.cells → (v : View) → StandsOn d v → StandsOn d (record v { anchor = place; caret = place })
 caret_stands d place le v on =
-    record { anchor = le; caret = le; target_start = on.target_start; target_end = on.target_end; lines = on.lines; first_line = on.first_line; indicator = on.indicator; large = on.large; listed = on.listed }
+    record { anchor = le; caret = le; target_start = on.target_start; target_end = on.target_end; lines = on.lines; first_line = on.first_line; indicator = on.indicator; listed = on.listed }
 
 target_stands : (d : Document) (start past : ℕ) → start ≤ length d.cells → past ≤ length d.cells → (v : View) → StandsOn d v → StandsOn d (record v { target_start = start; target_end = past })
 target_stands d start past a b v on =
-    record { anchor = on.anchor; caret = on.caret; target_start = a; target_end = b; lines = on.lines; first_line = on.first_line; indicator = on.indicator; large = on.large; listed = on.listed }
+    record { anchor = on.anchor; caret = on.caret; target_start = a; target_end = b; lines = on.lines; first_line = on.first_line; indicator = on.indicator; listed = on.listed }
 
 -- the sender's caret in a sound scene
 pub caret_sound : (sender : ℕ) (s : Session) (scene : Scene) (place : ℕ) → IsSoundScene sender s scene → place ≤ length (text_of scene.document)

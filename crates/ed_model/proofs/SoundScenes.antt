@@ -59,7 +59,7 @@ scene_history sender s scene h sound fits =
       referenced = was.referenced;
       history = fits;
     })
-    (λ v e on. record { anchor = on.anchor; caret = on.caret; target_start = on.target_start; target_end = on.target_end; lines = on.lines; first_line = on.first_line; indicator = on.indicator; large = on.large; listed = on.listed })
+    (λ v e on. record { anchor = on.anchor; caret = on.caret; target_start = on.target_start; target_end = on.target_end; lines = on.lines; first_line = on.first_line; indicator = on.indicator; listed = on.listed })
 
 -- A step.
 

@@ -32,7 +32,7 @@ pub record Document : Type 0 where
 
 -- A view: its id and its document's; anchor, caret and target, positions in bytes; search flags; the mask of modifications that
 -- it is notified of (SCI_SETMODEVENTMASK); the current indicator and its value; whether pastes convert line ends; whether it
--- records; whether its document is for large texts; and the flags of each line.
+-- records; and the flags of each line.
 pub record View : Type 0 where
   pub id : ℕ
   pub document : ℕ
@@ -46,7 +46,6 @@ pub record View : Type 0 where
   pub indicator_value : ℕ
   pub converts_pastes : Bool
   pub records : Bool
-  pub large : Bool
   pub flags : List Flags
 
 -- A session: documents and views in the order of their ids, the clipboard, the
@@ -116,7 +115,7 @@ is_large d = meets d.options 0x100
 
 -- the view attached to the document: anchor, caret and target at the start, all lines visible and expanded
 abbrev pub attached_to : Document → View → View
-attached_to d v = record v { document = d.id; anchor = 0; caret = 0; target_start = 0; target_end = 0; large = is_large d; flags = replicate (lines_in d) fresh_flags }
+attached_to d v = record v { document = d.id; anchor = 0; caret = 0; target_start = 0; target_end = 0; flags = replicate (lines_in d) fresh_flags }
 
 abbrev pub new_view : ℕ → Document → View
 new_view id d = record {
@@ -132,7 +131,6 @@ new_view id d = record {
   indicator_value = 1;
   converts_pastes = true;
   records = false;
-  large = is_large d;
   flags = replicate (lines_in d) fresh_flags;
 }
 

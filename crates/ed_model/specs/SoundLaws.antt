@@ -104,7 +104,6 @@ pub record StandsOn (d : Document) (v : View) : Type 0 where
   pub lines : length v.flags ≡ lines_in d
   pub first_line : is_visible v.flags 0 ≡ true
   pub indicator : v.indicator < 32
-  pub large : v.large ≡ is_large d
   pub listed : occurrences v.id d.views ≡ 1
 
 -- a view whose document exists

@@ -2,34 +2,29 @@
 use Rattle.std.specs.Prelude.{◌≡◌, ℕ, ◌+◌, Bool, List, length}
 use Rattle.ed_model.specs.declared.plan.ViewChange.{ViewChange}
 use Rattle.ed_model.specs.Changes.{changed_view}
-use Rattle.ed_model.specs.Session.{Document, View, lines_in, is_large, new_view}
+use Rattle.ed_model.specs.Session.{Document, View, lines_in, new_view}
 use Rattle.selection.specs.declared.selections.Selection.{Selection}
 use Rattle.contraction.specs.ViewLines.{FoldCapacity}
-use Rattle.ed_view.specs.Flags.{FoldCapacities, AreFewLines, by_width}
+use Rattle.ed_view.specs.Flags.{AreFewLines}
 use Rattle.ed_view.specs.declared.view.Target.{Target}
 
--- the view; its capacity for hidden and contracted lines; and that with numbers of the width that it doesn't use
+-- the view, whether its line numbers have 64 bits, and not 32, and its capacity for hidden and contracted lines
 pub record KeptView : Type 0 where
   pub view : View
+  pub large : Bool
   pub capacity : FoldCapacity
-  pub other_capacity : FoldCapacity
-
--- its capacity with numbers of 32 bits, and that with numbers of 64
-abbrev pub capacities : KeptView → FoldCapacities
-capacities kept = by_width kept.view.large kept.capacity kept.other_capacity
 
 -- it could count one line more
 abbrev pub HasFewLines : KeptView → Type 0
-HasFewLines kept = AreFewLines kept.view.large (length kept.view.flags + 1)
+HasFewLines kept = AreFewLines kept.large (length kept.view.flags + 1)
 
--- the view without its capacity
+-- the view without its width and its capacity
 abbrev pub view_in : KeptView → View
 view_in kept = kept.view
 
--- the view is the model's new one of any document with this id and so many lines, if that is for large texts or is not
-abbrev pub IsNewView : (id document lines : ℕ) → Bool → View → Type 0
-IsNewView id document lines large v =
-    (d : Document) → d.id ≡ document → lines_in d ≡ lines → is_large d ≡ large → v ≡ new_view id d
+-- the view is the model's new one of any document with this id and so many lines
+abbrev pub IsNewView : (id document lines : ℕ) → View → Type 0
+IsNewView id document lines v = (d : Document) → d.id ≡ document → lines_in d ≡ lines → v ≡ new_view id d
 
 -- the view with this anchor and caret
 abbrev pub with_selection : Selection → KeptView → KeptView
@@ -41,6 +36,6 @@ abbrev pub with_target : Target → KeptView → KeptView
 with_target target kept =
     record kept { view = record kept.view { target_start = target.start; target_end = target.end } }
 
--- the view after a change, with the capacity that it had
+-- the view after a change, with the width and the capacity that it had
 abbrev pub with_change : List ℕ → ViewChange → KeptView → KeptView
 with_change levels change kept = record kept { view = changed_view levels change kept.view }

@@ -2,4 +2,3 @@ pub mod Flags
 pub mod Kept
 pub mod Folding
 pub mod Moving
-pub mod proved

@@ -1,8 +1,8 @@
 -- A view follows a step by its place, its length and its effect on the lines. It does not read the text.
-use Rattle.std.specs.Prelude.{◌≡◌, ℕ, ◌≤◌, Bool, List, length}
+use Rattle.std.specs.Prelude.{◌≡◌, ℕ, ◌≤◌, List, length}
 use Rattle.ed_model.specs.Steps.{Step}
 use Rattle.ed_model.specs.Rows.{flags_together}
-use Rattle.ed_model.specs.Session.{Document, View, text_of, lines_in, is_large, attached_to}
+use Rattle.ed_model.specs.Session.{Document, View, text_of, lines_in, attached_to}
 use Rattle.ed_model.specs.Performing.{moved_view}
 use Rattle.ed_model.specs.MergeLaws.{end_of}
 use Rattle.line_index.specs.declared.edit.LineEdit.{LineEdit}
@@ -23,11 +23,9 @@ view_moved movement edits v = record v {
   flags = after_edits flags_together edits v.flags;
 }
 
--- the new view is the model's once it is attached to any document with this id and so many lines, if that is for large
--- texts or is not
-abbrev pub IsAttached : (document lines : ℕ) → Bool → View → View → Type 0
-IsAttached document lines large old new =
-    (d : Document) → d.id ≡ document → lines_in d ≡ lines → is_large d ≡ large → new ≡ attached_to d old
+-- the new view is the model's once it is attached to any document with this id and so many lines
+abbrev pub IsAttached : (document lines : ℕ) → View → View → Type 0
+IsAttached document lines old new = (d : Document) → d.id ≡ document → lines_in d ≡ lines → new ≡ attached_to d old
 
 -- the effect of a step on the lines of the document
 abbrev pub step_edits : Step → Document → List LineEdit

@@ -8,47 +8,78 @@ ghost use Rattle.ed_model.specs.Rows.{flags_together, fresh_flags};
 ghost use Rattle.line_index.specs.Edits.{after_edits, FitLines, fresh_lines};
 ghost use Rattle.vec_room.specs.Reserved.{IsReserved};
 ghost use Rattle.contraction.specs.ViewLines.{contracted_lines, fold_capacity, CanFold, FoldsFit, HaveGrown};
-ghost use Rattle.ed_view.specs.Flags.{capacities_of, AreFewLines};
+ghost use Rattle.ed_view.specs.Flags.{flags_by_width, kept_capacity, AreFewLines};
 
 use contraction::{Contraction, Levels};
 use line_index::LineEdit;
 use std::alloc::{AllocError, Global};
 use std::marker::Model;
 
+/// The flags by the width of line numbers.
+#[derive(Drop)]
+pub(crate) enum FlagsByWidth {
+    Small(Contraction<u32>),
+    Large(Contraction<u64>),
+}
+
+// The same call for numbers of either width.
+macro_rules! of_either_width {
+    ($flags:expr, $lines:ident => $answer:expr) => {
+        match $flags {
+            FlagsByWidth::Small($lines) => $answer,
+            FlagsByWidth::Large($lines) => $answer,
+        }
+    };
+}
+
+impl FlagsByWidth {
+    // Returns the flags of `lines` lines, all visible and expanded. Allocates nothing.
+    fn new(alloc: Global, lines: usize, is_large: bool) -> Self
+        requires { AreFewLines is_large lines }
+        ensures { flags_by_width result ≡ record { flags = replicate lines fresh_flags; large = is_large; capacity = fold_capacity 0 0 } }
+    {
+        if is_large {
+            FlagsByWidth::Large(Contraction::new(alloc, lines))
+        } else {
+            FlagsByWidth::Small(Contraction::new(alloc, lines))
+        }
+    }
+}
+
 /// The flags of the lines of a view: which are visible, and which are expanded. Lines are counted from 0.
 ///
-/// Line numbers are stored in 32 bits, or in 64 if the view's document is for large texts. Flags of both widths are
-/// there from the start, those that are not in use with one line: a view that attaches to a document of the other
-/// width must not fail.
+/// Line numbers are stored in 32 bits, or in 64 if the view's document is for large texts.
 #[derive(Drop)]
 pub struct LineFlags {
-    small: Contraction<u32>,
-    large: Contraction<u64>,
-    is_large: bool,
+    pub(crate) kept: FlagsByWidth,
+    alloc: Global,
 }
 
 impl Model for LineFlags {
-    ghost use Rattle.ed_view.specs.Flags.{KeptFlags, flags_in_use, OthersAreFresh};
+    ghost use Rattle.ed_view.specs.Flags.{KeptFlags, flags_by_width};
 
     ghost Value = { KeptFlags };
 
-    ghost view = { λ l. flags_in_use l.is_large l.small l.large };
-
-    ghost invariant = { λ l. OthersAreFresh l.is_large l.small l.large };
+    ghost view = { λ l. flags_by_width l.kept };
 }
 
 impl LineFlags {
     /// Returns the flags of `lines` lines, all visible and expanded. Allocates nothing.
     pub(crate) fn new(alloc: Global, lines: usize, is_large: bool) -> Self
         requires { AreFewLines is_large lines }
-        ensures flags { (result.flags ≡ replicate lines fresh_flags) × (result.large ≡ is_large) }
-        ensures capacity { (result.capacity ≡ fold_capacity 0 0) × (result.other_capacity ≡ fold_capacity 0 0) }
+        ensures { result ≡ record { flags = replicate lines fresh_flags; large = is_large; capacity = fold_capacity 0 0 } }
     {
         LineFlags {
-            small: Contraction::new(alloc, if is_large { 1 } else { lines }),
-            large: Contraction::new(alloc, if is_large { lines } else { 1 }),
-            is_large,
+            kept: FlagsByWidth::new(alloc, lines, is_large),
+            alloc,
         }
+    }
+
+    // Returns whether line numbers have 64 bits.
+    fn is_large(&self) -> bool
+        ensures { result ≡ self.now.large }
+    {
+        matches!(self.kept, FlagsByWidth::Large(_))
     }
 
     /// Returns the number of lines.
@@ -56,11 +87,7 @@ impl LineFlags {
         ensures count { result ≡ length self.now.flags }
         ensures within { AreFewLines self.now.large (length self.now.flags) }
     {
-        if self.is_large {
-            self.large.count()
-        } else {
-            self.small.count()
-        }
+        of_either_width!(&self.kept, lines => lines.count())
     }
 
     /// Returns how many lines are contracted, in constant time.
@@ -68,11 +95,7 @@ impl LineFlags {
         ensures count { result ≡ contracted_lines self.now.flags }
         ensures within { contracted_lines self.now.flags < 2 ^ 63 }
     {
-        if self.is_large {
-            self.large.contracted_count()
-        } else {
-            self.small.contracted_count()
-        }
+        of_either_width!(&self.kept, lines => lines.contracted_count())
     }
 
     /// Returns whether the line is visible (`SCI_GETLINEVISIBLE`).
@@ -81,11 +104,7 @@ impl LineFlags {
         requires { line < length self.now.flags }
         ensures { result ≡ is_visible self.now.flags line }
     {
-        if self.is_large {
-            self.large.visible(line)
-        } else {
-            self.small.visible(line)
-        }
+        of_either_width!(&self.kept, lines => lines.visible(line))
     }
 
     /// Returns whether the line is expanded (`SCI_GETFOLDEXPANDED`).
@@ -94,22 +113,14 @@ impl LineFlags {
         requires { line < length self.now.flags }
         ensures { result ≡ is_expanded self.now.flags line }
     {
-        if self.is_large {
-            self.large.expanded(line)
-        } else {
-            self.small.expanded(line)
-        }
+        of_either_width!(&self.kept, lines => lines.expanded(line))
     }
 
     /// Returns whether all lines are visible, in constant time (`SCI_GETALLLINESVISIBLE`).
     pub fn is_all_visible(&self) -> bool
         ensures { result ≡ all_visible self.now.flags }
     {
-        if self.is_large {
-            self.large.is_all_visible()
-        } else {
-            self.small.is_all_visible()
-        }
+        of_either_width!(&self.kept, lines => lines.is_all_visible())
     }
 
     /// Returns the display line of a line, counted from 0 (`SCI_VISIBLEFROMDOCLINE`). A hidden line has that of the
@@ -119,11 +130,7 @@ impl LineFlags {
         requires { line < length self.now.flags }
         ensures { result ≡ display_line self.now.flags line }
     {
-        if self.is_large {
-            self.large.display_of(line)
-        } else {
-            self.small.display_of(line)
-        }
+        of_either_width!(&self.kept, lines => lines.display_of(line))
     }
 
     /// Returns the line at a display line, or the number of lines past the last one (`SCI_DOCLINEFROMVISIBLE`).
@@ -131,11 +138,7 @@ impl LineFlags {
     pub fn doc_of(&self, display: usize) -> usize
         ensures { result ≡ line_shown self.now.flags display }
     {
-        if self.is_large {
-            self.large.doc_of(display)
-        } else {
-            self.small.doc_of(display)
-        }
+        of_either_width!(&self.kept, lines => lines.doc_of(display))
     }
 
     /// Makes room for `hidden` hidden lines in all, and for `contracted` contracted ones. Allocates nothing for those
@@ -148,11 +151,7 @@ impl LineFlags {
         ensures reserved { IsReserved (λ l. FoldsFit hidden contracted l.capacity) result self.old self.new }
         ensures grown { (self.new ≡ record self.old { capacity = self.new.capacity }) × HaveGrown hidden contracted self.old.capacity self.new.capacity }
     {
-        if self.is_large {
-            self.large.reserve(hidden, contracted)
-        } else {
-            self.small.reserve(hidden, contracted)
-        }
+        of_either_width!(&mut self.kept, lines => lines.reserve(hidden, contracted))
     }
 
     /// Shows the lines from `first` up to `past` (`SCI_SHOWLINES`). Needs no room.
@@ -160,11 +159,7 @@ impl LineFlags {
         requires { past ≤ length self.old.flags }
         ensures { self.new ≡ record self.old { flags = lines_shown first past self.old.flags } }
     {
-        if self.is_large {
-            self.large.show(first, past)
-        } else {
-            self.small.show(first, past)
-        }
+        of_either_width!(&mut self.kept, lines => lines.show(first, past))
     }
 
     /// Hides the lines from `first` up to `past`, but never line 0 (`SCI_HIDELINES`). There must be room for all lines
@@ -174,11 +169,7 @@ impl LineFlags {
         requires room { length self.old.flags ≤ self.old.capacity.hidden }
         ensures { self.new ≡ record self.old { flags = lines_hidden first past self.old.flags } }
     {
-        if self.is_large {
-            self.large.hide(first, past)
-        } else {
-            self.small.hide(first, past)
-        }
+        of_either_width!(&mut self.kept, lines => lines.hide(first, past))
     }
 
     /// Expands or contracts a line, and leaves its children as they are (`SCI_SETFOLDEXPANDED`). Contracting needs room
@@ -188,11 +179,7 @@ impl LineFlags {
         requires room { on ≡ false → contracted_lines self.old.flags < self.old.capacity.contracted }
         ensures { self.new ≡ record self.old { flags = with_expanded line on self.old.flags } }
     {
-        if self.is_large {
-            self.large.set_expanded(line, on)
-        } else {
-            self.small.set_expanded(line, on)
-        }
+        of_either_width!(&mut self.kept, lines => lines.set_expanded(line, on))
     }
 
     /// Contracts a header, and hides its children. There must be room for all lines to be hidden, and for one more
@@ -202,11 +189,7 @@ impl LineFlags {
         requires room { contracted_lines self.old.flags < self.old.capacity.contracted }
         ensures { self.new ≡ record self.old { flags = contracted_at levels.now header self.old.flags } }
     {
-        if self.is_large {
-            self.large.contract(levels, header)
-        } else {
-            self.small.contract(levels, header)
-        }
+        of_either_width!(&mut self.kept, lines => lines.contract(levels, header))
     }
 
     /// Expands a header, and shows each of its children that no contracted header between them hides. There must be
@@ -215,11 +198,7 @@ impl LineFlags {
         requires { CanFold levels.now header self.old.flags self.old.capacity }
         ensures { self.new ≡ record self.old { flags = expanded_at levels.now header self.old.flags } }
     {
-        if self.is_large {
-            self.large.expand(levels, header)
-        } else {
-            self.small.expand(levels, header)
-        }
+        of_either_width!(&mut self.kept, lines => lines.expand(levels, header))
     }
 
     /// Makes a hidden line visible (`SCI_ENSUREVISIBLE`): its fold parents are made visible and expanded first, the
@@ -228,11 +207,7 @@ impl LineFlags {
         requires { CanFold levels.now line self.old.flags self.old.capacity }
         ensures { self.new ≡ record self.old { flags = revealed levels.now line self.old.flags } }
     {
-        if self.is_large {
-            self.large.ensure(levels, line)
-        } else {
-            self.small.ensure(levels, line)
-        }
+        of_either_width!(&mut self.kept, lines => lines.ensure(levels, line))
     }
 
     /// Carries the flags through edits of the lines, in order. Allocates nothing.
@@ -241,26 +216,22 @@ impl LineFlags {
         requires few { AreFewLines self.old.large (length self.old.flags + fresh_lines edits.now) }
         ensures { self.new ≡ record self.old { flags = after_edits flags_together edits.now self.old.flags } }
     {
-        if self.is_large {
-            self.large.carry(edits)
-        } else {
-            self.small.carry(edits)
-        }
+        of_either_width!(&mut self.kept, lines => lines.carry(edits))
     }
 
     /// Makes all lines fresh, of which there are `lines` then, with numbers of the width that is wanted. Allocates
-    /// nothing: flags of both widths keep their memory.
+    /// nothing: the memory is kept if the width is the same, and is otherwise freed.
     pub(crate) fn start_again(&mut self, lines: usize, is_large: bool)
         requires some { 0 < lines }
         requires fits { AreFewLines is_large lines }
         requires few { AreFewLines self.old.large (length self.old.flags + 1) }
-        ensures flags { self.new.flags ≡ replicate lines fresh_flags }
-        ensures large { self.new.large ≡ is_large }
-        ensures capacities { capacities_of self.new ≡ capacities_of self.old }
+        ensures { self.new ≡ record { flags = replicate lines fresh_flags; large = is_large; capacity = kept_capacity self.old.large is_large self.old.capacity } }
     {
+        if is_large != self.is_large() {
+            self.kept = FlagsByWidth::new(self.alloc, lines, is_large);
+            return;
+        }
         self.carry(&[LineEdit::Restart]);
-        // Each of the two has one line now.
-        self.is_large = is_large;
         self.carry(&[LineEdit::Come {
             line: 1,
             count: lines - 1,

@@ -3,8 +3,8 @@
 ghost use Rattle.std.specs.Prelude.{◌≡◌, ◌<◌, ◌+◌, ◌^◌, length};
 ghost use Rattle.line_index.specs.Edits.{FitLines, fresh_lines};
 ghost use Rattle.selection.specs.Positions.{count_of};
-ghost use Rattle.ed_view.specs.Flags.{AreFewLines};
-ghost use Rattle.ed_view.specs.Kept.{capacities, HasFewLines};
+ghost use Rattle.ed_view.specs.Flags.{kept_capacity, AreFewLines};
+ghost use Rattle.ed_view.specs.Kept.{HasFewLines};
 ghost use Rattle.ed_view.specs.Moving.{IsAttached, view_moved, with_edited_lines};
 
 use crate::view::{Target, View};
@@ -16,7 +16,7 @@ impl View {
     /// else changes. Allocates nothing.
     pub(crate) fn carry_lines(&mut self, edits: &[LineEdit])
         requires lines { FitLines (length self.old.view.flags) edits.now }
-        requires few { AreFewLines self.old.view.large (length self.old.view.flags + fresh_lines edits.now) }
+        requires few { AreFewLines self.old.large (length self.old.view.flags + fresh_lines edits.now) }
         ensures { self.new ≡ record self.old { view = with_edited_lines edits.now self.old.view } }
     {
         self.lines.carry(edits);
@@ -30,7 +30,7 @@ impl View {
         requires target_start { self.old.view.target_start + count_of movement < 2 ^ 64 }
         requires target_end { self.old.view.target_end + count_of movement < 2 ^ 64 }
         requires lines { FitLines (length self.old.view.flags) edits.now }
-        requires few { AreFewLines self.old.view.large (length self.old.view.flags + fresh_lines edits.now) }
+        requires few { AreFewLines self.old.large (length self.old.view.flags + fresh_lines edits.now) }
         ensures { self.new ≡ record self.old { view = view_moved movement edits.now self.old.view } }
     {
         self.selection.moved(movement);
@@ -43,15 +43,16 @@ impl View {
 
     /// Attaches the view to a document of `lines` lines, which may be its own (`SCI_SETDOCPOINTER`), and which is for
     /// large texts if `is_large` is set. Anchor, caret and target move to the start, and all lines are visible and
-    /// expanded. The settings stay. Allocates nothing.
+    /// expanded. The settings stay. Allocates nothing: the capacity stays if the width of line numbers does, and is
+    /// otherwise that of a new view.
     pub fn attach_to(&mut self, document: u32, lines: usize, is_large: bool)
         requires some { 0 < lines }
         requires fits { AreFewLines is_large lines }
         requires few { HasFewLines self.old }
-        ensures view { IsAttached document lines is_large self.old.view self.new.view }
+        ensures view { IsAttached document lines self.old.view self.new.view }
         ensures lines { length self.new.view.flags ≡ lines }
-        ensures width { self.new.view.large ≡ is_large }
-        ensures capacities { capacities self.new ≡ capacities self.old }
+        ensures width { self.new.large ≡ is_large }
+        ensures capacity { self.new.capacity ≡ kept_capacity self.old.large is_large self.old.capacity }
     {
         self.document = document;
         self.selection = Selection::at(0);

@@ -1,6 +1,6 @@
 //! `View`: how it is made and read.
 
-ghost use Rattle.std.specs.Prelude.{◌≡◌, ◌<◌, length, IfOk};
+ghost use Rattle.std.specs.Prelude.{◌≡◌, ◌<◌, length};
 ghost use Rattle.contraction.specs.ViewLines.{fold_capacity};
 ghost use Rattle.ed_view.specs.Flags.{AreFewLines};
 ghost use Rattle.ed_view.specs.Kept.{IsNewView};
@@ -8,7 +8,7 @@ ghost use Rattle.ed_view.specs.Kept.{IsNewView};
 use crate::line_flags::LineFlags;
 use ed_types::modification;
 use selection::Selection;
-use std::alloc::{AllocError, Global};
+use std::alloc::Global;
 use std::marker::Model;
 
 /// The range in which searches and replacements work, in bytes from 0. It may end before it starts.
@@ -55,36 +55,26 @@ impl Model for View {
         indicator_value = v.indicator_value;
         converts_pastes = v.converts_pastes;
         records = v.records;
-        large = v.lines.large;
         flags = v.lines.flags;
       };
+      large = v.lines.large;
       capacity = v.lines.capacity;
-      other_capacity = v.lines.other_capacity;
     } };
 }
 
 impl View {
     /// Returns a new view, attached to a document of `lines` lines, which is for large texts if `is_large` is set. Its
     /// positions are 0, it listens for all kinds of change, and all lines are visible and expanded.
-    ///
-    /// # Errors
-    ///
-    /// None as yet: the view allocates nothing, however many lines there are.
-    pub fn new(
-        alloc: Global,
-        id: u32,
-        document: u32,
-        lines: usize,
-        is_large: bool,
-    ) -> Result<Self, AllocError>
+    /// Allocates nothing, however many lines there are.
+    pub fn new(alloc: Global, id: u32, document: u32, lines: usize, is_large: bool) -> Self
         requires some { 0 < lines }
         requires few { AreFewLines is_large lines }
-        ensures view { IfOk result (λ v. IsNewView id document lines is_large v.view) }
-        ensures lines { IfOk result (λ v. (length v.view.flags ≡ lines) × (v.view.large ≡ is_large)) }
-        ensures capacity { IfOk result (λ v. (v.capacity ≡ fold_capacity 0 0) × (v.other_capacity ≡ fold_capacity 0 0)) }
+        ensures view { IsNewView id document lines result.view }
+        ensures lines { length result.view.flags ≡ lines }
+        ensures width { result.large ≡ is_large }
+        ensures capacity { result.capacity ≡ fold_capacity 0 0 }
     {
-        let lines = LineFlags::new(alloc, lines, is_large);
-        Ok(View {
+        View {
             id,
             document,
             selection: Selection::at(0),
@@ -95,8 +85,8 @@ impl View {
             indicator_value: 1,
             converts_pastes: true,
             records: false,
-            lines,
-        })
+            lines: LineFlags::new(alloc, lines, is_large),
+        }
     }
 
     /// Returns the view's id.
@@ -173,9 +163,8 @@ impl View {
     /// Lends the flags of the lines: which are visible, and which are expanded.
     pub fn lines(&self) -> &LineFlags
         ensures flags { result.now.flags ≡ self.now.view.flags }
-        ensures large { result.now.large ≡ self.now.view.large }
+        ensures large { result.now.large ≡ self.now.large }
         ensures capacity { result.now.capacity ≡ self.now.capacity }
-        ensures other_capacity { result.now.other_capacity ≡ self.now.other_capacity }
     {
         &self.lines
     }

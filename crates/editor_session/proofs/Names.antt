@@ -16,7 +16,8 @@ pub use Rattle.message_requests.specs.Requested.{session_in, documents_in}
 pub use Rattle.message_requests.specs.declared.state.SessionState.{SessionState}
 pub use Rattle.performing.specs.Asked.{document_asked, asked}
 pub use Rattle.performing.specs.Kept.{IsKept, DocumentsAreNamed}
-pub use Rattle.performing.specs.proved.Finding.{id_of_view, id_of_document, found_some, found_none, found, unchanged, named_with, own_at, IsKeptAs, kept_as, replaced, changed, staying}
+pub use Rattle.scene.specs.proved.ViewWidths.{widths_changed, widths_kept, widths_living, widths_opened, widths_put, widths_without, left_place}
+pub use Rattle.performing.specs.proved.Finding.{keeping, id_of_view, id_of_document, found_some, found_none, found, unchanged, named_with, own_at, IsKeptAs, kept_as, replaced, changed, staying}
 pub use Rattle.ed_model.specs.declared.plan.Follow.{Follow}
 pub use Rattle.ed_model.specs.Edits.{steps_of, has_steps, source_bytes, stays_within}
 pub use Rattle.ed_model.specs.LineEnds.{converted, after_steps}
@@ -25,7 +26,7 @@ pub use Rattle.ed_model.specs.PlansFit.{EditStepsFit, PlansFit, UndoStepsFit, Re
 pub use Rattle.ed_model.specs.Requests.{Request, Planned, text, size, answer, answer_number}
 pub use Rattle.ed_model.specs.Steps.{Step, insertion, Insert, Delete, replacement, edited}
 pub use Rattle.notify.specs.Gathered.{Gathered, CanPut, no_notes}
-pub use Rattle.scene.specs.Scenes.{kept_scene, views_of, AreNamed, watchers, scene_in, StandsIfOn, IsWatched}
+pub use Rattle.scene.specs.Scenes.{kept_scene, views_of, width_at, width_of, AreNamed, HasWidthIfOn, HasWidths, HaveWidths, KeepWidths, watchers, scene_in, StandsIfOn, IsWatched}
 pub use Rattle.ed_types.specs.declared.kind.Kind.{Kind}
 pub use Rattle.ed_types.specs.declared.message.Message.{Message}
 pub use Rattle.ed_types.specs.Messages.{number_of, kind_of, kind_among, marks_of}

@@ -1,5 +1,5 @@
 -- The document that a plan is performed on: it is in the session's table, and it changes there, the views with it; and views that the table has.
-use Rattle.editor_session.proofs.Names.{◌≡◌, ℕ, ◌==◌, ◌∙◌, List, [], ◌∷◌, map, refl, ap, sym, subst, Some, None, IfSome, IsSome, IsSomeAnd, if◌then◌else◌, AllByRecursion, Document, View, Session, Response, Notice, Plan, document_at, view_at, with_document, IsSound, IsSoundView, StandsOn, ListsItsViews, PlansKeepSound, Scene, session_of, performed, found_all, Entries, value_at, with_value_at, Kept, KeptView, Gathered, AreNamed, StandsIfOn, IsWatched, kept_scene, session_in, documents_in, SessionState, IsKept, DocumentsAreNamed, views_of, view_in, id_of_view, document_of, id_of_document, unchanged, named_with, own_at, found_some, replaced, IsKeptAs, kept_as, IsSent, CanPerform, request_of, Message, true, false, cond, Option, option_map, is_some, Entry, found}
+use Rattle.editor_session.proofs.Names.{◌≡◌, ℕ, ◌==◌, ◌∙◌, List, [], ◌∷◌, map, refl, ap, sym, subst, Some, None, IfSome, IsSome, IsSomeAnd, if◌then◌else◌, AllByRecursion, Document, View, Session, Response, Notice, Plan, document_at, view_at, with_document, IsSound, IsSoundView, StandsOn, ListsItsViews, PlansKeepSound, Scene, session_of, performed, found_all, Entries, value_at, with_value_at, Kept, KeptView, Gathered, AreNamed, StandsIfOn, IsWatched, kept_scene, session_in, documents_in, SessionState, IsKept, DocumentsAreNamed, views_of, view_in, id_of_view, document_of, id_of_document, unchanged, named_with, own_at, found_some, replaced, IsKeptAs, kept_as, IsSent, CanPerform, request_of, Message, true, false, cond, Option, option_map, is_some, Entry, found, width_at, HasWidths, HaveWidths, KeepWidths, widths_put}
 use Rattle.editor_session.proofs.Keeping.{kept_with}
 use Rattle.editor_session.proofs.Telling.{telling}
 
@@ -39,6 +39,7 @@ watched_by s d kept there = record {
   rise = kept.sound.view_ids;
   listed = found_all (ListsItsViews (session_in s).views) (λ (e : Document). e.id == d.id) (session_in s).documents d kept.sound.lists there;
   stand = stand (session_in s).documents d (session_in s).views there kept.sound.views;
+  widths = found_all (HasWidths (map width_at s.views.entries)) (λ (e : Document). e.id == d.id) (session_in s).documents d kept.widths there;
 }
 
 -- What a plan is performed on, in a session that is kept.
@@ -116,12 +117,25 @@ module _ (s : SessionState) (kept : IsKept s) (id : ℕ) (old new : Kept) (at : 
     still_kept =
         kept_with s (with_scene s id new views) kept (subst IsSound (sym same_session) kept.sound) refl (still_named (ap (λ (d : Document). d.id) same))
         (subst (λ (v : Entries KeptView). AreNamed v.entries) (sym same_views) kept.views)
+        (subst (λ (v : Entries KeptView). HaveWidths (documents_in (with_one s.documents id new)) v) (sym same_views)
+        (subst (λ ds. HaveWidths ds s.views) (sym (ap (λ (x : Session). x.documents) same_session)) kept.widths))
 
 -- what holds of a session goes on holding when a plan is performed
 pub kept_performed : PlansKeepSound → {s s' : SessionState} {document view : ℕ} {m : Message} {what : Plan} {reply : Response} → IsKept s → CanPerform (session_in s) document view m what
-    → performed (request_of (session_in s) view m) what ≡ (session_in s', reply) → s'.limits ≡ s.limits → DocumentsAreNamed s'.documents.entries → AreNamed s'.views.entries → IsKept s'
-kept_performed law {s} {s'} {document} {view} {m} {what} {reply} kept can done limits documents views =
-    kept_with s s' kept (subst (λ (x : Session × Response). IsSound x.0) done (law (request_of (session_in s) view m) what can.request.sound can.fit)) limits documents views
+    → performed (request_of (session_in s) view m) what ≡ (session_in s', reply) → s'.limits ≡ s.limits → DocumentsAreNamed s'.documents.entries → AreNamed s'.views.entries
+    → HaveWidths (documents_in s'.documents) s'.views → IsKept s'
+kept_performed law {s} {s'} {document} {view} {m} {what} {reply} kept can done limits documents views widths =
+    kept_with s s' kept (subst (λ (x : Session × Response). IsSound x.0) done (law (request_of (session_in s) view m) what can.request.sound can.fit)) limits documents views widths
+
+-- One of the documents changed, and the views followed.
+module _ {s : SessionState} (kept : IsKept s) (id : ℕ) (new : Kept) (views : Entries KeptView) where
+  pub widths_after : KeepWidths s.views views → HasWidths (map width_at views.entries) new.document → HaveWidths (documents_in (with_one s.documents id new)) views
+  widths_after same has = widths_put s.documents.entries id new s.views views same has kept.widths
+
+  -- first by the steps, and then by what follows them
+  pub widths_followed : (between : Entries KeptView) → KeepWidths s.views between → KeepWidths between views → HasWidths (map width_at between.entries) new.document
+      → HaveWidths (documents_in (with_one s.documents id new)) views
+  widths_followed between first then_ has = widths_after (then_ ∙ first) (subst (λ widths. HasWidths widths new.document) (sym then_) has)
 
 -- Where the view of an id is not there, no change of it changes any.
 

@@ -5,7 +5,7 @@ ghost use Rattle.std.specs.Prelude.{◌≡◌, [], pos, true, false, length, OnO
 ghost use Rattle.ed_model.specs.declared.plan.Plan.TheVariants as plan;
 ghost use Rattle.ed_model.specs.LineEnds.{converted};
 ghost use Rattle.id_table.specs.Entries.{value_at};
-ghost use Rattle.scene.specs.Scenes.{IsWatched};
+ghost use Rattle.scene.specs.Scenes.{IsWatched, KeepWidths};
 ghost use Rattle.performing.specs.Edits.{MakesEdit};
 ghost use Rattle.performing.specs.Widths.{StepsFitWidth};
 ghost use Rattle.message_requests.specs.Requested.{session_in};
@@ -53,6 +53,7 @@ fn edit_with_room(
     ensures id { document.new.document.id ≡ document.old.document.id }
     ensures watched { IsWatched document.new.document views.new }
     ensures next { views.new.next ≡ views.old.next }
+    ensures widths { KeepWidths views.old views.new }
     ensures free { edit_steps edit text.now clipboard.now pasted.now document.old.document ≡ [] → IsOk result }
 {
     match edit {

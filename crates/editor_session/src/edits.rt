@@ -2,7 +2,7 @@
 
 ghost use Rattle.std.specs.Prelude.{◌≡◌, length};
 ghost use Rattle.ed_model.specs.declared.plan.Follow.TheVariants.{Caret, Target as follow_target};
-ghost use Rattle.scene.specs.Scenes.{AreNamed, views_of};
+ghost use Rattle.scene.specs.Scenes.{AreNamed, KeepWidths, views_of};
 ghost use Rattle.performing.specs.Kept.{ViewsRise};
 ghost use Rattle.editor_session.specs.Edits.{IsStoredIn, stored_bytes, followed_clipboard, FollowsEdit, with_caret_if};
 
@@ -43,6 +43,7 @@ fn set_caret(views: &mut IdTable<View>, view: u32, place: usize)
     ensures views { FollowsEdit view (Caret place) views.old views.new }
     ensures named { AreNamed views.new.entries }
     ensures next { views.new.next ≡ views.old.next }
+    ensures widths { KeepWidths views.old views.new }
 {
     if let Some(view) = views.get_mut(view) {
         view.select(Selection::at(place));
@@ -56,6 +57,7 @@ pub(crate) fn move_caret(views: &mut IdTable<View>, view: u32, place: Option<usi
     ensures views { views_of views.new.entries ≡ with_caret_if view place (views_of views.old.entries) }
     ensures named { AreNamed views.new.entries }
     ensures next { views.new.next ≡ views.old.next }
+    ensures widths { KeepWidths views.old views.new }
 {
     let Some(place) = place else {
         return;
@@ -70,6 +72,7 @@ fn set_target(views: &mut IdTable<View>, view: u32, start: usize, end: usize)
     ensures views { FollowsEdit view (follow_target start end) views.old views.new }
     ensures named { AreNamed views.new.entries }
     ensures next { views.new.next ≡ views.old.next }
+    ensures widths { KeepWidths views.old views.new }
 {
     if let Some(view) = views.get_mut(view) {
         view.set_target(Target { start, end });
@@ -90,6 +93,7 @@ pub(crate) fn follow_edit(
     ensures clipboard { clipboard.new.items ≡ followed_clipboard follow taken.items clipboard.old.items }
     ensures named { AreNamed views.new.entries }
     ensures next { views.new.next ≡ views.old.next }
+    ensures widths { KeepWidths views.old views.new }
 {
     match follow {
         Follow::Nothing => {}

@@ -1,10 +1,10 @@
 //! Opening and closing views.
 
 ghost use Rattle.std.specs.Prelude.{◌≡◌, ◌<◌, ◌+◌, ◌^◌, Ok, Err, OnOk, OnErr, IfOk, IfErr, true};
-ghost use Rattle.ed_model.specs.Session.{new_view, new_document, view_at};
+ghost use Rattle.ed_model.specs.Session.{is_large, new_view, new_document, view_at};
 ghost use Rattle.ed_model.specs.Table.{opened, closed};
-ghost use Rattle.message_requests.specs.Requested.{session_in};
-ghost use Rattle.scene.specs.Scenes.{AreNamed};
+ghost use Rattle.message_requests.specs.Requested.{documents_in, session_in};
+ghost use Rattle.scene.specs.Scenes.{AreNamed, HaveWidths};
 ghost use Rattle.performing.specs.Kept.{IsKept, DocumentsAreNamed};
 ghost use Rattle.editor_session.specs.Opening.{document_for, with_view_on_new};
 
@@ -21,14 +21,13 @@ use std::alloc::{AllocError, Global};
 ///
 /// `AllocError` if an allocation fails.
 fn make_view(alloc: Global, document: u32, view: u32) -> Result<(Document, View), AllocError>
-    ensures { IfOk result (λ made. (made.0.document ≡ document_for view document) × (made.1.view ≡ new_view view (new_document document 0))) }
+    ensures made { IfOk result (λ made. (made.0.document ≡ document_for view document) × (made.1.view ≡ new_view view (new_document document 0))) }
+    ensures width { IfOk result (λ made. made.1.large ≡ is_large made.0.document) }
 {
     let mut made = Document::new(alloc, document, 0)?;
-    let Ok(()) = made.reserve_view() else {
-        return Err(AllocError);
-    };
+    made.reserve_view()?;
     made.attach_reserved(view);
-    let view = View::new(alloc, view, document, made.line_count(), made.is_large())?;
+    let view = View::new(alloc, view, document, made.line_count(), made.is_large());
     Ok((made, view))
 }
 
@@ -40,22 +39,18 @@ fn make_view(alloc: Global, document: u32, view: u32) -> Result<(Document, View)
 pub(crate) fn open(alloc: Global, state: &mut SessionState) -> Result<u32, AllocError>
     requires document_ids { state.old.documents.next + 1 < 2 ^ 32 }
     requires view_ids { state.old.views.next + 1 < 2 ^ 32 }
-    requires named_documents { DocumentsAreNamed state.old.documents.entries }
-    requires named_views { AreNamed state.old.views.entries }
+    requires kept { IsKept state.old }
     ensures id { IfOk result (λ id. id ≡ state.old.views.next) }
     ensures ok { OnOk result (session_in state.new ≡ with_view_on_new (session_in state.old)) }
     ensures err { OnErr result (session_in state.new ≡ session_in state.old) }
     ensures limits { state.new.limits ≡ state.old.limits }
     ensures documents { DocumentsAreNamed state.new.documents.entries }
     ensures views { AreNamed state.new.views.entries }
+    ensures widths { HaveWidths (documents_in state.new.documents) state.new.views }
 {
     let (document, view) = make_view(alloc, state.documents.next(), state.views.next())?;
-    let Ok(()) = state.documents.reserve(1) else {
-        return Err(AllocError);
-    };
-    let Ok(()) = state.views.reserve(1) else {
-        return Err(AllocError);
-    };
+    state.documents.reserve(1)?;
+    state.views.reserve(1)?;
     state.documents.insert_reserved(document);
     Ok(state.views.insert_reserved(view))
 }
@@ -73,6 +68,7 @@ pub(crate) fn close(state: &mut SessionState, view: u32) -> Result<(), Refusal>
     ensures limits { state.new.limits ≡ state.old.limits }
     ensures documents { DocumentsAreNamed state.new.documents.entries }
     ensures views { AreNamed state.new.views.entries }
+    ensures widths { HaveWidths (documents_in state.new.documents) state.new.views }
 {
     let Some(open) = state.views.get(view) else {
         return Err(Refusal::NoSuchView);

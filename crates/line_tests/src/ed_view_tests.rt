@@ -44,6 +44,6 @@ fn assert_widths(rt: &impl Abort, view: &mut View) {
 // A document for large texts has line numbers of 64 bits.
 #[test]
 fn view_goes_to_a_document_of_another_width_and_back(rt: HostRuntime) {
-    let mut view = View::new(rt.alloc(), 3, 7, 2, false).expect(&rt, "memory");
+    let mut view = View::new(rt.alloc(), 3, 7, 2, false);
     assert_widths(&rt, &mut view);
 }

@@ -1,5 +1,7 @@
 -- Changes of a document: what they leave unmoved, what there is to tell of them, and the numbers that they give.
 pub use Rattle.performing.proofs.Names.{◌≡◌, ℕ, false, List, [], ◌∷◌, ◌++◌, map, length, take, replicate, refl, ap, sym, ◌∙◌, AllByRecursion, DocumentChange, line_count, Document, View, lines_in, is_large, changed_document, changed_lines, change_told, styled, text_of_styled, Entries, Gathered, KeptView, views_of, watchers, StandsIfOn, IsWatched, is_of_types, StyleBytes, StyleRun, SetLineEndTypes, ◌≤◌, Bool, true, cond, not, subst, arith, filter, bit_or, Option, Some, None, length-map, append-nil, Result, Ok, Err, is_ok, Notice, told, heard, blank, save_point_reached, save_point_left, change_line_state, change_style, change_indicator, range_note, performed_user, changed_range, styles_of, range_notes, line_note, line_with_handle, document_row, slice_index_or, Kept, hearers, with_notes, IsMade, Makes, Changes, IsMadeUnheard, ChangeNote, TakesMemory, IsFitNote, notes_of, notice_of, marker_notice, notes_of_change, change_note_need, AllocError, CanPut, with_room, is_full, eqb-true, needs_room, IsReady, ReservesFor, FillIndicator, AppendContainer, SetSavePoint, SetLevel, DeleteHandle, AddMarkers, DeleteMarkers, SetState, NeedStyle, DeleteMarker, AddMarker, Nothing, AllMarkers, Level, zero, suc, ◌+◌, ◌<◌, get_or, set, length-append, ◌==◌, nat_lt, eqb-false, eq-eqb, ne_eqb, lt-ltb, Row, Marker, fresh_row, new_markers, with_new_markers, without_markers, marker_count, marker_count-cons, ◌^◌, slice_index, unwrap_or, IfSome, range_with_len, last_or, changed_places, extent, ℤ, pos, negsuc, int_le, ◌&&◌, w32, to_z, of_z, to_z-of_z, SFits, is_same, length-filter_both, all_filter, w64, common_steps, document_of, SavePointLeft, Cell, State, Markers, err_from_is_err_and, rules, inl, inr, new_view, new_document, nil_from_length, take_all, map-id}
+use Rattle.performing.proofs.Names.{width_at}
+use Rattle.scene.specs.proved.ViewWidths.{has_still}
 use Rattle.ed_model.specs.SoundLaws.{occurrences}
 use Rattle.ed_model.specs.proved.Steps.{length_of_bytes}
 use Rattle.ed_model.specs.Numbers.{meets}
@@ -24,7 +26,6 @@ stands_again old new v same stand on =
       lines = s.lines ∙ sym same.lines;
       first_line = s.first_line;
       indicator = s.indicator;
-      large = s.large ∙ sym same.large;
       listed = ap (occurrences v.id) same.views ∙ s.listed;
     }
 
@@ -33,7 +34,7 @@ all_stand_again old new [] same all = tt
 all_stand_again old new (v ∷ vs) same all = (stands_again old new v same all.0, all_stand_again old new vs same all.1)
 
 watched_still : (old new : Document) (table : Entries KeptView) → KeepsPlaces old new → IsWatched old table → IsWatched new table
-watched_still old new table same w = record { named = w.named; rise = w.rise; listed = rw (same.id, same.views) w.listed; stand = all_stand_again old new (views_of table.entries) same w.stand }
+watched_still old new table same w = record { named = w.named; rise = w.rise; listed = rw (same.id, same.views) w.listed; stand = all_stand_again old new (views_of table.entries) same w.stand; widths = has_still (map width_at table.entries) old new same.id same.large w.widths }
 
 -- Styles do not change the text.
 
@@ -149,10 +150,7 @@ module _ (text : List ℕ) (what : DocumentChange) (old new : Kept) (n : ChangeN
     lines = views_stay what old.document (views_of views.entries) alone;
     told = λ v own. ap (λ (g : Gathered). g.notes) (told v own) ∙ rw (same, told_is v) refl;
     watched = rw made.document (watched_still old.document (changed_document text what old.document) views (keeps_places text what old.document alone) watched);
-    ids = refl;
-    next = refl;
-    view_capacity = refl;
-    fold_capacities = refl;
+    stay = record { ids = refl; next = refl; view_capacity = refl; widths = refl; fold_capacities = refl };
   }
 
   -- if there are no notes, none is put into the list

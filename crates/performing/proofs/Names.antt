@@ -33,7 +33,7 @@ pub use Rattle.ed_model.specs.declared.plan.DocumentChange.TheVariants.{SetSaveP
 pub use Rattle.ed_model.specs.declared.plan.SessionChange.{SessionChange}
 pub use Rattle.ed_model.specs.declared.plan.SessionChange.TheVariants.{Attach, AttachNew, Create}
 pub use Rattle.ed_model.specs.declared.plan.ViewChange.{ViewChange}
-pub use Rattle.ed_model.specs.proved.Changes.{marker_count-cons, text_of_styled, changed_view_id}
+pub use Rattle.ed_model.specs.proved.Changes.{marker_count-cons, text_of_styled, changed_view_document, changed_view_id}
 pub use Rattle.ed_model.specs.proved.Elements.{found_all, all_added, all_append, all_filter, all_map, all_two, all_weaker, map_where}
 pub use Rattle.ed_model.specs.proved.Finding.{documents_added, found_below, mapped_ids}
 pub use Rattle.ed_model.specs.proved.Limits.{allowed_lengths}
@@ -49,7 +49,7 @@ pub use Rattle.document.specs.proved.Room.{less_room, seal_room}
 pub use Rattle.document_table.specs.Leaving.{let_go, KeepsRest, LeavesTheLiving, released}
 pub use Rattle.ed_view.specs.Flags.{AreFewLines}
 pub use Rattle.ed_view.specs.Folding.{FitChangesAreWithin, IsWithin}
-pub use Rattle.ed_view.specs.Kept.{KeptView, view_in, HasFewLines, capacities}
+pub use Rattle.ed_view.specs.Kept.{KeptView, view_in, HasFewLines}
 pub use Rattle.id_table.specs.Entries.{Entries, Entry, entry, value_of, value_at, with_value_at}
 pub use Rattle.message_requests.specs.Requested.{session_in, documents_in}
 pub use Rattle.message_requests.specs.declared.state.SessionState.{SessionState}
@@ -57,7 +57,7 @@ pub use Rattle.notify.specs.Gathered.{Gathered, CanPut, is_full, with_room}
 pub use Rattle.scene.specs.Conversion.{room_of_steps, free_behind}
 pub use Rattle.scene.specs.Hearing.{hearers}
 pub use Rattle.scene.specs.Needs.{IsCounted, note_room, notes_of_step, bytes_of_step, leaving_count, notes_for, bytes_needed, held_behind, CanHoldSteps, CanHoldEdit, NeedsAreEnough}
-pub use Rattle.scene.specs.Scenes.{watchers, IsWatched, views_of, StandsIfOn, scene_in, kept_scene}
+pub use Rattle.scene.specs.Scenes.{watchers, width_at, width_of, HasWidths, HaveWidths, IsWatched, views_of, StandsIfOn, scene_in, kept_scene}
 pub use Rattle.scene.specs.Telling.{with_notes, CanHold}
 pub use Rattle.scene.specs.Undoing.{capped, capped_room, bits_of, room_of_changes}
 pub use Rattle.scene.specs.declared.need.SceneNeed.{SceneNeed}

@@ -1,6 +1,9 @@
 -- Sessions: the view and the document of a request, a view that is moved, and what fits in after a change.
-pub use Rattle.performing.proofs.Names.{◌≡◌, ℕ, ◌==◌, List, [], map, length, refl, ap, sym, ◌∙◌, subst, arith, Option, Some, None, IfSome, IsSomeAnd, if◌then◌else◌, ViewChange, Document, View, Session, Row, view_at, document_at, lines_in, IsSoundView, StandsOn, changed_view, view_change_performed, changed_view_id, FitChangesAreWithin, IsWithin, FoldCapacity, KeptView, view_in, Kept, document_of, value_at, with_value_at, views_of, documents_in, session_in, SessionState, IsKept, IsAsked, CanChangeView, asked, view_asked, document_asked, GrowsAtMost, OnlyViewChanges, id_of_view, id_of_document, own_at, found_all, found_some, found_none, replaced, unchanged, named_with, other_replaced, value_replaced, ◌≢◌, ◌+◌, ◌<◌, Bool, true, false, cond, ◌∷◌, ◌++◌, map-map, filter, option_map, nat_lt, not, AllByRecursion, eqb-true, eqb-false, lt-ltb, cond_both, length-append, length-filter_both, all_map, all_two, all_weaker, map_where, mapped_ids, references, living, left_by, without, Rise, attached_last, Entry, Entries, value_of, HasViewRoom, let_go, LeavesTheLiving, DocumentsAreNamed, CanMove, ◌≤◌, max, option_or, unwrap_or, eq-eqb, ne_eqb, find-append, SessionChange, Attach, entry, new_kept, KeepsRest, DocumentsRise, found_below, TableGrows, attaches_to, kept_or_new, KeepsRoom, RoomsGrow, KeepsClipboard, Stays, TableStays, AllStays, ◌-◌, ◌^◌, length-map, map-append, text_of, is_allowed, is_large, attached_to, new_document, with_view, IsSoundDocument, ListsItsViews, held_less, attached, with_attached, with_new_document, documents_added, all_added, all_append, append-nil, released, HasFewLines, capacities, AreFewLines, CanAttach, with_added, keeping, nat_tests, Limits, allowed_lengths, few_lines, Cell, option_copied_mut, rules, option_copied, err_from_is_err_and, HasRoomFor, changed, with_attached_view, AttachNew, Create, with_held_by_callers, IsFitSessionChange, session_changed, text_from, ids_of, ChangesAlike, living_left, named_left, stays_alike}
+pub use Rattle.performing.proofs.Names.{◌≡◌, ℕ, ◌==◌, List, [], map, length, refl, ap, sym, ◌∙◌, subst, arith, Option, Some, None, IfSome, IsSomeAnd, if◌then◌else◌, ViewChange, Document, View, Session, Row, view_at, document_at, lines_in, IsSoundView, StandsOn, changed_view, view_change_performed, changed_view_document, changed_view_id, FitChangesAreWithin, IsWithin, FoldCapacity, KeptView, view_in, Kept, document_of, value_at, with_value_at, views_of, documents_in, session_in, SessionState, IsKept, IsAsked, CanChangeView, asked, view_asked, document_asked, GrowsAtMost, OnlyViewChanges, id_of_view, id_of_document, own_at, found_all, found_some, found_none, replaced, unchanged, named_with, other_replaced, value_replaced, ◌≢◌, ◌+◌, ◌<◌, Bool, true, false, cond, ◌∷◌, ◌++◌, map-map, filter, option_map, nat_lt, not, width_at, width_of, HasWidths, HaveWidths, AllByRecursion, eqb-true, eqb-false, lt-ltb, cond_both, length-append, length-filter_both, all_map, all_two, all_weaker, map_where, mapped_ids, references, living, left_by, without, Rise, attached_last, Entry, Entries, value_of, HasViewRoom, let_go, LeavesTheLiving, DocumentsAreNamed, CanMove, ◌≤◌, max, option_or, unwrap_or, eq-eqb, ne_eqb, find-append, SessionChange, Attach, entry, new_kept, KeepsRest, DocumentsRise, found_below, TableGrows, attaches_to, kept_or_new, KeepsRoom, RoomsGrow, KeepsClipboard, Stays, TableStays, AllStays, ◌-◌, ◌^◌, length-map, map-append, text_of, is_allowed, is_large, attached_to, new_document, with_view, IsSoundDocument, ListsItsViews, held_less, attached, with_attached, with_new_document, documents_added, all_added, all_append, append-nil, released, HasFewLines, AreFewLines, CanAttach, with_added, keeping, nat_tests, Limits, allowed_lengths, few_lines, Cell, option_copied_mut, rules, option_copied, err_from_is_err_and, HasRoomFor, changed, with_attached_view, AttachNew, Create, with_held_by_callers, IsFitSessionChange, session_changed, text_from, ids_of, ChangesAlike, living_left, named_left, stays_alike}
 use Rattle.document_table.specs.Leaving.{documents_in as entries_in}
+use Rattle.ed_view.specs.Flags.{kept_capacity}
+use Rattle.performing.specs.SessionMemory.{KeepFolds}
+use Rattle.scene.specs.proved.ViewWidths.{KeepsPlace, width_found, widths_changed, widths_living, widths_of_new, widths_replaced}
 use Rattle.std.specs.Prelude.{find}
 
 -- The view and the document of a request, as the session keeps them; and a change of the view.
@@ -70,11 +73,11 @@ abbrev pub levels_in : Document → List ℕ
 levels_in d = map (λ (row : Row). row.level) d.rows
 
 -- what fits into the view stays
-pub capacity_stays : (change : ViewChange) (old new : KeptView) → new.capacity ≡ old.capacity → new.other_capacity ≡ old.other_capacity → GrowsAtMost change old new
-capacity_stays change old new same other =
+pub capacity_stays : (change : ViewChange) (old new : KeptView) → new.capacity ≡ old.capacity → new.large ≡ old.large → GrowsAtMost change old new
+capacity_stays change old new same width =
     let hidden : new.capacity.hidden ≡ old.capacity.hidden = ap (λ (c : FoldCapacity). c.hidden) same in
     let contracted : new.capacity.contracted ≡ old.capacity.contracted = ap (λ (c : FoldCapacity). c.contracted) same in
-    record { other = other; enough = λ _. same; hidden = omega arith; contracted = omega arith }
+    record { width = width; enough = λ _. same; hidden = omega arith; contracted = omega arith }
 
 module _ {s : SessionState} {document view : ℕ} (kept : IsKept s) (is : IsAsked (session_in s) document view []) (change : ViewChange) (old : KeptView) (at : value_at s.views.entries view ≡ Some old) where
   -- the lines of its document are those of the view, and a fit change is within them
@@ -105,13 +108,41 @@ module _ {s : SessionState} {document view : ℕ} (kept : IsKept s) (is : IsAske
     view_unchanged same =
         ap (λ views. let x = session_in s in record x { views = views }) (unchanged view_in id_of_view s.views.entries view s.views.next kept.views kept.sound.view_ids old new at same)
 
-    pub only_view : new.view.id ≡ old.view.id → GrowsAtMost change old new → OnlyViewChanges view change s with_new
-    only_view same grows = record {
+    pub only_view : new.view.id ≡ old.view.id → new.view.document ≡ old.view.document → GrowsAtMost change old new → OnlyViewChanges view change s with_new
+    only_view same on grows = record {
       rest = refl;
       views = named_with view_in id_of_view s.views.entries view s.views.next kept.views kept.sound.view_ids old new at same;
+      widths = keeping view_in id_of_view s.views.entries view s.views.next kept.views kept.sound.view_ids old new at width_of
+          (ap (λ n. record (width_of new) { document = n }) on ∙ ap (λ b. record (width_of old) { large = b }) grows.width);
       others = λ other differs. other_replaced s.views.entries view other new differs;
       room = for_some _ _ old at (for_some _ _ new (value_replaced s.views.entries view old new at) grows);
     }
+
+-- The capacity of views for folds.
+
+kept_same : (b : Bool) (capacity : FoldCapacity) → capacity ≡ kept_capacity b b capacity
+kept_same true capacity = refl
+kept_same false capacity = refl
+
+abbrev KeepsFolds : Option KeptView → Option KeptView → Type 0
+KeepsFolds old new = IfSome old (λ was. IfSome new (λ now. now.capacity ≡ kept_capacity was.large now.large was.capacity))
+
+keeps_own : (o : Option KeptView) → KeepsFolds o o
+keeps_own None = tt
+keeps_own (Some k) = kept_same k.large k.capacity
+
+pub folds_same : (entries : List (Entry KeptView)) → KeepFolds entries entries
+folds_same entries id = keeps_own (value_at entries id)
+
+pub folds_replaced : (entries : List (Entry KeptView)) (view : ℕ) (old new : KeptView) → value_at entries view ≡ Some old → new.capacity ≡ kept_capacity old.large new.large old.capacity → KeepFolds entries (with_value_at view new entries)
+folds_replaced entries view old new at keeps id = go (id == view) refl
+  where
+    here : KeepsFolds (value_at entries view) (value_at (with_value_at view new entries) view)
+    here = rw (at, value_replaced entries view old new at) keeps
+
+    go : (b : Bool) → (id == view) ≡ b → KeepsFolds (value_at entries id) (value_at (with_value_at view new entries) id)
+    go true t = subst (λ k. KeepsFolds (value_at entries k) (value_at (with_value_at view new entries) k)) (sym (eqb-true id view t)) here
+    go false f = subst (KeepsFolds (value_at entries id)) (sym (other_replaced entries view id new (eqb-false id view f))) (keeps_own (value_at entries id))
 
 -- The view is attached behind the others.
 
@@ -322,11 +353,12 @@ module _ (table : Entries Kept) (named : DocumentsAreNamed table.entries) (rise 
       go None true e = subst (λ id. KeepsRoom (attaches_to change table.next id) (new_kept id 0) k) (eqb-true table.next id e) room
       go None false e = tt
 
-pub documents_alone : {s : SessionState} → IsKept s → (documents : Entries Kept) → TableStays s.documents documents → AllStays s (record s { documents = documents })
-documents_alone kept documents stays = record { limits = refl; clipboard = refl; documents = stays; views = kept.views; fold_capacities = refl; view_capacity = refl }
+pub documents_alone : {s : SessionState} → IsKept s → (documents : Entries Kept) → TableStays s.documents documents → HaveWidths (documents_in documents) s.views → AllStays s (record s { documents = documents })
+documents_alone {s} kept documents stays widths =
+    record { limits = refl; clipboard = refl; documents = stays; views = kept.views; widths = widths; folds = folds_same s.views.entries; view_capacity = refl }
 
-pub stays_then : (change : SessionChange) (old mid new : SessionState) → Stays change old mid → AllStays mid new → Stays change old new
-stays_then change old mid new a b = record {
+pub stays_then : (change : SessionChange) (old mid new : SessionState) → mid.views ≡ old.views → Stays change old mid → AllStays mid new → Stays change old new
+stays_then change old mid new same a b = record {
   limits = b.limits ∙ a.limits;
   clipboard = subst (KeepsClipboard change old.clipboard) (sym b.clipboard) a.clipboard;
   documents = b.documents.named;
@@ -335,7 +367,8 @@ stays_then change old mid new a b = record {
       keeps_then (attaches_to change old.documents.next id) (Some (kept_or_new old.documents.entries id)) (value_at mid.documents.entries id)
       (value_at new.documents.entries id) (a.rooms id) (b.documents.rest id);
   views = b.views;
-  fold_capacities = b.fold_capacities ∙ a.fold_capacities;
+  widths = b.widths;
+  folds = subst (λ (v : Entries KeptView). KeepFolds v.entries new.views.entries) same b.folds;
   view_capacity = b.view_capacity ∙ a.view_capacity;
 }
 
@@ -386,7 +419,10 @@ module _ {s : SessionState} {document view : ℕ} {text : List ℕ} (kept : IsKe
       let flags : length v.view.flags ≡ lines_in d = ap (λ (x : View). length x.flags) same ∙ (stands kept is_asked).lines in
       let sound : IsSoundDocument s.limits d = found_all (IsSoundDocument s.limits) (λ (d : Document). d.id == document) (documents_in s.documents) d kept.sound.documents (document_found kept is_asked) in
       let cells : length (text_of d) ≡ length d.cells = length-map d.cells (λ (c : Cell). c.byte) in
-      subst (λ large. AreFewLines large (length v.view.flags + 1)) (sym (ap (λ (x : View). x.large) same ∙ (stands kept is_asked).large))
+      let has = found_all (HasWidths (map width_at s.views.entries)) (λ (d : Document). d.id == document) (documents_in s.documents) d kept.widths (document_found kept is_asked) in
+      let own : d.id ≡ document = own_at id_of_document (documents_in s.documents) document d (document_found kept is_asked) in
+      let large : v.large ≡ is_large d = width_found s.views.entries view v d has at (ap (λ (x : View). x.document) same ∙ on_document kept is_asked ∙ sym own) in
+      subst (λ large. AreFewLines large (length v.view.flags + 1)) (sym large)
       (limit_few (is_large d) s.limits (length v.view.flags) (allowed_lengths s.limits kept.limits) (omega (arith, flags, few_lines d.line_end_types (text_of d), cells, sound.bounded))))
 
   elsewhere : AllByRecursion (λ (d : Document). d.id ≢ document → left_by view d ≡ d) (documents_in s.documents)
@@ -399,8 +435,8 @@ module _ {s : SessionState} {document view : ℕ} {text : List ℕ} (kept : IsKe
   -- the view can be attached to a document of these, which are those of the session and perhaps more
   pub can_attach : (documents : Entries Kept) (to : ℕ) (more : List Document) → documents_in documents ≡ documents_in s.documents ++ more → DocumentsAreNamed documents.entries → DocumentsRise documents
       → AllByRecursion (λ (d : Document). d.id ≢ document → left_by view d ≡ d) more → AllByRecursion (λ (d : Document). d.id ≢ to → 0 < references d) more
-      → IsSomeAnd (value_at documents.entries to) HasViewRoom → CanAttach (record s { documents = documents }) document view to
-  can_attach documents to more is named rise alone referenced place =
+      → IsSomeAnd (value_at documents.entries to) HasViewRoom → HaveWidths more s.views → CanAttach (record s { documents = documents }) document view to
+  can_attach documents to more is named rise alone referenced place widths =
       let Alone : Document → Type 0 = λ d. d.id ≢ document → left_by view d ≡ d in let Referenced : Document → Type 0 = λ d. d.id ≢ to → 0 < references d in
       let moves : CanMove documents document view to = record {
         named = named;
@@ -409,7 +445,14 @@ module _ {s : SessionState} {document view : ℕ} {text : List ℕ} (kept : IsKe
         referenced = subst (AllByRecursion Referenced) (sym is) (all_append Referenced (documents_in s.documents) more (all_weaker (IsSoundDocument s.limits) Referenced (λ d sound other. sound.referenced) (documents_in s.documents) kept.sound.documents) referenced);
         place = place;
       } in
-      record { documents = moves; views = kept.views; rise = kept.sound.view_ids; there = view_found kept is_asked; few = few_flags }
+      record {
+        documents = moves;
+        views = kept.views;
+        rise = kept.sound.view_ids;
+        there = view_found kept is_asked;
+        few = few_flags;
+        widths = subst (λ ds. HaveWidths ds s.views) (sym is) (all_append (HasWidths (map width_at s.views.entries)) (documents_in s.documents) more kept.widths widths);
+      }
 
   -- A document that exists gets room for the view.
   module _ (to : ℕ) (old new : Kept) (at : value_at s.documents.entries to ≡ Some old) (rest : new ≡ record old { capacity = record old.capacity { views = new.capacity.views } }) where
@@ -433,7 +476,8 @@ module _ {s : SessionState} {document view : ℕ} {text : List ℕ} (kept : IsKe
       table = refl;
       rooms = rooms_reserved s.documents to old new at (has_room old new rest most);
       views = kept.views;
-      fold_capacities = refl;
+      widths = subst (λ ds. HaveWidths ds s.views) (sym documents_same) kept.widths;
+      folds = folds_same s.views.entries;
       view_capacity = refl;
     }
 
@@ -441,7 +485,7 @@ module _ {s : SessionState} {document view : ℕ} {text : List ℕ} (kept : IsKe
     can_attach_there room =
         can_attach with_place.documents to [] (documents_same ∙ sym (append-nil (documents_in s.documents))) named_there
         (subst (λ ds. Rise 0 s.documents.next (map (λ (d : Document). d.id) ds)) (sym documents_same) kept.sound.document_ids) tt tt
-        (subst (λ o. IsSomeAnd o HasViewRoom) (sym (value_replaced s.documents.entries to old new at)) room)
+        (subst (λ o. IsSomeAnd o HasViewRoom) (sym (value_replaced s.documents.entries to old new at)) room) tt
 
 -- the session after the view is attached
 module _ {s : SessionState} {from view to : ℕ} (can : CanAttach s from view to) (k : Kept) (document_at_to : value_at s.documents.entries to ≡ Some k) (old new : KeptView) (at : value_at s.views.entries view ≡ Some old)
@@ -465,13 +509,27 @@ module _ {s : SessionState} {from view to : ℕ} (can : CanAttach s from view to
       ∙ ap (λ y. record (with_attached (Some d) v x) { views = y; next_document = documents.next }) vs ∙ ap (λ n. record (with_attached (Some d) v x) { next_document = n }) next
       ∙ ap (λ o. with_attached o v x) (sym found)
 
-  pub attached_stays : capacities new ≡ capacities old → (documents : Entries Kept) → TableStays s.documents documents → AllStays s (with_moved documents)
-  attached_stays same documents stays = record {
+  same_place : KeepsPlace (attached_last view to)
+  same_place d =
+      let left = left_by view d in
+      cond_both (d.id == to) (record left { views = left.views ++ view ∷ [] }) left (λ (x : Document). (x.id ≡ d.id) × (is_large x ≡ is_large d)) (λ _. (refl, refl)) (λ _. (refl, refl))
+
+  pub attached_stays : new.large ≡ is_large k.document → new.capacity ≡ kept_capacity old.large new.large old.capacity → (documents : Entries Kept) → TableStays s.documents documents
+      → documents_in documents ≡ living (map (attached_last view to) (documents_in s.documents)) → AllStays s (with_moved documents)
+  attached_stays large folds documents stays moved = record {
     limits = refl;
     clipboard = refl;
     documents = stays;
     views = named_with view_in id_of_view s.views.entries view s.views.next can.views can.rise old new at (ap id_of_view made);
-    fold_capacities = keeping view_in id_of_view s.views.entries view s.views.next can.views can.rise old new at capacities same;
+    widths =
+        let ds = documents_in s.documents in let d = k.document in let views = (with_moved documents).views in
+        let found : document_at ds to ≡ Some d = found_some document_of id_of_document s.documents.entries to k can.documents.named document_at_to in
+        let id : d.id ≡ to = own_at id_of_document ds to d found in
+        subst (λ ds. HaveWidths ds views) (sym moved)
+        (widths_living (map (attached_last view to) ds) views
+        (widths_changed (attached_last view to) same_place ds views
+        (widths_replaced s.views.entries view new ds s.documents.next d can.documents.rise (ap (document_at ds) id ∙ found) (ap (λ (v : View). v.document) made) large can.widths)));
+    folds = folds_replaced s.views.entries view old new at folds;
     view_capacity = refl;
   }
 
@@ -494,6 +552,9 @@ module _ {s : SessionState} (kept : IsKept s) (k : Kept) (table : Entries Kept) 
       ap (λ ds. record x { documents = ds; next_document = table.next }) (documents_more ∙ ap (λ d. x.documents ++ d ∷ []) made)
       ∙ ap (λ (t : Entries Kept). record x { documents = x.documents ++ d ∷ []; next_document = t.next }) is
 
+  no_view_on : k.document.id ≡ s.documents.next → HasWidths (map width_at s.views.entries) k.document
+  no_view_on own = widths_of_new (documents_in s.documents) s.documents.next s.views.entries k.document own kept.sound.document_ids kept.sound.views
+
   pub stays_more : (change : SessionChange) → k.document.id ≡ s.documents.next → KeepsClipboard change s.clipboard s.clipboard → TableGrows change s.documents table.capacity
       → KeepsRoom (attaches_to change s.documents.next s.documents.next) (new_kept s.documents.next 0) k → Stays change s (record s { documents = table })
   stays_more change own clipboard grows room = record {
@@ -503,7 +564,9 @@ module _ {s : SessionState} (kept : IsKept s) (k : Kept) (table : Entries Kept) 
     table = grows;
     rooms = subst (RoomsGrow change s.documents) (sym entries) (rooms_added s.documents kept.documents kept.sound.document_ids k change room);
     views = kept.views;
-    fold_capacities = refl;
+    widths = subst (λ ds. HaveWidths ds s.views) (sym documents_more)
+        (all_added (HasWidths (map width_at s.views.entries)) (documents_in s.documents) k.document kept.widths (no_view_on own));
+    folds = folds_same s.views.entries;
     view_capacity = refl;
   }
 
@@ -518,3 +581,4 @@ module _ {s : SessionState} (kept : IsKept s) (k : Kept) (table : Entries Kept) 
       (documents_added s.documents.next (documents_in s.documents) k.document own kept.sound.document_ids)))
       (subst (λ (d : Document). d.id ≢ document → left_by view d ≡ d) (sym made) (λ _. refl), tt) (λ other. absurd (other own), tt)
       (subst (λ o. IsSomeAnd o HasViewRoom) (sym (ap (λ es. value_at es s.documents.next) entries ∙ last_at s.documents kept.documents kept.sound.document_ids k)) room)
+      (no_view_on own, tt)

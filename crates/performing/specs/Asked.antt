@@ -10,7 +10,7 @@ use Rattle.ed_model.specs.SoundLaws.{Rise}
 use Rattle.id_table.specs.Entries.{Entries, value_at}
 use Rattle.document.specs.Kept.{Kept, HasViewRoom}
 use Rattle.ed_view.specs.Kept.{HasFewLines}
-use Rattle.scene.specs.Scenes.{views_of, AreNamed}
+use Rattle.scene.specs.Scenes.{views_of, AreNamed, HaveWidths}
 use Rattle.message_requests.specs.Requested.{documents_in}
 use Rattle.message_requests.specs.declared.state.SessionState.{SessionState}
 use Rattle.performing.specs.Kept.{DocumentsAreNamed, ViewsRise}
@@ -56,10 +56,12 @@ pub record CanMove (table : Entries Kept) (from view to : ℕ) : Type 0 where
   pub referenced : AllByRecursion (λ (d : Document). d.id ≢ to → 0 < references d) (documents_in table)
   pub place : IsSomeAnd (value_at table.entries to) HasViewRoom
 
--- the same of the session's documents; and the view exists, with few lines, among views that are kept under their own ids, which rise
+-- the same of the session's documents; and the view exists, with few lines, among views that are kept under their own ids, which rise, and whose
+-- line numbers have the width of their document
 pub record CanAttach (s : SessionState) (from view to : ℕ) : Type 0 where
   pub documents : CanMove s.documents from view to
   pub views : AreNamed s.views.entries
   pub rise : ViewsRise s.views
   pub there : view_at (views_of s.views.entries) view ≡ Some (view_asked (views_of s.views.entries) view)
   pub few : IsSomeAnd (value_at s.views.entries view) HasFewLines
+  pub widths : HaveWidths (documents_in s.documents) s.views

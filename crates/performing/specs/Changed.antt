@@ -13,7 +13,7 @@ use Rattle.ed_model.specs.Session.{Document, View}
 use Rattle.ed_model.specs.Changes.{changed_document, changed_lines, change_told}
 use Rattle.id_table.specs.Entries.{Entries, id_of}
 use Rattle.ed_view.specs.Kept.{KeptView}
-use Rattle.scene.specs.Scenes.{views_of, watchers, KeepFoldCapacities, IsWatched}
+use Rattle.scene.specs.Scenes.{views_of, watchers, IsWatched, ViewsStay}
 use Rattle.performing.specs.declared.note.ChangeNote.{ChangeNote}
 use Rattle.performing.specs.ChangeNeeds.{IsReady}
 use Rattle.performing.specs.Notes.{IsFitNote, notes_of}
@@ -72,10 +72,7 @@ pub record Changes (text : List ℕ) (what : DocumentChange) (sender : ℕ) (old
   pub lines : views_of views'.entries ≡ map (changed_lines what old.document) (views_of views.entries)
   pub told : (v : View) → v.id ≡ sender → notes'.notes ≡ notes.notes ++ change_told v (watchers old.document views) old.document new.document what
   pub watched : IsWatched new.document views'
-  pub ids : map id_of views'.entries ≡ map id_of views.entries
-  pub next : views'.next ≡ views.next
-  pub view_capacity : views'.capacity ≡ views.capacity
-  pub fold_capacities : KeepFoldCapacities views views'
+  pub stay : ViewsStay views views'
 
 -- the change was made, whoever sent the message with this text, and no view was notified of it
 abbrev pub IsMadeUnheard : List ℕ → DocumentChange → Kept → Kept → Entries KeptView → Type 0

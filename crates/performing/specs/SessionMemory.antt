@@ -6,8 +6,11 @@ use Rattle.ed_model.specs.declared.plan.SessionChange.TheVariants.{Copy, CopyTex
 use Rattle.id_table.specs.Entries.{Entries, Entry, HasRoom, KeepsCapacity, TableCapacity, entry, most_ids, value_at}
 use Rattle.document.specs.Kept.{Kept, HasViewRoom, new_kept}
 use Rattle.document_table.specs.Leaving.{KeepsRest}
-use Rattle.scene.specs.Scenes.{AreNamed, KeepFoldCapacities}
+use Rattle.ed_view.specs.Flags.{kept_capacity}
+use Rattle.ed_view.specs.Kept.{KeptView}
+use Rattle.scene.specs.Scenes.{AreNamed, HaveWidths}
 use Rattle.message_requests.specs.declared.state.SessionState.{SessionState}
+use Rattle.message_requests.specs.Requested.{documents_in}
 use Rattle.performing.specs.Kept.{DocumentsAreNamed}
 
 -- whether the change may need an allocation
@@ -73,8 +76,12 @@ KeepsClipboard (Copy start count) old new = Unit {0}
 KeepsClipboard (CopyText count) old new = Unit {0}
 KeepsClipboard other old new = new ≡ old
 
--- The limits stay, and what fits into the views and into their table. Documents and views are kept under their own ids, and no more memory was
--- allocated for documents than the change needs.
+-- each view keeps its capacity for hidden and contracted lines if its line numbers keep their width, and has none otherwise
+abbrev pub KeepFolds : List (Entry KeptView) → List (Entry KeptView) → Type 0
+KeepFolds old new = (id : ℕ) → IfSome (value_at old id) (λ was. IfSome (value_at new id) (λ now. now.capacity ≡ kept_capacity was.large now.large was.capacity))
+
+-- The limits stay, and what fits into the views and into their table. Documents and views are kept under their own ids, views have line numbers of
+-- their document's width, and no more memory was allocated for documents than the change needs.
 pub record Stays (change : SessionChange) (old new : SessionState) : Type 0 where
   pub limits : new.limits ≡ old.limits
   pub clipboard : KeepsClipboard change old.clipboard new.clipboard
@@ -82,7 +89,8 @@ pub record Stays (change : SessionChange) (old new : SessionState) : Type 0 wher
   pub table : TableGrows change old.documents new.documents.capacity
   pub rooms : RoomsGrow change old.documents new.documents.entries
   pub views : AreNamed new.views.entries
-  pub fold_capacities : KeepFoldCapacities old.views new.views
+  pub widths : HaveWidths (documents_in new.documents) new.views
+  pub folds : KeepFolds old.views.entries new.views.entries
   pub view_capacity : new.views.capacity ≡ old.views.capacity
 
 -- Changes that allocate nothing.
@@ -100,5 +108,6 @@ pub record AllStays (old new : SessionState) : Type 0 where
   pub clipboard : new.clipboard ≡ old.clipboard
   pub documents : TableStays old.documents new.documents
   pub views : AreNamed new.views.entries
-  pub fold_capacities : KeepFoldCapacities old.views new.views
+  pub widths : HaveWidths (documents_in new.documents) new.views
+  pub folds : KeepFolds old.views.entries new.views.entries
   pub view_capacity : new.views.capacity ≡ old.views.capacity

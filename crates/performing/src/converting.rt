@@ -3,7 +3,7 @@
 ghost use Rattle.std.specs.Prelude.{◌≡◌, [], OnOk, OnErr, IsOk};
 ghost use Rattle.ed_model.specs.LineEnds.{conversion_steps};
 ghost use Rattle.ed_model.specs.Session.{text_of};
-ghost use Rattle.scene.specs.Scenes.{IsWatched};
+ghost use Rattle.scene.specs.Scenes.{IsWatched, KeepWidths};
 ghost use Rattle.performing.specs.Edits.{MakesEdit};
 ghost use Rattle.performing.specs.Widths.{StepsFitWidth};
 
@@ -40,6 +40,7 @@ pub fn convert_with_room(
     ensures id { document.new.document.id ≡ document.old.document.id }
     ensures watched { IsWatched document.new.document views.new }
     ensures next { views.new.next ≡ views.old.next }
+    ensures widths { KeepWidths views.old views.new }
     ensures free { conversion_steps to (text_of document.old.document) ≡ [] → IsOk result }
 {
     // States that what the steps need is enough for their notes.

@@ -3,7 +3,7 @@
 ghost use Rattle.std.specs.Prelude.{◌≡◌, OnOk, OnErr, IfOk};
 ghost use Rattle.document.specs.Undoing.{changes_of};
 ghost use Rattle.scene.specs.Performed.{HistoryFits};
-ghost use Rattle.scene.specs.Scenes.{IsWatched, kept_scene};
+ghost use Rattle.scene.specs.Scenes.{kept_scene, IsWatched, KeepWidths};
 ghost use Rattle.scene.specs.Undoing.{history_caret};
 ghost use Rattle.performing.specs.History.{scene_gone};
 ghost use Rattle.performing.specs.Widths.{ChangesFitWidth};
@@ -40,6 +40,7 @@ pub fn go_with_room(
     ensures id { document.new.document.id ≡ document.old.document.id }
     ensures watched { IsWatched document.new.document views.new }
     ensures next { views.new.next ≡ views.old.next }
+    ensures widths { KeepWidths views.old views.new }
 {
     let need = history_need(document, views, direction);
     if !need.is_counted() {

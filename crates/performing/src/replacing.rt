@@ -2,7 +2,7 @@
 
 ghost use Rattle.std.specs.Prelude.{◌≡◌, ◌≤◌, ◌+◌, [], length, OnOk, OnErr, IsOk};
 ghost use Rattle.scene.specs.Needs.{CanHoldEdit};
-ghost use Rattle.scene.specs.Scenes.{IsWatched, kept_scene};
+ghost use Rattle.scene.specs.Scenes.{kept_scene, IsWatched, KeepWidths};
 ghost use Rattle.performing.specs.Edits.{replacement_in, MakesEdit, StepsFit};
 ghost use Rattle.performing.specs.Widths.{StepsFitWidth};
 
@@ -32,6 +32,7 @@ fn replace_bytes(
         MakesEdit steps document.old views.old notes.old document.new views.new notes.new }
     ensures watched { IsWatched document.new.document views.new }
     ensures next { views.new.next ≡ views.old.next }
+    ensures widths { KeepWidths views.old views.new }
 {
     let insertion = TextStep::Insert {
         place: start,
@@ -84,6 +85,7 @@ pub fn replace_with_room(
     ensures id { document.new.document.id ≡ document.old.document.id }
     ensures watched { IsWatched document.new.document views.new }
     ensures next { views.new.next ≡ views.old.next }
+    ensures widths { KeepWidths views.old views.new }
     ensures free { replacement_in start count bytes.now document.old ≡ [] → IsOk result }
 {
     // States that what the steps need is enough for their notes.

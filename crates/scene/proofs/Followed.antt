@@ -1,7 +1,7 @@
 -- The views follow in the order of their ids: what becomes of their entries, and what the views behind can still do.
-use Rattle.scene.proofs.Names.{◌≡◌, ℕ, Bool, true, false, cond, List, [], ◌∷◌, map, refl, ap, ap₂, sym, ◌∙◌, subst, ◌==◌, Option, Some, None, find, option_map, AllByRecursion, eqb-true, eqb-false, eq-eqb, ne_eqb, map-map, map-id, LineEdit, Movement, View, Rise, view_id, found_once, all_map, all_two, all_weaker, found_all, Entry, Entries, entry, id_of, value_at, value_of, in_place_at, with_value_at, KeptView, capacities, view_moved, views_of, views_in, capacities_at, AreNamed, followed_at, followed, CanFollow, CanFollowInTurn, CanAllFollow, HaveFollowed, ViewsStay}
+use Rattle.scene.proofs.Names.{◌≡◌, ℕ, Bool, true, false, cond, List, [], ◌∷◌, map, refl, ap, ap₂, sym, ◌∙◌, subst, ◌==◌, Option, Some, None, find, option_map, AllByRecursion, eqb-true, eqb-false, eq-eqb, ne_eqb, map-map, map-id, LineEdit, Movement, View, Rise, view_id, found_once, all_map, all_two, all_both, all_weaker, found_all, Entry, Entries, entry, id_of, value_at, value_of, in_place_at, with_value_at, KeptView, ViewWidth, width_of, view_moved, views_of, views_in, width_at, AreNamed, followed_at, followed, CanFollow, CanFollowInTurn, CanFollowAt, CanAllFollow, HaveFollowed, ViewsStay}
 use Rattle.scene.proofs.Pending.{named_some}
-use Rattle.scene.proofs.Staying.{views_same, views_stay}
+use Rattle.scene.proofs.Staying.{views_stay}
 
 pub named_ids : (entries : List (Entry KeptView)) → AreNamed entries → map id_of entries ≡ map (λ (v : View). v.id) (views_of entries)
 named_ids [] named = refl
@@ -21,10 +21,16 @@ only entries high id k rise found = go (find (λ (e : Entry KeptView). e.id == i
         entries (found_once id_of 0 high entries id w rise t)
 
 module _ (movement : Movement) (edits : List LineEdit) (id : ℕ) where
-  -- the view of the entry followed if the id is its own; its name, its id and its capacities stay
+  -- the view of the entry followed if the id is its own; its name, its id, its width and its capacity stay
   abbrev pub IsAfter : Entry KeptView → Entry KeptView → Type 0
   IsAfter e e' =
-      (e'.value.view ≡ followed_at movement edits id e.value.view) × (e'.id ≡ e'.value.view.id) × (e'.id ≡ e.id) × (capacities_at e' ≡ capacities_at e)
+      (e'.value.view ≡ followed_at movement edits id e.value.view) × (e'.id ≡ e'.value.view.id) × (e'.id ≡ e.id) × (width_at e' ≡ width_at e) × (e'.value.capacity ≡ e.value.capacity)
+
+  -- an entry with another id stays
+  other_after : (e : Entry KeptView) → e.id ≡ e.value.view.id → (e.id ≡ id → ⊥) → IsAfter e e
+  other_after e named differs =
+      let other : (e.value.view.id == id) ≡ false = ne_eqb e.value.view.id id (λ own. differs (named ∙ own)) in
+      rw other (refl, named, refl, refl, refl)
 
   entry_after : (k moved : KeptView) → moved ≡ record k { view = view_moved movement edits k.view } → (e : Entry KeptView) → (e.id ≡ id → e.value ≡ k) → e.id ≡ e.value.view.id
       → IsAfter e (in_place_at id moved e)
@@ -37,31 +43,26 @@ module _ (movement : Movement) (edits : List LineEdit) (id : ℕ) where
           let test : (e.value.view.id == id) ≡ true = eq-eqb e.value.view.id id own in
           let is : moved ≡ record e.value { view = view_moved movement edits e.value.view } =
           follows ∙ ap (λ (x : KeptView). record x { view = view_moved movement edits x.view }) (sym (one here)) in
-          rw test (ap (λ (x : KeptView). x.view) is, sym (ap (λ (x : KeptView). x.view.id) is ∙ own), sym here, ap capacities is)
-      go false t =
-          let other : (e.value.view.id == id) ≡ false = ne_eqb e.value.view.id id (λ p. eqb-false e.id id t (named ∙ p)) in
-          rw other (refl, named, refl, refl)
+          rw test (ap (λ (x : KeptView). x.view) is, sym (ap (λ (x : KeptView). x.view.id) is ∙ own), sym here, ap width_of is, ap (λ (x : KeptView). x.capacity) is)
+      go false t = other_after e named (λ own. eqb-false e.id id t own)
 
   all_after : (f : Entry KeptView → Entry KeptView) (entries : List (Entry KeptView)) → AllByRecursion (λ e. IsAfter e (f e)) entries
       → (views_of (map f entries) ≡ map (followed_at movement edits id) (views_of entries)) × AreNamed (map f entries) × (map id_of (map f entries) ≡ map id_of entries)
-      × (map capacities_at (map f entries) ≡ map capacities_at entries)
-  all_after f [] all = (refl, tt, refl, refl)
+      × (map width_at (map f entries) ≡ map width_at entries) × (map (λ (e : Entry KeptView). e.value.capacity) (map f entries) ≡ map (λ (e : Entry KeptView). e.value.capacity) entries)
+  all_after f [] all = (refl, tt, refl, refl, refl)
   all_after f (x ∷ xs) all =
       let rest = all_after f xs all.1 in
-      (ap₂ (λ y l. y ∷ l) all.0.0 rest.0, (all.0.1, rest.1), ap₂ (λ y l. y ∷ l) all.0.2 rest.2, ap₂ (λ y l. y ∷ l) all.0.3 rest.3)
+      (ap₂ (λ y l. y ∷ l) all.0.0 rest.0, (all.0.1, rest.1), ap₂ (λ y l. y ∷ l) all.0.2 rest.2, ap₂ (λ y l. y ∷ l) all.0.3 rest.3, ap₂ (λ y l. y ∷ l) all.0.4 rest.4)
 
-  -- no view has the id
-  missing : (entries : List (Entry KeptView)) → AreNamed entries → value_at entries id ≡ None → map (followed_at movement edits id) (views_of entries) ≡ views_of entries
-  missing [] named e = refl
+  -- if no view has the id, all entries stay
+  missing : (entries : List (Entry KeptView)) → AreNamed entries → value_at entries id ≡ None → AllByRecursion (λ e. IsAfter e e) entries
+  missing [] named e = tt
   missing (x ∷ xs) named e = go (x.id == id) refl e (λ e. missing xs named.1 e)
     where
       go : (b : Bool) → (x.id == id) ≡ b → option_map value_of (cond b (Some x) (find (λ (e : Entry KeptView). e.id == id) xs)) ≡ None
-          → (value_at xs id ≡ None → map (followed_at movement edits id) (views_of xs) ≡ views_of xs)
-          → followed_at movement edits id x.value.view ∷ map (followed_at movement edits id) (views_of xs) ≡ x.value.view ∷ views_of xs
+          → (value_at xs id ≡ None → AllByRecursion (λ e. IsAfter e e) xs) → IsAfter x x × AllByRecursion (λ e. IsAfter e e) xs
       go true t e rest = absurd (cc)
-      go false t e rest =
-          let other : (x.value.view.id == id) ≡ false = ne_eqb x.value.view.id id (λ p. eqb-false x.id id t (named.0 ∙ p)) in
-          rw other (ap (λ vs. x.value.view ∷ vs) (rest e))
+      go false t e rest = (other_after x named.0 (λ own. eqb-false x.id id t own), rest e)
 
 -- The loop.
 
@@ -73,35 +74,48 @@ pub record IsFollowedSoFar (movement : Movement) (edits : List LineEdit) (order 
 module _ (movement : Movement) (edits : List LineEdit) (order after : List ℕ) (id : ℕ) (old now : Entries KeptView)
     (so : IsFollowedSoFar movement edits order (id ∷ after) old now) where
   -- the view whose turn it is can follow
-  pub next_can : (k : KeptView) → value_at now.entries id ≡ Some k → CanFollow movement edits k.view
-  next_can k found =
-      let at = named_some now.entries id k so.can.named found in
-      (found_all (CanFollowInTurn movement edits (id ∷ after)) (λ (v : View). v.id == id) (views_in now) k.view so.can.can at).0 (view_id (views_in now) id k.view at)
+  pub next_can : (k : KeptView) → value_at now.entries id ≡ Some k → CanFollow movement edits k.large k.view
+  next_can k found = go (find (λ (e : Entry KeptView). e.id == id) now.entries) refl found
+    where
+      go : (o : Option (Entry KeptView)) → find (λ (e : Entry KeptView). e.id == id) now.entries ≡ o → option_map value_of o ≡ Some k → CanFollow movement edits k.large k.view
+      go None t is = absurd (cc)
+      go (Some e) t is =
+          let same : e.value ≡ k = cc in
+          let own = view_id (views_in now) id k.view (named_some now.entries id k so.can.named found) in
+          subst (λ (x : KeptView). x.view.id ≡ id → CanFollow movement edits x.large x.view) same
+          (found_all (CanFollowAt movement edits (id ∷ after)) (λ (e : Entry KeptView). e.id == id) now.entries e so.can.can t).0 own
 
-  turn : (new : Entries KeptView) → views_in new ≡ map (followed_at movement edits id) (views_in now) → AreNamed new.entries → ViewsStay now new → IsFollowedSoFar movement edits order after old new
-  turn new views named stay = record {
-    can = record {
-      named = named;
-      rise = rw (stay.next, stay.ids) so.can.rise;
-      can = subst (AllByRecursion (CanFollowInTurn movement edits after)) (sym views)
-          (all_map (CanFollowInTurn movement edits (id ∷ after)) (CanFollowInTurn movement edits after) (followed_at movement edits id) (λ v h. h.1) (views_in now) so.can.can);
-    };
-    views = ap (map (followed movement edits after)) views ∙ map-map (followed movement edits after) (followed_at movement edits id) (views_in now) ∙ so.views;
-    stay = views_stay so.stay stay;
-  }
+  -- the entries after its turn
+  turn : (f : Entry KeptView → Entry KeptView) → AllByRecursion (λ e. IsAfter movement edits id e (f e)) now.entries
+      → IsFollowedSoFar movement edits order after old (record now { entries = map f now.entries })
+  turn f afters =
+      let all = all_after movement edits id f now.entries afters in
+      record {
+        can = record {
+          named = all.1;
+          rise = rw all.2 so.can.rise;
+          can = all_map (λ e. CanFollowAt movement edits (id ∷ after) e × IsAfter movement edits id e (f e)) (CanFollowAt movement edits after) f
+              (λ e h. subst (λ (w : ViewWidth). CanFollowInTurn movement edits after w.large (f e).value.view) (sym h.1.3)
+              (subst (CanFollowInTurn movement edits after e.value.large) (sym h.1.0) h.0.1))
+              now.entries (all_both (CanFollowAt movement edits (id ∷ after)) (λ e. IsAfter movement edits id e (f e)) now.entries so.can.can afters);
+        };
+        views = ap (map (followed movement edits after)) all.0 ∙ map-map (followed movement edits after) (followed_at movement edits id) (views_in now) ∙ so.views;
+        stay = views_stay so.stay (record { ids = all.2; next = refl; view_capacity = refl; widths = all.3; fold_capacities = all.4 });
+      }
 
   -- that view follows
   pub follow_one : (k moved : KeptView) (new : Entries KeptView) → value_at now.entries id ≡ Some k → moved ≡ record k { view = view_moved movement edits k.view }
       → new ≡ record now { entries = with_value_at id moved now.entries } → IsFollowedSoFar movement edits order after old new
   follow_one k moved new found follows put =
-      let all = all_after movement edits id (in_place_at id moved) now.entries
+      rw put (turn (in_place_at id moved)
       (all_two (λ (x : Entry KeptView). x.id ≡ id → x.value ≡ k) (λ (x : Entry KeptView). x.id ≡ x.value.view.id) (λ x. IsAfter movement edits id x (in_place_at id moved x)) now.entries
-      (entry_after movement edits id k moved follows) (only now.entries now.next id k so.can.rise found) so.can.named) in
-      rw put (turn (record now { entries = with_value_at id moved now.entries }) all.0 all.1 (record { ids = all.2; next = refl; view_capacity = refl; fold_capacities = all.3 }))
+      (entry_after movement edits id k moved follows) (only now.entries now.next id k so.can.rise found) so.can.named))
 
   -- no view has the id whose turn it is
   pub follow_missing : (new : Entries KeptView) → value_at now.entries id ≡ None → new ≡ now → IsFollowedSoFar movement edits order after old new
-  follow_missing new found put = rw put (turn now (sym (missing movement edits id now.entries so.can.named found)) so.can.named views_same)
+  follow_missing new found put =
+      subst (λ t. IsFollowedSoFar movement edits order after old t) (ap (λ es. record now { entries = es }) (map-id now.entries) ∙ sym put)
+      (turn (λ e. e) (missing movement edits id now.entries so.can.named found))
 
 pub follow_all : (movement : Movement) (edits : List LineEdit) (order : List ℕ) (old now : Entries KeptView) → IsFollowedSoFar movement edits order [] old now
     → HaveFollowed movement edits order old now

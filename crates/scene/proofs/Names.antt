@@ -26,7 +26,7 @@ pub use Rattle.ed_model.specs.declared.plan.LineEnd.{LineEnd}
 pub use Rattle.ed_model.specs.declared.plan.LineEndTypes.{LineEndTypes}
 pub use Rattle.ed_model.specs.declared.plan.LineEndTypes.TheVariants.{Default, Unicode}
 pub use Rattle.ed_model.specs.proved.Changes.{view_after_id, length_text}
-pub use Rattle.ed_model.specs.proved.Elements.{all_two, map_where, all_append, all_map, all_weaker, found_all}
+pub use Rattle.ed_model.specs.proved.Elements.{all_two, all_both, map_where, all_append, all_map, all_weaker, found_all}
 pub use Rattle.ed_model.specs.proved.Finding.{view_id, ids_of, same_ids, found_once, mapped_found}
 pub use Rattle.ed_model.specs.proved.Lists.{length_slice}
 pub use Rattle.ed_model.specs.proved.Steps.{bytes_of_edited_cells, length_of_range}
@@ -34,7 +34,7 @@ pub use Rattle.ed_types.specs.Heard.{with_text}
 pub use Rattle.ed_types.specs.Notices.{Notice}
 pub use Rattle.ed_types.specs.declared.reply.Note.{Note}
 pub use Rattle.ed_view.specs.Flags.{AreFewLines}
-pub use Rattle.ed_view.specs.Kept.{KeptView, capacities, view_in}
+pub use Rattle.ed_view.specs.Kept.{KeptView, view_in}
 pub use Rattle.ed_view.specs.Moving.{view_moved, step_edits, MovesAreThoseOfSteps, StepsFitViews}
 pub use Rattle.id_table.specs.Entries.{Entry, Entries, entry, id_of, value_at, value_of, with_value_at, in_place_at}
 pub use Rattle.line_ends.specs.Conversion.{completed, IsNextMissing, IsNextUnwanted, missing_in, unwanted_in}
@@ -46,10 +46,10 @@ pub use Rattle.notify.specs.Gathered.{Gathered, NoteCapacity, CanPut, is_full}
 pub use Rattle.selection.specs.Positions.{movement_of, count_of}
 pub use Rattle.selection.specs.declared.movements.Movement.{Movement}
 pub use Rattle.scene.specs.Conversion.{both_rooms, capped_room, deletions_of, room_of_many, room_of_steps, rooms_added, room_of_steps_beside, AreLeft}
-pub use Rattle.scene.specs.Following.{followed_at, CanFollow, CanFollowInTurn, CanAllFollow, HaveFollowed, followed}
+pub use Rattle.scene.specs.Following.{followed_at, CanFollow, CanFollowInTurn, CanFollowAt, CanAllFollow, HaveFollowed, followed}
 pub use Rattle.scene.specs.Hearing.{hearers, before_kind, after_kind, audience_of, with_note_text, masks_from, masks_of, step_kinds, user_bits, bytes_shared, belongs, left_note}
 pub use Rattle.scene.specs.Needs.{note_room, leaving_count, notes_of_step, bytes_of_step, notes_of_steps, bytes_of_steps, user_kinds, notes_needed, bytes_needed, notes_for, held_behind, held_after, NeedsAreEnough}
-pub use Rattle.scene.specs.Scenes.{views_of, capacities_at, AreNamed, scene_in, watchers, IsWatched, StandsIfOn, RoomsStay, ViewsStay, kept_scene, views_in}
+pub use Rattle.scene.specs.Scenes.{views_of, ViewWidth, width_of, width_at, HasWidthIfOn, AreNamed, scene_in, watchers, IsWatched, StandsIfOn, RoomsStay, ViewsStay, kept_scene, views_in}
 pub use Rattle.scene.specs.StepNotes.{IsSmallStep, CanTellMade, place_in, count_in, text_before, IsRangeNote}
 pub use Rattle.scene.specs.Telling.{with_notes}
 pub use Rattle.scene.specs.Turns.{ChangeFits, several_bits, CanPerform, IsPerformed, bits_behind, IsToldBefore, turn_of}

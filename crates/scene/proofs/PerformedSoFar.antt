@@ -1,5 +1,5 @@
 -- The changes of undo or redo that were performed, and those that are still to be performed.
-use Rattle.scene.proofs.Names.{◌≡◌, ℕ, ◌+◌, ◌-◌, ◌<◌, Bool, true, false, List, [], ◌∷◌, length, drop, get_or, refl, ap, sym, ◌∙◌, subst, arith, inl, inr, ◌==◌, ◌&&◌, ◌||◌, bit_and, nat_lt, slice_get, Some, length-drop, and_parts, eq-eqb, ne_eqb, eqb-true, or_cases, slice_get-get_or, bit_if, multi_step, told, CellsFollowBytes, Change, TextStep, ContainerStep, Document, text_of, watching, AreStepsOf, text_steps, Scene, is_last, change_performed, changes_performed, Entries, Gathered, NoteCapacity, CanPut, is_full, KeptView, Direction, Kept, HasTextRoom, changes_of, save_point_told, kept_scene, watchers, IsWatched, RoomsStay, hearers, masks_of, bits_of, every_kind, notes_of_changes, notes_of_change, bytes_of_changes, history_bytes, room_of_changes, save_point_notes, several_bits, CanPerform, IsPerformed, first_change, next_change}
+use Rattle.scene.proofs.Names.{◌≡◌, ℕ, ◌+◌, ◌-◌, ◌<◌, Bool, true, false, List, [], ◌∷◌, length, drop, get_or, refl, ap, sym, ◌∙◌, subst, arith, inl, inr, ◌==◌, ◌&&◌, ◌||◌, bit_and, nat_lt, slice_get, Some, length-drop, and_parts, eq-eqb, ne_eqb, eqb-true, or_cases, slice_get-get_or, bit_if, multi_step, CellsFollowBytes, Change, TextStep, ContainerStep, Document, text_of, watching, AreStepsOf, text_steps, Scene, is_last, change_performed, changes_performed, Entries, Gathered, NoteCapacity, CanPut, is_full, KeptView, Direction, Kept, HasTextRoom, changes_of, save_point_told, kept_scene, watchers, IsWatched, RoomsStay, hearers, masks_of, bits_of, every_kind, notes_of_changes, notes_of_change, bytes_of_changes, history_bytes, room_of_changes, save_point_notes, several_bits, CanPerform, IsPerformed, first_change, next_change}
 use Rattle.scene.specs.declared.performing.Turn.{Turn}
 use Rattle.scene.specs.Performed.{CanPerformAll, AreAllPerformed}
 use Rattle.scene.proofs.KindLemmas.{none_by_masks}

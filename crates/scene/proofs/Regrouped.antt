@@ -1,5 +1,5 @@
 -- The flags of views follow the lines of their document when other line ends count.
-use Rattle.scene.proofs.Names.{◌≡◌, ℕ, zero, suc, ◌+◌, ◌-◌, ◌^◌, ◌<◌, true, cond, List, [], ◌∷◌, map, length, length-take, length-drop, refl, ap, sym, ◌∙◌, subst, arith, ◌==◌, nat_le, slice_range, AllByRecursion, all_append, cond_both, LineEdit, after_edit, after_edits, fresh_lines, Movement, LineEndTypes, Default, Unicode, JoinsRows, View, Document, text_of, lines_in, is_large, StandsOn, length_text, Entries, AreFewLines, KeptView, FitsWidth, view_moved, views_of, IsWatched, CanFollow, CanAllFollow, HaveFollowed}
+use Rattle.scene.proofs.Names.{◌≡◌, ℕ, zero, suc, ◌+◌, ◌-◌, ◌^◌, ◌<◌, true, cond, List, [], ◌∷◌, map, length, length-take, length-drop, refl, ap, sym, ◌∙◌, arith, ◌==◌, nat_le, slice_range, AllByRecursion, all_append, cond_both, LineEdit, after_edit, after_edits, Movement, LineEndTypes, Default, Unicode, JoinsRows, View, Document, text_of, lines_in, is_large, StandsOn, length_text, Entries, KeptView, FitsWidth, view_moved, views_of, IsWatched, CanFollow, CanAllFollow, HaveFollowed}
 use Rattle.line_index.specs.declared.edit.LineEdit.TheVariants.{Come, Join, Restart}
 use Rattle.line_index.specs.Settings.{edits_of_setting, inside_edits, all_inside_edits, line_past, lines_inside, SettingsBringFewLines, SettingsCarryRows, SettingsFitLines}
 use Rattle.selection.specs.declared.movements.Movement.TheVariants.{Inserted}
@@ -82,7 +82,7 @@ module _ (d : Document) (to : LineEndTypes) where
       (ap (λ f. record v { flags = f }) (sym (law flags_together joins d.line_end_types to (text_of d) v.flags lines)))
 
   pub regrouped_can : (v : View) → SettingsFitLines → SettingsBringFewLines → length d.cells < 2 ^ 61 → FitsWidth d (length d.cells) → StandsOn d v
-      → CanFollow nowhere setting v
+      → CanFollow nowhere setting (is_large d) v
   regrouped_can v fit few small wide on =
       let a = on.anchor in
       let c = on.caret in
@@ -97,7 +97,7 @@ module _ (d : Document) (to : LineEndTypes) where
         target_start = omega arith;
         target_end = omega arith;
         lines = rw on.lines (fit d.line_end_types to (text_of d));
-        few = subst (λ large. AreFewLines large (length v.flags + fresh_lines setting)) (sym on.large) (few_enough (is_large d) (length d.cells) _ wide (omega arith));
+        few = few_enough (is_large d) (length d.cells) _ wide (omega arith);
       }
 
   regrouped_stands : (rows : List Row) (v : View) → JoinsRows flags_together → SettingsCarryRows Flags → RegroupingLeavesARowForEachLine Flags → StandsOn d v
@@ -110,7 +110,6 @@ module _ (d : Document) (to : LineEndTypes) where
     lines = count flags_together d.line_end_types to (text_of d) v.flags;
     first_line = rw (law flags_together joins d.line_end_types to (text_of d) v.flags on.lines) (edits_keep_first setting v.flags (setting_behind d.line_end_types to (text_of d)) on.first_line);
     indicator = on.indicator;
-    large = on.large;
     listed = on.listed;
   }
 
@@ -126,5 +125,5 @@ module _ (d : Document) (to : LineEndTypes) where
 
       pub regrouped_watched : (rows : List Row) → RegroupingLeavesARowForEachLine Flags → IsWatched (record d { line_end_types = to; rows = rows }) new
       regrouped_watched rows count =
-          watched_again d table w (record d { line_end_types = to; rows = rows }) regrouped_view new refl refl (λ v. refl) (λ v. refl) (λ v. regrouped_stands rows v joins law count)
-          regrouped_views follow.named follow.stay.next
+          watched_again d table w (record d { line_end_types = to; rows = rows }) regrouped_view new refl refl refl (λ v. refl) (λ v. refl) (λ v. regrouped_stands rows v joins law count)
+          regrouped_views follow.named follow.stay

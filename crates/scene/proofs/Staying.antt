@@ -3,13 +3,14 @@ use Rattle.scene.proofs.Names.{refl, ap, ◌∙◌, Entries, KeptView, Gathered,
 use Rattle.document.specs.Kept.{DocumentCapacity}
 
 pub views_same : {v : Entries KeptView} → ViewsStay v v
-views_same = record { ids = refl; next = refl; view_capacity = refl; fold_capacities = refl }
+views_same = record { ids = refl; next = refl; view_capacity = refl; widths = refl; fold_capacities = refl }
 
 pub views_stay : {v0 v v' : Entries KeptView} → ViewsStay v0 v → ViewsStay v v' → ViewsStay v0 v'
 views_stay so then = record {
   ids = then.ids ∙ so.ids;
   next = then.next ∙ so.next;
   view_capacity = then.view_capacity ∙ so.view_capacity;
+  widths = then.widths ∙ so.widths;
   fold_capacities = then.fold_capacities ∙ so.fold_capacities;
 }
 

@@ -65,7 +65,7 @@ module _ (step : Step) (d : Document) (table : Entries KeptView) (w : IsWatched 
       let fresh = few d.line_end_types step (text_of d) within in
       let lines = few_for_step d.line_end_types step in
       let all = few_lines d.line_end_types (text_of d) in
-      let one : (v : View) → StandsOn d v → CanFollow (movement_of step) (step_edits step d) v = λ v on.
+      let one : (v : View) → StandsOn d v → CanFollow (movement_of step) (step_edits step d) (is_large d) v = λ v on.
       let a = on.anchor in let c = on.caret in let s = on.target_start in let e = on.target_end in let n = on.lines in
       record {
         anchor = omega arith;
@@ -73,7 +73,7 @@ module _ (step : Step) (d : Document) (table : Entries KeptView) (w : IsWatched 
         target_start = omega arith;
         target_end = omega arith;
         lines = fit step d v within on.lines;
-        few = rw on.large (few_enough (is_large d) (length d.cells + (need_of_step d.line_end_types step).text) (length v.flags + fresh_lines (step_edits step d)) wide (omega arith));
+        few = few_enough (is_large d) (length d.cells + (need_of_step d.line_end_types step).text) (length v.flags + fresh_lines (step_edits step d)) wide (omega arith);
       } in
       watched_can d table w (movement_of step) (step_edits step d) one
 
@@ -83,7 +83,7 @@ module _ (step : Step) (d : Document) (table : Entries KeptView) (w : IsWatched 
 
     pub watched_after : (h : History) → StepsKeepViewsStanding → IsWatched (record (document_after step d) { history = h }) new
     watched_after h law =
-        watched_again d table w (record (document_after step d) { history = h }) (moved_view step d) new refl refl (λ v. refl) (λ v. refl) (λ v. law d step h v) views_after follow.named follow.stay.next
+        watched_again d table w (record (document_after step d) { history = h }) (moved_view step d) new refl refl refl (λ v. refl) (λ v. refl) (λ v. law d step h v) views_after follow.named follow.stay
 
 -- Room is what the document's parts say: another history keeps that for the text, and the same history in the same capacity keeps its own.
 

@@ -1,5 +1,5 @@
 -- Steps in turn, from the room that was reserved for all of them.
-use Rattle.scene.proofs.Names.{zero, suc, ◌≡◌, ℕ, ◌+◌, ◌-◌, ◌≤◌, Bool, true, false, List, [], ◌∷◌, ◌++◌, length, refl, ap, sym, ◌∙◌, subst, arith, slice_range, length-append, LineEnd, Step, Insert, Delete, edited, after_steps, conversion_steps, unwanted_from, Document, text_of, Scene, step_made, steps_made, bytes_of_edited_cells, length_of_range, length_text, Kept, HasRoom, LeavesRoom, need_of, Entries, KeptView, Gathered, IsNextMissing, IsNextUnwanted, completed, missing_in, unwanted_in, kept_scene, IsWatched, held_behind, next_held, deletion_needs, first_room, next_room, AreLeft, RoomsStay, deletions_of, room_of_steps}
+use Rattle.scene.proofs.Names.{zero, suc, ◌≡◌, ℕ, ◌+◌, ◌≤◌, Bool, true, false, List, [], ◌∷◌, ◌++◌, length, refl, ap, sym, ◌∙◌, subst, arith, slice_range, length-append, LineEnd, Step, Insert, Delete, edited, after_steps, conversion_steps, unwanted_from, Document, text_of, Scene, step_made, steps_made, bytes_of_edited_cells, length_of_range, length_text, Kept, HasRoom, LeavesRoom, need_of, Entries, KeptView, Gathered, IsNextMissing, IsNextUnwanted, completed, missing_in, unwanted_in, kept_scene, IsWatched, held_behind, next_held, deletion_needs, first_room, next_room, AreLeft, RoomsStay, deletions_of, room_of_steps}
 use Rattle.ed_model.specs.proved.Steps.{length-inserted, length-deleted_within}
 use Rattle.document.specs.declared.text_step.TextStep.TheVariants as lent
 use Rattle.scene.proofs.Staying.{stay_both}

@@ -1,35 +1,36 @@
 -- The views that watch a document follow a step or another change of it: each of them once, and no other view.
-use Rattle.scene.proofs.Names.{◌≡◌, ℕ, ◌+◌, ◌<◌, ◌≤◌, Bool, true, false, cond, List, [], ◌∷◌, map, length, refl, ap, sym, ◌∙◌, subst, arith, ◌==◌, Some, filter, if◌then◌else◌, option_map, AllByRecursion, cond_both, eqb-true, eqb-false, eq-eqb, ne_eqb, LineEdit, Movement, View, Document, view_at, Rise, StandsOn, IsViewOn, occurrences, ids_of, same_ids, mapped_found, all_two, all_map, all_weaker, map_where, Entries, KeptView, view_moved, views_of, AreNamed, StandsIfOn, IsWatched, followed, CanFollow, CanFollowInTurn, CanAllFollow}
+use Rattle.scene.proofs.Names.{◌≡◌, ℕ, ◌+◌, ◌<◌, ◌≤◌, Bool, true, false, cond, List, [], ◌∷◌, map, length, refl, ap, sym, ◌∙◌, subst, arith, ◌==◌, Some, filter, if◌then◌else◌, option_map, AllByRecursion, cond_both, eqb-true, eqb-false, eq-eqb, ne_eqb, LineEdit, Movement, View, Document, view_at, Rise, StandsOn, IsViewOn, occurrences, ids_of, same_ids, mapped_found, all_two, all_map, all_weaker, map_where, Entry, Entries, KeptView, view_moved, views_of, width_at, HasWidthIfOn, AreNamed, StandsIfOn, IsWatched, ViewsStay, followed, CanFollow, CanFollowInTurn, CanFollowAt, CanAllFollow, is_large}
 use Rattle.scene.proofs.Followed.{named_ids}
 
 -- A view whose id is in the list never, or once.
 module _ (movement : Movement) (edits : List LineEdit) where
-  never : (ids : List ℕ) (v : View) → occurrences v.id ids ≡ 0 → (followed movement edits ids v ≡ v) × CanFollowInTurn movement edits ids v
-  never [] v e = (refl, tt)
+  never : (ids : List ℕ) (v : View) → occurrences v.id ids ≡ 0 → (followed movement edits ids v ≡ v) × ((large : Bool) → CanFollowInTurn movement edits ids large v)
+  never [] v e = (refl, λ large. tt)
   never (id ∷ ids) v e = go (id == v.id) refl e (λ e. never ids v e)
     where
       go : (b : Bool) → (id == v.id) ≡ b → length (cond b (id ∷ filter (λ m. m == v.id) ids) (filter (λ m. m == v.id) ids)) ≡ 0
-          → (occurrences v.id ids ≡ 0 → (followed movement edits ids v ≡ v) × CanFollowInTurn movement edits ids v)
-          → (followed movement edits (id ∷ ids) v ≡ v) × CanFollowInTurn movement edits (id ∷ ids) v
+          → (occurrences v.id ids ≡ 0 → (followed movement edits ids v ≡ v) × ((large : Bool) → CanFollowInTurn movement edits ids large v))
+          → (followed movement edits (id ∷ ids) v ≡ v) × ((large : Bool) → CanFollowInTurn movement edits (id ∷ ids) large v)
       go true t e rest = absurd (omega arith)
       go false t e rest =
           let other : (v.id == id) ≡ false = ne_eqb v.id id (λ p. eqb-false id v.id t (sym p)) in
-          rw other ((rest e).0, ((λ own. absurd (eqb-false id v.id t (sym own))), (rest e).1))
+          rw other ((rest e).0, λ large. ((λ own. absurd (eqb-false id v.id t (sym own))), (rest e).1 large))
 
-  once : (ids : List ℕ) (v : View) → occurrences v.id ids ≡ 1 → (followed movement edits ids v ≡ view_moved movement edits v) × (CanFollow movement edits v → CanFollowInTurn movement edits ids v)
+  once : (ids : List ℕ) (v : View) → occurrences v.id ids ≡ 1
+      → (followed movement edits ids v ≡ view_moved movement edits v) × ((large : Bool) → CanFollow movement edits large v → CanFollowInTurn movement edits ids large v)
   once [] v e = absurd (omega arith)
   once (id ∷ ids) v e = go (id == v.id) refl e (λ e. once ids v e)
     where
       go : (b : Bool) → (id == v.id) ≡ b → length (cond b (id ∷ filter (λ m. m == v.id) ids) (filter (λ m. m == v.id) ids)) ≡ 1
-          → (occurrences v.id ids ≡ 1 → (followed movement edits ids v ≡ view_moved movement edits v) × (CanFollow movement edits v → CanFollowInTurn movement edits ids v))
-          → (followed movement edits (id ∷ ids) v ≡ view_moved movement edits v) × (CanFollow movement edits v → CanFollowInTurn movement edits (id ∷ ids) v)
+          → (occurrences v.id ids ≡ 1 → (followed movement edits ids v ≡ view_moved movement edits v) × ((large : Bool) → CanFollow movement edits large v → CanFollowInTurn movement edits ids large v))
+          → (followed movement edits (id ∷ ids) v ≡ view_moved movement edits v) × ((large : Bool) → CanFollow movement edits large v → CanFollowInTurn movement edits (id ∷ ids) large v)
       go true t e rest =
           let own : (v.id == id) ≡ true = eq-eqb v.id id (sym (eqb-true id v.id t)) in
           let behind = never ids (view_moved movement edits v) (omega arith) in
-          rw own (behind.0, λ can. ((λ _. can), behind.1))
+          rw own (behind.0, λ large can. ((λ _. can), behind.1 large))
       go false t e rest =
           let other : (v.id == id) ≡ false = ne_eqb v.id id (λ p. eqb-false id v.id t (sym p)) in
-          rw other ((rest e).0, λ can. ((λ _. can), (rest e).1 can))
+          rw other ((rest e).0, λ large can. ((λ _. can), (rest e).1 large can))
 
 -- Views with rising ids.
 
@@ -62,6 +63,11 @@ not_listed d (id ∷ ids) vs v found ne all = go (id == v.id) refl (not_listed d
         absurd (ne (ap (λ (w : View). w.document) (sym same) ∙ all.0.2))
     go false t rest = rest
 
+-- what all elements of a list of images have, the elements have by their images
+each_of : {X Y : Type 0} (P : Y → Type 0) (f : X → Y) (xs : List X) → AllByRecursion P (map f xs) → AllByRecursion (λ x. P (f x)) xs
+each_of P f [] all = tt
+each_of P f (x ∷ xs) all = (all.0, each_of P f xs all.1)
+
 -- the view after a change of the views on the document
 abbrev pub on_document : Document → (View → View) → View → View
 on_document d f v = if v.document == d.id then f v else v
@@ -79,11 +85,19 @@ module _ (d : Document) (table : Entries KeptView) (w : IsWatched d table) where
       go v found stand true t = on v (stand (eqb-true v.document d.id t))
       go v found stand false t = off v (not_listed d.id d.views (views_of table.entries) v found (eqb-false v.document d.id t) w.listed)
 
-  pub watched_can : (movement : Movement) (edits : List LineEdit) → ((v : View) → StandsOn d v → CanFollow movement edits v) → CanAllFollow movement edits d.views table
+  pub watched_can : (movement : Movement) (edits : List LineEdit) → ((v : View) → StandsOn d v → CanFollow movement edits (is_large d) v) → CanAllFollow movement edits d.views table
   watched_can movement edits can = record {
     named = w.named;
     rise = subst (Rise 0 table.next) (sym (named_ids table.entries w.named)) w.rise;
-    can = by_document (λ b v. CanFollowInTurn movement edits d.views v) (λ v on. (once movement edits d.views v on.listed).1 (can v on)) (λ v none. (never movement edits d.views v none).1);
+    can =
+        let InWidth : Bool → View → Type 0 = λ on v. (large : Bool) → (on ≡ true → large ≡ is_large d) → CanFollowInTurn movement edits d.views large v in
+        let all = by_document InWidth
+        (λ v on large same. subst (λ x. CanFollowInTurn movement edits d.views x v) (sym (same refl)) ((once movement edits d.views v on.listed).1 (is_large d) (can v on)))
+        (λ v none large same. (never movement edits d.views v none).1 large) in
+        all_two (λ (e : Entry KeptView). InWidth (e.value.view.document == d.id) e.value.view) (λ e. HasWidthIfOn d (width_at e)) (CanFollowAt movement edits d.views) table.entries
+        (λ e can width. can e.value.large (λ on. width (eqb-true e.value.view.document d.id on)))
+        (each_of (λ (v : View). InWidth (v.document == d.id) v) (λ (e : Entry KeptView). e.value.view) table.entries all)
+        (each_of (HasWidthIfOn d) width_at table.entries w.widths);
   }
 
   -- the views on the document become what they should, and the others stay
@@ -93,16 +107,16 @@ module _ (d : Document) (table : Entries KeptView) (w : IsWatched d table) where
       map_where (followed movement edits d.views) (on_document d f) (views_of table.entries)
       (by_document (λ b v. followed movement edits d.views v ≡ cond b (f v) v) (λ v on. (once movement edits d.views v on.listed).0 ∙ becomes v on) (λ v none. (never movement edits d.views v none).0))
 
-  -- a document with the same views is watched after its views changed so that they stand on it
-  pub watched_again : (after : Document) (f : View → View) (new : Entries KeptView) → after.id ≡ d.id → after.views ≡ d.views → ((v : View) → (f v).id ≡ v.id)
+  -- a document of the same width with the same views is watched after its views changed so that they stand on it
+  pub watched_again : (after : Document) (f : View → View) (new : Entries KeptView) → after.id ≡ d.id → after.views ≡ d.views → is_large after ≡ is_large d → ((v : View) → (f v).id ≡ v.id)
       → ((v : View) → (f v).document ≡ v.document) → ((v : View) → StandsOn d v → StandsOn after (f v))
-      → views_of new.entries ≡ map (on_document d f) (views_of table.entries) → AreNamed new.entries → new.next ≡ table.next → IsWatched after new
-  watched_again after f new same_id same_views ids on stands views named next =
+      → views_of new.entries ≡ map (on_document d f) (views_of table.entries) → AreNamed new.entries → ViewsStay table new → IsWatched after new
+  watched_again after f new same_id same_views same_width ids on stands views named stay =
       let vs = views_of table.entries in
       let own : (v : View) → (on_document d f v).id ≡ v.id = λ v. cond_both (v.document == d.id) (f v) v (λ (u : View). u.id ≡ v.id) (λ t. ids v) (λ t. refl) in
       record {
         named = named;
-        rise = subst (λ n. Rise 0 n (ids_of (views_of new.entries))) (sym next)
+        rise = subst (λ n. Rise 0 n (ids_of (views_of new.entries))) (sym stay.next)
             (subst (λ us. Rise 0 table.next (ids_of us)) (sym views) (subst (Rise 0 table.next) (sym (same_ids (on_document d f) own vs)) w.rise));
         listed = subst (λ us. AllByRecursion (IsViewOn us after.id) after.views) (sym views) (rw (same_id, same_views) (all_weaker (IsViewOn vs d.id) (IsViewOn (map (on_document d f) vs) d.id)
             (λ id h. (
@@ -113,4 +127,6 @@ module _ (d : Document) (table : Entries KeptView) (w : IsWatched d table) where
         stand = subst (AllByRecursion (StandsIfOn after)) (sym views) (all_map (StandsIfOn d) (StandsIfOn after) (on_document d f)
             (λ v stand. cond_both (v.document == d.id) (f v) v (StandsIfOn after) (λ t at. stands v (stand (eqb-true v.document d.id t))) (λ t at. absurd (eqb-false v.document d.id t (at ∙ same_id))))
             vs w.stand);
+        widths = subst (AllByRecursion (HasWidthIfOn after)) (sym stay.widths)
+            (all_weaker (HasWidthIfOn d) (HasWidthIfOn after) (λ width has at. has (at ∙ same_id) ∙ sym same_width) (map width_at table.entries) w.widths);
       }

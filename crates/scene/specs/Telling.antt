@@ -1,5 +1,5 @@
 -- The list of notes after views are notified, and what the list can hold.
-use Rattle.std.specs.Prelude.{ℕ, ◌+◌, ◌≤◌, List, ◌++◌, length}
+use Rattle.std.specs.Prelude.{ℕ, ◌≤◌, List, ◌++◌, length}
 use Rattle.ed_types.specs.Notices.{Notice}
 use Rattle.ed_model.specs.Performing.{Scene}
 use Rattle.notify.specs.Gathered.{Gathered}

@@ -3,3 +3,4 @@
 pub mod Enough
 pub mod Rooms
 pub mod Watched
+pub mod ViewWidths

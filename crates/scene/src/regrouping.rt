@@ -6,8 +6,7 @@ ghost use Rattle.ed_model.specs.Rows.{Row};
 ghost use Rattle.ed_model.specs.Session.{text_of};
 ghost use Rattle.ed_model.specs.Changes.{changed_lines};
 ghost use Rattle.line_index.specs.Settings.{edits_of_setting};
-ghost use Rattle.id_table.specs.Entries.{id_of};
-ghost use Rattle.scene.specs.Scenes.{IsWatched, KeepFoldCapacities, views_in};
+ghost use Rattle.scene.specs.Scenes.{IsWatched, ViewsStay, views_in};
 
 use crate::laws::document_is_small;
 use crate::moving::follow;
@@ -30,10 +29,7 @@ pub fn regroup(
     requires edits { edits.now ≡ edits_of_setting document.now.document.line_end_types types (text_of document.now.document) }
     ensures views { views_in views.new ≡ map (changed_lines (SetLineEndTypes types) document.now.document) (views_in views.old) }
     ensures watched { (rows : List Row) → IsWatched (record document.now.document { line_end_types = types; rows = rows }) views.new }
-    ensures ids { map id_of views.new.entries ≡ map id_of views.old.entries }
-    ensures fold_capacities { KeepFoldCapacities views.old views.new }
-    ensures next { views.new.next ≡ views.old.next }
-    ensures view_capacity { views.new.capacity ≡ views.old.capacity }
+    ensures stay { ViewsStay views.old views.new }
 {
     edits_of_settings();
     rows_match_lines();

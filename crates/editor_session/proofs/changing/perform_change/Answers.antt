@@ -1,7 +1,7 @@
 use Rattle.editor_session.proofs.Names.{rules, ◌≡◌, false, true, refl, sym, subst, ap, ◌∙◌, option_copied_mut, Document, err_from_is_err_and}
 use Rattle.ed_model.specs.proved.Changes.{changed_id}
 use Rattle.performing.specs.Changed.{Changes}
-use Rattle.editor_session.proofs.OneDocument.{missing, watched_here, still_named, same_session, still_kept, kept_performed}
+use Rattle.editor_session.proofs.OneDocument.{missing, watched_here, still_named, same_session, still_kept, kept_performed, widths_after}
 use Rattle.editor_session.proofs.DocumentChanges.{fits_here, text_read, change_performed, change_free}
 use Rattle.editor_session.proofs.changing.perform_change.Goals as goal
 
@@ -21,11 +21,12 @@ returns c =
     let same : c.message.inside.text.now ≡ m.text = search rules in
     let e = subst (λ x. Changes x a.change.now a.task.now.view old n.document s.views n.views a.notes.now n.notes) same c.in_ok-change_document.ensures.changed in
     let at = sym c.get_mut.ensures.value ∙ ap option_copied_mut c.in-Some.is in
-    let made = change_performed kept can old at n.document n.views a.notes.now.notes n.notes.notes e.document e.lines e.next e.told in
+    let made = change_performed kept can old at n.document n.views a.notes.now.notes n.notes.notes e.document e.lines e.stay.next e.told in
     record {
       done = made;
       same = search rules;
-      kept = kept_performed c.plans_are_fit.ensures.keep_sound kept can made.done refl (still_named s kept a.task.now.document old n.document at (ap (λ (d : Document). d.id) e.document ∙ changed_id m.text a.change.now old.document)) e.watched.named;
+      kept = kept_performed c.plans_are_fit.ensures.keep_sound kept can made.done refl (still_named s kept a.task.now.document old n.document at (ap (λ (d : Document). d.id) e.document ∙ changed_id m.text a.change.now old.document)) e.watched.named
+          (widths_after kept a.task.now.document n.document n.views e.stay.widths e.watched.widths);
       free = search rules;
     }
 

@@ -1,7 +1,7 @@
 use Rattle.editor_session.proofs.Names.{rules, ◌≡◌, [], refl, sym, subst, ap, ◌∙◌, Bool, true, false, Document, no_notes, option_copied_mut}
 use Rattle.ed_model.specs.proved.Changes.{changed_id}
 use Rattle.performing.specs.Changed.{IsMadeUnheard}
-use Rattle.editor_session.proofs.OneDocument.{missing, watched_here, still_named, same_session, still_kept, kept_performed}
+use Rattle.editor_session.proofs.OneDocument.{missing, watched_here, still_named, same_session, still_kept, kept_performed, widths_after}
 use Rattle.editor_session.proofs.DocumentChanges.{fits_here, text_read, change_performed}
 use Rattle.editor_session.proofs.changing.perform_unheard_change.Goals as goal
 
@@ -31,5 +31,5 @@ returns c =
     record {
       done = done;
       same = λ h. same_session s kept a.document old new at s.views (left h) refl;
-      kept = by_cases made (λ h. kept_performed c.plans_are_fit.ensures.keep_sound kept can (done h).done refl (named h) kept.views) (λ h. still_kept s kept a.document old new at s.views (left h) refl);
+      kept = by_cases made (λ h. kept_performed c.plans_are_fit.ensures.keep_sound kept can (done h).done refl (named h) kept.views (widths_after kept a.document new s.views refl (unheard h).watched.widths)) (λ h. still_kept s kept a.document old new at s.views (left h) refl);
     }

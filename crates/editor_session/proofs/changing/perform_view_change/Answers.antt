@@ -1,9 +1,14 @@
-use Rattle.editor_session.proofs.Names.{pos, ap, sym, subst, quiet, IsSound, DocumentsAreNamed, SessionState, err_from_is_err_and}
+use Rattle.editor_session.proofs.Names.{◌≡◌, pos, ap, sym, subst, quiet, documents_in, IsKept, IsSound, DocumentsAreNamed, HaveWidths, KeepWidths, SessionState, err_from_is_err_and, widths_kept}
 use Rattle.editor_session.proofs.DocumentChanges.{fold_room}
 use Rattle.editor_session.proofs.Keeping.{kept_with}
 use Rattle.editor_session.proofs.OneDocument.{kept_performed}
 use Rattle.editor_session.proofs.TableWay.{can_change_view}
 use Rattle.editor_session.proofs.changing.perform_view_change.Goals as goal
+
+-- only the views changed, and kept their documents and their widths
+widths_only : {s : SessionState} → IsKept s → (new : SessionState) → new ≡ record s { views = record s.views { entries = new.views.entries } } → KeepWidths s.views new.views → HaveWidths (documents_in new.documents) new.views
+widths_only {s} kept new rest same =
+    subst (λ (x : SessionState). HaveWidths (documents_in x.documents) new.views) (sym rest) (widths_kept (documents_in s.documents) s.views new.views same kept.widths)
 
 pub change_view-requires : goal.change_view-requires
 change_view-requires c = record { kept = c.requires.kept; can = can_change_view c.requires.can }
@@ -16,12 +21,14 @@ returns-clause-kept c =
     let e = c.in_ok-change_view.ensures.stays in let q = c.requires in
     kept_performed c.plans_are_fit.ensures.keep_sound q.kept q.can (returns-clause-done c) (ap (λ (s : SessionState). s.limits) e.rest)
     (subst (λ (s : SessionState). DocumentsAreNamed s.documents.entries) (sym e.rest) q.kept.documents) e.views
+    (widths_only q.kept c.change_view.new.state e.rest e.widths)
 
 pub returns-in_err-change_view-clause-kept : goal.returns-in_err-change_view-clause-kept
 returns-in_err-change_view-clause-kept c =
     let e = c.in_err-change_view.ensures in let kept = c.requires.kept in
     kept_with c.args.state.now c.change_view.new.state kept (subst IsSound (sym e.same) kept.sound) (ap (λ (s : SessionState). s.limits) e.stays.rest)
     (subst (λ (s : SessionState). DocumentsAreNamed s.documents.entries) (sym e.stays.rest) kept.documents) e.stays.views
+    (widths_only kept c.change_view.new.state e.stays.rest e.stays.widths)
 
 pub returns-in_err-change_view-clause-free : goal.returns-in_err-change_view-clause-free
 returns-in_err-change_view-clause-free c =

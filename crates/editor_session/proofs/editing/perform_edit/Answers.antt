@@ -1,6 +1,6 @@
 use Rattle.editor_session.proofs.Names.{◌≡◌, [], pos, false, true, length, refl, sym, ap, ◌∙◌, Document, text_of, converted, session_in, request_of, option_copied_mut, SessionState, TakesWithin, taken_along, rules, err_from_is_err_and}
 use Rattle.editor_session.proofs.EditLemmas.{edit_takes, free_steps, free_taken, free_pasted, steps_are, within_here, wide_here, edit_performed}
-use Rattle.editor_session.proofs.OneDocument.{document_here, for_document, of_document, missing, watched_here, with_scene, still_named, same_session, still_kept, kept_performed}
+use Rattle.editor_session.proofs.OneDocument.{document_here, for_document, of_document, missing, watched_here, with_scene, still_named, same_session, still_kept, kept_performed, widths_followed}
 use Rattle.editor_session.proofs.editing.perform_edit.Goals as goal
 
 pub pasted_bytes-requires : goal.pasted_bytes-requires
@@ -39,7 +39,8 @@ returns c =
     record {
       done = made;
       same = search rules;
-      kept = kept_performed c.plans_are_fit.ensures.keep_sound q.kept q.can made.done refl (still_named s q.kept a.task.now.document old n.document at e.id) f.ensures.named;
+      kept = kept_performed c.plans_are_fit.ensures.keep_sound q.kept q.can made.done refl (still_named s q.kept a.task.now.document old n.document at e.id) f.ensures.named
+          (widths_followed q.kept a.task.now.document n.document f.new.views n.views e.widths f.ensures.widths e.watched.widths);
       free = search rules;
     }
 

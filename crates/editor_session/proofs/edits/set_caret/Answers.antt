@@ -1,4 +1,4 @@
-use Rattle.editor_session.proofs.Names.{sym, ap, ◌∙◌, option_copied_mut, KeptView, view_in, id_of_view, changed, named_with, rules}
+use Rattle.editor_session.proofs.Names.{sym, ap, ◌∙◌, option_copied_mut, KeptView, view_in, id_of_view, changed, named_with, keeping, width_of, rules}
 use Rattle.selection.specs.declared.selections.Selection.{Selection}
 use Rattle.editor_session.proofs.OneDocument.{no_view_changed}
 use Rattle.editor_session.proofs.edits.set_caret.Goals as goal
@@ -12,6 +12,7 @@ returns-in-Some c =
           (ap (λ (k : KeptView). k.view) c.select.ensures ∙ ap (λ (s : Selection). let v = old.view in record v { anchor = s.anchor; caret = s.caret }) c.at.ensures);
       named = named_with view_in id_of_view a.views.now.entries a.view a.views.now.next c.requires.named c.requires.rise old c.select.new.self at (ap (λ (k : KeptView). k.view.id) c.select.ensures);
       next = search rules;
+      widths = keeping view_in id_of_view a.views.now.entries a.view a.views.now.next c.requires.named c.requires.rise old c.select.new.self at width_of (ap width_of c.select.ensures);
     }
 
 pub returns-in_default-clause-views : goal.returns-in_default-clause-views

@@ -1,4 +1,4 @@
-use Rattle.editor_session.proofs.Names.{sym, ap, ◌∙◌, option_copied_mut, KeptView, view_in, id_of_view, changed, named_with, rules}
+use Rattle.editor_session.proofs.Names.{sym, ap, ◌∙◌, option_copied_mut, KeptView, view_in, id_of_view, changed, named_with, keeping, width_of, rules}
 use Rattle.editor_session.proofs.OneDocument.{no_view_changed}
 use Rattle.editor_session.proofs.edits.set_target.Goals as goal
 
@@ -11,6 +11,7 @@ returns-in-Some c =
           (ap (λ (k : KeptView). k.view) c.set_target.ensures);
       named = named_with view_in id_of_view a.views.now.entries a.view a.views.now.next c.requires.named c.requires.rise old c.set_target.new.self at (ap (λ (k : KeptView). k.view.id) c.set_target.ensures);
       next = search rules;
+      widths = keeping view_in id_of_view a.views.now.entries a.view a.views.now.next c.requires.named c.requires.rise old c.set_target.new.self at width_of (ap width_of c.set_target.ensures);
     }
 
 pub returns-in_default-clause-views : goal.returns-in_default-clause-views

@@ -1,6 +1,6 @@
 use Rattle.editor_session.proofs.Names.{reverse, refl, sym, ap, ◌∙◌, latest_text_step, changes_of, views_of, option_copied_mut, rules, err_from_is_err_and}
 use Rattle.editor_session.proofs.Going.{steps_here, wide_here, caret_moved, gone_performed}
-use Rattle.editor_session.proofs.OneDocument.{missing, watched_here, still_named, same_session, still_kept, kept_performed}
+use Rattle.editor_session.proofs.OneDocument.{missing, watched_here, still_named, same_session, still_kept, kept_performed, widths_followed}
 use Rattle.editor_session.proofs.history.perform_transaction.Goals as goal
 
 pub unreachable-requires : goal.unreachable-requires
@@ -26,7 +26,8 @@ returns c =
     record {
       done = made;
       same = search rules;
-      kept = kept_performed c.plans_are_fit.ensures.keep_sound q.kept q.can made.done refl (still_named s q.kept t.document old n.document at e.id) f.ensures.named;
+      kept = kept_performed c.plans_are_fit.ensures.keep_sound q.kept q.can made.done refl (still_named s q.kept t.document old n.document at e.id) f.ensures.named
+          (widths_followed q.kept t.document n.document f.new.views n.views e.widths f.ensures.widths e.watched.widths);
     }
 
 pub returns-in_err-place : goal.returns-in_err-place

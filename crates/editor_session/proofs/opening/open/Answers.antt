@@ -1,4 +1,4 @@
-use Rattle.editor_session.proofs.Names.{◌≡◌, ◌+◌, [], ◌∷◌, ◌++◌, map, refl, ap, ◌∙◌, map-append, new_document, new_view, Entry, Entries, entry, Kept, KeptView, session_in, SessionState, rules}
+use Rattle.editor_session.proofs.Names.{◌≡◌, ◌+◌, [], ◌∷◌, ◌++◌, map, refl, ap, sym, subst, ◌∙◌, documents_in, width_at, width_of, widths_opened, HaveWidths, map-append, new_document, new_view, Entry, Entries, entry, Kept, KeptView, session_in, SessionState, rules}
 use Rattle.editor_session.specs.Opening.{document_for, with_view_on_new}
 use Rattle.editor_session.proofs.opening.open.Goals as goal
 
@@ -29,3 +29,16 @@ returns-clause-ok c =
     (ap (λ (t : Entries Kept). t.entries) c.reserve.ensures.grown.0) (ap (λ (t : Entries Kept). t.next) c.reserve.ensures.grown.0) c.insert_reserved.ensures.entries c.insert_reserved.ensures.next
     (ap (λ (t : Entries KeptView). t.entries) c.reserve-2.ensures.grown.0) (ap (λ (t : Entries KeptView). t.next) c.reserve-2.ensures.grown.0) c.insert_reserved-2.ensures.entries c.insert_reserved-2.ensures.next
     (search rules) (search rules)
+
+pub returns-clause-widths : goal.returns-clause-widths
+returns-clause-widths c =
+    let s = c.args.state.now in let kept = c.requires.kept in let k = c.in_ok-document.document in let v = c.in_ok-document.view in
+    let id : c.reserve.new.self.next ≡ s.documents.next = ap (λ (t : Entries Kept). t.next) c.reserve.ensures.grown.0 in
+    let ds : documents_in c.insert_reserved.new.self ≡ documents_in s.documents ++ k.document ∷ [] =
+    ap (map (λ (e : Entry Kept). e.value.document)) (c.insert_reserved.ensures.entries ∙ ap (λ (t : Entries Kept). t.entries ++ entry c.reserve.new.self.next k ∷ []) c.reserve.ensures.grown.0)
+    ∙ map-append (λ (e : Entry Kept). e.value.document) s.documents.entries (entry c.reserve.new.self.next k ∷ []) in
+    let widths : map width_at c.insert_reserved-2.new.self.entries ≡ map width_at s.views.entries ++ width_of v ∷ [] =
+    ap (map width_at) (c.insert_reserved-2.ensures.entries ∙ ap (λ (t : Entries KeptView). t.entries ++ entry c.reserve-2.new.self.next v ∷ []) c.reserve-2.ensures.grown.0)
+    ∙ map-append width_at s.views.entries (entry c.reserve-2.new.self.next v ∷ []) in
+    subst (λ ds. HaveWidths ds c.insert_reserved-2.new.self) (sym ds)
+    (widths_opened (documents_in s.documents) s.documents.next k.document v s.views c.insert_reserved-2.new.self.entries widths kept.sound.document_ids kept.sound.views (search rules) (search rules) (search rules) kept.widths)

@@ -50,12 +50,12 @@ returns-in_ok-change_session-in-ChangeSession-clause-done c =
 pub returns-in_ok-change_session-in-ChangeSession-clause-kept : goal.returns-in_ok-change_session-in-ChangeSession-clause-kept
 returns-in_ok-change_session-in-ChangeSession-clause-kept c =
     let e = c.in_ok-change_session-in-ChangeSession.ensures.stays in
-    kept_performed c.plans_are_fit.ensures.keep_sound c.requires.kept c.requires.can (returns-in_ok-change_session-in-ChangeSession-clause-done c).done e.limits e.documents e.views
+    kept_performed c.plans_are_fit.ensures.keep_sound c.requires.kept c.requires.can (returns-in_ok-change_session-in-ChangeSession-clause-done c).done e.limits e.documents e.views e.widths
 
 pub returns-in_err-change_session-in-ChangeSession-clause-kept : goal.returns-in_err-change_session-in-ChangeSession-clause-kept
 returns-in_err-change_session-in-ChangeSession-clause-kept c =
     let e = c.in_err-change_session-in-ChangeSession.ensures in
-    kept_with c.args.state.now c.change_session.new.state c.requires.kept (subst IsSound (sym e.same) c.requires.kept.sound) e.stays.limits e.stays.documents e.stays.views
+    kept_with c.args.state.now c.change_session.new.state c.requires.kept (subst IsSound (sym e.same) c.requires.kept.sound) e.stays.limits e.stays.documents e.stays.views e.stays.widths
 
 pub returns-in_err-change_session-in-ChangeSession-clause-free : goal.returns-in_err-change_session-in-ChangeSession-clause-free
 returns-in_err-change_session-in-ChangeSession-clause-free c = rw c.in-ChangeSession.is (λ h. let bad : false ≡ true = c.in_err-change_session-in-ChangeSession.ensures.free (not-true (takes_memory c.in-ChangeSession.change) h) in absurd (cc))

@@ -17,7 +17,7 @@ returns c =
       changed = c.attach.ensures.attached ∙ ap (attached to (sender_of c.args.state.now c.args.view)) (session_same kept is to old new at e.grown.0);
       same = tt;
       place = λ _. refl;
-      stays = stays_then (Attach to) c.args.state.now (with_place kept is to old new at e.grown.0) c.attach.new.state (place_stays kept is to old new at e.grown.0 e.grown.2) c.attach.ensures.stays;
+      stays = stays_then (Attach to) c.args.state.now (with_place kept is to old new at e.grown.0) c.attach.new.state refl (place_stays kept is to old new at e.grown.0 e.grown.2) c.attach.ensures.stays;
     }
 
 pub returns-in_err-reserve_view : goal.returns-in_err-reserve_view

@@ -23,7 +23,7 @@ returns c =
       changed = c.attach.ensures.attached ∙ ap (λ id. attached id v (session_in (record s { documents = table }))) c.in_ok-id.ensures.id
           ∙ ap (attached n v) (session_more kept k table c.in_ok-id.ensures.added (new_document n 0) (ap document_of new));
       same = tt;
-      stays = stays_then AttachNew s (record s { documents = table }) c.attach.new.state
+      stays = stays_then AttachNew s (record s { documents = table }) c.attach.new.state refl
           (stays_more kept k table c.in_ok-id.ensures.added AttachNew (ap (λ (k : Kept). k.document.id) new) refl c.in_ok-id.ensures.grows
           (subst (λ b. KeepsRoom b (new_kept n 0) k) (sym (eq-eqb n n refl)) (has_room (new_kept n 0) k new (subst (λ (o : Kept). k.capacity.views ≤ max o.capacity.views (length o.document.views + max 1 (length o.document.views))) made c.reserve_view.ensures.grown.2))))
           c.attach.ensures.stays;

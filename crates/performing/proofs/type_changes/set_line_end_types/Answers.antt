@@ -11,8 +11,5 @@ returns-clause-changed c = λ text sender notes.
       lines = rw same at r.views;
       told = λ v _. sym (append-nil notes.notes);
       watched = rw made (rw same at (r.watched (regrouped rows_together d.line_end_types c.args.types (text_of d) d.rows)));
-      ids = r.ids;
-      next = r.next;
-      view_capacity = r.view_capacity;
-      fold_capacities = r.fold_capacities;
+      stay = r.stay;
     }

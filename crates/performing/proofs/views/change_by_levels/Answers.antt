@@ -1,4 +1,4 @@
-use Rattle.performing.proofs.SessionLemmas.{◌≡◌, refl, map, length, Row, ap, sym, ◌∙◌, subst, rules, option_copied, option_copied_mut, IsSomeAnd, View, KeptView, view_in, changed_view, changed_view_id, err_from_is_err_and, HasRoomFor, GrowsAtMost, no_document, no_view, same_document, levels_in, lines_same, is_within, view_changed, view_unchanged, only_view}
+use Rattle.performing.proofs.SessionLemmas.{◌≡◌, refl, map, length, Row, ap, sym, ◌∙◌, subst, rules, option_copied, option_copied_mut, IsSomeAnd, View, KeptView, view_in, changed_view, changed_view_document, changed_view_id, err_from_is_err_and, HasRoomFor, GrowsAtMost, no_document, no_view, same_document, levels_in, lines_same, is_within, view_changed, view_unchanged, only_view}
 use Rattle.performing.proofs.views.change_by_levels.Goals as goal
 
 pub unreachable-requires : goal.unreachable-requires
@@ -27,7 +27,7 @@ returns-in_err-reserve_folding c =
       changed = tt;
       same = view_unchanged kept is change old at new (ap view_in same);
       free = λ has. (c.in_err-reserve_folding.ensures.reserved.1 (rw c.fold_need-need.ensures (subst (λ o. IsSomeAnd o (HasRoomFor change)) at has))).0;
-      stays = only_view kept is change old at new (ap (λ (v : KeptView). v.view.id) same) grows;
+      stays = only_view kept is change old at new (ap (λ (v : KeptView). v.view.id) same) (ap (λ (v : KeptView). v.view.document) same) grows;
     })
 
 pub returns : goal.returns
@@ -41,5 +41,6 @@ returns c =
       changed = view_changed kept is change old at new c.fold_levels.result levels made;
       same = tt;
       free = λ _. refl;
-      stays = only_view kept is change old at new (ap (λ (v : View). v.id) made ∙ changed_view_id c.fold_levels.result change old.view) grows;
+      stays = only_view kept is change old at new (ap (λ (v : View). v.id) made ∙ changed_view_id c.fold_levels.result change old.view)
+          (ap (λ (v : View). v.document) made ∙ changed_view_document c.fold_levels.result change old.view) grows;
     }

@@ -1,4 +1,4 @@
-use Rattle.scene.proofs.Names.{◌≡◌, ◌+◌, ◌++◌, ◌∙◌, eqb-true, length, sym, ap, arith, subst, edits_of, movement_of, growth, Document, text_of, lines_in, heard, before_note, after_note, document_after, step_in, need_of, step_edits, watchers, IsWatched, left_note, FitsWidth}
+use Rattle.scene.proofs.Names.{◌≡◌, ◌+◌, ◌++◌, ◌∙◌, eqb-true, length, sym, ap, arith, subst, edits_of, growth, Document, text_of, lines_in, heard, before_note, after_note, document_after, step_in, need_of, step_edits, watchers, IsWatched, left_note, FitsWidth}
 use Rattle.scene.proofs.ToldSoFar.{heard_last, last_fit, length_parts}
 use Rattle.scene.proofs.KindLemmas.{can_tell, none_by_notes}
 use Rattle.scene.proofs.StepScenes.{on_text, lent_fits, lent_text, small_step, same_scene, short_enough, all_can, views_after, watched_after}

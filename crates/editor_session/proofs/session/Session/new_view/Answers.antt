@@ -5,12 +5,12 @@ use Rattle.editor_session.proofs.session.Session.new_view.Goals as goal
 pub invariant_of-self : goal.invariant_of-self
 invariant_of-self c =
     let old = c.self.inside.state in let e = c.open.ensures in
-    kept_after_opening c.soundness_is_kept.ensures.by_opening old c.open.new.state c.open.result c.self.invariant (opened_is old (search rules) (search rules) (search rules)) e.ok e.err e.limits e.documents e.views
+    kept_after_opening c.soundness_is_kept.ensures.by_opening old c.open.new.state c.open.result c.self.invariant (opened_is old (search rules) (search rules) (search rules)) e.ok e.err e.limits e.documents e.views e.widths
 
 pub invariant_of-self-2 : goal.invariant_of-self-2
 invariant_of-self-2 c =
     let old = c.self.inside.state in let e = c.open.ensures in
-    kept_after_opening c.soundness_is_kept.ensures.by_opening old c.open.new.state c.open.result c.self.invariant (opened_is old (search rules) (search rules) (search rules)) e.ok e.err e.limits e.documents e.views
+    kept_after_opening c.soundness_is_kept.ensures.by_opening old c.open.new.state c.open.result c.self.invariant (opened_is old (search rules) (search rules) (search rules)) e.ok e.err e.limits e.documents e.views e.widths
 
 pub returns-clause-answer : goal.returns-clause-answer
 returns-clause-answer c =
