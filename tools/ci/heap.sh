@@ -130,10 +130,10 @@ bound() {
         many_outcomes_are_printed) echo $((1048576 + 40000)) ;;
         # a piece of 1 MiB, 8 MiB of bytes and as many of styles, and the 16 MiB that are handed out in a block that did not grow
         styled_text_of_a_large_size) echo $((1048576 + 2 * 8388608 + 16777216 + 40000)) ;;
-        # 1,024 views of 368 bytes, of each 16 in the order of ids, 4 in its document's list and four blocks of 24, and 3,072 notes of 112
-        many_views_hear_one_document) echo $((1024 * (368 + 16 + 4 + 4 * 24) + 3072 * 112 + 40000)) ;;
-        # room for 1,024 documents of 840 bytes beside that for 512, with as many views of 368, and of both 16 in the order of ids and seven blocks of 24
-        many_views_have_documents_of_their_own) echo $((1024 * 840 + 512 * (840 + 368 + 2 * 16 + 7 * 24) + 40000)) ;;
+        # 1,024 views of 224 bytes, of each 16 in the order of ids and 4 in its document's list, and 3,072 notes of 112
+        many_views_hear_one_document) echo $((1024 * (224 + 16 + 4) + 3072 * 112 + 40000)) ;;
+        # room for 1,024 documents of 776 bytes beside that for 512, with as many views of 224, and of both 16 in the order of ids and three blocks of 24
+        many_views_have_documents_of_their_own) echo $((1024 * 776 + 512 * (776 + 224 + 2 * 16 + 3 * 24) + 40000)) ;;
         *) echo 0 ;;
     esac
 }
