@@ -1,5 +1,5 @@
 -- What a change needs: room for notes, and room in its document.
-use Rattle.std.specs.Prelude.{◌≡◌, ℕ, Bool, true, false, List, [], length}
+use Rattle.std.specs.Prelude.{◌≡◌, ℕ, Bool, true, false, List, [], length, Option, Some, None}
 use Rattle.ed_model.specs.declared.plan.DocumentChange.{DocumentChange}
 use Rattle.ed_model.specs.declared.plan.DocumentChange.TheVariants as change
 use Rattle.ed_model.specs.History.{History}
@@ -14,6 +14,20 @@ use Rattle.scene.specs.Scenes.{watchers}
 use Rattle.scene.specs.Hearing.{hearers}
 use Rattle.scene.specs.Needs.{leaving_count}
 use Rattle.performing.specs.Notes.{indicator_kind, style_kind}
+
+-- the kind of the notes of the change, if the views that hear of that kind get one each
+abbrev pub heard_kind : DocumentChange → Option ℕ
+heard_kind (change.AddMarker line number) = Some notes.change_marker
+heard_kind (change.AddMarkers line mask) = Some notes.change_marker
+heard_kind (change.DeleteMarker line number) = Some notes.change_marker
+heard_kind (change.DeleteMarkers number) = Some notes.change_marker
+heard_kind (change.DeleteHandle handle) = Some notes.change_marker
+heard_kind (change.SetLevel line level) = Some notes.change_fold
+heard_kind (change.SetState line state) = Some notes.change_line_state
+heard_kind (change.StyleRun count style) = Some style_kind
+heard_kind (change.StyleBytes count) = Some style_kind
+heard_kind (change.FillIndicator indicator start count value) = Some indicator_kind
+heard_kind other = None
 
 -- how many notes the change has at most, if these views watch the document
 abbrev pub notes_of_change : DocumentChange → History → List View → ℕ

@@ -10,7 +10,7 @@ ghost use Rattle.performing.specs.ChangeNeeds.{IsReady, change_note_need, is_of_
 use crate::history_changes::append_container;
 use crate::marker_changes::{add_marker, add_markers, delete_handle};
 use crate::note::{ChangeNote, note_if};
-use crate::note_need::change_note_need;
+use crate::note_need::{change_note_need, is_told};
 use crate::row_changes::{set_level, set_state};
 use crate::style_changes::{fill_indicator, need_style, style_bytes, style_run};
 use crate::telling::tell;
@@ -154,7 +154,7 @@ pub fn change_unheard(
     if let DocumentChange::SetLineEndTypes { .. } = *change {
         return false;
     }
-    if change_note_need(document, views, change) > 0 {
+    if is_told(document, views, change) {
         return false;
     }
     make(document, text, change).is_ok()

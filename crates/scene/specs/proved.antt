@@ -1,5 +1,5 @@
--- Statements about steps in turn, each with its own proof, for the proofs of this crate and of the crates above. None of them is an
--- assumption.
+-- Statements about steps in turn and about the views of a document, each with its own proof, for the proofs of this crate and of the
+-- crates above. None of them is an assumption.
 pub mod Enough
 pub mod Rooms
 pub mod Watched

@@ -21,5 +21,5 @@ pub use laws::{document_is_small, needs_are_enough};
 pub use need::{NoteRoom, SceneNeed, leaving_need, note_need};
 pub use regrouping::regroup;
 pub use steps::{StepBits, leaves_save_point, make_step};
-pub use telling::{Audience, NoteText, attempt, count_hearers, count_watchers, tell};
+pub use telling::{Audience, NoteText, attempt, count_hearers, count_watchers, is_heard, tell};
 pub use undoing::{history_need, perform_history};

@@ -20,7 +20,7 @@ ghost use Rattle.scene.specs.Turns.{change_at, bits_behind, CanPerform, CanTellA
 use crate::laws::document_is_small;
 use crate::moving::follow_change;
 use crate::step_notes::{tell_coming, tell_made};
-use crate::telling::{Audience, NoteText, count_hearers, tell};
+use crate::telling::{Audience, NoteText, is_heard, tell};
 use document::{ChangeOutline, Direction, Document, TextStep};
 use ed_model::steps_keep_views_standing;
 use ed_types::Note;
@@ -156,7 +156,7 @@ fn tell_before_change(
         return false;
     }
     let kinds = kinds_of(turn.direction, outline);
-    if count_hearers(document, views, kinds) == 0 {
+    if !is_heard(document, views, kinds) {
         return false;
     }
     tell_heard_change(document, views, notes, turn);

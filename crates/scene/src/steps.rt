@@ -17,7 +17,7 @@ use crate::moving::follow_change;
 use crate::step_notes::{
     kind_after, kind_before, movement_of, share_bytes, tell_coming, tell_made,
 };
-use crate::telling::{Audience, NoteText, count_hearers, tell};
+use crate::telling::{Audience, NoteText, is_heard, tell};
 use document::{Document, TextStep};
 use ed_model::steps_keep_views_standing;
 use ed_types::modification::{PERFORMED_USER, START_ACTION};
@@ -60,7 +60,7 @@ fn share_if_heard(
         return false;
     }
     let kinds = kind_before(bits.before, step) | kind_after(bits.after, step);
-    let hears = count_hearers(document, views, kinds) > 0;
+    let hears = is_heard(document, views, kinds);
     if hears {
         share_bytes(document, notes, step);
     }

@@ -1,6 +1,6 @@
 //! Notifies views: appends a note for each view in the audience.
 
-ghost use Rattle.std.specs.Prelude.{◌≡◌, ◌<◌, ◌^◌, List, ℕ, length};
+ghost use Rattle.std.specs.Prelude.{◌≡◌, ◌<◌, ◌^◌, List, ℕ, length, nat_lt};
 ghost use Rattle.ed_types.specs.Heard.{with_text};
 ghost use Rattle.ed_model.specs.Notes.{modify_attempt, blank as blank_note, told};
 ghost use Rattle.notify.specs.Gathered.{CanPut, with_note};
@@ -159,6 +159,23 @@ pub fn count_hearers(document: &Document, views: &IdTable<View>, kinds: u32) -> 
     ensures few { result < 2 ^ 63 }
 {
     count(document, views, Audience::Hearers, kinds)
+}
+
+/// Returns whether one of the views that watch the document hears notes of one of the kinds. Inlined, so that the usual
+/// answer, that none does, takes a look at each mask alone.
+#[inline]
+pub fn is_heard(document: &Document, views: &IdTable<View>, kinds: u32) -> bool
+    requires named { AreNamed views.now.entries }
+    ensures { result ≡ nat_lt 0 (hearers kinds (watchers document.now.document views.now)) }
+{
+    for watcher in document.views() {
+        if let Some(view) = views.get(*watcher) {
+            if is_told(view, Audience::Hearers, kinds) {
+                return true;
+            }
+        }
+    }
+    false
 }
 
 /// Returns how many views watch the document.

@@ -1,4 +1,5 @@
 use Rattle.scene.proofs.Names.{◌≡◌, ◌*◌, ℕ, List, false, refl, ap, sym, ◌∙◌, arith, subst, append-nil, Step, TextStep, View, Gathered, watchers, hearers, bits_of, all_bits, outline_kinds, performed_kinds, IsToldBefore}
+use Rattle.std.proofs.lemmas.Bool.{ltb-false}
 use Rattle.scene.proofs.KindLemmas.{unheard_before}
 use Rattle.scene.proofs.ChangeSteps.{some_has, step_same, outline_kinds_are}
 use Rattle.scene.proofs.performing.tell_before_change.Goals as goal
@@ -25,13 +26,14 @@ returns-then-quiet c =
     let none : hearers (performed_kinds who s) W ≡ 0 = omega arith in
     λ step e. subst (IsToldBefore who W false c.args.notes.now c.args.notes.now) (step_same _ s step can.at e) (untold who s W c.args.notes.now none)
 
-pub returns-then-count_hearers-eq0 : goal.returns-then-count_hearers-eq0
-returns-then-count_hearers-eq0 c =
+pub returns-then-not-is_heard : goal.returns-then-not-is_heard
+returns-then-not-is_heard c =
     let s = c.requires.can.0 in
     let can = c.requires.can.1 in
     let W = watchers c.args.document.now.document c.args.views.now in
     let who = bits_of c.args.turn.direction in
     let O = some_has _ _ (TextStep s) can.at c.requires.outline in
     let K : c.kinds_of-kinds.result ≡ performed_kinds who s = c.kinds_of-kinds.ensures ∙ ap (outline_kinds who) O ∙ outline_kinds_are who s in
-    let none : hearers (performed_kinds who s) W ≡ 0 = ap (λ k. hearers k W) (sym K) ∙ sym c.count_hearers.ensures.count ∙ c.if-count_hearers-eq0.true in
+    let few = ltb-false 0 (hearers c.kinds_of-kinds.result W) (sym c.is_heard.ensures ∙ c.if-not-is_heard.true) in
+    let none : hearers (performed_kinds who s) W ≡ 0 = ap (λ k. hearers k W) (sym K) ∙ omega (arith, few) in
     λ step e. subst (IsToldBefore who W false c.args.notes.now c.args.notes.now) (step_same _ s step can.at e) (untold who s W c.args.notes.now none)
