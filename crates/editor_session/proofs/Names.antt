@@ -1,14 +1,16 @@
 -- The names of the crates below, and of this crate's definitions, that many proofs cite. Declares nothing.
 pub use Rattle.std.proofs.Common.{◌≡◌, ℕ, ◌==◌, ap, sym, ◌∙◌, Some, None, ◌⊎◌, inl, inr, ℤ, true, false, List, [], ◌∷◌, ◌++◌, length, refl, subst, Option, IfSome, IsSome, IsSomeAnd, Bool, cond, map, option_map, is_some, Ok, Err, ◌+◌, arith, pos, OnOk, OnErr, IfOk, ◌&&◌, IfErr, ◌<◌, ◌≤◌, slice_range, ◌-◌, ◌^◌, ◌≢◌, append-nil, append_assoc, negsuc, ◌↔◌, take, drop, zero, suc, slice_get, IsErr, ◌||◌, min, nat_le, rules, to_z, of_z, w64, ◌*◌}
 pub use Rattle.std.specs.Prelude.{not, if◌then◌else◌, Result, reverse, nat_lt, filter_map, filter, IsOk, option_copied, vec_len, vec_capacity}
-pub use Rattle.std.proofs.lemmas.Bool.{and_parts, eqb-true, cond_both, not-true, leb-true, lt-leb, le-leb}
+pub use Rattle.std.proofs.lemmas.Bool.{and_parts, eqb-true, eqb-false, cond_both, not-true, leb-true, lt-leb, le-leb}
 pub use Rattle.std.specs.List.{AllByRecursion, cons_option}
 pub use Rattle.std.proofs.lemmas.List.{map-append, length-map, length-take, length-drop, drop-map}
 pub use Rattle.std.specs.Option.{option_copied_mut}
 pub use Rattle.std.proofs.lemmas.Result.{err_from_is_err_and}
 pub use Rattle.ed_model.specs.Session.{View, document_at, view_at, Document, Session, text_of, with_document, is_allowed, watching, new_document, new_view, living, left_by, references, is_large, limit_of}
 pub use Rattle.ed_model.specs.SoundLaws.{IsSoundView, IsSound, AreStepsOf, OpeningKeepsSound, ClosingKeepsSound, IsSoundDocument, ListsItsViews, StandsOn}
-pub use Rattle.ed_model.specs.proved.Elements.{found_all, all_filter, all_weaker}
+pub use Rattle.ed_model.specs.proved.Elements.{found_all, all_filter, all_weaker, map_where}
+pub use Rattle.ed_model.specs.proved.Finding.{same_document}
+pub use Rattle.ed_model.specs.proved.Requests.{own_document, request_document}
 pub use Rattle.id_table.specs.Entries.{value_at, Entries, Entry, entry, with_value_at, without_id}
 pub use Rattle.document.specs.Kept.{Kept, document_of, FitsWidth, bound_of}
 pub use Rattle.ed_view.specs.Kept.{KeptView, view_in}
@@ -17,7 +19,7 @@ pub use Rattle.message_requests.specs.declared.state.SessionState.{SessionState}
 pub use Rattle.performing.specs.Asked.{document_asked, asked}
 pub use Rattle.performing.specs.Kept.{IsKept, DocumentsAreNamed}
 pub use Rattle.scene.specs.proved.ViewWidths.{widths_changed, widths_kept, widths_living, widths_opened, widths_put, widths_without, left_place}
-pub use Rattle.performing.specs.proved.Finding.{keeping, id_of_view, id_of_document, found_some, found_none, found, unchanged, named_with, own_at, IsKeptAs, kept_as, replaced, changed, staying}
+pub use Rattle.scene.specs.proved.Finding.{changed_at, keeping, id_of_view, id_of_document, id_of_old, found_some, found_none, found, unchanged, named_with, own_at, IsKeptAs, kept_as, changed, staying}
 pub use Rattle.ed_model.specs.declared.plan.Follow.{Follow}
 pub use Rattle.ed_model.specs.Edits.{steps_of, has_steps, source_bytes, stays_within}
 pub use Rattle.ed_model.specs.LineEnds.{converted, after_steps}

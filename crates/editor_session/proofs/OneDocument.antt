@@ -1,5 +1,5 @@
 -- The document that a plan is performed on: it is in the session's table, and it changes there, the views with it; and views that the table has.
-use Rattle.editor_session.proofs.Names.{◌≡◌, ℕ, ◌==◌, ◌∙◌, List, [], ◌∷◌, map, refl, ap, sym, subst, Some, None, IfSome, IsSome, IsSomeAnd, if◌then◌else◌, AllByRecursion, Document, View, Session, Response, Notice, Plan, document_at, view_at, with_document, IsSound, IsSoundView, StandsOn, ListsItsViews, PlansKeepSound, Scene, session_of, performed, found_all, Entries, value_at, with_value_at, Kept, KeptView, Gathered, AreNamed, StandsIfOn, IsWatched, kept_scene, session_in, documents_in, SessionState, IsKept, DocumentsAreNamed, views_of, view_in, id_of_view, document_of, id_of_document, unchanged, named_with, own_at, found_some, replaced, IsKeptAs, kept_as, IsSent, CanPerform, request_of, Message, true, false, cond, Option, option_map, is_some, Entry, found, width_at, HasWidths, HaveWidths, KeepWidths, widths_put}
+use Rattle.editor_session.proofs.Names.{◌≡◌, ℕ, ◌==◌, ◌∙◌, List, [], ◌∷◌, map, refl, ap, sym, subst, Some, None, IfSome, IsSome, IsSomeAnd, if◌then◌else◌, AllByRecursion, Document, View, Session, Response, Notice, Plan, document_at, view_at, with_document, IsSound, IsSoundView, StandsOn, ListsItsViews, PlansKeepSound, Scene, session_of, performed, found_all, Entries, value_at, with_value_at, Kept, KeptView, Gathered, AreNamed, StandsIfOn, IsWatched, kept_scene, session_in, documents_in, SessionState, IsKept, DocumentsAreNamed, views_of, view_in, id_of_view, document_of, id_of_document, unchanged, named_with, own_document, changed, id_of_old, all_weaker, same_document, IsKeptAs, kept_as, IsSent, CanPerform, request_of, Message, true, false, cond, Option, option_map, is_some, Entry, found, width_at, HasWidths, HaveWidths, KeepWidths, widths_put}
 use Rattle.editor_session.proofs.Keeping.{kept_with}
 use Rattle.editor_session.proofs.Telling.{telling}
 
@@ -11,44 +11,21 @@ with_one documents id k = record documents { entries = with_value_at id k docume
 abbrev pub with_scene : SessionState → ℕ → Kept → Entries KeptView → SessionState
 with_scene s id k views = record s { documents = with_one s.documents id k; views = views }
 
--- a change of one of the documents of a table
-document_put : (documents : Entries Kept) (id : ℕ) (k k' : Kept) (d : Document) → DocumentsAreNamed documents.entries → value_at documents.entries id ≡ Some k → k'.document ≡ d → d.id ≡ k.document.id
-    → documents_in (with_one documents id k') ≡ with_document d (documents_in documents)
-document_put documents id k k' d named at is same =
-    let own : k.document.id ≡ id = own_at id_of_document (documents_in documents) id k.document (found_some document_of id_of_document documents.entries id k named at) in
-    replaced document_of id_of_document documents.entries id k' named
-    ∙ ap (λ (x : Document). map (λ (e : Document). if e.id == id then x else e) (documents_in documents)) is
-    ∙ ap (λ n. map (λ (e : Document). if e.id == n then d else e) (documents_in documents)) (sym (same ∙ own))
-
 -- The views stand well on a document of a sound session.
-
-stand : (documents : List Document) (d : Document) (views : List View) → document_at documents d.id ≡ Some d → AllByRecursion (IsSoundView documents) views → AllByRecursion (StandsIfOn d) views
-stand documents d [] there all = tt
-stand documents d (v ∷ vs) there all = (
-  (λ e. (let h = all.0 in
-      let hf : document_at documents v.document ≡ Some h.document = h.found in
-      let at : document_at documents v.document ≡ Some d = ap (document_at documents) e ∙ there in
-      let same : h.document ≡ d = cc in
-      subst (λ x. StandsOn x v) same h.stands)),
-  stand documents d vs there all.1,
-)
-
 watched_by : (s : SessionState) (d : Document) → IsKept s → document_at (session_in s).documents d.id ≡ Some d → IsWatched d s.views
 watched_by s d kept there = record {
   named = kept.views;
   rise = kept.sound.view_ids;
   listed = found_all (ListsItsViews (session_in s).views) (λ (e : Document). e.id == d.id) (session_in s).documents d kept.sound.lists there;
-  stand = stand (session_in s).documents d (session_in s).views there kept.sound.views;
+  stand = all_weaker (IsSoundView (session_in s).documents) (StandsIfOn d)
+      (λ v h on. subst (λ x. StandsOn x v) (same_document _ h.document d h.found (ap (document_at (session_in s).documents) on ∙ there)) h.stands) (session_in s).views kept.sound.views;
   widths = found_all (HasWidths (map width_at s.views.entries)) (λ (e : Document). e.id == d.id) (session_in s).documents d kept.widths there;
 }
 
 -- What a plan is performed on, in a session that is kept.
 module _ {s : SessionState} {document view : ℕ} {m : Message} (kept : IsKept s) (by : IsSent (session_in s) document view m) where
   document_there : document_at (session_in s).documents document ≡ Some (request_of (session_in s) view m).document
-  document_there =
-      let r = request_of (session_in s) view m in
-      let own : r.document.id ≡ r.view.document = own_at id_of_document r.session.documents r.view.document r.document by.sound.document in
-      ap (document_at r.session.documents) (sym by.document_id ∙ own) ∙ by.sound.document
+  document_there = ap (document_at (session_in s).documents) (sym by.document_id) ∙ own_document (request_of (session_in s) view m) by.sound
 
   kept_at : IsKeptAs document_of id_of_document (value_at s.documents.entries document) (request_of (session_in s) view m).document
   kept_at = kept_as document_of id_of_document s.documents.entries document (request_of (session_in s) view m).document kept.documents document_there
@@ -94,7 +71,10 @@ module _ (s : SessionState) (kept : IsKept s) (id : ℕ) (old new : Kept) (at : 
   still_named same = named_with document_of id_of_document s.documents.entries id s.documents.next kept.documents kept.sound.document_ids old new at same
 
   pub documents_put : (d : Document) → new.document ≡ d → d.id ≡ old.document.id → documents_in (with_one s.documents id new) ≡ with_document d (documents_in s.documents)
-  documents_put d is same = document_put s.documents id old new d kept.documents at is same
+  documents_put d is same =
+      changed document_of id_of_document s.documents.entries id s.documents.next kept.documents kept.sound.document_ids old new at (λ _. d) is
+      ∙ ap (λ n. map (λ (e : Document). if e.id == n then d else e) (documents_in s.documents))
+      (sym (same ∙ id_of_old document_of id_of_document s.documents.entries id s.documents.next kept.documents kept.sound.document_ids old new at))
 
   -- The document, the views and the notes become those of a scene, behind the notes before.
   pub scene_put : (between : Entries KeptView) (notes' : Gathered) (ns : List Notice) (scene : Scene) → kept_scene new between notes' ≡ telling ns scene → new.document.id ≡ old.document.id → between.next ≡ s.views.next

@@ -5,6 +5,8 @@ use Rattle.ed_types.specs.declared.script.Command.{Command}
 use Rattle.ed_types.specs.declared.script.Outcome.{Outcome}
 use Rattle.ed_types.specs.declared.script.Outcome.TheVariants.{Refused}
 use Rattle.ed_model.specs.proved.Lists.{drop_at_index}
+use Rattle.std.proofs.lemmas.List.{take_more}
+use Rattle.std.proofs.lemmas.Option.{get_or_from_slice_get, slice_get_within}
 use Rattle.editor_session.proofs.Questions.{sound_request}
 
 -- a refusal that did not end the run is one that is said
@@ -94,11 +96,6 @@ file_there files (suc k) bytes some there = let before : suc k - 1 ≡ k = omega
 
 -- One command more.
 
-next_take : {X : Type 0} (i : ℕ) (xs : List X) (x : X) → slice_get xs i ≡ Some x → take (suc i) xs ≡ take i xs ++ x ∷ []
-next_take i [] x e = absurd (cc)
-next_take zero (y ∷ ys) x e = let same : y ≡ x = cc in ap (λ z. z ∷ []) same
-next_take (suc i) (y ∷ ys) x e = ap (λ zs. y ∷ zs) (next_take i ys x e)
-
 run_on : (files : List (List ℕ)) (first later : List Command) (run : Running) → run_to files (first ++ later) run ≡ run_to files later (run_to files first run)
 run_on files [] later run = refl
 run_on files (c ∷ cs) later run = run_on files cs later (after_command files c run).0
@@ -120,5 +117,6 @@ one_more_state files commands i c now new end e state h =
 pub one_more_done : (files : List (List ℕ)) (commands : List Command) (i : ℕ) (c : Command) (start now new : Running) → slice_get commands i ≡ Some c →
     new ≡ (after_command files c now).0 → now ≡ run_to files (take i commands) start → new ≡ run_to files (take (i + 1) commands) start
 one_more_done files commands i c start now new e state h =
-    let after : i + 1 ≡ suc i = omega arith in
-    rw (after, next_take i commands c e) (state ∙ ap (λ r. (after_command files c r).0) h ∙ sym (run_on files (take i commands) (c ∷ []) start))
+    let next : take (i + 1) commands ≡ take i commands ++ c ∷ [] =
+    take_more commands i c (slice_get_within commands i c e) ∙ ap (λ x. take i commands ++ x ∷ []) (get_or_from_slice_get commands i c c e) in
+    rw next (state ∙ ap (λ r. (after_command files c r).0) h ∙ sym (run_on files (take i commands) (c ∷ []) start))

@@ -1,5 +1,5 @@
 -- A text that keeps to its limit is within the width of its document's places.
-use Rattle.editor_session.proofs.Names.{arith, ◌≡◌, ◌==◌, ℕ, ◌+◌, ◌-◌, ◌≤◌, ◌<◌, ◌^◌, min, nat_le, true, false, cond, List, [], ◌∷◌, map, length, refl, ap, sym, subst, slice_range, and_parts, leb-true, length-take, length-drop, length-map, Limits, stays_within, Change, TextStep, ContainerStep, IsRoomFor, IsSoundRequest, Request, text, Document, is_allowed, is_large, limit_of, text_of, AreStepsOf, IsSoundDocument, Step, Insert, Delete, edited, Cell, length-inserted, length-deleted_within, found_all, FitsWidth, bound_of, room_of_steps_beside, free_behind, rooms_beside, StepsFitWidth, ChangesFitWidth}
+use Rattle.editor_session.proofs.Names.{arith, ◌≡◌, ◌==◌, ℕ, ◌+◌, ◌-◌, ◌≤◌, ◌<◌, ◌^◌, min, nat_le, true, false, cond, List, [], ◌∷◌, map, length, refl, ap, sym, subst, slice_range, and_parts, leb-true, length-take, length-drop, length-map, Limits, stays_within, Change, TextStep, ContainerStep, IsRoomFor, IsSoundRequest, Request, text, Document, is_allowed, is_large, limit_of, text_of, AreStepsOf, IsSoundDocument, Step, Insert, Delete, edited, Cell, length-inserted, length-deleted_within, request_document, FitsWidth, bound_of, room_of_steps_beside, free_behind, rooms_beside, StepsFitWidth, ChangesFitWidth}
 use Rattle.ed_model.specs.declared.plan.LineEndTypes.{LineEndTypes}
 use Rattle.ed_model.specs.InverseLaws.{Fits}
 use Rattle.ed_model.specs.UndoPlans.{text_steps}
@@ -77,7 +77,7 @@ module _ (r : Request) (allowed : is_allowed r.session.limits ≡ true) (sound :
       let d = r.document in let limit = limit_of r.session.limits d in
       let below = limit_below r.session.limits d allowed in
       let long : length (text_of d) ≡ length d.cells = length-map d.cells (λ (c : Cell). c.byte) in
-      let whole = found_all (IsSoundDocument r.session.limits) (λ (x : Document). x.id == r.view.document) r.session.documents d sound.sound.documents sound.document in
+      let whole = request_document r sound in
       let most = grows d.line_end_types limit 0 (text_of d) cs below.1 steps (subst (λ n. stays_within limit n (text_steps cs) ≡ true) (sym long) within) (start (length (text_of d)) (length d.cells) limit long whole.bounded) in
       short (rooms_beside d.line_end_types 0 cs).text (length (text_of d)) (length d.cells) limit (bound_of (is_large d)) long most below.0
     where

@@ -1,40 +1,10 @@
 -- Changes of a document: what they leave unmoved, what there is to tell of them, and the numbers that they give.
 pub use Rattle.performing.proofs.Names.{◌≡◌, ℕ, false, List, [], ◌∷◌, ◌++◌, map, length, take, replicate, refl, ap, sym, ◌∙◌, AllByRecursion, DocumentChange, line_count, Document, View, lines_in, is_large, changed_document, changed_lines, change_told, styled, text_of_styled, Entries, Gathered, KeptView, views_of, watchers, StandsIfOn, IsWatched, is_of_types, StyleBytes, StyleRun, SetLineEndTypes, ◌≤◌, Bool, true, cond, not, subst, arith, filter, bit_or, Option, Some, None, length-map, append-nil, Result, Ok, Err, is_ok, Notice, told, heard, blank, save_point_reached, save_point_left, change_line_state, change_style, change_indicator, range_note, performed_user, changed_range, styles_of, range_notes, line_note, line_with_handle, document_row, slice_index_or, Kept, hearers, with_notes, IsMade, Makes, Changes, IsMadeUnheard, ChangeNote, TakesMemory, IsFitNote, notes_of, notice_of, marker_notice, notes_of_change, change_note_need, AllocError, CanPut, with_room, is_full, eqb-true, needs_room, IsReady, ReservesFor, FillIndicator, AppendContainer, SetSavePoint, SetLevel, DeleteHandle, AddMarkers, DeleteMarkers, SetState, NeedStyle, DeleteMarker, AddMarker, Nothing, AllMarkers, Level, zero, suc, ◌+◌, ◌<◌, get_or, set, length-append, ◌==◌, nat_lt, eqb-false, eq-eqb, ne_eqb, lt-ltb, Row, Marker, fresh_row, new_markers, with_new_markers, without_markers, marker_count, marker_count-cons, ◌^◌, slice_index, unwrap_or, IfSome, range_with_len, last_or, changed_places, extent, ℤ, pos, negsuc, int_le, ◌&&◌, w32, to_z, of_z, to_z-of_z, SFits, is_same, length-filter_both, all_filter, w64, common_steps, document_of, SavePointLeft, Cell, State, Markers, err_from_is_err_and, rules, inl, inr, new_view, new_document, nil_from_length, take_all, map-id}
-use Rattle.performing.proofs.Names.{width_at}
-use Rattle.scene.specs.proved.ViewWidths.{has_still}
-use Rattle.ed_model.specs.SoundLaws.{occurrences}
+use Rattle.scene.specs.proved.Watched.{KeepsPlaces, watched_still}
 use Rattle.ed_model.specs.proved.Steps.{length_of_bytes}
 use Rattle.ed_model.specs.Numbers.{meets}
-use Rattle.std.proofs.lemmas.Bool.{leb-true, le-leb}
-
--- the document keeps all that positions of views depend on
-pub record KeepsPlaces (old new : Document) : Type 0 where
-  pub id : new.id ≡ old.id
-  pub views : new.views ≡ old.views
-  pub size : length new.cells ≡ length old.cells
-  pub lines : lines_in new ≡ lines_in old
-  pub large : is_large new ≡ is_large old
-
-stands_again : (old new : Document) (v : View) → KeepsPlaces old new → StandsIfOn old v → StandsIfOn new v
-stands_again old new v same stand on =
-    let s = stand (on ∙ same.id) in
-    record {
-      anchor = rw same.size s.anchor;
-      caret = rw same.size s.caret;
-      target_start = rw same.size s.target_start;
-      target_end = rw same.size s.target_end;
-      lines = s.lines ∙ sym same.lines;
-      first_line = s.first_line;
-      indicator = s.indicator;
-      listed = ap (occurrences v.id) same.views ∙ s.listed;
-    }
-
-all_stand_again : (old new : Document) (vs : List View) → KeepsPlaces old new → AllByRecursion (StandsIfOn old) vs → AllByRecursion (StandsIfOn new) vs
-all_stand_again old new [] same all = tt
-all_stand_again old new (v ∷ vs) same all = (stands_again old new v same all.0, all_stand_again old new vs same all.1)
-
-watched_still : (old new : Document) (table : Entries KeptView) → KeepsPlaces old new → IsWatched old table → IsWatched new table
-watched_still old new table same w = record { named = w.named; rise = w.rise; listed = rw (same.id, same.views) w.listed; stand = all_stand_again old new (views_of table.entries) same w.stand; widths = has_still (map width_at table.entries) old new same.id same.large w.widths }
+use Rattle.std.proofs.lemmas.Bool.{and_parts, leb-true, le-leb}
+use Rattle.std.proofs.lemmas.Bool.Decides.{Decides-eqb, Decides-like, same_from_decides}
 
 -- Styles do not change the text.
 
@@ -279,21 +249,9 @@ int_same (pos n) (negsuc m) h k = absurd (cc)
 int_same (negsuc n) (pos m) h k = absurd (cc)
 int_same (negsuc n) (negsuc m) h k = let p = leb-true m n h in let q = leb-true n m k in ap negsuc (omega arith)
 
-same_state : (a b : ℤ) → a ≡ b → is_same a b ≡ true
-same_state a b e = rw e (let h = int_le_self b in rw h refl)
-
-other_state : (a b : ℤ) → (a ≡ b → ⊥) → is_same a b ≡ false
-other_state a b ne = go (int_le a b) refl (int_le b a) refl
-  where
-    go : (p : Bool) → int_le a b ≡ p → (q : Bool) → int_le b a ≡ q → (p && q) ≡ false
-    go true h true k = absurd (ne (int_same a b h k))
-    go true h false k = refl
-    go false h q k = refl
-
 -- two states of 32 bits are the same if their bits are
 pub same_states : (a b : ℤ) → SFits w32 a → SFits w32 b → (of_z w32 a == of_z w32 b) ≡ is_same a b
-same_states a b fits fits' = go (of_z w32 a == of_z w32 b) refl
-  where
-    go : (p : Bool) → (of_z w32 a == of_z w32 b) ≡ p → p ≡ is_same a b
-    go true e = sym (same_state a b (sym (to_z-of_z w32 a fits) ∙ ap (to_z w32) (eqb-true (of_z w32 a) (of_z w32 b) e) ∙ to_z-of_z w32 b fits'))
-    go false e = sym (other_state a b (λ s. eqb-false (of_z w32 a) (of_z w32 b) e (ap (of_z w32) s)))
+same_states a b fits fits' =
+    same_from_decides (of_z w32 a == of_z w32 b) (is_same a b)
+    (Decides-like (of_z w32 a == of_z w32 b) (λ e. sym (to_z-of_z w32 a fits) ∙ ap (to_z w32) e ∙ to_z-of_z w32 b fits') (λ e. ap (of_z w32) e) (Decides-eqb (of_z w32 a) (of_z w32 b)))
+    ((λ h. let p = and_parts (int_le a b) (int_le b a) h in int_same a b p.0 p.1), (λ e. rw e (let h = int_le_self b in rw h refl)))

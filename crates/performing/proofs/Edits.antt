@@ -43,38 +43,29 @@ no_steps types (Delete place bytes ∷ steps) need is none = absurd (some _ need
 
 -- The steps of a replacement.
 
-deletes_some : (d : Document) (start count : ℕ) → start + count ≤ length d.cells → count ≢ 0 → (bytes : List ℕ)
-    → replacement start count bytes (text_of d) ≡ Delete start (slice_range (text_of d) start (start + count)) ∷ insertion start bytes
-deletes_some d start count h some bytes = go (slice_range (text_of d) start (start + count)) (length_of_range d.cells start count h)
-  where
-    go : (gone : List ℕ) → length gone ≡ count → deletion start gone ++ insertion start bytes ≡ Delete start gone ∷ insertion start bytes
-    go [] e = absurd (some (sym e))
-    go (b ∷ bs) e = refl
+deletes_some : (start count : ℕ) (gone : List ℕ) → length gone ≡ count → count ≢ 0 → deletion start gone ≡ Delete start gone ∷ []
+deletes_some start count [] long some = absurd (some (sym long))
+deletes_some start count (b ∷ bs) long some = refl
 
-deletes_none : (d : Document) (start count : ℕ) → count ≡ 0 → (bytes : List ℕ) → replacement start count bytes (text_of d) ≡ insertion start bytes
-deletes_none d start count none bytes = ap (λ gone. deletion start gone ++ insertion start bytes) (nil_from_length (slice_range (text_of d) start (start + count)) zero_long)
-  where
-    zero_long : length (slice_range (text_of d) start (start + count)) ≡ 0
-    zero_long = let e : start + count - start ≡ 0 = omega (arith, none) in rw e refl
+inserts_some : (start : ℕ) (bytes : List ℕ) → false ≡ (length bytes == 0) → insertion start bytes ≡ Insert start bytes ∷ []
+inserts_some start [] full = absurd (cc)
+inserts_some start (b ∷ bs) full = refl
 
-inserts_some : (start : ℕ) (bytes : List ℕ) → length bytes ≢ 0 → insertion start bytes ≡ Insert start bytes ∷ []
-inserts_some start [] h = absurd (h refl)
-inserts_some start (b ∷ bs) h = refl
-
--- an insertion alone, and a deletion alone
-module _ (d : Document) (start count : ℕ) (bytes : List ℕ) where
+-- an insertion alone, a deletion alone, and both
+module _ (d : Document) (start count : ℕ) (bytes : List ℕ) (range : start + count ≤ length d.cells) where
   pub inserts_alone : count ≡ 0 → false ≡ (length bytes == 0) → replacement start count bytes (text_of d) ≡ Insert start bytes ∷ []
-  inserts_alone none some = deletes_none d start count none bytes ∙ inserts_some start bytes (eqb-false (length bytes) 0 (sym some))
+  inserts_alone none full =
+      ap (λ gone. deletion start gone ++ insertion start bytes) (nil_from_length (slice_range (text_of d) start (start + count)) (length_of_range d.cells start count range ∙ none))
+      ∙ inserts_some start bytes full
 
-  pub deletes_alone : start + count ≤ length d.cells → count ≢ 0 → true ≡ (length bytes == 0) → replacement start count bytes (text_of d) ≡ Delete start (slice_range (text_of d) start (start + count)) ∷ []
-  deletes_alone range some none =
-      deletes_some d start count range some bytes
-      ∙ ap (λ ss. Delete start (slice_range (text_of d) start (start + count)) ∷ ss) (ap (insertion start) (nil_from_length bytes (eqb-true (length bytes) 0 (sym none))))
+  deletes_first : count ≢ 0 → replacement start count bytes (text_of d) ≡ Delete start (slice_range (text_of d) start (start + count)) ∷ insertion start bytes
+  deletes_first some = ap (λ ss. ss ++ insertion start bytes) (deletes_some start count (slice_range (text_of d) start (start + count)) (length_of_range d.cells start count range) some)
 
-  pub both_steps : start + count ≤ length d.cells → count ≢ 0 → false ≡ (length bytes == 0) → replacement start count bytes (text_of d) ≡ Delete start (slice_range (text_of d) start (start + count)) ∷ Insert start bytes ∷ []
-  both_steps range some full =
-      deletes_some d start count range some bytes
-      ∙ ap (λ ss. Delete start (slice_range (text_of d) start (start + count)) ∷ ss) (inserts_some start bytes (eqb-false (length bytes) 0 (sym full)))
+  pub deletes_alone : count ≢ 0 → true ≡ (length bytes == 0) → replacement start count bytes (text_of d) ≡ Delete start (slice_range (text_of d) start (start + count)) ∷ []
+  deletes_alone some none = deletes_first some ∙ ap (λ bs. Delete start (slice_range (text_of d) start (start + count)) ∷ insertion start bs) (nil_from_length bytes (eqb-true (length bytes) 0 (sym none)))
+
+  pub both_steps : count ≢ 0 → false ≡ (length bytes == 0) → replacement start count bytes (text_of d) ≡ Delete start (slice_range (text_of d) start (start + count)) ∷ Insert start bytes ∷ []
+  both_steps some full = deletes_first some ∙ ap (λ ss. Delete start (slice_range (text_of d) start (start + count)) ∷ ss) (inserts_some start bytes full)
 
 -- Room for steps in turn is room for the first of them, also for a deletion as it is lent.
 pub deletion_fits : (k : Kept) (start count : ℕ) (rest : List Step) → start + count ≤ length k.document.cells → StepsFit (Delete start (slice_range (text_of k.document) start (start + count)) ∷ rest) k

@@ -38,6 +38,7 @@ pub use Rattle.ed_model.specs.proved.Elements.{found_all, all_added, all_append,
 pub use Rattle.ed_model.specs.proved.Finding.{documents_added, found_below, mapped_ids}
 pub use Rattle.ed_model.specs.proved.Limits.{allowed_lengths}
 pub use Rattle.ed_model.specs.proved.Lines.{few_lines}
+pub use Rattle.ed_model.specs.proved.Requests.{own_document, request_document, request_stands}
 pub use Rattle.ed_model.specs.proved.Scenes.{edit_made_id}
 pub use Rattle.ed_model.specs.proved.Steps.{length_of_range}
 pub use Rattle.contraction.specs.ViewLines.{FoldCapacity}
@@ -62,6 +63,7 @@ pub use Rattle.scene.specs.Telling.{with_notes, CanHold}
 pub use Rattle.scene.specs.Undoing.{capped, capped_room, bits_of, room_of_changes}
 pub use Rattle.scene.specs.declared.need.SceneNeed.{SceneNeed}
 pub use Rattle.scene.specs.proved.Enough.{first_held, next_held}
+pub use Rattle.scene.specs.proved.Finding.{at_each, by_id, changed, changed_at, found_none, found_some, id_of_document, id_of_view, keeping, named_with, other_replaced, own_at, unchanged, value_replaced}
 pub use Rattle.scene.specs.proved.Rooms.{same_room, deletion_needs, first_room, next_room}
 pub use Rattle.performing.specs.Asked.{IsAsked, CanChangeView, asked, document_asked, view_asked, CanAttach, CanMove, DocumentsRise}
 pub use Rattle.performing.specs.Changed.{ReservesFor, TakesMemory, Changes, IsMade, IsMadeUnheard, Makes}
@@ -73,5 +75,4 @@ pub use Rattle.performing.specs.Notes.{IsFitNote, marker_notice, notice_of, note
 pub use Rattle.performing.specs.SessionMemory.{AllStays, KeepsClipboard, KeepsRoom, RoomsGrow, Stays, TableGrows, TableStays, attaches_to, kept_or_new, with_added}
 pub use Rattle.performing.specs.declared.note.ChangeNote.{ChangeNote}
 pub use Rattle.performing.specs.declared.note.ChangeNote.TheVariants.{Nothing, SavePointLeft, Markers, AllMarkers, Level, State, StyleNeeded}
-pub use Rattle.performing.specs.proved.Finding.{id_of_view, id_of_document, own_at, found_some, found_none, replaced, changed, unchanged, keeping, named_with, other_replaced, value_replaced}
-pub use Rattle.performing.specs.proved.Leaving.{ids_of, ChangesAlike, living_left, named_left, stays_alike}
+pub use Rattle.performing.specs.proved.Leaving.{ids_of, living_left, named_left, stays_alike}

@@ -1,5 +1,5 @@
 -- Sessions: the view and the document of a request, a view that is moved, and what fits in after a change.
-pub use Rattle.performing.proofs.Names.{◌≡◌, ℕ, ◌==◌, List, [], map, length, refl, ap, sym, ◌∙◌, subst, arith, Option, Some, None, IfSome, IsSomeAnd, if◌then◌else◌, ViewChange, Document, View, Session, Row, view_at, document_at, lines_in, IsSoundView, StandsOn, changed_view, view_change_performed, changed_view_document, changed_view_id, FitChangesAreWithin, IsWithin, FoldCapacity, KeptView, view_in, Kept, document_of, value_at, with_value_at, views_of, documents_in, session_in, SessionState, IsKept, IsAsked, CanChangeView, asked, view_asked, document_asked, GrowsAtMost, OnlyViewChanges, id_of_view, id_of_document, own_at, found_all, found_some, found_none, replaced, unchanged, named_with, other_replaced, value_replaced, ◌≢◌, ◌+◌, ◌<◌, Bool, true, false, cond, ◌∷◌, ◌++◌, map-map, filter, option_map, nat_lt, not, width_at, width_of, HasWidths, HaveWidths, AllByRecursion, eqb-true, eqb-false, lt-ltb, cond_both, length-append, length-filter_both, all_map, all_two, all_weaker, map_where, mapped_ids, references, living, left_by, without, Rise, attached_last, Entry, Entries, value_of, HasViewRoom, let_go, LeavesTheLiving, DocumentsAreNamed, CanMove, ◌≤◌, max, option_or, unwrap_or, eq-eqb, ne_eqb, find-append, SessionChange, Attach, entry, new_kept, KeepsRest, DocumentsRise, found_below, TableGrows, attaches_to, kept_or_new, KeepsRoom, RoomsGrow, KeepsClipboard, Stays, TableStays, AllStays, ◌-◌, ◌^◌, length-map, map-append, text_of, is_allowed, is_large, attached_to, new_document, with_view, IsSoundDocument, ListsItsViews, held_less, attached, with_attached, with_new_document, documents_added, all_added, all_append, append-nil, released, HasFewLines, AreFewLines, CanAttach, with_added, keeping, nat_tests, Limits, allowed_lengths, few_lines, Cell, option_copied_mut, rules, option_copied, err_from_is_err_and, HasRoomFor, changed, with_attached_view, AttachNew, Create, with_held_by_callers, IsFitSessionChange, session_changed, text_from, ids_of, ChangesAlike, living_left, named_left, stays_alike}
+pub use Rattle.performing.proofs.Names.{◌≡◌, ℕ, ◌==◌, List, [], map, length, refl, ap, sym, ◌∙◌, subst, arith, Option, Some, None, IfSome, IsSomeAnd, if◌then◌else◌, ViewChange, Document, View, Session, Row, view_at, document_at, lines_in, IsSoundView, StandsOn, changed_view, view_change_performed, changed_view_document, changed_view_id, FitChangesAreWithin, IsWithin, FoldCapacity, KeptView, view_in, Kept, document_of, value_at, with_value_at, views_of, documents_in, session_in, SessionState, IsKept, IsAsked, CanChangeView, asked, view_asked, document_asked, GrowsAtMost, OnlyViewChanges, id_of_view, id_of_document, own_at, found_all, found_some, found_none, unchanged, named_with, other_replaced, value_replaced, at_each, by_id, changed_at, ◌≢◌, ◌+◌, ◌<◌, Bool, true, false, cond, ◌∷◌, ◌++◌, map-map, filter, option_map, nat_lt, not, width_at, width_of, HasWidths, HaveWidths, AllByRecursion, eqb-true, eqb-false, lt-ltb, cond_both, length-append, length-filter_both, all_map, all_weaker, map_where, mapped_ids, references, living, left_by, without, Rise, attached_last, Entry, Entries, value_of, HasViewRoom, let_go, LeavesTheLiving, DocumentsAreNamed, CanMove, ◌≤◌, max, option_or, unwrap_or, eq-eqb, ne_eqb, find-append, SessionChange, Attach, entry, new_kept, KeepsRest, DocumentsRise, found_below, own_document, request_document, request_stands, TableGrows, attaches_to, kept_or_new, KeepsRoom, RoomsGrow, KeepsClipboard, Stays, TableStays, AllStays, ◌-◌, ◌^◌, length-map, map-append, text_of, is_allowed, is_large, attached_to, new_document, with_view, IsSoundDocument, ListsItsViews, held_less, attached, with_attached, with_new_document, documents_added, all_added, all_append, append-nil, released, HasFewLines, AreFewLines, CanAttach, with_added, keeping, nat_tests, Limits, allowed_lengths, few_lines, Cell, option_copied_mut, rules, option_copied, err_from_is_err_and, HasRoomFor, changed, with_attached_view, AttachNew, Create, with_held_by_callers, IsFitSessionChange, session_changed, text_from, ids_of, living_left, named_left, stays_alike}
 use Rattle.document_table.specs.Leaving.{documents_in as entries_in}
 use Rattle.ed_view.specs.Flags.{kept_capacity}
 use Rattle.performing.specs.SessionMemory.{KeepFolds}
@@ -13,9 +13,6 @@ some_same a b e = cc
 
 pub not_both : {V : Type 0} (o : Option V) (v : V) → o ≡ None → o ≡ Some v → ⊥
 not_both o v none some = absurd (cc)
-
-pub for_some : {V : Type 0} (P : V → Type 0) (o : Option V) (v : V) → o ≡ Some v → P v → IfSome o P
-for_some P o v e h = subst (λ x. IfSome x P) (sym e) h
 
 pub is_some_and : {V : Type 0} (P : V → Type 0) (o : Option V) → (o ≡ None → ⊥) → ((v : V) → o ≡ Some v → P v) → IsSomeAnd o P
 is_some_and P None there has = there refl
@@ -47,7 +44,7 @@ module _ {s : SessionState} {document view : ℕ} {text : List ℕ} (kept : IsKe
   on_document = sym (own_at id_of_document (documents_in s.documents) (sender_of s view).document (document_for s view) is.sound.document) ∙ is.document_id
 
   pub document_found : document_at (documents_in s.documents) document ≡ Some (document_for s view)
-  document_found = ap (document_at (documents_in s.documents)) (sym on_document) ∙ is.sound.document
+  document_found = ap (document_at (documents_in s.documents)) (sym is.document_id) ∙ own_document (asked (session_in s) view text) is.sound
 
   pub same_view : (v : KeptView) → value_at s.views.entries view ≡ Some v → v.view ≡ sender_of s view
   same_view v at = some_same v.view (sender_of s view) (sym (found_some view_in id_of_view s.views.entries view v kept.views at) ∙ view_found)
@@ -62,10 +59,7 @@ module _ {s : SessionState} {document view : ℕ} {text : List ℕ} (kept : IsKe
   no_document = no_document_at kept document (document_for s view) document_found
 
   pub stands : StandsOn (document_for s view) (sender_of s view)
-  stands =
-      let v = sender_of s view in
-      let sound : IsSoundView (documents_in s.documents) v = found_all (IsSoundView (documents_in s.documents)) (λ (v : View). v.id == view) (views_of s.views.entries) v kept.sound.views view_found in
-      subst (λ d. StandsOn d v) (some_same sound.document (document_for s view) (sym sound.found ∙ is.sound.document)) sound.stands
+  stands = request_stands (asked (session_in s) view text) is.sound
 
 -- A view changes.
 
@@ -96,12 +90,11 @@ module _ {s : SessionState} {document view : ℕ} (kept : IsKept s) (is : IsAske
     pub view_changed : (levels : List ℕ) → levels ≡ levels_in (document_for s view) → new.view ≡ changed_view levels change old.view
         → session_in with_new ≡ view_change_performed (asked (session_in s) view []) change
     view_changed levels are made =
-        let ls = levels_in (document_for s view) in let changed = changed_view ls change (sender_of s view) in
-        let same : new.view ≡ changed = made ∙ ap (λ ls. changed_view ls change old.view) are ∙ ap (changed_view ls change) (same_view kept is old at) in
+        let ls = levels_in (document_for s view) in let made_so = changed_view ls change (sender_of s view) in
         ap (λ views. let x = session_in s in record x { views = views })
-        (replaced view_in id_of_view s.views.entries view new kept.views
-        ∙ ap (λ id. map (λ (v : View). if v.id == id then new.view else v) (views_of s.views.entries)) (sym (changed_view_id ls change (sender_of s view) ∙ is.view_id))
-        ∙ ap (λ w. map (λ (v : View). if v.id == changed.id then w else v) (views_of s.views.entries)) same)
+        (changed view_in id_of_view s.views.entries view s.views.next kept.views kept.sound.view_ids old new at (λ _. made_so)
+        (made ∙ ap (λ ls. changed_view ls change old.view) are ∙ ap (changed_view ls change) (same_view kept is old at))
+        ∙ ap (λ id. map (λ (v : View). if v.id == id then made_so else v) (views_of s.views.entries)) (sym (changed_view_id ls change (sender_of s view) ∙ is.view_id)))
 
     -- the model sees no change
     pub view_unchanged : new.view ≡ old.view → session_in with_new ≡ session_in s
@@ -115,7 +108,7 @@ module _ {s : SessionState} {document view : ℕ} (kept : IsKept s) (is : IsAske
       widths = keeping view_in id_of_view s.views.entries view s.views.next kept.views kept.sound.view_ids old new at width_of
           (ap (λ n. record (width_of new) { document = n }) on ∙ ap (λ b. record (width_of old) { large = b }) grows.width);
       others = λ other differs. other_replaced s.views.entries view other new differs;
-      room = for_some _ _ old at (for_some _ _ new (value_replaced s.views.entries view old new at) grows);
+      room = rw (at, value_replaced s.views.entries view old new at) grows;
     }
 
 -- The capacity of views for folds.
@@ -135,74 +128,54 @@ pub folds_same : (entries : List (Entry KeptView)) → KeepFolds entries entries
 folds_same entries id = keeps_own (value_at entries id)
 
 pub folds_replaced : (entries : List (Entry KeptView)) (view : ℕ) (old new : KeptView) → value_at entries view ≡ Some old → new.capacity ≡ kept_capacity old.large new.large old.capacity → KeepFolds entries (with_value_at view new entries)
-folds_replaced entries view old new at keeps id = go (id == view) refl
-  where
-    here : KeepsFolds (value_at entries view) (value_at (with_value_at view new entries) view)
-    here = rw (at, value_replaced entries view old new at) keeps
-
-    go : (b : Bool) → (id == view) ≡ b → KeepsFolds (value_at entries id) (value_at (with_value_at view new entries) id)
-    go true t = subst (λ k. KeepsFolds (value_at entries k) (value_at (with_value_at view new entries) k)) (sym (eqb-true id view t)) here
-    go false f = subst (KeepsFolds (value_at entries id)) (sym (other_replaced entries view id new (eqb-false id view f))) (keeps_own (value_at entries id))
+folds_replaced entries view old new at keeps = at_each (λ _. KeepsFolds) (λ _. keeps_own) entries view old new at keeps
 
 -- The view is attached behind the others.
 
 abbrev pub with_view_last : ℕ → Document → Document
 with_view_last view d = record d { views = d.views ++ view ∷ [] }
 
-has_reference : (view : ℕ) (d : Document) → 0 < references (with_view_last view d)
-has_reference view d = omega (arith, length-append d.views (view ∷ []))
-
 abbrev IsElsewhere : ℕ → ℕ → Document → Type 0
 IsElsewhere view from d = d.id ≢ from → left_by view d ≡ d
 
 all_living : (ds : List Document) → AllByRecursion (λ (d : Document). 0 < references d) ds → living ds ≡ ds
 all_living [] all = refl
-all_living (d ∷ ds) all = let t : nat_lt 0 (references d) ≡ true = lt-ltb 0 (references d) all.0 in rw t (ap (λ xs. d ∷ xs) (all_living ds all.1))
+all_living (d ∷ ds) all = rw (lt-ltb 0 (references d) all.0) (ap (λ xs. d ∷ xs) (all_living ds all.1))
 
 module _ (view to : ℕ) where
-  abbrev pub one_last : Document → Document
-  one_last d = if d.id == to then with_view_last view d else d
+  -- the document with the id lists the view last, once it was changed so
+  abbrev pub last_after : (Document → Document) → Document → Document
+  last_after change = changed_at id_of_document to (λ d. with_view_last view (change d))
 
-  abbrev after_giving : Document → Document
-  after_giving d = if d.id == to then d else left_by view d
-
-  abbrev pub moved_last : Document → Document
-  moved_last d = if d.id == to then with_view_last view (left_by view d) else d
-
-  is_last : (b : Bool) (d : Document) → (d.id == to) ≡ b → attached_last view to d ≡ cond b (with_view_last view (left_by view d)) (left_by view d)
-  is_last b d t = ap (λ b. cond b (with_view_last view (left_by view d)) (left_by view d)) t
+  all_referenced_after : (change : Document → Document) (ds : List Document) → AllByRecursion (λ (d : Document). d.id ≢ to → 0 < references d) ds
+      → AllByRecursion (λ (d : Document). 0 < references d) (map (last_after change) ds)
+  all_referenced_after change ds all =
+      all_map (λ (d : Document). d.id ≢ to → 0 < references d) (λ (d : Document). 0 < references d) (last_after change)
+      (λ d h. cond_both (d.id == to) (with_view_last view (change d)) d (λ (x : Document). 0 < references x)
+      (λ _. omega (arith, length-append (change d).views (view ∷ []))) (λ f. h (eqb-false d.id to f))) ds all
 
   -- To another document: the view is attached to it, and then detached from its own.
-  module _ (from : ℕ) (other : from ≢ to) where
-    gives : (d : Document) → IsElsewhere view from d → ChangesAlike from (left_by view) after_giving (one_last d)
-    gives d elsewhere =
-        cond_both (d.id == to) (with_view_last view d) d (ChangesAlike from (left_by view) after_giving)
-        (λ t. (λ is. absurd (other (sym is ∙ eqb-true d.id to t)), λ _. ap (λ b. cond b (with_view_last view d) (left_by view (with_view_last view d))) t))
-        (λ f. (λ is. ap (λ b. cond b d (left_by view d)) f, λ differs. ap (λ b. cond b d (left_by view d)) f ∙ elsewhere differs))
 
-    given : (d : Document) → IsElsewhere view from d → after_giving (one_last d) ≡ attached_last view to d
-    given d elsewhere =
-        cond_both (d.id == to) (with_view_last view d) d (λ x. after_giving x ≡ attached_last view to d)
-        (λ t.
-        ap (λ b. cond b (with_view_last view d) (left_by view (with_view_last view d))) t
-        ∙ ap (with_view_last view) (sym (elsewhere (λ is. other (sym is ∙ eqb-true d.id to t)))) ∙ sym (is_last true d t))
-        (λ f. ap (λ b. cond b d (left_by view d)) f ∙ sym (is_last false d f))
+  passed : (from : ℕ) → from ≢ to → (d : Document) → IsElsewhere view from d → changed_at id_of_document from (left_by view) (last_after (λ d. d) d) ≡ attached_last view to d
+  passed from other d elsewhere = go (d.id == to) refl (d.id == from) refl
+    where
+      go : (b : Bool) → (d.id == to) ≡ b → (own : Bool) → (d.id == from) ≡ own
+          → changed_at id_of_document from (left_by view) (cond b (with_view_last view d) d) ≡ cond b (with_view_last view (left_by view d)) (left_by view d)
+      go true t true e = absurd (other (sym (eqb-true d.id from e) ∙ eqb-true d.id to t))
+      go true t false e = rw e (ap (with_view_last view) (sym (elsewhere (eqb-false d.id from e))))
+      go false t true e = rw e refl
+      go false t false e = rw e (sym (elsewhere (eqb-false d.id from e)))
 
-    pub passed_on : LeavesTheLiving → (old put left : Entries Kept) → CanMove old from view to → documents_in put ≡ map one_last (documents_in old) → DocumentsAreNamed put.entries → put.next ≡ old.next
-        → entries_in left.entries ≡ let_go from (left_by view) (entries_in put.entries) → documents_in left ≡ living (map (attached_last view to) (documents_in old))
-    passed_on law old put left can is named next gone =
-        let ds = documents_in old in
-        let ids : ids_of (documents_in put) ≡ ids_of ds =
-        ap ids_of is ∙ mapped_ids (λ (d : Document). d.id) one_last (λ d. cond_both (d.id == to) (with_view_last view d) d (λ (x : Document). x.id ≡ d.id) (λ _. refl) (λ _. refl)) ds in
-        let referenced : AllByRecursion (λ (d : Document). 0 < references d) (map one_last ds) =
-        all_map (λ (d : Document). d.id ≢ to → 0 < references d) (λ (d : Document). 0 < references d) one_last
-        (λ d h. cond_both (d.id == to) (with_view_last view d) d (λ (x : Document). 0 < references x) (λ _. has_reference view d) (λ f. h (eqb-false d.id to f))) ds can.referenced in
-        living_left law from put.next (left_by view) after_giving put.entries left.entries named (subst (λ is. Rise 0 put.next is) (sym ids) (subst (λ n. Rise 0 n (ids_of ds)) (sym next) can.rise))
-        (subst (AllByRecursion (λ (d : Document). 0 < references d)) (sym is) referenced)
-        (subst (AllByRecursion (ChangesAlike from (left_by view) after_giving)) (sym is)
-        (all_map (IsElsewhere view from) (ChangesAlike from (left_by view) after_giving) one_last gives ds can.elsewhere))
-        gone ∙ ap (λ xs. living (map after_giving xs)) is
-        ∙ ap living (map-map after_giving one_last ds ∙ map_where (λ d. after_giving (one_last d)) (attached_last view to) ds (all_weaker (IsElsewhere view from) (λ d. after_giving (one_last d) ≡ attached_last view to d) given ds can.elsewhere))
+  pub passed_on : LeavesTheLiving → (from : ℕ) → from ≢ to → (old : Entries Kept) (put : List (Entry Kept)) (left : Entries Kept) → CanMove old from view to → map (λ (e : Entry Kept). e.value.document) put ≡ map (last_after (λ d. d)) (documents_in old)
+      → DocumentsAreNamed put → entries_in left.entries ≡ let_go from (left_by view) (entries_in put) → documents_in left ≡ living (map (attached_last view to) (documents_in old))
+  passed_on law from other old put left can is named gone =
+      let ds = documents_in old in let last = last_after (λ d. d) in let leave = changed_at id_of_document from (left_by view) in
+      let ids : ids_of (map last ds) ≡ ids_of ds =
+      mapped_ids id_of_document last (λ d. cond_both (d.id == to) (with_view_last view d) d (λ (x : Document). x.id ≡ d.id) (λ _. refl) (λ _. refl)) ds in
+      living_left law from old.next (left_by view) put left.entries named (subst (λ xs. Rise 0 old.next (ids_of xs)) (sym is) (subst (Rise 0 old.next) (sym ids) can.rise))
+      (subst (AllByRecursion (λ (d : Document). 0 < references d)) (sym is) (all_referenced_after (λ d. d) ds can.referenced)) gone
+      ∙ ap (λ xs. living (map leave xs)) is
+      ∙ ap living (map-map leave last ds ∙ map_where (λ d. leave (last d)) (attached_last view to) ds (all_weaker (IsElsewhere view from) (λ d. leave (last d) ≡ attached_last view to d) (passed from other) ds can.elsewhere))
 
   -- To the end of its own document's list.
 
@@ -214,22 +187,18 @@ module _ (view to : ℕ) where
       let left : length (without view old.document.views) < old.capacity.views = omega (arith, room, parts) in
       subst HasViewRoom (sym is) left
 
-  moves : (d : Document) → IsElsewhere view to d → moved_last d ≡ attached_last view to d
-  moves d elsewhere =
-      cond_both (d.id == to) (with_view_last view (left_by view d)) d (λ x. x ≡ attached_last view to d) (λ t. sym (is_last true d t))
-      (λ f. sym (elsewhere (eqb-false d.id to f)) ∙ sym (is_last false d f))
+  stays_within : (d : Document) → IsElsewhere view to d → last_after (left_by view) d ≡ attached_last view to d
+  stays_within d elsewhere = go (d.id == to) refl
+    where
+      go : (b : Bool) → (d.id == to) ≡ b → cond b (with_view_last view (left_by view d)) d ≡ cond b (with_view_last view (left_by view d)) (left_by view d)
+      go true t = refl
+      go false f = sym (elsewhere (eqb-false d.id to f))
 
-  stays_referenced : (d : Document) → IsElsewhere view to d → (d.id ≢ to → 0 < references d) → 0 < references (attached_last view to d)
-  stays_referenced d elsewhere referenced =
-      cond_both (d.id == to) (with_view_last view (left_by view d)) (left_by view d) (λ (x : Document). 0 < references x) (λ _. has_reference view (left_by view d))
-      (λ f. subst (λ (x : Document). 0 < references x) (sym (elsewhere (eqb-false d.id to f))) (referenced (eqb-false d.id to f)))
-
-  pub moved_within : (old : Entries Kept) (new : List Document) → CanMove old to view to → new ≡ map moved_last (documents_in old) → new ≡ living (map (attached_last view to) (documents_in old))
+  pub moved_within : (old : Entries Kept) (new : List Document) → CanMove old to view to → new ≡ map (last_after (left_by view)) (documents_in old) → new ≡ living (map (attached_last view to) (documents_in old))
   moved_within old new can is =
-      let ds = documents_in old in
-      is ∙ map_where moved_last (attached_last view to) ds (all_weaker (IsElsewhere view to) (λ d. moved_last d ≡ attached_last view to d) moves ds can.elsewhere)
-      ∙ sym (all_living (map (attached_last view to) ds) (all_map (λ d. 0 < references (attached_last view to d)) (λ (d : Document). 0 < references d) (attached_last view to) (λ d h. h) ds
-      (all_two (IsElsewhere view to) (λ (d : Document). d.id ≢ to → 0 < references d) (λ d. 0 < references (attached_last view to d)) ds stays_referenced can.elsewhere can.referenced)))
+      let ds = documents_in old in let last = last_after (left_by view) in
+      is ∙ sym (all_living (map last ds) (all_referenced_after (left_by view) ds can.referenced))
+      ∙ ap living (map_where last (attached_last view to) ds (all_weaker (IsElsewhere view to) (λ d. last d ≡ attached_last view to d) stays_within ds can.elsewhere))
 
 -- Documents that keep what is stored of them, and what fits in but perhaps for views.
 
@@ -248,17 +217,6 @@ keeps_then b None (Some m) (Some n) first after = absurd first
 keeps_then false (Some o) (Some m) (Some n) first after = after ∙ ap (λ (k : Kept). record k { document = n.document }) first
 keeps_then true (Some o) (Some m) (Some n) first after = subst (KeepsRoom true o) (sym after) (ap (λ (k : Kept). record k { document = n.document }) first.0, first.1)
 
--- what holds of one id, and of all others
-by_id : (P : ℕ → Type 0) (id : ℕ) → P id → ((other : ℕ) → other ≢ id → P other) → (k : ℕ) → P k
-by_id P id here others k = go (k == id) refl
-  where
-    go : (b : Bool) → (k == id) ≡ b → P k
-    go true t = subst P (sym (eqb-true k id t)) here
-    go false f = others k (eqb-false k id f)
-
-rest_of_all : (id : ℕ) (old new : List (Entry Kept)) → ((other : ℕ) → other ≢ id → value_at new other ≡ value_at old other) → KeepsRest id old new → (k : ℕ) → KeepsRest k old new
-rest_of_all id old new others here = by_id (λ k. KeepsRest k old new) id here (λ k differs. subst (Keeps false (value_at old k)) (sym (others k differs)) (keeps_itself false (value_at old k)))
-
 -- one document changes, but not in what is stored of it
 pub one_stays : (table : Entries Kept) (id : ℕ) → DocumentsAreNamed table.entries → DocumentsRise table → (old new : Kept) → value_at table.entries id ≡ Some old → new ≡ record old { document = new.document }
     → new.document.id ≡ old.document.id → TableStays table (record table { entries = with_value_at id new table.entries })
@@ -266,9 +224,7 @@ one_stays table id named rise old new at is same = record {
   next = refl;
   capacity = refl;
   named = named_with document_of id_of_document table.entries id table.next named rise old new at same;
-  rest = rest_of_all id table.entries (with_value_at id new table.entries) (λ other differs. other_replaced table.entries id other new differs)
-      (for_some (λ left. IsSomeAnd (value_at table.entries id) (λ was. left ≡ record was { document = left.document })) (value_at (with_value_at id new table.entries) id) new (value_replaced table.entries id old new at)
-      (subst (λ o. IsSomeAnd o (λ was. new ≡ record was { document = new.document })) (sym at) is));
+  rest = at_each (λ _. Keeps false) (λ _. keeps_itself false) table.entries id old new at is;
 }
 
 -- one document lost a reference
@@ -279,7 +235,7 @@ one_left id change stays old new named is others rest next capacity = record {
   next = next;
   capacity = capacity;
   named = named_left id change stays old.entries new.entries named is;
-  rest = rest_of_all id old.entries new.entries others rest;
+  rest = by_id (λ k. KeepsRest k old.entries new.entries) id rest (λ k differs. subst (Keeps false (value_at old.entries k)) (sym (others k differs)) (keeps_itself false (value_at old.entries k)));
 }
 
 pub stays_twice : (old mid new : Entries Kept) → TableStays old mid → TableStays mid new → TableStays old new
@@ -296,25 +252,14 @@ pub has_room : (old new : Kept) → new ≡ record old { capacity = record old.c
     → new.capacity.views ≤ max old.capacity.views (length old.document.views + max 1 (length old.document.views)) → KeepsRoom true old new
 has_room old new is most = (is ∙ ap (λ d. record old { document = d; capacity = record old.capacity { views = new.capacity.views } }) (sym (ap document_of is)), most)
 
-rooms_stay : (change : SessionChange) (old : Entries Kept) → RoomsGrow change old old.entries
-rooms_stay change old id = go (attaches_to change old.next id) (value_at old.entries id) (keeps_itself (attaches_to change old.next id) (value_at old.entries id))
-  where
-    go : (b : Bool) (o : Option Kept) → Keeps b o o → IfSome o (KeepsRoom b (unwrap_or o (new_kept id 0)))
-    go b None h = tt
-    go b (Some k) h = h
-
--- only that of one id changes
-rooms_but : (change : SessionChange) (old : Entries Kept) (new : List (Entry Kept)) (id : ℕ) → ((other : ℕ) → other ≢ id → value_at new other ≡ value_at old.entries other)
-    → IfSome (value_at new id) (KeepsRoom (attaches_to change old.next id) (kept_or_new old.entries id)) → RoomsGrow change old new
-rooms_but change old new id others here =
-    by_id (λ k. IfSome (value_at new k) (KeepsRoom (attaches_to change old.next k) (kept_or_new old.entries k))) id here
-    (λ k differs. subst (λ o. IfSome o (KeepsRoom (attaches_to change old.next k) (kept_or_new old.entries k))) (sym (others k differs)) (rooms_stay change old k))
+room_stays : (b : Bool) (new : Kept) (o : Option Kept) → IfSome o (KeepsRoom b (unwrap_or o new))
+room_stays b new None = tt
+room_stays b new (Some k) = keeps_itself b (Some k)
 
 pub rooms_reserved : (old : Entries Kept) (to : ℕ) (was now : Kept) → value_at old.entries to ≡ Some was → KeepsRoom true was now → RoomsGrow (Attach to) old (with_value_at to now old.entries)
 rooms_reserved old to was now at room =
-    rooms_but (Attach to) old (with_value_at to now old.entries) to (λ other differs. other_replaced old.entries to other now differs)
-    (for_some (KeepsRoom (to == to) (kept_or_new old.entries to)) (value_at (with_value_at to now old.entries) to) now (value_replaced old.entries to was now at)
-    (subst (λ b. KeepsRoom b (kept_or_new old.entries to) now) (sym (eq-eqb to to refl)) (subst (λ o. KeepsRoom true (unwrap_or o (new_kept to 0)) now) (sym at) room)))
+    at_each (λ k o n. IfSome n (KeepsRoom (k == to) (unwrap_or o (new_kept k 0)))) (λ k. room_stays (k == to) (new_kept k 0)) old.entries to was now at
+    (subst (λ b. KeepsRoom b was now) (sym (eq-eqb to to refl)) room)
 
 -- A document is added.
 module _ (table : Entries Kept) (named : DocumentsAreNamed table.entries) (rise : DocumentsRise table) (k : Kept) where
@@ -352,6 +297,13 @@ module _ (table : Entries Kept) (named : DocumentsAreNamed table.entries) (rise 
       go (Some w) b e = keeps_itself (attaches_to change table.next id) (Some w)
       go None true e = subst (λ id. KeepsRoom (attaches_to change table.next id) (new_kept id 0) k) (eqb-true table.next id e) room
       go None false e = tt
+
+-- Sessions whose documents alone are others.
+
+documents_changed : {s : SessionState} → IsKept s → (change : SessionChange) (documents : Entries Kept) → KeepsClipboard change s.clipboard s.clipboard → DocumentsAreNamed documents.entries
+    → TableGrows change s.documents documents.capacity → RoomsGrow change s.documents documents.entries → HaveWidths (documents_in documents) s.views → Stays change s (record s { documents = documents })
+documents_changed {s} kept change documents clipboard named table rooms widths =
+    record { limits = refl; clipboard = clipboard; documents = named; table = table; rooms = rooms; views = kept.views; widths = widths; folds = folds_same s.views.entries; view_capacity = refl }
 
 pub documents_alone : {s : SessionState} → IsKept s → (documents : Entries Kept) → TableStays s.documents documents → HaveWidths (documents_in documents) s.views → AllStays s (record s { documents = documents })
 documents_alone {s} kept documents stays widths =
@@ -395,12 +347,7 @@ pub released_so : LeavesTheLiving → {s : SessionState} → IsKept s → (id : 
     → session_in (record s { documents = left }) ≡ (let old = session_in s in record old { documents = living (map (held_less id) old.documents) })
 released_so law {s} kept id left gone next =
     let old = session_in s in
-    ap (λ x. record old { documents = x; next_document = left.next })
-    (living_left law id s.documents.next released (held_less id) s.documents.entries left.entries kept.documents kept.sound.document_ids
-    (all_referenced kept)
-    (all_weaker (λ (d : Document). 0 < references d) (ChangesAlike id released (held_less id))
-    (λ d _. (λ is. ap (λ b. cond b (released d) d) (eq-eqb d.id id is), λ other. ap (λ b. cond b (released d) d) (ne_eqb d.id id other))) old.documents (all_referenced kept))
-    gone)
+    ap (λ x. record old { documents = x; next_document = left.next }) (living_left law id s.documents.next released s.documents.entries left.entries kept.documents kept.sound.document_ids (all_referenced kept) gone)
     ∙ ap (λ n. record old { documents = living (map (held_less id) old.documents); next_document = n }) next
 
 -- A view is attached.
@@ -417,11 +364,10 @@ module _ {s : SessionState} {document view : ℕ} {text : List ℕ} (kept : IsKe
       (λ v at.
       let d = document_for s view in let same = same_view kept is_asked v at in
       let flags : length v.view.flags ≡ lines_in d = ap (λ (x : View). length x.flags) same ∙ (stands kept is_asked).lines in
-      let sound : IsSoundDocument s.limits d = found_all (IsSoundDocument s.limits) (λ (d : Document). d.id == document) (documents_in s.documents) d kept.sound.documents (document_found kept is_asked) in
+      let sound : IsSoundDocument s.limits d = request_document (asked (session_in s) view text) is_asked.sound in
       let cells : length (text_of d) ≡ length d.cells = length-map d.cells (λ (c : Cell). c.byte) in
       let has = found_all (HasWidths (map width_at s.views.entries)) (λ (d : Document). d.id == document) (documents_in s.documents) d kept.widths (document_found kept is_asked) in
-      let own : d.id ≡ document = own_at id_of_document (documents_in s.documents) document d (document_found kept is_asked) in
-      let large : v.large ≡ is_large d = width_found s.views.entries view v d has at (ap (λ (x : View). x.document) same ∙ on_document kept is_asked ∙ sym own) in
+      let large : v.large ≡ is_large d = width_found s.views.entries view v d has at (ap (λ (x : View). x.document) same ∙ on_document kept is_asked ∙ sym is_asked.document_id) in
       subst (λ large. AreFewLines large (length v.view.flags + 1)) (sym large)
       (limit_few (is_large d) s.limits (length v.view.flags) (allowed_lengths s.limits kept.limits) (omega (arith, flags, few_lines d.line_end_types (text_of d), cells, sound.bounded))))
 
@@ -469,17 +415,8 @@ module _ {s : SessionState} {document view : ℕ} {text : List ℕ} (kept : IsKe
     session_same = ap (λ ds. let x = session_in s in record x { documents = ds }) documents_same
 
     pub place_stays : new.capacity.views ≤ max old.capacity.views (length old.document.views + max 1 (length old.document.views)) → Stays (Attach to) s with_place
-    place_stays most = record {
-      limits = refl;
-      clipboard = refl;
-      documents = named_there;
-      table = refl;
-      rooms = rooms_reserved s.documents to old new at (has_room old new rest most);
-      views = kept.views;
-      widths = subst (λ ds. HaveWidths ds s.views) (sym documents_same) kept.widths;
-      folds = folds_same s.views.entries;
-      view_capacity = refl;
-    }
+    place_stays most =
+        documents_changed kept (Attach to) with_place.documents refl named_there refl (rooms_reserved s.documents to old new at (has_room old new rest most)) (subst (λ ds. HaveWidths ds s.views) (sym documents_same) kept.widths)
 
     pub can_attach_there : HasViewRoom new → CanAttach with_place document view to
     can_attach_there room =
@@ -503,8 +440,8 @@ module _ {s : SessionState} {from view to : ℕ} (can : CanAttach s from view to
       let ds : documents_in documents ≡ living (map (attached_last v.id d.id) x.documents) =
       moved ∙ ap (λ n. living (map (attached_last n to) x.documents)) (sym own) ∙ ap (λ n. living (map (attached_last v.id n) x.documents)) (sym id) in
       let vs : views_of (with_value_at view new s.views.entries) ≡ with_view (attached_to d v) x.views =
-      replaced view_in id_of_view s.views.entries view new can.views ∙ ap (λ n. map (λ (w : View). if w.id == n then new.view else w) x.views) (sym own)
-      ∙ ap (λ y. map (λ (w : View). if w.id == v.id then y else w) x.views) (made ∙ ap (attached_to d) same) in
+      changed view_in id_of_view s.views.entries view s.views.next can.views can.rise old new at (λ _. attached_to d v) (made ∙ ap (attached_to d) same)
+      ∙ ap (λ n. map (λ (w : View). if w.id == n then attached_to d v else w) x.views) (sym own) in
       ap (λ y. record x { documents = y; views = views_of (with_value_at view new s.views.entries); next_document = documents.next }) ds
       ∙ ap (λ y. record (with_attached (Some d) v x) { views = y; next_document = documents.next }) vs ∙ ap (λ n. record (with_attached (Some d) v x) { next_document = n }) next
       ∙ ap (λ o. with_attached o v x) (sym found)
@@ -557,18 +494,9 @@ module _ {s : SessionState} (kept : IsKept s) (k : Kept) (table : Entries Kept) 
 
   pub stays_more : (change : SessionChange) → k.document.id ≡ s.documents.next → KeepsClipboard change s.clipboard s.clipboard → TableGrows change s.documents table.capacity
       → KeepsRoom (attaches_to change s.documents.next s.documents.next) (new_kept s.documents.next 0) k → Stays change s (record s { documents = table })
-  stays_more change own clipboard grows room = record {
-    limits = refl;
-    clipboard = clipboard;
-    documents = named_more own;
-    table = grows;
-    rooms = subst (RoomsGrow change s.documents) (sym entries) (rooms_added s.documents kept.documents kept.sound.document_ids k change room);
-    views = kept.views;
-    widths = subst (λ ds. HaveWidths ds s.views) (sym documents_more)
-        (all_added (HasWidths (map width_at s.views.entries)) (documents_in s.documents) k.document kept.widths (no_view_on own));
-    folds = folds_same s.views.entries;
-    view_capacity = refl;
-  }
+  stays_more change own clipboard grows room =
+      documents_changed kept change table clipboard (named_more own) grows (subst (RoomsGrow change s.documents) (sym entries) (rooms_added s.documents kept.documents kept.sound.document_ids k change room))
+      (subst (λ ds. HaveWidths ds s.views) (sym documents_more) (all_added (HasWidths (map width_at s.views.entries)) (documents_in s.documents) k.document kept.widths (no_view_on own)))
 
   -- the view can be attached to it
   pub can_attach_new : {document view : ℕ} {text : List ℕ} → IsAsked (session_in s) document view text → k.document ≡ new_document s.documents.next 0 → HasViewRoom k

@@ -1,24 +1,10 @@
 -- The views follow in the order of their ids: what becomes of their entries, and what the views behind can still do.
-use Rattle.scene.proofs.Names.{◌≡◌, ℕ, Bool, true, false, cond, List, [], ◌∷◌, map, refl, ap, ap₂, sym, ◌∙◌, subst, ◌==◌, Option, Some, None, find, option_map, AllByRecursion, eqb-true, eqb-false, eq-eqb, ne_eqb, map-map, map-id, LineEdit, Movement, View, Rise, view_id, found_once, all_map, all_two, all_both, all_weaker, found_all, Entry, Entries, entry, id_of, value_at, value_of, in_place_at, with_value_at, KeptView, ViewWidth, width_of, view_moved, views_of, views_in, width_at, AreNamed, followed_at, followed, CanFollow, CanFollowInTurn, CanFollowAt, CanAllFollow, HaveFollowed, ViewsStay}
-use Rattle.scene.proofs.Pending.{named_some}
+use Rattle.scene.proofs.Names.{◌≡◌, ℕ, Bool, true, false, cond, List, [], ◌∷◌, map, refl, ap, ap₂, sym, ◌∙◌, subst, ◌==◌, Option, Some, None, find, option_map, AllByRecursion, eqb-true, eqb-false, eq-eqb, ne_eqb, map-map, map-id, LineEdit, Movement, View, Rise, view_id, entry_once, found_has, found_some, id_of_view, view_in, all_map, all_two, all_both, Entry, Entries, entry, id_of, value_at, value_of, in_place_at, with_value_at, KeptView, ViewWidth, width_of, view_moved, views_of, views_in, width_at, AreNamed, followed_at, followed, CanFollow, CanFollowInTurn, CanFollowAt, CanAllFollow, HaveFollowed, ViewsStay}
 use Rattle.scene.proofs.Staying.{views_stay}
 
 pub named_ids : (entries : List (Entry KeptView)) → AreNamed entries → map id_of entries ≡ map (λ (v : View). v.id) (views_of entries)
 named_ids [] named = refl
 named_ids (x ∷ xs) named = let a = named.0 in let b = named_ids xs named.1 in cc
-
--- if ids rise, an id has one value
-only : (entries : List (Entry KeptView)) (high id : ℕ) (k : KeptView) → Rise 0 high (map id_of entries) → value_at entries id ≡ Some k
-    → AllByRecursion (λ (e : Entry KeptView). e.id ≡ id → e.value ≡ k) entries
-only entries high id k rise found = go (find (λ (e : Entry KeptView). e.id == id) entries) refl found
-  where
-    go : (o : Option (Entry KeptView)) → find (λ (e : Entry KeptView). e.id == id) entries ≡ o → option_map value_of o ≡ Some k
-        → AllByRecursion (λ (e : Entry KeptView). e.id ≡ id → e.value ≡ k) entries
-    go None t is = absurd (cc)
-    go (Some w) t is =
-        let same : w.value ≡ k = cc in
-        all_weaker (λ (e : Entry KeptView). e.id ≡ id → e ≡ w) (λ (e : Entry KeptView). e.id ≡ id → e.value ≡ k) (λ e one own. ap value_of (one own) ∙ same)
-        entries (found_once id_of 0 high entries id w rise t)
 
 module _ (movement : Movement) (edits : List LineEdit) (id : ℕ) where
   -- the view of the entry followed if the id is its own; its name, its id, its width and its capacity stay
@@ -32,7 +18,7 @@ module _ (movement : Movement) (edits : List LineEdit) (id : ℕ) where
       let other : (e.value.view.id == id) ≡ false = ne_eqb e.value.view.id id (λ own. differs (named ∙ own)) in
       rw other (refl, named, refl, refl, refl)
 
-  entry_after : (k moved : KeptView) → moved ≡ record k { view = view_moved movement edits k.view } → (e : Entry KeptView) → (e.id ≡ id → e.value ≡ k) → e.id ≡ e.value.view.id
+  entry_after : (k moved : KeptView) → moved ≡ record k { view = view_moved movement edits k.view } → (e : Entry KeptView) → (e.id ≡ id → e ≡ entry id k) → e.id ≡ e.value.view.id
       → IsAfter e (in_place_at id moved e)
   entry_after k moved follows e one named = go (e.id == id) refl
     where
@@ -42,7 +28,7 @@ module _ (movement : Movement) (edits : List LineEdit) (id : ℕ) where
           let own : e.value.view.id ≡ id = sym named ∙ here in
           let test : (e.value.view.id == id) ≡ true = eq-eqb e.value.view.id id own in
           let is : moved ≡ record e.value { view = view_moved movement edits e.value.view } =
-          follows ∙ ap (λ (x : KeptView). record x { view = view_moved movement edits x.view }) (sym (one here)) in
+          follows ∙ ap (λ (x : KeptView). record x { view = view_moved movement edits x.view }) (sym (ap value_of (one here))) in
           rw test (ap (λ (x : KeptView). x.view) is, sym (ap (λ (x : KeptView). x.view.id) is ∙ own), sym here, ap width_of is, ap (λ (x : KeptView). x.capacity) is)
       go false t = other_after e named (λ own. eqb-false e.id id t own)
 
@@ -75,15 +61,8 @@ module _ (movement : Movement) (edits : List LineEdit) (order after : List ℕ) 
     (so : IsFollowedSoFar movement edits order (id ∷ after) old now) where
   -- the view whose turn it is can follow
   pub next_can : (k : KeptView) → value_at now.entries id ≡ Some k → CanFollow movement edits k.large k.view
-  next_can k found = go (find (λ (e : Entry KeptView). e.id == id) now.entries) refl found
-    where
-      go : (o : Option (Entry KeptView)) → find (λ (e : Entry KeptView). e.id == id) now.entries ≡ o → option_map value_of o ≡ Some k → CanFollow movement edits k.large k.view
-      go None t is = absurd (cc)
-      go (Some e) t is =
-          let same : e.value ≡ k = cc in
-          let own = view_id (views_in now) id k.view (named_some now.entries id k so.can.named found) in
-          subst (λ (x : KeptView). x.view.id ≡ id → CanFollow movement edits x.large x.view) same
-          (found_all (CanFollowAt movement edits (id ∷ after)) (λ (e : Entry KeptView). e.id == id) now.entries e so.can.can t).0 own
+  next_can k found =
+      (found_has (CanFollowAt movement edits (id ∷ after)) now.entries id k so.can.can found).0 (view_id (views_in now) id k.view (found_some view_in id_of_view now.entries id k so.can.named found))
 
   -- the entries after its turn
   turn : (f : Entry KeptView → Entry KeptView) → AllByRecursion (λ e. IsAfter movement edits id e (f e)) now.entries
@@ -108,8 +87,8 @@ module _ (movement : Movement) (edits : List LineEdit) (order after : List ℕ) 
       → new ≡ record now { entries = with_value_at id moved now.entries } → IsFollowedSoFar movement edits order after old new
   follow_one k moved new found follows put =
       rw put (turn (in_place_at id moved)
-      (all_two (λ (x : Entry KeptView). x.id ≡ id → x.value ≡ k) (λ (x : Entry KeptView). x.id ≡ x.value.view.id) (λ x. IsAfter movement edits id x (in_place_at id moved x)) now.entries
-      (entry_after movement edits id k moved follows) (only now.entries now.next id k so.can.rise found) so.can.named))
+      (all_two (λ (x : Entry KeptView). x.id ≡ id → x ≡ entry id k) (λ (x : Entry KeptView). x.id ≡ x.value.view.id) (λ x. IsAfter movement edits id x (in_place_at id moved x)) now.entries
+      (entry_after movement edits id k moved follows) (entry_once now.entries now.next id k so.can.rise found) so.can.named))
 
   -- no view has the id whose turn it is
   pub follow_missing : (new : Entries KeptView) → value_at now.entries id ≡ None → new ≡ now → IsFollowedSoFar movement edits order after old new

@@ -59,5 +59,6 @@ pub use Rattle.scene.specs.declared.telling.Audience.TheVariants.{Hearers, Every
 pub use Rattle.scene.specs.declared.telling.NoteText.{NoteText}
 pub use Rattle.scene.specs.declared.telling.NoteText.TheVariants.{Empty, Shared}
 pub use Rattle.scene.specs.proved.Enough.{first_held, next_held}
+pub use Rattle.scene.specs.proved.Finding.{all_unmapped, entry_once, found_has, found_none, found_some, id_of_view}
 pub use Rattle.scene.specs.proved.Rooms.{same_room, deletion_needs, first_change, first_room, next_change, next_room}
 pub use Rattle.std.proofs.lemmas.Simd.{map-map}

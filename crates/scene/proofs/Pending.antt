@@ -1,22 +1,6 @@
 -- Of the views that watch, those that are still to be notified.
-use Rattle.scene.proofs.Names.{◌≡◌, ℕ, ◌+◌, ◌<◌, ◌≤◌, Bool, true, false, cond, suc, List, [], ◌∷◌, refl, ap, sym, ◌∙◌, length, get_or, drop, arith, drop-cons, drop_all, ◌==◌, Some, None, find, filter_map, option_map, cons_option, View, view_at, Entry, value_at, value_of, KeptView, view_in, Everyone, Hearers, views_of, AreNamed, audience_of, belongs}
+use Rattle.scene.proofs.Names.{◌≡◌, ℕ, ◌+◌, ◌<◌, ◌≤◌, Bool, true, false, cond, suc, List, [], ◌∷◌, refl, ap, sym, ◌∙◌, length, get_or, drop, arith, drop-cons, drop_all, ◌==◌, Some, None, find, filter_map, option_map, cons_option, View, view_at, Entry, value_at, value_of, KeptView, view_in, found_none, found_some, id_of_view, Everyone, Hearers, views_of, AreNamed, audience_of, belongs}
 use Rattle.scene.specs.declared.telling.Audience.{Audience}
-
--- a view found by the id of its entry is found by its own id
-pub named_view : (entries : List (Entry KeptView)) (id : ℕ) → AreNamed entries → option_map view_in (value_at entries id) ≡ view_at (views_of entries) id
-named_view [] id named = refl
-named_view (e ∷ es) id named = go (e.id == id) (named_view es id named.1) ∙ ap (λ k. cond (k == id) (Some e.value.view) (view_at (views_of es) id)) named.0
-  where
-    go : (b : Bool) → option_map view_in (value_at es id) ≡ view_at (views_of es) id
-        → option_map view_in (option_map value_of (cond b (Some e) (find (λ (e : Entry KeptView). e.id == id) es))) ≡ cond b (Some e.value.view) (view_at (views_of es) id)
-    go true rest = refl
-    go false rest = rest
-
-pub named_some : (entries : List (Entry KeptView)) (id : ℕ) (k : KeptView) → AreNamed entries → value_at entries id ≡ Some k → view_at (views_of entries) id ≡ Some k.view
-named_some entries id k named e = sym (named_view entries id named) ∙ ap (option_map view_in) e
-
-pub named_none : (entries : List (Entry KeptView)) (id : ℕ) → AreNamed entries → value_at entries id ≡ None → view_at (views_of entries) id ≡ None
-named_none entries id named e = sym (named_view entries id named) ∙ ap (option_map view_in) e
 
 -- of the views with these ids, those in the audience
 abbrev pub pending : Audience → ℕ → List (Entry KeptView) → List ℕ → List View
@@ -28,8 +12,8 @@ drop_next ids i h = let s : i + 1 ≡ suc i = omega arith in rw s (drop-cons ids
 
 found : (audience : Audience) (kind : ℕ) (entries : List (Entry KeptView)) (id : ℕ) (ids : List ℕ) (k : KeptView) (told : Bool) → AreNamed entries → value_at entries id ≡ Some k
     → belongs audience kind k.view ≡ told → pending audience kind entries (id ∷ ids) ≡ cond told (k.view ∷ pending audience kind entries ids) (pending audience kind entries ids)
-found Everyone kind entries id ids k told named at is = let e = named_some entries id k named at in rw (e, sym is) refl
-found Hearers kind entries id ids k told named at is = let e = named_some entries id k named at in rw (e, is) refl
+found Everyone kind entries id ids k told named at is = let e : view_at (views_of entries) id ≡ Some k.view = found_some view_in id_of_view entries id k named at in rw (e, sym is) refl
+found Hearers kind entries id ids k told named at is = let e : view_at (views_of entries) id ≡ Some k.view = found_some view_in id_of_view entries id k named at in rw (e, is) refl
 
 module _ (audience : Audience) (kind : ℕ) (entries : List (Entry KeptView)) (ids : List ℕ) (i : ℕ) (named : AreNamed entries) (h : i < length ids) where
   -- the view with the next id is pending if it is in the audience, which `told` says
@@ -40,7 +24,7 @@ module _ (audience : Audience) (kind : ℕ) (entries : List (Entry KeptView)) (i
   pub next_missing : value_at entries (get_or ids i 0) ≡ None → pending audience kind entries (drop i ids) ≡ pending audience kind entries (drop (i + 1) ids)
   next_missing at =
       ap (pending audience kind entries) (drop_next ids i h)
-      ∙ ap (λ o. audience_of audience kind (cons_option o (filter_map (view_at (views_of entries)) (drop (i + 1) ids)))) (named_none entries (get_or ids i 0) named at)
+      ∙ ap (λ o. audience_of audience kind (cons_option o (filter_map (view_at (views_of entries)) (drop (i + 1) ids)))) (found_none view_in id_of_view entries (get_or ids i 0) named at)
 
 pub nothing_pending : (audience : Audience) (kind : ℕ) (entries : List (Entry KeptView)) (ids : List ℕ) (i : ℕ) → length ids ≤ i
     → pending audience kind entries (drop i ids) ≡ []

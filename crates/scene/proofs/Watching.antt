@@ -1,5 +1,5 @@
 -- The views that watch a document follow a step or another change of it: each of them once, and no other view.
-use Rattle.scene.proofs.Names.{◌≡◌, ℕ, ◌+◌, ◌<◌, ◌≤◌, Bool, true, false, cond, List, [], ◌∷◌, map, length, refl, ap, sym, ◌∙◌, subst, arith, ◌==◌, Some, filter, if◌then◌else◌, option_map, AllByRecursion, cond_both, eqb-true, eqb-false, eq-eqb, ne_eqb, LineEdit, Movement, View, Document, view_at, Rise, StandsOn, IsViewOn, occurrences, ids_of, same_ids, mapped_found, all_two, all_map, all_weaker, map_where, Entry, Entries, KeptView, view_moved, views_of, width_at, HasWidthIfOn, AreNamed, StandsIfOn, IsWatched, ViewsStay, followed, CanFollow, CanFollowInTurn, CanFollowAt, CanAllFollow, is_large}
+use Rattle.scene.proofs.Names.{◌≡◌, ℕ, ◌+◌, ◌<◌, ◌≤◌, Bool, true, false, cond, List, [], ◌∷◌, map, length, refl, ap, sym, ◌∙◌, subst, arith, ◌==◌, Some, filter, if◌then◌else◌, option_map, AllByRecursion, cond_both, eqb-true, eqb-false, eq-eqb, ne_eqb, LineEdit, Movement, View, Document, view_at, Rise, StandsOn, IsViewOn, occurrences, ids_of, same_ids, mapped_found, all_two, all_unmapped, all_map, all_weaker, map_where, Entry, Entries, KeptView, view_moved, views_of, width_at, HasWidthIfOn, AreNamed, StandsIfOn, IsWatched, ViewsStay, followed, CanFollow, CanFollowInTurn, CanFollowAt, CanAllFollow, is_large}
 use Rattle.scene.proofs.Followed.{named_ids}
 
 -- A view whose id is in the list never, or once.
@@ -63,11 +63,6 @@ not_listed d (id ∷ ids) vs v found ne all = go (id == v.id) refl (not_listed d
         absurd (ne (ap (λ (w : View). w.document) (sym same) ∙ all.0.2))
     go false t rest = rest
 
--- what all elements of a list of images have, the elements have by their images
-each_of : {X Y : Type 0} (P : Y → Type 0) (f : X → Y) (xs : List X) → AllByRecursion P (map f xs) → AllByRecursion (λ x. P (f x)) xs
-each_of P f [] all = tt
-each_of P f (x ∷ xs) all = (all.0, each_of P f xs all.1)
-
 -- the view after a change of the views on the document
 abbrev pub on_document : Document → (View → View) → View → View
 on_document d f v = if v.document == d.id then f v else v
@@ -96,8 +91,8 @@ module _ (d : Document) (table : Entries KeptView) (w : IsWatched d table) where
         (λ v none large same. (never movement edits d.views v none).1 large) in
         all_two (λ (e : Entry KeptView). InWidth (e.value.view.document == d.id) e.value.view) (λ e. HasWidthIfOn d (width_at e)) (CanFollowAt movement edits d.views) table.entries
         (λ e can width. can e.value.large (λ on. width (eqb-true e.value.view.document d.id on)))
-        (each_of (λ (v : View). InWidth (v.document == d.id) v) (λ (e : Entry KeptView). e.value.view) table.entries all)
-        (each_of (HasWidthIfOn d) width_at table.entries w.widths);
+        (all_unmapped (λ (v : View). InWidth (v.document == d.id) v) (λ (e : Entry KeptView). e.value.view) table.entries all)
+        (all_unmapped (HasWidthIfOn d) width_at table.entries w.widths);
   }
 
   -- the views on the document become what they should, and the others stay

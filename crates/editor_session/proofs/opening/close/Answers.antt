@@ -1,6 +1,6 @@
-use Rattle.editor_session.proofs.Names.{documents_in, widths_changed, widths_living, widths_without, left_place, HaveWidths, ◌≡◌, ℕ, ◌<◌, ◌==◌, true, false, cond, List, [], ◌∷◌, map, refl, ap, sym, ◌∙◌, subst, Some, None, Ok, Err, NoSuchView, not, filter, Document, View, view_at, living, left_by, references, IsSoundDocument, ListsItsViews, closed, closed_view, Entry, Entries, value_at, without_id, Kept, KeptView, views_of, AreNamed, session_in, SessionState, IsKept, view_in, id_of_view, own_at, found_some, found_none, all_filter, all_weaker, option_copied}
+use Rattle.editor_session.proofs.Names.{documents_in, widths_changed, widths_living, widths_without, left_place, HaveWidths, ◌≡◌, ℕ, ◌<◌, ◌==◌, true, false, cond, List, [], ◌∷◌, map, refl, ap, sym, ◌∙◌, subst, Some, None, Ok, Err, NoSuchView, not, filter, Document, View, view_at, living, left_by, references, IsSoundDocument, ListsItsViews, closed, closed_view, Entry, Entries, value_at, without_id, Kept, KeptView, views_of, AreNamed, session_in, SessionState, IsKept, view_in, id_of_view, own_at, found_some, found_none, all_filter, all_weaker, map_where, changed_at, cond_both, eqb-false, id_of_document, option_copied}
 use Rattle.document_table.specs.Leaving.{documents_in as entries_in, let_go, LeavesTheLiving}
-use Rattle.performing.specs.proved.Leaving.{ChangesAlike, living_left, named_left, stays_alike}
+use Rattle.performing.specs.proved.Leaving.{living_left, named_left, stays_alike}
 use Rattle.editor_session.proofs.opening.close.Goals as goal
 
 not_open : (s : SessionState) (view : ℕ) → IsKept s → value_at s.views.entries view ≡ None → closed (session_in s) view ≡ Err NoSuchView
@@ -25,10 +25,11 @@ left_so : LeavesTheLiving → (s : SessionState) (view : ℕ) (v : KeptView) (le
 left_so law s view v left kept at is =
     let old = session_in s in
     let referenced = all_weaker (IsSoundDocument s.limits) (λ (d : Document). 0 < references d) (λ d sound. sound.referenced) old.documents kept.sound.documents in
-    let alike =
-    all_weaker (ListsItsViews old.views) (ChangesAlike v.view.document (left_by view) (left_by view))
-    (λ d lists. (λ _. refl, λ other. stays_alike old.views v.view view d (found_some view_in id_of_view s.views.entries view v kept.views at) other lists)) old.documents kept.sound.lists in
-    living_left law v.view.document s.documents.next (left_by view) (left_by view) s.documents.entries left.entries kept.documents kept.sound.document_ids referenced alike is
+    living_left law v.view.document s.documents.next (left_by view) s.documents.entries left.entries kept.documents kept.sound.document_ids referenced is
+    ∙ ap living (map_where (changed_at id_of_document v.view.document (left_by view)) (left_by view) old.documents
+    (all_weaker (ListsItsViews old.views) (λ d. changed_at id_of_document v.view.document (left_by view) d ≡ left_by view d)
+    (λ d lists. cond_both (d.id == v.view.document) (left_by view d) d (λ x. x ≡ left_by view d) (λ _. refl)
+    (λ f. sym (stays_alike old.views v.view view d (found_some view_in id_of_view s.views.entries view v kept.views at) (eqb-false d.id v.view.document f) lists))) old.documents kept.sound.lists))
 
 -- the session without the view, and without its document if nothing else refers to that
 closed_so : LeavesTheLiving → (s : SessionState) (view : ℕ) (v : KeptView) (left : Entries Kept) (views : Entries KeptView) → IsKept s → value_at s.views.entries view ≡ Some v

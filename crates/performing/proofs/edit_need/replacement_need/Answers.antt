@@ -2,7 +2,7 @@ use Rattle.performing.proofs.Edits.{[], ◌+◌, arith, slice_range, text_of, In
 use Rattle.performing.proofs.edit_need.replacement_need.Goals as goal
 
 pub returns-then-count-eq0 : goal.returns-then-count-eq0
-returns-then-count-eq0 c = let a = c.args in rw (inserts_alone a.document.now.document a.start a.count a.bytes.now c.if-count-eq0.true c.if-is_empty.ensures) c.step_need.ensures
+returns-then-count-eq0 c = let a = c.args in rw (inserts_alone a.document.now.document a.start a.count a.bytes.now c.requires.range c.if-count-eq0.true c.if-is_empty.ensures) c.step_need.ensures
 
 pub returns-then-is_empty-2 : goal.returns-then-is_empty-2
 returns-then-is_empty-2 c =

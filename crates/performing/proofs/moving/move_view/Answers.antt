@@ -24,8 +24,8 @@ returns-else-from-to c =
     let made = c.attach_reserved-else-from-to.ensures in let put = record t { entries = with_value_at to new t.entries } in
     let stays = one_stays t to can.named can.rise old new at (made ∙ ap (λ d. record old { document = d }) (sym (ap document_of made))) (ap (λ (k : Kept). k.document.id) made) in
     record {
-      moved = passed_on view to from c.if-from-to.false c.the_living_are_left.ensures t put c.leave.new.self can
-          (changed document_of id_of_document t.entries to t.next can.named can.rise old new at (with_view_last view) (ap document_of made)) stays.named refl c.leave.ensures.documents;
+      moved = passed_on view to c.the_living_are_left.ensures from c.if-from-to.false t put.entries c.leave.new.self can
+          (changed document_of id_of_document t.entries to t.next can.named can.rise old new at (with_view_last view) (ap document_of made)) stays.named c.leave.ensures.documents;
       stays = stays_twice t put c.leave.new.self stays
           (one_left from (left_by view) (λ d. refl) put c.leave.new.self stays.named c.leave.ensures.documents c.leave.ensures.others c.leave.ensures.rest c.leave.ensures.next c.leave.ensures.capacity);
     }
