@@ -14,6 +14,7 @@ use crate::styling::{fill, overwrite};
 use split_vector::SplitVector;
 use std::alloc::{AllocError, Global};
 use std::marker::Model;
+use vec_room::extend_reserved;
 
 /// How many styles are stored ahead of those that are set, so that `set_styles` at successive places seldom has to
 /// store any.
@@ -443,11 +444,7 @@ fn append_both(first: &[u8], second: &[u8], target: &mut Vec<u8>) -> Result<(), 
     ensures err { OnErr result (target.new.items ≡ target.old.items) }
 {
     target.reserve(first.len() + second.len())?;
-    let Ok(()) = target.extend_from_slice(first) else {
-        unreachable!();
-    };
-    let Ok(()) = target.extend_from_slice(second) else {
-        unreachable!();
-    };
+    extend_reserved(target, first);
+    extend_reserved(target, second);
     Ok(())
 }

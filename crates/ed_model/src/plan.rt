@@ -126,7 +126,7 @@ pub enum DocumentChange {
     /// Sets the line state (`SCI_SETLINESTATE`).
     SetState {
         line: usize,
-        state: i64,
+        state: i32,
     },
     /// Sets end styled to `place` (`SCI_STARTSTYLING`).
     SetEndStyled {
@@ -135,7 +135,7 @@ pub enum DocumentChange {
     /// Sets the style of the `count` bytes from end styled on, and moves end styled to their end.
     StyleRun {
         count: usize,
-        style: u32,
+        style: u8,
     },
     /// Like `StyleRun`, with the first `count` bytes of the message's text as the styles.
     StyleBytes {
@@ -148,7 +148,7 @@ pub enum DocumentChange {
     },
     /// Sets the indicator's value of the `count` bytes from `start` on (`SCI_INDICATORFILLRANGE`, `SCI_INDICATORCLEARRANGE`).
     FillIndicator {
-        indicator: u32,
+        indicator: usize,
         start: usize,
         count: usize,
         value: u32,

@@ -1,27 +1,25 @@
 -- Kinds and their numbers.
-use Rattle.std.proofs.Common.{◌≡◌, ℕ, List, [], ◌∷◌, refl, ◌==◌, true, Option, Some, None}
-use Rattle.std.specs.Option.{option_or}
+use Rattle.std.proofs.Common.{◌≡◌, ℕ, Bool, true, false, cond, List, [], ◌∷◌, ◌++◌, refl, ◌==◌, Some, None}
 use Rattle.std.proofs.lemmas.Bool.{eqb-true}
 use Rattle.ed_types.specs.declared.kind.Kind.{Kind}
 use Rattle.ed_types.specs.declared.kind.Kind.TheVariants as kinds
-use Rattle.ed_types.specs.Messages.{number_of, kind_of, kind_in, kind_among, groups}
+use Rattle.ed_types.specs.Messages.{number_of, kind_among, every_kind}
 use Rattle.ed_types.specs.proved.Found.{found_test}
 use Rattle.ed_types.specs.MessagesLaws.{EachKindIsFound, OnlyItsNumberFindsAKind}
 
-either_found : (a b : Option Kind) (kind : Kind) (P : Type 0) → (a ≡ Some kind → P) → (b ≡ Some kind → P) → option_or a b ≡ Some kind → P
-either_found None b kind P first second e = second e
-either_found (Some k) b kind P first second e = first e
-
-found_in_groups : (gs : List (List Kind)) (number : ℕ) (kind : Kind) → kind_in gs number ≡ Some kind → (number_of kind == number) ≡ true
-found_in_groups [] number kind e = cc
-found_in_groups (g ∷ gs) number kind e =
-    either_found (kind_among g number) (kind_in gs number) kind ((number_of kind == number) ≡ true)
-    (found_test (λ k. number_of k == number) g kind) (found_in_groups gs number kind) e
-
 pub only_its_number_finds_a_kind : OnlyItsNumberFindsAKind
-only_its_number_finds_a_kind number kind e = eqb-true (number_of kind) number (found_in_groups groups number kind e)
+only_its_number_finds_a_kind number kind e = eqb-true (number_of kind) number (found_test (λ k. number_of k == number) every_kind kind e)
 
 -- The second line is checked for each of the other kinds.
 pub each_kind_is_found : EachKindIsFound
 each_kind_is_found kinds.AddText = refl
 each_kind_is_found _ = refl
+
+-- what is in neither list
+pub none_of_both : (first second : List Kind) (number : ℕ) → kind_among first number ≡ None → kind_among second number ≡ None → kind_among (first ++ second) number ≡ None
+none_of_both [] second number none also = also
+none_of_both (k ∷ ks) second number none also = go (number_of k == number) none (λ e. none_of_both ks second number e also)
+  where
+    go : (b : Bool) → cond b (Some k) (kind_among ks number) ≡ None → (kind_among ks number ≡ None → kind_among (ks ++ second) number ≡ None) → cond b (Some k) (kind_among (ks ++ second) number) ≡ None
+    go true none rest = absurd (cc)
+    go false none rest = rest none

@@ -1,7 +1,6 @@
 -- The messages: numbers, names and marks. The names and numbers are those of Scintilla's documentation. The marks are
 -- this project's own.
-use Rattle.std.specs.Prelude.{ℕ, Bool, true, false, ◌==◌, List, [], ◌∷◌, find, Option, None, option_map}
-use Rattle.std.specs.Option.{option_or}
+use Rattle.std.specs.Prelude.{ℕ, Bool, true, false, ◌==◌, List, [], ◌∷◌, find, Option, option_map}
 use Rattle.ed_types.specs.declared.kind.Kind.{Kind}
 use Rattle.ed_types.specs.declared.kind.Kind.TheVariants as kinds
 use Rattle.ed_types.specs.declared.marks.Columns.{Columns}
@@ -194,40 +193,39 @@ number_of kind = (row_of kind).number
 abbrev pub marks_of : Kind → Columns
 marks_of kind = (row_of kind).marks
 
-abbrev pub numbers_to_2033 : List Kind
-numbers_to_2033 = kinds.AddText ∷ kinds.InsertText ∷ kinds.ClearAll ∷ kinds.GetLength ∷ kinds.GetCharAt ∷ kinds.GetCurrentPos ∷ kinds.GetAnchor ∷ kinds.GetStyleAt ∷ kinds.Redo ∷ kinds.SetUndoCollection ∷ kinds.SelectAll ∷ kinds.SetSavePoint ∷ kinds.GetStyledText ∷ kinds.CanRedo ∷ kinds.MarkerLineFromHandle ∷ kinds.MarkerDeleteHandle ∷ kinds.GetUndoCollection ∷ kinds.GotoLine ∷ kinds.GotoPos ∷ kinds.SetAnchor ∷ kinds.GetCurLine ∷ kinds.GetEndStyled ∷ kinds.ConvertEols ∷ kinds.GetEolMode ∷ kinds.SetEolMode ∷ kinds.StartStyling ∷ kinds.SetStyling ∷ []
-
-abbrev pub numbers_to_2145 : List Kind
-numbers_to_2145 = kinds.MarkerAdd ∷ kinds.MarkerDelete ∷ kinds.MarkerDeleteAll ∷ kinds.MarkerGet ∷ kinds.MarkerNext ∷ kinds.MarkerPrevious ∷ kinds.SetStylingEx ∷ kinds.BeginUndoAction ∷ kinds.EndUndoAction ∷ kinds.SetLineState ∷ kinds.GetLineState ∷ kinds.GetLineEndPosition ∷ kinds.GetReadOnly ∷ kinds.SetCurrentPos ∷ kinds.SetSelectionStart ∷ kinds.GetSelectionStart ∷ kinds.SetSelectionEnd ∷ kinds.GetSelectionEnd ∷ []
-
-abbrev pub numbers_to_2199 : List Kind
-numbers_to_2199 = kinds.GetLine ∷ kinds.GetLineCount ∷ kinds.GetModify ∷ kinds.SetSel ∷ kinds.GetSelText ∷ kinds.GetTextRange ∷ kinds.LineFromPosition ∷ kinds.PositionFromLine ∷ kinds.ReplaceSel ∷ kinds.SetReadOnly ∷ kinds.CanPaste ∷ kinds.CanUndo ∷ kinds.EmptyUndoBuffer ∷ kinds.Undo ∷ kinds.Cut ∷ kinds.Copy ∷ kinds.Paste ∷ kinds.Clear ∷ kinds.SetText ∷ kinds.GetText ∷ kinds.GetTextLength ∷ kinds.SetTargetStart ∷ kinds.GetTargetStart ∷ kinds.SetTargetEnd ∷ kinds.GetTargetEnd ∷ kinds.ReplaceTarget ∷ kinds.SearchInTarget ∷ kinds.SetSearchFlags ∷ kinds.GetSearchFlags ∷ []
-
-abbrev pub numbers_to_2319 : List Kind
-numbers_to_2319 = kinds.VisibleFromDocLine ∷ kinds.DocLineFromVisible ∷ kinds.SetFoldLevel ∷ kinds.GetFoldLevel ∷ kinds.GetLastChild ∷ kinds.GetFoldParent ∷ kinds.ShowLines ∷ kinds.HideLines ∷ kinds.GetLineVisible ∷ kinds.SetFoldExpanded ∷ kinds.GetFoldExpanded ∷ kinds.ToggleFold ∷ kinds.EnsureVisible ∷ kinds.GetAllLinesVisible ∷ kinds.FoldLine ∷ kinds.AppendText ∷ kinds.TargetFromSelection ∷ kinds.CharLeft ∷ kinds.CharLeftExtend ∷ kinds.CharRight ∷ kinds.CharRightExtend ∷ kinds.Home ∷ kinds.HomeExtend ∷ kinds.LineEnd ∷ kinds.LineEndExtend ∷ kinds.DocumentStart ∷ kinds.DocumentStartExtend ∷ kinds.DocumentEnd ∷ kinds.DocumentEndExtend ∷ []
-
-abbrev pub numbers_to_2504 : List Kind
-numbers_to_2504 = kinds.DeleteBack ∷ kinds.NewLine ∷ kinds.LineLength ∷ kinds.GetDocPointer ∷ kinds.SetDocPointer ∷ kinds.SetModEventMask ∷ kinds.CreateDocument ∷ kinds.AddRefDocument ∷ kinds.ReleaseDocument ∷ kinds.GetModEventMask ∷ kinds.GetDocumentOptions ∷ kinds.PositionBefore ∷ kinds.PositionAfter ∷ kinds.CopyRange ∷ kinds.CopyText ∷ kinds.MarkerAddSet ∷ kinds.SetPasteConvertEndings ∷ kinds.GetPasteConvertEndings ∷ kinds.SetIndicatorCurrent ∷ kinds.GetIndicatorCurrent ∷ kinds.SetIndicatorValue ∷ kinds.GetIndicatorValue ∷ kinds.IndicatorFillRange ∷ []
-
-abbrev pub numbers_to_4003 : List Kind
-numbers_to_4003 = kinds.IndicatorClearRange ∷ kinds.IndicatorAllOnFor ∷ kinds.IndicatorValueAt ∷ kinds.IndicatorStart ∷ kinds.IndicatorEnd ∷ kinds.SetEmptySelection ∷ kinds.AddUndoAction ∷ kinds.DeleteRange ∷ kinds.GetSelectionEmpty ∷ kinds.SetLineEndTypesAllowed ∷ kinds.GetLineEndTypesAllowed ∷ kinds.GetLineEndTypesActive ∷ kinds.SetTargetRange ∷ kinds.GetTargetText ∷ kinds.TargetWholeDocument ∷ kinds.StartRecord ∷ kinds.StopRecord ∷ kinds.Colourise ∷ []
-
--- every kind, by rising numbers, in groups
-abbrev pub groups : List (List Kind)
-groups = numbers_to_2033 ∷ numbers_to_2145 ∷ numbers_to_2199 ∷ numbers_to_2319 ∷ numbers_to_2504 ∷ numbers_to_4003 ∷ []
+-- every kind, by rising numbers
+abbrev pub every_kind : List Kind
+every_kind = kinds.AddText ∷ kinds.InsertText ∷ kinds.ClearAll ∷ kinds.GetLength ∷ kinds.GetCharAt ∷ kinds.GetCurrentPos ∷ kinds.GetAnchor ∷
+    kinds.GetStyleAt ∷ kinds.Redo ∷ kinds.SetUndoCollection ∷ kinds.SelectAll ∷ kinds.SetSavePoint ∷ kinds.GetStyledText ∷ kinds.CanRedo ∷
+    kinds.MarkerLineFromHandle ∷ kinds.MarkerDeleteHandle ∷ kinds.GetUndoCollection ∷ kinds.GotoLine ∷ kinds.GotoPos ∷ kinds.SetAnchor ∷
+    kinds.GetCurLine ∷ kinds.GetEndStyled ∷ kinds.ConvertEols ∷ kinds.GetEolMode ∷ kinds.SetEolMode ∷ kinds.StartStyling ∷ kinds.SetStyling ∷
+    kinds.MarkerAdd ∷ kinds.MarkerDelete ∷ kinds.MarkerDeleteAll ∷ kinds.MarkerGet ∷ kinds.MarkerNext ∷ kinds.MarkerPrevious ∷ kinds.SetStylingEx ∷
+    kinds.BeginUndoAction ∷ kinds.EndUndoAction ∷ kinds.SetLineState ∷ kinds.GetLineState ∷ kinds.GetLineEndPosition ∷ kinds.GetReadOnly ∷
+    kinds.SetCurrentPos ∷ kinds.SetSelectionStart ∷ kinds.GetSelectionStart ∷ kinds.SetSelectionEnd ∷ kinds.GetSelectionEnd ∷ kinds.GetLine ∷
+    kinds.GetLineCount ∷ kinds.GetModify ∷ kinds.SetSel ∷ kinds.GetSelText ∷ kinds.GetTextRange ∷ kinds.LineFromPosition ∷ kinds.PositionFromLine ∷
+    kinds.ReplaceSel ∷ kinds.SetReadOnly ∷ kinds.CanPaste ∷ kinds.CanUndo ∷ kinds.EmptyUndoBuffer ∷ kinds.Undo ∷ kinds.Cut ∷ kinds.Copy ∷
+    kinds.Paste ∷ kinds.Clear ∷ kinds.SetText ∷ kinds.GetText ∷ kinds.GetTextLength ∷ kinds.SetTargetStart ∷ kinds.GetTargetStart ∷
+    kinds.SetTargetEnd ∷ kinds.GetTargetEnd ∷ kinds.ReplaceTarget ∷ kinds.SearchInTarget ∷ kinds.SetSearchFlags ∷ kinds.GetSearchFlags ∷
+    kinds.VisibleFromDocLine ∷ kinds.DocLineFromVisible ∷ kinds.SetFoldLevel ∷ kinds.GetFoldLevel ∷ kinds.GetLastChild ∷ kinds.GetFoldParent ∷
+    kinds.ShowLines ∷ kinds.HideLines ∷ kinds.GetLineVisible ∷ kinds.SetFoldExpanded ∷ kinds.GetFoldExpanded ∷ kinds.ToggleFold ∷
+    kinds.EnsureVisible ∷ kinds.GetAllLinesVisible ∷ kinds.FoldLine ∷ kinds.AppendText ∷ kinds.TargetFromSelection ∷ kinds.CharLeft ∷
+    kinds.CharLeftExtend ∷ kinds.CharRight ∷ kinds.CharRightExtend ∷ kinds.Home ∷ kinds.HomeExtend ∷ kinds.LineEnd ∷ kinds.LineEndExtend ∷
+    kinds.DocumentStart ∷ kinds.DocumentStartExtend ∷ kinds.DocumentEnd ∷ kinds.DocumentEndExtend ∷ kinds.DeleteBack ∷ kinds.NewLine ∷
+    kinds.LineLength ∷ kinds.GetDocPointer ∷ kinds.SetDocPointer ∷ kinds.SetModEventMask ∷ kinds.CreateDocument ∷ kinds.AddRefDocument ∷
+    kinds.ReleaseDocument ∷ kinds.GetModEventMask ∷ kinds.GetDocumentOptions ∷ kinds.PositionBefore ∷ kinds.PositionAfter ∷ kinds.CopyRange ∷
+    kinds.CopyText ∷ kinds.MarkerAddSet ∷ kinds.SetPasteConvertEndings ∷ kinds.GetPasteConvertEndings ∷ kinds.SetIndicatorCurrent ∷
+    kinds.GetIndicatorCurrent ∷ kinds.SetIndicatorValue ∷ kinds.GetIndicatorValue ∷ kinds.IndicatorFillRange ∷ kinds.IndicatorClearRange ∷
+    kinds.IndicatorAllOnFor ∷ kinds.IndicatorValueAt ∷ kinds.IndicatorStart ∷ kinds.IndicatorEnd ∷ kinds.SetEmptySelection ∷ kinds.AddUndoAction ∷
+    kinds.DeleteRange ∷ kinds.GetSelectionEmpty ∷ kinds.SetLineEndTypesAllowed ∷ kinds.GetLineEndTypesAllowed ∷ kinds.GetLineEndTypesActive ∷
+    kinds.SetTargetRange ∷ kinds.GetTargetText ∷ kinds.TargetWholeDocument ∷ kinds.StartRecord ∷ kinds.StopRecord ∷ kinds.Colourise ∷ []
 
 -- the kind among these that has the number
 abbrev pub kind_among : List Kind → ℕ → Option Kind
 kind_among kinds number = find (λ kind. number_of kind == number) kinds
 
--- the kind in the first group that has one with the number
-abbrev pub kind_in : List (List Kind) → ℕ → Option Kind
-kind_in [] number = None
-kind_in (group ∷ others) number = option_or (kind_among group number) (kind_in others number)
-
 -- the kind that has the number
 abbrev pub kind_of : ℕ → Option Kind
-kind_of number = kind_in groups number
+kind_of number = kind_among every_kind number
 
 -- the marks of the message that has the number
 abbrev pub marks_at : ℕ → Option Columns

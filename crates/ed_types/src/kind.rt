@@ -1,7 +1,7 @@
 //! The kinds of messages: their numbers and their marks.
 
 ghost use Rattle.std.specs.Prelude.{◌≡◌};
-ghost use Rattle.ed_types.specs.Messages.{number_of, kind_of, kind_among, marks_of, numbers_to_2033, numbers_to_2145, numbers_to_2199, numbers_to_2319, numbers_to_2504, numbers_to_4003};
+ghost use Rattle.ed_types.specs.Messages.{number_of, kind_of, marks_of};
 
 use crate::marks::Columns;
 
@@ -306,26 +306,158 @@ impl Kind {
         self as u32
     }
 
-    /// Returns the message with this number, or `None` if the profile has no such message.
+    /// Returns the message with this number, or `None` if the profile has no such message. Inlined: as a call, each message takes 8 instructions more.
+    #[inline(always)]
     pub fn from_number(number: u32) -> Option<Kind>
         ensures decoded { result ≡ kind_of number }
     {
-        if let Some(kind) = kind_to_2033(number) {
-            return Some(kind);
+        match number {
+            2001 => Some(Kind::AddText),
+            2003 => Some(Kind::InsertText),
+            2004 => Some(Kind::ClearAll),
+            2006 => Some(Kind::GetLength),
+            2007 => Some(Kind::GetCharAt),
+            2008 => Some(Kind::GetCurrentPos),
+            2009 => Some(Kind::GetAnchor),
+            2010 => Some(Kind::GetStyleAt),
+            2011 => Some(Kind::Redo),
+            2012 => Some(Kind::SetUndoCollection),
+            2013 => Some(Kind::SelectAll),
+            2014 => Some(Kind::SetSavePoint),
+            2015 => Some(Kind::GetStyledText),
+            2016 => Some(Kind::CanRedo),
+            2017 => Some(Kind::MarkerLineFromHandle),
+            2018 => Some(Kind::MarkerDeleteHandle),
+            2019 => Some(Kind::GetUndoCollection),
+            2024 => Some(Kind::GotoLine),
+            2025 => Some(Kind::GotoPos),
+            2026 => Some(Kind::SetAnchor),
+            2027 => Some(Kind::GetCurLine),
+            2028 => Some(Kind::GetEndStyled),
+            2029 => Some(Kind::ConvertEols),
+            2030 => Some(Kind::GetEolMode),
+            2031 => Some(Kind::SetEolMode),
+            2032 => Some(Kind::StartStyling),
+            2033 => Some(Kind::SetStyling),
+            2043 => Some(Kind::MarkerAdd),
+            2044 => Some(Kind::MarkerDelete),
+            2045 => Some(Kind::MarkerDeleteAll),
+            2046 => Some(Kind::MarkerGet),
+            2047 => Some(Kind::MarkerNext),
+            2048 => Some(Kind::MarkerPrevious),
+            2073 => Some(Kind::SetStylingEx),
+            2078 => Some(Kind::BeginUndoAction),
+            2079 => Some(Kind::EndUndoAction),
+            2092 => Some(Kind::SetLineState),
+            2093 => Some(Kind::GetLineState),
+            2136 => Some(Kind::GetLineEndPosition),
+            2140 => Some(Kind::GetReadOnly),
+            2141 => Some(Kind::SetCurrentPos),
+            2142 => Some(Kind::SetSelectionStart),
+            2143 => Some(Kind::GetSelectionStart),
+            2144 => Some(Kind::SetSelectionEnd),
+            2145 => Some(Kind::GetSelectionEnd),
+            2153 => Some(Kind::GetLine),
+            2154 => Some(Kind::GetLineCount),
+            2159 => Some(Kind::GetModify),
+            2160 => Some(Kind::SetSel),
+            2161 => Some(Kind::GetSelText),
+            2162 => Some(Kind::GetTextRange),
+            2166 => Some(Kind::LineFromPosition),
+            2167 => Some(Kind::PositionFromLine),
+            2170 => Some(Kind::ReplaceSel),
+            2171 => Some(Kind::SetReadOnly),
+            2173 => Some(Kind::CanPaste),
+            2174 => Some(Kind::CanUndo),
+            2175 => Some(Kind::EmptyUndoBuffer),
+            2176 => Some(Kind::Undo),
+            2177 => Some(Kind::Cut),
+            2178 => Some(Kind::Copy),
+            2179 => Some(Kind::Paste),
+            2180 => Some(Kind::Clear),
+            2181 => Some(Kind::SetText),
+            2182 => Some(Kind::GetText),
+            2183 => Some(Kind::GetTextLength),
+            2190 => Some(Kind::SetTargetStart),
+            2191 => Some(Kind::GetTargetStart),
+            2192 => Some(Kind::SetTargetEnd),
+            2193 => Some(Kind::GetTargetEnd),
+            2194 => Some(Kind::ReplaceTarget),
+            2197 => Some(Kind::SearchInTarget),
+            2198 => Some(Kind::SetSearchFlags),
+            2199 => Some(Kind::GetSearchFlags),
+            2220 => Some(Kind::VisibleFromDocLine),
+            2221 => Some(Kind::DocLineFromVisible),
+            2222 => Some(Kind::SetFoldLevel),
+            2223 => Some(Kind::GetFoldLevel),
+            2224 => Some(Kind::GetLastChild),
+            2225 => Some(Kind::GetFoldParent),
+            2226 => Some(Kind::ShowLines),
+            2227 => Some(Kind::HideLines),
+            2228 => Some(Kind::GetLineVisible),
+            2229 => Some(Kind::SetFoldExpanded),
+            2230 => Some(Kind::GetFoldExpanded),
+            2231 => Some(Kind::ToggleFold),
+            2232 => Some(Kind::EnsureVisible),
+            2236 => Some(Kind::GetAllLinesVisible),
+            2237 => Some(Kind::FoldLine),
+            2282 => Some(Kind::AppendText),
+            2287 => Some(Kind::TargetFromSelection),
+            2304 => Some(Kind::CharLeft),
+            2305 => Some(Kind::CharLeftExtend),
+            2306 => Some(Kind::CharRight),
+            2307 => Some(Kind::CharRightExtend),
+            2312 => Some(Kind::Home),
+            2313 => Some(Kind::HomeExtend),
+            2314 => Some(Kind::LineEnd),
+            2315 => Some(Kind::LineEndExtend),
+            2316 => Some(Kind::DocumentStart),
+            2317 => Some(Kind::DocumentStartExtend),
+            2318 => Some(Kind::DocumentEnd),
+            2319 => Some(Kind::DocumentEndExtend),
+            2326 => Some(Kind::DeleteBack),
+            2329 => Some(Kind::NewLine),
+            2350 => Some(Kind::LineLength),
+            2357 => Some(Kind::GetDocPointer),
+            2358 => Some(Kind::SetDocPointer),
+            2359 => Some(Kind::SetModEventMask),
+            2375 => Some(Kind::CreateDocument),
+            2376 => Some(Kind::AddRefDocument),
+            2377 => Some(Kind::ReleaseDocument),
+            2378 => Some(Kind::GetModEventMask),
+            2379 => Some(Kind::GetDocumentOptions),
+            2417 => Some(Kind::PositionBefore),
+            2418 => Some(Kind::PositionAfter),
+            2419 => Some(Kind::CopyRange),
+            2420 => Some(Kind::CopyText),
+            2466 => Some(Kind::MarkerAddSet),
+            2467 => Some(Kind::SetPasteConvertEndings),
+            2468 => Some(Kind::GetPasteConvertEndings),
+            2500 => Some(Kind::SetIndicatorCurrent),
+            2501 => Some(Kind::GetIndicatorCurrent),
+            2502 => Some(Kind::SetIndicatorValue),
+            2503 => Some(Kind::GetIndicatorValue),
+            2504 => Some(Kind::IndicatorFillRange),
+            2505 => Some(Kind::IndicatorClearRange),
+            2506 => Some(Kind::IndicatorAllOnFor),
+            2507 => Some(Kind::IndicatorValueAt),
+            2508 => Some(Kind::IndicatorStart),
+            2509 => Some(Kind::IndicatorEnd),
+            2556 => Some(Kind::SetEmptySelection),
+            2560 => Some(Kind::AddUndoAction),
+            2645 => Some(Kind::DeleteRange),
+            2650 => Some(Kind::GetSelectionEmpty),
+            2656 => Some(Kind::SetLineEndTypesAllowed),
+            2657 => Some(Kind::GetLineEndTypesAllowed),
+            2658 => Some(Kind::GetLineEndTypesActive),
+            2686 => Some(Kind::SetTargetRange),
+            2687 => Some(Kind::GetTargetText),
+            2690 => Some(Kind::TargetWholeDocument),
+            3001 => Some(Kind::StartRecord),
+            3002 => Some(Kind::StopRecord),
+            4003 => Some(Kind::Colourise),
+            _ => None,
         }
-        if let Some(kind) = kind_to_2145(number) {
-            return Some(kind);
-        }
-        if let Some(kind) = kind_to_2199(number) {
-            return Some(kind);
-        }
-        if let Some(kind) = kind_to_2319(number) {
-            return Some(kind);
-        }
-        if let Some(kind) = kind_to_2504(number) {
-            return Some(kind);
-        }
-        kind_to_4003(number)
     }
 
     /// Returns the marks of this message.
@@ -478,197 +610,5 @@ impl Kind {
             Kind::StopRecord => Columns::WITHOUT_MEMORY,
             Kind::Colourise => Columns::UNMARKED,
         }
-    }
-}
-
-fn kind_to_2033(number: u32) -> Option<Kind>
-    ensures { result ≡ kind_among numbers_to_2033 number }
-{
-    match number {
-        2001 => Some(Kind::AddText),
-        2003 => Some(Kind::InsertText),
-        2004 => Some(Kind::ClearAll),
-        2006 => Some(Kind::GetLength),
-        2007 => Some(Kind::GetCharAt),
-        2008 => Some(Kind::GetCurrentPos),
-        2009 => Some(Kind::GetAnchor),
-        2010 => Some(Kind::GetStyleAt),
-        2011 => Some(Kind::Redo),
-        2012 => Some(Kind::SetUndoCollection),
-        2013 => Some(Kind::SelectAll),
-        2014 => Some(Kind::SetSavePoint),
-        2015 => Some(Kind::GetStyledText),
-        2016 => Some(Kind::CanRedo),
-        2017 => Some(Kind::MarkerLineFromHandle),
-        2018 => Some(Kind::MarkerDeleteHandle),
-        2019 => Some(Kind::GetUndoCollection),
-        2024 => Some(Kind::GotoLine),
-        2025 => Some(Kind::GotoPos),
-        2026 => Some(Kind::SetAnchor),
-        2027 => Some(Kind::GetCurLine),
-        2028 => Some(Kind::GetEndStyled),
-        2029 => Some(Kind::ConvertEols),
-        2030 => Some(Kind::GetEolMode),
-        2031 => Some(Kind::SetEolMode),
-        2032 => Some(Kind::StartStyling),
-        2033 => Some(Kind::SetStyling),
-        _ => None,
-    }
-}
-
-fn kind_to_2145(number: u32) -> Option<Kind>
-    ensures { result ≡ kind_among numbers_to_2145 number }
-{
-    match number {
-        2043 => Some(Kind::MarkerAdd),
-        2044 => Some(Kind::MarkerDelete),
-        2045 => Some(Kind::MarkerDeleteAll),
-        2046 => Some(Kind::MarkerGet),
-        2047 => Some(Kind::MarkerNext),
-        2048 => Some(Kind::MarkerPrevious),
-        2073 => Some(Kind::SetStylingEx),
-        2078 => Some(Kind::BeginUndoAction),
-        2079 => Some(Kind::EndUndoAction),
-        2092 => Some(Kind::SetLineState),
-        2093 => Some(Kind::GetLineState),
-        2136 => Some(Kind::GetLineEndPosition),
-        2140 => Some(Kind::GetReadOnly),
-        2141 => Some(Kind::SetCurrentPos),
-        2142 => Some(Kind::SetSelectionStart),
-        2143 => Some(Kind::GetSelectionStart),
-        2144 => Some(Kind::SetSelectionEnd),
-        2145 => Some(Kind::GetSelectionEnd),
-        _ => None,
-    }
-}
-
-fn kind_to_2199(number: u32) -> Option<Kind>
-    ensures { result ≡ kind_among numbers_to_2199 number }
-{
-    match number {
-        2153 => Some(Kind::GetLine),
-        2154 => Some(Kind::GetLineCount),
-        2159 => Some(Kind::GetModify),
-        2160 => Some(Kind::SetSel),
-        2161 => Some(Kind::GetSelText),
-        2162 => Some(Kind::GetTextRange),
-        2166 => Some(Kind::LineFromPosition),
-        2167 => Some(Kind::PositionFromLine),
-        2170 => Some(Kind::ReplaceSel),
-        2171 => Some(Kind::SetReadOnly),
-        2173 => Some(Kind::CanPaste),
-        2174 => Some(Kind::CanUndo),
-        2175 => Some(Kind::EmptyUndoBuffer),
-        2176 => Some(Kind::Undo),
-        2177 => Some(Kind::Cut),
-        2178 => Some(Kind::Copy),
-        2179 => Some(Kind::Paste),
-        2180 => Some(Kind::Clear),
-        2181 => Some(Kind::SetText),
-        2182 => Some(Kind::GetText),
-        2183 => Some(Kind::GetTextLength),
-        2190 => Some(Kind::SetTargetStart),
-        2191 => Some(Kind::GetTargetStart),
-        2192 => Some(Kind::SetTargetEnd),
-        2193 => Some(Kind::GetTargetEnd),
-        2194 => Some(Kind::ReplaceTarget),
-        2197 => Some(Kind::SearchInTarget),
-        2198 => Some(Kind::SetSearchFlags),
-        2199 => Some(Kind::GetSearchFlags),
-        _ => None,
-    }
-}
-
-fn kind_to_2319(number: u32) -> Option<Kind>
-    ensures { result ≡ kind_among numbers_to_2319 number }
-{
-    match number {
-        2220 => Some(Kind::VisibleFromDocLine),
-        2221 => Some(Kind::DocLineFromVisible),
-        2222 => Some(Kind::SetFoldLevel),
-        2223 => Some(Kind::GetFoldLevel),
-        2224 => Some(Kind::GetLastChild),
-        2225 => Some(Kind::GetFoldParent),
-        2226 => Some(Kind::ShowLines),
-        2227 => Some(Kind::HideLines),
-        2228 => Some(Kind::GetLineVisible),
-        2229 => Some(Kind::SetFoldExpanded),
-        2230 => Some(Kind::GetFoldExpanded),
-        2231 => Some(Kind::ToggleFold),
-        2232 => Some(Kind::EnsureVisible),
-        2236 => Some(Kind::GetAllLinesVisible),
-        2237 => Some(Kind::FoldLine),
-        2282 => Some(Kind::AppendText),
-        2287 => Some(Kind::TargetFromSelection),
-        2304 => Some(Kind::CharLeft),
-        2305 => Some(Kind::CharLeftExtend),
-        2306 => Some(Kind::CharRight),
-        2307 => Some(Kind::CharRightExtend),
-        2312 => Some(Kind::Home),
-        2313 => Some(Kind::HomeExtend),
-        2314 => Some(Kind::LineEnd),
-        2315 => Some(Kind::LineEndExtend),
-        2316 => Some(Kind::DocumentStart),
-        2317 => Some(Kind::DocumentStartExtend),
-        2318 => Some(Kind::DocumentEnd),
-        2319 => Some(Kind::DocumentEndExtend),
-        _ => None,
-    }
-}
-
-fn kind_to_2504(number: u32) -> Option<Kind>
-    ensures { result ≡ kind_among numbers_to_2504 number }
-{
-    match number {
-        2326 => Some(Kind::DeleteBack),
-        2329 => Some(Kind::NewLine),
-        2350 => Some(Kind::LineLength),
-        2357 => Some(Kind::GetDocPointer),
-        2358 => Some(Kind::SetDocPointer),
-        2359 => Some(Kind::SetModEventMask),
-        2375 => Some(Kind::CreateDocument),
-        2376 => Some(Kind::AddRefDocument),
-        2377 => Some(Kind::ReleaseDocument),
-        2378 => Some(Kind::GetModEventMask),
-        2379 => Some(Kind::GetDocumentOptions),
-        2417 => Some(Kind::PositionBefore),
-        2418 => Some(Kind::PositionAfter),
-        2419 => Some(Kind::CopyRange),
-        2420 => Some(Kind::CopyText),
-        2466 => Some(Kind::MarkerAddSet),
-        2467 => Some(Kind::SetPasteConvertEndings),
-        2468 => Some(Kind::GetPasteConvertEndings),
-        2500 => Some(Kind::SetIndicatorCurrent),
-        2501 => Some(Kind::GetIndicatorCurrent),
-        2502 => Some(Kind::SetIndicatorValue),
-        2503 => Some(Kind::GetIndicatorValue),
-        2504 => Some(Kind::IndicatorFillRange),
-        _ => None,
-    }
-}
-
-fn kind_to_4003(number: u32) -> Option<Kind>
-    ensures { result ≡ kind_among numbers_to_4003 number }
-{
-    match number {
-        2505 => Some(Kind::IndicatorClearRange),
-        2506 => Some(Kind::IndicatorAllOnFor),
-        2507 => Some(Kind::IndicatorValueAt),
-        2508 => Some(Kind::IndicatorStart),
-        2509 => Some(Kind::IndicatorEnd),
-        2556 => Some(Kind::SetEmptySelection),
-        2560 => Some(Kind::AddUndoAction),
-        2645 => Some(Kind::DeleteRange),
-        2650 => Some(Kind::GetSelectionEmpty),
-        2656 => Some(Kind::SetLineEndTypesAllowed),
-        2657 => Some(Kind::GetLineEndTypesAllowed),
-        2658 => Some(Kind::GetLineEndTypesActive),
-        2686 => Some(Kind::SetTargetRange),
-        2687 => Some(Kind::GetTargetText),
-        2690 => Some(Kind::TargetWholeDocument),
-        3001 => Some(Kind::StartRecord),
-        3002 => Some(Kind::StopRecord),
-        4003 => Some(Kind::Colourise),
-        _ => None,
     }
 }

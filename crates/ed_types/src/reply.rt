@@ -85,8 +85,7 @@ impl Reply {
         }
     }
 
-    /// Removes the text and the notes. Out of line, since most replies are a value alone.
-    #[inline(never)]
+    /// Removes the text and the notes.
     fn clear(&mut self)
         ensures { self.new ≡ record { value = self.old.value; text = []; notes = [] } }
     {
@@ -98,7 +97,6 @@ impl Reply {
 
     /// Replaces the reply by a value alone. A small buffer of its text is kept for the next text; all other memory is
     /// freed.
-    #[inline(always)]
     pub fn answer(&mut self, value: i64)
         ensures { self.new ≡ record { value = value; text = []; notes = [] } }
     {

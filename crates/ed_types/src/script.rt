@@ -1,8 +1,12 @@
 //! Commands of scripts, their outcomes, and the faults of a script.
 
+ghost use Rattle.std.specs.Prelude.{◌≡◌};
+ghost use Rattle.ed_types.specs.declared.script.ScriptFault.TheVariants.{OutOfMemory};
+
 use crate::message::Message;
 use crate::refusal::Refusal;
 use crate::reply::Reply;
+use std::alloc::AllocError;
 use thiserror::Error;
 
 /// One command of a script.
@@ -73,4 +77,12 @@ pub enum ScriptFault {
     /// An allocation failed.
     #[error("out of memory")]
     OutOfMemory,
+}
+
+impl From<AllocError> for ScriptFault {
+    ghost from_gives = { λ _ fault. fault ≡ OutOfMemory };
+
+    fn from(_failed: AllocError) -> ScriptFault {
+        ScriptFault::OutOfMemory
+    }
 }

@@ -19,6 +19,10 @@ impl View {
         requires few { AreFewLines self.old.large (length self.old.view.flags + fresh_lines edits.now) }
         ensures { self.new ≡ record self.old { view = with_edited_lines edits.now self.old.view } }
     {
+        // A step mostly leaves the lines as they are.
+        if edits.is_empty() {
+            return;
+        }
         self.lines.carry(edits);
     }
 

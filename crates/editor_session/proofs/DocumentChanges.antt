@@ -22,8 +22,8 @@ fit_change r (change.AddMarkers line mask) l h = let b = (bounded r.session.limi
 fit_change r (change.DeleteMarker line number) l h = h.0
 fit_change r (change.DeleteHandle handle) l h = h
 fit_change r (change.SetLevel line level) l h = h.0
-fit_change r (change.SetState line state) l h = (h.0, h.1.0, h.1.1)
-fit_change r (change.StyleRun count style) l h = h
+fit_change r (change.SetState line state) l h = h.0
+fit_change r (change.StyleRun count style) l h = h.0
 fit_change r (change.StyleBytes count) l h = h.0
 fit_change r (change.NeedStyle start past) l h = h.1
 fit_change r (change.FillIndicator indicator start count value) l h = h

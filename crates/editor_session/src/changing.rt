@@ -26,7 +26,6 @@ use std::alloc::{AllocError, Global};
 /// # Errors
 ///
 /// `AllocError` if an allocation fails. The session is then as it was.
-#[inline(always)]
 pub(crate) fn perform_change(
     alloc: Global,
     state: &mut SessionState,
@@ -65,8 +64,7 @@ pub(crate) fn perform_change(
 }
 
 /// Makes `change` in the document with this id, for a message to `view`, if no view hears it. Returns whether it did; nothing
-/// has changed otherwise, also if an allocation fails. Out of line, so that other messages do not pay for its stack frame.
-#[inline(never)]
+/// has changed otherwise, also if an allocation fails.
 pub(crate) fn perform_unheard_change(
     state: &mut SessionState,
     document: u32,
@@ -98,7 +96,6 @@ pub(crate) fn perform_unheard_change(
 /// # Errors
 ///
 /// `AllocError` if an allocation fails. The session is then as it was.
-#[inline(always)]
 pub(crate) fn perform_view_change(
     state: &mut SessionState,
     task: &Task,
@@ -122,7 +119,6 @@ pub(crate) fn perform_view_change(
 /// # Errors
 ///
 /// `AllocError` if an allocation fails.
-#[inline(never)]
 pub(crate) fn perform_attempt(
     state: &SessionState,
     document: u32,

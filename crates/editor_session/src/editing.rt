@@ -33,7 +33,6 @@ use std::alloc::{AllocError, Global};
 /// # Errors
 ///
 /// Those of `replace_with_room`.
-#[inline(always)]
 fn edit_with_room(
     document: &mut Document,
     views: &mut IdTable<View>,
@@ -71,7 +70,6 @@ fn edit_with_room(
 }
 
 /// Returns whether an edit inserts the clipboard with the document's line ends.
-#[inline(always)]
 fn is_turned(edit: Edit) -> bool
     ensures { result ≡ is_turned edit }
 {
@@ -84,12 +82,11 @@ fn is_turned(edit: Edit) -> bool
     )
 }
 
-/// Returns the clipboard with line ends of this kind. Out of line, since only a PASTE that converts line ends needs it.
+/// Returns the clipboard with line ends of this kind.
 ///
 /// # Errors
 ///
 /// `AllocError` if an allocation fails.
-#[inline(never)]
 fn converted_clipboard(
     alloc: Global,
     clipboard: &[u8],
@@ -108,7 +105,6 @@ fn converted_clipboard(
 /// # Errors
 ///
 /// `AllocError` if an allocation fails.
-#[inline(always)]
 fn pasted_bytes(
     alloc: Global,
     state: &SessionState,
@@ -134,7 +130,6 @@ fn pasted_bytes(
 /// # Errors
 ///
 /// `AllocError` if an allocation fails.
-#[inline(always)]
 fn taken_bytes(
     alloc: Global,
     state: &SessionState,
@@ -159,7 +154,6 @@ fn taken_bytes(
 /// # Errors
 ///
 /// `AllocError` if an allocation fails. The session is then as it was.
-#[inline(always)]
 pub(crate) fn perform_edit(
     alloc: Global,
     state: &mut SessionState,

@@ -27,7 +27,6 @@ fn append_styled(document: &Document, start: usize, count: usize, target: &mut V
 /// # Errors
 ///
 /// `AllocError` if the allocation fails.
-#[inline(never)]
 pub(crate) fn hand_out(
     alloc: Global,
     state: &SessionState,
@@ -50,7 +49,6 @@ pub(crate) fn hand_out(
 /// # Errors
 ///
 /// `AllocError` if the allocation fails.
-#[inline(never)]
 pub(crate) fn hand_out_styled(
     alloc: Global,
     state: &SessionState,

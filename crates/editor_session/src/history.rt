@@ -19,7 +19,6 @@ use std::alloc::AllocError;
 /// # Errors
 ///
 /// `AllocError` if an allocation fails. The session is then as it was.
-#[inline(always)]
 pub(crate) fn perform_transaction(
     state: &mut SessionState,
     task: &Task,

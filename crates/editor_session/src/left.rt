@@ -4,8 +4,7 @@ ghost use Rattle.std.specs.Prelude.{◌≡◌};
 
 use ed_types::Reply;
 
-/// Replaces a reply. Out of line, since most replies are a value alone.
-#[inline(never)]
+/// Replaces a reply.
 fn put(reply: &mut Reply, new: Reply)
     ensures { reply.new ≡ new }
 {
@@ -13,7 +12,6 @@ fn put(reply: &mut Reply, new: Reply)
 }
 
 /// Replaces `reply` by `new`. If that is a value alone, a small buffer of the text is kept for the next text.
-#[inline(always)]
 pub(crate) fn keep(reply: &mut Reply, new: Reply)
     ensures { reply.new ≡ new }
 {

@@ -22,7 +22,6 @@ use message_requests::SessionState;
 /// # Errors
 ///
 /// `NoSuchView` if there is no such view, `BadArgument` if `start + count` is past the end of the text.
-#[inline(always)]
 pub(crate) fn document_with(
     state: &SessionState,
     view: u32,
@@ -49,7 +48,6 @@ pub(crate) fn document_with(
 }
 
 /// Lends the `count` bytes of a document from `start` on. The documents do not change.
-#[inline(always)]
 fn lend_in(documents: &mut DocumentTable, document: u32, start: usize, count: usize) -> &[u8]
     requires there { HasDocument documents.old document (HasRange start count) }
     requires named { DocumentsAreNamed documents.old.entries }
@@ -64,7 +62,6 @@ fn lend_in(documents: &mut DocumentTable, document: u32, start: usize, count: us
 }
 
 /// The same in a session's state, which does not change.
-#[inline(always)]
 pub(crate) fn lend(state: &mut SessionState, document: u32, start: usize, count: usize) -> &[u8]
     requires there { HasDocument state.old.documents document (HasRange start count) }
     requires kept { IsKept state.old }

@@ -26,6 +26,7 @@ mod recording;
 mod run;
 mod sending;
 mod session;
+mod setting;
 
 pub use laws::marked_messages_are_free;
 pub use run::Run;

@@ -45,7 +45,6 @@ pub(crate) struct Task<'a> {
 /// # Errors
 ///
 /// `AllocError` if an allocation fails. The session is then as it was.
-#[inline(always)]
 fn perform(
     alloc: Global,
     state: &mut SessionState,
@@ -127,7 +126,6 @@ fn perform(
 /// # Errors
 ///
 /// `OutOfMemory` if an allocation fails. The session and the place of the reply are then as they were.
-#[inline(always)]
 fn perform_with_notes(
     alloc: Global,
     state: &mut SessionState,
@@ -153,7 +151,6 @@ fn perform_with_notes(
 /// view; a change of the document that no view hears. Returns the value that its message answers. `None`, with nothing
 /// changed, for all other plans, and if an allocation fails. By instructions counted, a session takes 464 for SETSTYLING
 /// of 5 bytes, 376 for SETFOLDLEVEL and 393 for MARKERADD in this way, and 569, 488 and 495 in the general one.
-#[inline(always)]
 fn perform_quietly(state: &mut SessionState, task: &Task, plan: &Plan) -> Option<i64>
     requires kept { IsKept state.old }
     requires can { CanPerform (session_in state.old) task.now.document task.now.view task.now.message.now plan.now }
@@ -189,7 +186,6 @@ fn perform_quietly(state: &mut SessionState, task: &Task, plan: &Plan) -> Option
 /// # Errors
 ///
 /// Those of `perform_with_notes`.
-#[inline(always)]
 pub(crate) fn perform_message(
     alloc: Global,
     state: &mut SessionState,

@@ -53,7 +53,7 @@ fn read_bytes(
 
 /// Answers this text query to `view`: replaces `reply` by its value and bytes, in the buffer of the text before, and
 /// returns the value. `None`, with `reply` as it was, if the table refuses the query, it hands out no bytes or an
-/// allocation fails. Out of line, so that other messages do not pay for its stack frame.
+/// allocation fails.
 #[inline(never)]
 pub(crate) fn read_into(
     alloc: Global,

@@ -8,12 +8,11 @@ use message_requests::SentMessage;
 use notify::{NoteList, blank};
 use std::alloc::AllocError;
 
-/// Appends the note of `message`, which `view` records. Out of line, since few views record.
+/// Appends the note of `message`, which `view` records.
 ///
 /// # Errors
 ///
 /// `AllocError` if an allocation fails.
-#[inline(never)]
 fn record(view: u32, message: &SentMessage, notes: &mut NoteList) -> Result<(), AllocError>
     ensures note { OnOk result (notes.new.notes ≡ notes.old.notes ++ recording view message.now ∷ []) }
 {
@@ -32,7 +31,6 @@ fn record(view: u32, message: &SentMessage, notes: &mut NoteList) -> Result<(), 
 /// # Errors
 ///
 /// `AllocError` if an allocation fails.
-#[inline(always)]
 pub(crate) fn record_if(
     is_recorded: bool,
     view: u32,

@@ -1,9 +1,10 @@
-//! A message on its way through a session. There are three ways, and `way_of` says by a message's number which it takes: a numeric query is
-//! answered by a number, and a text query by bytes of the document, both without a plan; all other messages are planned and performed, and
-//! what is refused.
+//! A message on its way through a session. There are four ways, and `way_of` says by a message's number which it takes: a numeric query is
+//! answered by a number, a text query by bytes of the document, and a setting by a change of the view, these without a plan; all other
+//! messages are planned and performed, and what is refused. Where the reply is a new one, without a buffer for bytes, text queries are, too.
 
 ghost use Rattle.std.specs.Prelude.{◌≡◌, ◌&&◌};
-ghost use Rattle.ed_types.specs.Messages.{marks_of};
+ghost use Rattle.ed_types.specs.Messages.{kind_of, marks_of};
+ghost use Rattle.message_plans.specs.Ways.{kind_in};
 ghost use Rattle.message_requests.specs.Requested.{session_in};
 ghost use Rattle.performing.specs.Kept.{IsKept};
 ghost use Rattle.editor_session.specs.Answers.{told, IsLeft, IsAnswered};
@@ -12,6 +13,7 @@ use crate::asking::ask_as;
 use crate::find::find;
 use crate::perform::{Task, perform_message};
 use crate::reading::read_into;
+use crate::setting::set;
 use ed_model::plans_are_fit;
 use ed_types::modification::{CHANGE_FOLD, CHANGE_MARKER, CHANGE_STYLE};
 use ed_types::{Bytes, Kind, Refusal, Reply};
@@ -23,34 +25,36 @@ use std::alloc::Global;
 const FREQUENT_CHANGES: u32 = CHANGE_STYLE | CHANGE_FOLD | CHANGE_MARKER;
 
 /// Returns whether the view of a message records it.
-#[inline(always)]
 fn is_recorded(kind: Kind, request: &Request) -> bool
     ensures { result ≡ (request.now.view.records && (marks_of kind).r) }
 {
     request.view.records() && kind.columns().r
 }
 
-/// Plans and performs a message to `view`. Replaces `reply` by the message's reply, and returns the value.
+/// Plans and performs a message to `view`. Replaces `reply` by the message's reply, and returns the value. Out of line, so that a query does
+/// not pay for its stack frame, which takes 18 instructions.
 ///
 /// # Errors
 ///
 /// The refusal of the message table, or `OutOfMemory` if an allocation fails. The session and `reply` are then as they were.
-#[inline(always)]
+#[inline(never)]
 fn answer_by_plan(
     alloc: Global,
     state: &mut SessionState,
     view: u32,
+    kind: Option<Kind>,
     message: &SentMessage,
     reply: &mut Reply,
 ) -> Result<i64, Refusal>
     requires kept { IsKept state.old }
+    requires kind { kind ≡ kind_of message.now.number }
     ensures answered { IsAnswered (session_in state.old) view message.now (session_in state.new) (told result reply.new) }
     ensures place { IsLeft result reply.old reply.new }
     ensures kept { IsKept state.new }
 {
     // States that a plan's numbers are in range, and that no plan is refused for want of memory.
     plans_are_fit();
-    let (kind, request) = find(state, view, message)?;
+    let (kind, request) = find(state, view, kind, message)?;
     let task = Task {
         view,
         document: request.document.id(),
@@ -66,13 +70,66 @@ fn answer_by_plan(
     }
 }
 
-/// Answers a message to `view`. Replaces `reply` by the message's reply, and returns the value. Out of line, so that a numeric query that was
-/// asked first does not pay for its stack frame.
+/// Answers a setting of `view`: makes it at once if it can, and plans it otherwise. Replaces `reply` by the message's reply, and returns the value.
+/// Out of line, so that no other message pays for its stack frame.
+///
+/// # Errors
+///
+/// Those of `answer_by_plan`.
+#[inline(never)]
+fn answer_setting(
+    alloc: Global,
+    state: &mut SessionState,
+    view: u32,
+    kind: Option<Kind>,
+    message: &SentMessage,
+    reply: &mut Reply,
+) -> Result<i64, Refusal>
+    requires kept { IsKept state.old }
+    requires kind { kind ≡ kind_of message.now.number }
+    ensures answered { IsAnswered (session_in state.old) view message.now (session_in state.new) (told result reply.new) }
+    ensures place { IsLeft result reply.old reply.new }
+    ensures kept { IsKept state.new }
+{
+    if set(state, view, kind, message) {
+        reply.answer(0);
+        return Ok(0);
+    }
+    answer_by_plan(alloc, state, view, kind, message, reply)
+}
+
+/// Answers a message to `view` that is no query, or as if it were none. Inlined: as a call, a message takes some 50 instructions more.
+///
+/// # Errors
+///
+/// Those of `answer_by_plan`.
+#[inline(always)]
+fn answer_change(
+    alloc: Global,
+    state: &mut SessionState,
+    view: u32,
+    way: Way,
+    message: &SentMessage,
+    reply: &mut Reply,
+) -> Result<i64, Refusal>
+    requires kept { IsKept state.old }
+    requires kind { kind_in way ≡ kind_of message.now.number }
+    ensures answered { IsAnswered (session_in state.old) view message.now (session_in state.new) (told result reply.new) }
+    ensures place { IsLeft result reply.old reply.new }
+    ensures kept { IsKept state.new }
+{
+    let kind = way.kind();
+    match way {
+        Way::Setting(_) => answer_setting(alloc, state, view, kind, message, reply),
+        _ => answer_by_plan(alloc, state, view, kind, message, reply),
+    }
+}
+
+/// Answers a message to `view`. Replaces `reply` by the message's reply, and returns the value.
 ///
 /// # Errors
 ///
 /// The refusal of the message table, or `OutOfMemory` if an allocation fails. The session and `reply` are then as they were.
-#[inline(never)]
 pub(crate) fn answer_into(
     alloc: Global,
     state: &mut SessionState,
@@ -85,7 +142,8 @@ pub(crate) fn answer_into(
     ensures place { IsLeft result reply.old reply.new }
     ensures kept { IsKept state.new }
 {
-    match way_of(message.number) {
+    let way = way_of(message.number);
+    match way {
         Way::Question(kind) => {
             if let Some(value) = ask_as(state, view, kind, message) {
                 reply.answer(value);
@@ -97,9 +155,9 @@ pub(crate) fn answer_into(
                 return Ok(value);
             }
         }
-        Way::Planned => {}
+        _ => {}
     }
-    answer_by_plan(alloc, state, view, message, reply)
+    answer_change(alloc, state, view, way, message, reply)
 }
 
 /// Answers a message to `view`.
@@ -117,8 +175,14 @@ pub(crate) fn answer_message(
     ensures answered { IsAnswered (session_in state.old) view message.now (session_in state.new) result }
     ensures kept { IsKept state.new }
 {
+    let way = way_of(message.number);
+    if let Way::Question(kind) = way {
+        if let Some(value) = ask_as(state, view, kind, message) {
+            return Ok(Reply::quiet(alloc, value, Bytes::empty(alloc)));
+        }
+    }
     let mut reply = Reply::quiet(alloc, 0, Bytes::empty(alloc));
-    match answer_into(alloc, state, view, message, &mut reply) {
+    match answer_change(alloc, state, view, way, message, &mut reply) {
         Ok(_) => Ok(reply),
         Err(refusal) => Err(refusal),
     }

@@ -221,7 +221,6 @@ impl Session {
     /// Asks a view a numeric query: each query that is answered by a number (`questions` of the definitions; marked Q in
     /// `docs/MESSAGES.md`). It does not change the session. `send` would answer the same value, with whatever text. `None` for all other
     /// messages, and for what is refused: `send` says why. Allocates nothing.
-    #[inline(always)]
     pub fn ask(&self, view: u32, number: u32, w: i64, l: i64) -> Option<i64>
         ensures value { result ≡ value_to self.now view (message_with number w l []) }
         ensures answer { IfSome result (λ value. (text : List ℕ) → table self.now view (message_with number w l text) ≡ Ok (self.now, quiet value)) }
@@ -242,7 +241,6 @@ impl Session {
     /// # Errors
     ///
     /// `NoSuchView` if no open view has this id, `BadArgument` if `start + count` is past the end of the text.
-    #[inline(always)]
     pub fn lend_range(&mut self, view: u32, start: usize, count: usize) -> Result<&[u8], Refusal>
         ensures* back { sem 𝓛 (lent_and_back self.entry) }
         ensures lent { IfOk result (λ bytes. lent_range self.old view start count ≡ Ok bytes.now) }

@@ -32,11 +32,6 @@ pub extern "C" fn hongpilas_send_unchecked(
     ensures free { is_free (session_of handle.old.held) view (message_with number w l text.now) ≡ true → result ≢ refusal_number OutOfMemory }
 {
     let held = handle.held();
-    if let Some(answer) = held.session.ask(view, number, w, l) {
-        held.reply.answer(answer);
-        *value = answer;
-        return DONE;
-    }
     match held
         .session
         .send_into(view, number, w, l, text, &mut held.reply)

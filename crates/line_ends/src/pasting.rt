@@ -6,6 +6,7 @@ ghost use Rattle.line_ends.specs.Conversion.{BeginsWithPiece, end_bytes};
 
 use crate::reading::quiet_bytes;
 use ed_model::LineEnd;
+use vec_room::extend_reserved;
 
 // How many bytes come before a text's first line end, and how many that line end has: 0 if there is none.
 #[derive(Clone, Copy)]
@@ -69,20 +70,8 @@ pub fn convert_into(bytes: &[u8], to: LineEnd, target: &mut Vec<u8>)
     let mut place = 0;
     'pieces: while place < bytes.len() {
         let piece = next_piece(&bytes[place..]);
-        append(target, &bytes[place..place + piece.quiet]);
-        append(target, bytes_of_end(piece.end, to));
+        extend_reserved(target, &bytes[place..place + piece.quiet]);
+        extend_reserved(target, bytes_of_end(piece.end, to));
         place += piece.quiet + piece.end;
     }
-}
-
-// Appends bytes. There must be room for them.
-fn append(target: &mut Vec<u8>, bytes: &[u8])
-    requires { vec_len target.old + length bytes.now ≤ vec_capacity target.old }
-    ensures items { target.new.items ≡ target.old.items ++ bytes.now }
-    ensures len { vec_len target.new ≡ vec_len target.old + length bytes.now }
-    ensures capacity { vec_capacity target.old ≤ vec_capacity target.new }
-{
-    let Ok(()) = target.extend_from_slice(bytes) else {
-        unreachable!()
-    };
 }

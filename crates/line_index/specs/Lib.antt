@@ -5,6 +5,7 @@ pub mod Change
 pub mod Edits
 pub mod StepEdits
 pub mod Ends
+pub mod Halves
 pub mod RoomLaws
 pub mod Settings
 pub mod proved

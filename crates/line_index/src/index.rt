@@ -6,7 +6,7 @@ ghost use Rattle.partitioning.specs.Partitions.{CountsReads};
 ghost use Rattle.vec_room.specs.Reserved.{IsReserved};
 ghost use Rattle.line_index.specs.Index.{Grows, IsIndexOf, MoreLinesFit};
 
-use crate::halves::end_length;
+use crate::halves::{Halves, end_length};
 use crate::starts::starts_are_sound;
 use ed_model::LineEndTypes;
 use partitioning::{Partitioning, Place, Probes};
@@ -87,7 +87,12 @@ impl<P: Place> LineIndex<P> {
         let count = self.count();
         if line + 1 < count {
             let next = self.start(line + 1);
-            return next.saturating_sub(end_length(before, after, next));
+            let text = Halves {
+                types: self.types,
+                before,
+                after,
+            };
+            return next.saturating_sub(end_length(text, next));
         }
         self.length()
     }

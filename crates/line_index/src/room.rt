@@ -7,7 +7,7 @@ ghost use Rattle.line_index.specs.Index.{AreStarts, CountsUpTo};
 ghost use Rattle.line_index.specs.RoomLaws.{DeletionAddsFewLines, FirstBytesHaveFewLines, InsertionAddsFewLines};
 ghost use Rattle.line_index.specs.RoomLaws.{lines_for_deletion, lines_for_insertion};
 
-use crate::halves::{first_place, next_place, starts_at};
+use crate::halves::{Halves, first_place, next_place, starts_at};
 use crate::unicode_blocks;
 use ed_model::LineEndTypes;
 
@@ -95,11 +95,12 @@ fn lines_behind_blocks(bytes: &[u8]) -> (usize, usize)
 fn lines_at(types: LineEndTypes, bytes: &[u8], place: usize) -> usize
     ensures { AreStarts types bytes.now place (place + 1) result }
 {
-    if starts_at(types, bytes, &[], place) {
-        1
-    } else {
-        0
-    }
+    let text = Halves {
+        types,
+        before: bytes,
+        after: &[],
+    };
+    if starts_at(text, place) { 1 } else { 0 }
 }
 
 // Returns how many lines start from `from` up to `to`, one after the other. Out of line, since there is usually none.
@@ -108,11 +109,16 @@ fn count_from(types: LineEndTypes, bytes: &[u8], from: usize, to: usize) -> usiz
     requires { (from ≤ to) × (to ≤ length bytes.now + 1) }
     ensures { AreStarts types bytes.now from to result }
 {
+    let text = Halves {
+        types,
+        before: bytes,
+        after: &[],
+    };
     let mut lines = 0;
     let mut place = from;
     'counting: while place < to {
         lines += lines_at(types, bytes, place);
-        place = next_place(types, bytes, &[], place, to);
+        place = next_place(text, place, to);
     }
     lines
 }
@@ -123,7 +129,12 @@ pub(crate) fn count_starts(types: LineEndTypes, bytes: &[u8], from: usize, to: u
     requires { (from ≤ to) × (to ≤ length bytes.now + 1) }
     ensures { AreStarts types bytes.now from to result }
 {
-    let place = first_place(types, bytes, &[], from, to);
+    let text = Halves {
+        types,
+        before: bytes,
+        after: &[],
+    };
+    let place = first_place(text, from, to);
     if place == to {
         return 0;
     }

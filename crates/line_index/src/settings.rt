@@ -9,13 +9,26 @@ ghost use Rattle.line_index.specs.Index.{IsIndexOf, starts_within};
 ghost use Rattle.line_index.specs.Settings.{edits_for_types, edits_to, inside_edits, line_past};
 
 use crate::edit::LineEdit;
-use crate::halves::{next_start, starts_at};
+use crate::halves::{Halves, next_start, starts_at};
 use crate::index::LineIndex;
 use crate::starts::{add_starts, remove_starts};
 use ed_model::LineEndTypes;
 use partitioning::Place;
 use std::alloc::{AllocError, Global};
 use std::marker::Model;
+
+// Returns whether a line starts at `place` if line ends of Unicode do not count.
+fn starts_by_default(before: &[u8], after: &[u8], place: usize) -> bool
+    ensures { result ≡ is_line_start Default (before.now ++ after.now) place }
+{
+    let types = LineEndTypes::Default;
+    let text = Halves {
+        types,
+        before,
+        after,
+    };
+    starts_at(text, place)
+}
 
 // A line starts at `start`. Returns how many lines start inside it if line ends of Unicode count, and where the next
 // one starts, or `end`, the place past the end of the text.
@@ -27,14 +40,20 @@ fn count_inside(before: &[u8], after: &[u8], start: usize, end: usize) -> (usize
     ensures none { (k : ℕ) → start < k → k < result.1 → is_line_start Default (before.now ++ after.now) k ≡ false }
     ensures next { result.1 < end → is_line_start Default (before.now ++ after.now) result.1 ≡ true }
 {
+    let types = LineEndTypes::Unicode;
+    let text = Halves {
+        types,
+        before,
+        after,
+    };
     let mut lines = 0;
-    let mut place = next_start(LineEndTypes::Unicode, before, after, start + 1, end);
+    let mut place = next_start(text, start + 1, end);
     'counting: while place < end {
-        if starts_at(LineEndTypes::Default, before, after, place) {
+        if starts_by_default(before, after, place) {
             return (lines, place);
         }
         lines += 1;
-        place = next_start(LineEndTypes::Unicode, before, after, place + 1, end);
+        place = next_start(text, place + 1, end);
     }
     (lines, end)
 }
@@ -179,6 +198,11 @@ impl<P: Place> LineIndex<P> {
         let count = self.starts.count();
         let end = self.starts.length() + 1;
         remove_starts(&mut self.starts, 1, count);
-        add_starts(&mut self.starts, types, before, after, 0, 1, 1, end);
+        let text = Halves {
+            types,
+            before,
+            after,
+        };
+        add_starts(&mut self.starts, text, 0, 1, 1, end);
     }
 }

@@ -4,14 +4,14 @@ ghost use Rattle.std.specs.Prelude.{ℕ, ◌≡◌, ◌+◌, ◌-◌, ◌^◌, �
 ghost use Rattle.std.specs.Prelude.{take, drop, slice_index};
 ghost use Rattle.ed_model.specs.Lines.{line_of};
 ghost use Rattle.partitioning.specs.Partitions.{ArePartitions, IsLastAtMost};
+ghost use Rattle.line_index.specs.Halves.{bytes_in};
 ghost use Rattle.line_index.specs.Index.{CanAdd, StartsUpTo, WereAdded, count_near};
 ghost use Rattle.line_index.specs.Change.{near_lines};
 ghost use Rattle.ed_model.specs.NeighbourLaws.{count_before};
 
 use crate::adding::{add_at, add_marked, marks_near, place_behind};
 use crate::change::{LinesAbout, NearLines};
-use crate::halves::next_place;
-use ed_model::LineEndTypes;
+use crate::halves::{Halves, next_place};
 use partitioning::{Partitioning, Place, Probes};
 
 // A law: the starts of lines rise from 0 on up to the end of the text, and there are few. `count` and `length` say so.
@@ -326,28 +326,26 @@ pub(crate) fn remove_starts<P: Place>(starts: &mut Partitioning<P>, first: usize
 #[inline(never)]
 fn add_from<P: Place>(
     starts: &mut Partitioning<P>,
-    types: LineEndTypes,
-    before: &[u8],
-    after: &[u8],
+    text: Halves,
     base: usize,
     first: usize,
     from: usize,
     to: usize,
 ) -> usize
-    requires can { CanAdd types (before.now ++ after.now) base from to first starts.old }
-    requires near { (base < from) × (from ≤ to) × (to ≤ base + (length before.now + length after.now) + 1) }
-    ensures { WereAdded types (before.now ++ after.now) base from to first result starts.old starts.new }
+    requires can { CanAdd text.types (bytes_in text) base from to first starts.old }
+    requires near { (base < from) × (from ≤ to) × (to ≤ base + (length text.before.now + length text.after.now) + 1) }
+    ensures { WereAdded text.entry.types (bytes_in text.entry) base from to first result starts.old starts.new }
 {
     let mut place = from;
     let mut line = first;
     'adding: while place < to {
         let at = place - base;
-        if let Some(marks) = marks_near(types, before, after, at, to - base) {
-            line = add_marked(starts, types, before, after, base, line, place, marks);
-            place = base + place_behind(types, before, after, at, to - base, marks);
+        if let Some(marks) = marks_near(text, at, to - base) {
+            line = add_marked(starts, text, base, line, place, marks);
+            place = base + place_behind(text, at, to - base, marks);
         } else {
-            line = add_at(starts, types, before, after, base, line, place);
-            place = base + next_place(types, before, after, at, to - base);
+            line = add_at(starts, text, base, line, place);
+            place = base + next_place(text, at, to - base);
         }
     }
     line
@@ -360,26 +358,24 @@ fn add_from<P: Place>(
 #[inline(always)]
 pub(crate) fn add_starts<P: Place>(
     starts: &mut Partitioning<P>,
-    types: LineEndTypes,
-    before: &[u8],
-    after: &[u8],
+    text: Halves,
     base: usize,
     first: usize,
     from: usize,
     to: usize,
 )
-    requires can { CanAdd types (before.now ++ after.now) base from to first starts.old }
-    requires near { (base ≤ from) × (from ≤ to) × (to ≤ base + (length before.now + length after.now) + 1) }
+    requires can { CanAdd text.types (bytes_in text) base from to first starts.old }
+    requires near { (base ≤ from) × (from ≤ to) × (to ≤ base + (length text.before.now + length text.after.now) + 1) }
     requires behind { base < from }
-    ensures { WereAdded types (before.now ++ after.now) base from to first (first + count_near types (before.now ++ after.now) base from to) starts.old starts.new }
+    ensures { WereAdded text.entry.types (bytes_in text.entry) base from to first (first + count_near text.entry.types (bytes_in text.entry) base from to) starts.old starts.new }
 {
-    let place = base + next_place(types, before, after, from - base - 1, to - base);
+    let place = base + next_place(text, from - base - 1, to - base);
     if place == to {
         return;
     }
     if place + 1 == to {
-        let _ = add_at(starts, types, before, after, base, first, place);
+        let _ = add_at(starts, text, base, first, place);
         return;
     }
-    add_from(starts, types, before, after, base, first, place, to);
+    add_from(starts, text, base, first, place, to);
 }

@@ -6,6 +6,7 @@ ghost use Rattle.line_index.specs.Change.{change_about, change_by_deletion, chan
 ghost use Rattle.line_index.specs.TextSteps.{CanMove, IsCleared, IsStep, StaysWithin, moved_behind, new_end, old_end, step_place, with_moved};
 
 use crate::change::{LineChange, LinesAbout, NearLines};
+use crate::halves::Halves;
 use crate::index::LineIndex;
 use crate::starts::{add_starts, lines_after_step, lines_at_step, lines_before, remove_starts};
 use ed_model::LineEndTypes;
@@ -136,16 +137,12 @@ fn make_step<P: Place>(
     let length = starts.length();
     let to = look_to(types, new_end, length);
     let near = place.saturating_sub(3);
-    add_starts(
-        starts,
+    let text = Halves {
         types,
         before,
         after,
-        near,
-        cleared.first,
-        place.max(1),
-        to,
-    );
+    };
+    add_starts(starts, text, near, cleared.first, place.max(1), to);
     let about = cleared.about;
     let new_lines = lines_after_step(starts, new_end, &about, cleared.removed, cleared.lines);
     LineChange {

@@ -185,13 +185,11 @@ fn append_behind_word(
     append_end(out, text)
 }
 
-/// Appends a line: a word, numbers and a text. Inlined into its callers, where the word and so its length are
-/// constants.
+/// Appends a line: a word, numbers and a text.
 ///
 /// # Errors
 ///
 /// `AllocError` if an allocation fails. A front part of the line may be appended then.
-#[inline]
 pub(crate) fn append_line(
     out: &mut Vec<u8>,
     word: &[u8],

@@ -112,9 +112,7 @@ pub(crate) fn read_lines(
             Ok(command) => command,
             Err(fault) => return Err(fault),
         };
-        let Ok(()) = vec_room::reserve(&mut commands, 1) else {
-            return Err(ScriptFault::OutOfMemory);
-        };
+        vec_room::reserve(&mut commands, 1)?;
         commands.push_reserved(command);
         rest = after;
         number += 1;

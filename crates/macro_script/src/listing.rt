@@ -58,16 +58,10 @@ pub fn list(alloc: Global, script: &Script) -> Result<Vec<u8>, ScriptFault>
     ensures listed { MatchResult result (λ text. text.items ≡ listing 2 script.now) (λ fault. fault ≡ OutOfMemory) }
 {
     laws_of_scripts();
-    let Ok(mut text) = Vec::with_capacity(alloc, script.listed_len()) else {
-        return Err(ScriptFault::OutOfMemory);
-    };
-    let Ok(()) = text.extend_from_slice(b"sci 2\n") else {
-        return Err(ScriptFault::OutOfMemory);
-    };
+    let mut text = Vec::with_capacity(alloc, script.listed_len())?;
+    text.extend_from_slice(b"sci 2\n")?;
     for command in script.commands() {
-        let Ok(()) = append_command(&mut text, command) else {
-            return Err(ScriptFault::OutOfMemory);
-        };
+        append_command(&mut text, command)?;
     }
     Ok(text)
 }

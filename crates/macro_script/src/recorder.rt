@@ -6,8 +6,9 @@ ghost use Rattle.ed_types.specs.Heard.{with_text};
 ghost use Rattle.macro_script.specs.Recorded.{is_recording, recording_note, after_reply, after_note, IsTooLong, IsPlaceOf, RecordsAll};
 
 use crate::script::Script;
-use ed_types::{Bytes, Command, Message, Note, Reply, ScriptFault, notification};
-use std::alloc::{AllocError, Global};
+use crate::texts::copied;
+use ed_types::{Command, Message, Note, Reply, ScriptFault, notification};
+use std::alloc::Global;
 use std::marker::Model;
 
 /// Makes a script of what a view records. `feed` takes the replies of a session, and adds the message that each of them
@@ -46,15 +47,6 @@ fn find_recording(view: u32, reply: &Reply) -> Option<usize>
         }
     }
     None
-}
-
-/// Copies bytes.
-fn copied(alloc: Global, bytes: &[u8]) -> Result<Bytes, AllocError>
-    ensures { IfOk result (λ copy. copy ≡ bytes.now) }
-{
-    let mut copy = Vec::with_capacity(alloc, bytes.len())?;
-    copy.extend_from_slice(bytes)?;
-    Ok(Bytes::new(copy))
 }
 
 impl Recorder {
@@ -105,9 +97,7 @@ impl Recorder {
         if !self.script.fits_send(self.view, number, w, l, text) {
             return Err(ScriptFault::TooLong);
         }
-        let Ok(text) = copied(self.alloc, text) else {
-            return Err(ScriptFault::OutOfMemory);
-        };
+        let text = copied(self.alloc, text)?;
         let message = Message { number, w, l, text };
         self.script.push(Command::SendMessage {
             view: self.view,

@@ -104,9 +104,7 @@ impl Script {
         if len >= SCRIPT_LIMIT - self.listed {
             return Err(ScriptFault::TooLong);
         }
-        let Ok(()) = vec_room::reserve(&mut self.commands, 1) else {
-            return Err(ScriptFault::OutOfMemory);
-        };
+        vec_room::reserve(&mut self.commands, 1)?;
         self.commands.push_reserved(command);
         self.listed += len + 1;
         Ok(())

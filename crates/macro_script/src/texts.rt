@@ -126,7 +126,7 @@ fn append_run(text: &mut Vec<u8>, run: &[u8]) -> Result<(), AllocError>
 }
 
 /// Copies bytes. Allocates exactly what they need, and nothing if there are none.
-fn copied(alloc: Global, bytes: &[u8]) -> Result<Bytes, AllocError>
+pub(crate) fn copied(alloc: Global, bytes: &[u8]) -> Result<Bytes, AllocError>
     ensures { IfOk result (λ copy. copy ≡ bytes.now) }
 {
     if bytes.is_empty() {

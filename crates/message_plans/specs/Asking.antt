@@ -1,9 +1,9 @@
 -- Numeric queries: messages that are answered by a number of the document, the view or the session. Text queries: messages that are answered by
 -- bytes of the document. Both change nothing, are not recorded, and do not read the message's text.
-use Rattle.std.specs.Prelude.{ℕ, ℤ, if◌then◌else◌, Bool, ◌&&◌, List, [], ◌∷◌, filter, flat_map, Ok, Option, Some, None, is_some}
+use Rattle.std.specs.Prelude.{ℕ, ℤ, if◌then◌else◌, Bool, ◌&&◌, List, [], ◌∷◌, filter, Ok, Option, Some, None, is_some}
 use Rattle.ed_types.specs.declared.kind.Kind.{Kind}
 use Rattle.ed_types.specs.declared.kind.Kind.TheVariants as kinds
-use Rattle.ed_types.specs.Messages.{number_of, marks_of, kind_among, groups}
+use Rattle.ed_types.specs.Messages.{number_of, marks_of, kind_among, every_kind}
 use Rattle.ed_model.specs.declared.plan.Plan.TheVariants as plan
 use Rattle.ed_model.specs.Requests.{Request, Planned}
 use Rattle.ed_model.specs.Table.{plan_of}
@@ -15,7 +15,7 @@ is_question kind = (marks_of kind).q && (marks_of kind).n
 
 -- the numeric queries, in rising order of their numbers
 abbrev pub questions : List Kind
-questions = flat_map (filter is_question) groups
+questions = filter is_question every_kind
 
 -- the numeric query with this number
 abbrev pub question_of : ℕ → Option Kind

@@ -1,4 +1,4 @@
--- How a session answers a message: the two kinds of queries, seen from one table of numbers.
+-- How a session answers a message, by its number.
 use Rattle.std.specs.Prelude.{Option, Some, None}
 use Rattle.ed_types.specs.declared.kind.Kind.{Kind}
 use Rattle.message_plans.specs.declared.way.Way.{Way}
@@ -13,3 +13,16 @@ question_in other = None
 abbrev pub text_question_in : Way → Option Kind
 text_question_in (way.TextQuestion kind) = Some kind
 text_question_in other = None
+
+-- the setting that is
+abbrev pub setting_in : Way → Option Kind
+setting_in (way.Setting kind) = Some kind
+setting_in other = None
+
+-- the message's kind, if the profile has the message
+abbrev pub kind_in : Way → Option Kind
+kind_in (way.Question kind) = Some kind
+kind_in (way.TextQuestion kind) = Some kind
+kind_in (way.Setting kind) = Some kind
+kind_in (way.Planned kind) = Some kind
+kind_in way.Unknown = None

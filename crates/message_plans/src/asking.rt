@@ -1,88 +1,191 @@
 //! Numeric queries, which are answered by a number, and text queries, which are answered by bytes of the document. Both are found by their
 //! number, and answered without a plan.
 
-ghost use Rattle.std.specs.Prelude.{◌≡◌};
+ghost use Rattle.std.specs.Prelude.{◌≡◌, Some};
+ghost use Rattle.ed_types.specs.Messages.{kind_of, number_of};
 ghost use Rattle.message_plans.specs.Asking.{handed_asked, question_of, text_question_of, value_asked};
-ghost use Rattle.message_plans.specs.Ways.{question_in, text_question_in};
+ghost use Rattle.message_plans.specs.Settings.{setting_at};
+ghost use Rattle.message_plans.specs.Ways.{kind_in, question_in, setting_in, text_question_in};
 
 use crate::way::Way;
-use ed_types::Kind;
+use ed_types::{Kind, kinds_and_numbers};
 use message_requests::Request;
 use message_requests::answers::HandedOut;
 use state_plans::{folding_plans, line_plans, session_plans, style_plans, undo_plans};
 use text_plans::{selection_plans, target_plans, texts};
 
-/// Returns how a session answers the message with this number.
+// Returns how a session answers a message of this kind.
+fn way_for(kind: Kind) -> Way
+    ensures kind { kind_in result ≡ Some kind }
+    ensures question { question_in result ≡ question_of (number_of kind) }
+    ensures text_question { text_question_in result ≡ text_question_of (number_of kind) }
+    ensures setting { setting_in result ≡ setting_at (number_of kind) }
+{
+    match kind {
+        Kind::GetLength => Way::Question(kind),
+        Kind::GetCharAt => Way::Question(kind),
+        Kind::GetCurrentPos => Way::Question(kind),
+        Kind::GetAnchor => Way::Question(kind),
+        Kind::GetStyleAt => Way::Question(kind),
+        Kind::CanRedo => Way::Question(kind),
+        Kind::MarkerLineFromHandle => Way::Question(kind),
+        Kind::GetUndoCollection => Way::Question(kind),
+        Kind::GetEndStyled => Way::Question(kind),
+        Kind::GetEolMode => Way::Question(kind),
+        Kind::MarkerGet => Way::Question(kind),
+        Kind::MarkerNext => Way::Question(kind),
+        Kind::MarkerPrevious => Way::Question(kind),
+        Kind::GetLineState => Way::Question(kind),
+        Kind::GetLineEndPosition => Way::Question(kind),
+        Kind::GetReadOnly => Way::Question(kind),
+        Kind::GetSelectionStart => Way::Question(kind),
+        Kind::GetSelectionEnd => Way::Question(kind),
+        Kind::GetLineCount => Way::Question(kind),
+        Kind::GetModify => Way::Question(kind),
+        Kind::LineFromPosition => Way::Question(kind),
+        Kind::PositionFromLine => Way::Question(kind),
+        Kind::CanPaste => Way::Question(kind),
+        Kind::CanUndo => Way::Question(kind),
+        Kind::GetTextLength => Way::Question(kind),
+        Kind::GetTargetStart => Way::Question(kind),
+        Kind::GetTargetEnd => Way::Question(kind),
+        Kind::GetSearchFlags => Way::Question(kind),
+        Kind::VisibleFromDocLine => Way::Question(kind),
+        Kind::DocLineFromVisible => Way::Question(kind),
+        Kind::GetFoldLevel => Way::Question(kind),
+        Kind::GetLastChild => Way::Question(kind),
+        Kind::GetFoldParent => Way::Question(kind),
+        Kind::GetLineVisible => Way::Question(kind),
+        Kind::GetFoldExpanded => Way::Question(kind),
+        Kind::GetAllLinesVisible => Way::Question(kind),
+        Kind::LineLength => Way::Question(kind),
+        Kind::GetDocPointer => Way::Question(kind),
+        Kind::GetModEventMask => Way::Question(kind),
+        Kind::GetDocumentOptions => Way::Question(kind),
+        Kind::PositionBefore => Way::Question(kind),
+        Kind::PositionAfter => Way::Question(kind),
+        Kind::GetPasteConvertEndings => Way::Question(kind),
+        Kind::GetIndicatorCurrent => Way::Question(kind),
+        Kind::GetIndicatorValue => Way::Question(kind),
+        Kind::IndicatorAllOnFor => Way::Question(kind),
+        Kind::IndicatorValueAt => Way::Question(kind),
+        Kind::IndicatorStart => Way::Question(kind),
+        Kind::IndicatorEnd => Way::Question(kind),
+        Kind::GetSelectionEmpty => Way::Question(kind),
+        Kind::GetLineEndTypesAllowed => Way::Question(kind),
+        Kind::GetLineEndTypesActive => Way::Question(kind),
+        Kind::GetCurLine => Way::TextQuestion(kind),
+        Kind::GetLine => Way::TextQuestion(kind),
+        Kind::GetSelText => Way::TextQuestion(kind),
+        Kind::GetTextRange => Way::TextQuestion(kind),
+        Kind::GetText => Way::TextQuestion(kind),
+        Kind::GetTargetText => Way::TextQuestion(kind),
+        Kind::SelectAll => Way::Setting(kind),
+        Kind::GotoLine => Way::Setting(kind),
+        Kind::GotoPos => Way::Setting(kind),
+        Kind::SetAnchor => Way::Setting(kind),
+        Kind::SetCurrentPos => Way::Setting(kind),
+        Kind::SetSelectionStart => Way::Setting(kind),
+        Kind::SetSelectionEnd => Way::Setting(kind),
+        Kind::SetSel => Way::Setting(kind),
+        Kind::SetTargetStart => Way::Setting(kind),
+        Kind::SetTargetEnd => Way::Setting(kind),
+        Kind::SetSearchFlags => Way::Setting(kind),
+        Kind::TargetFromSelection => Way::Setting(kind),
+        Kind::CharLeft => Way::Setting(kind),
+        Kind::CharLeftExtend => Way::Setting(kind),
+        Kind::CharRight => Way::Setting(kind),
+        Kind::CharRightExtend => Way::Setting(kind),
+        Kind::Home => Way::Setting(kind),
+        Kind::HomeExtend => Way::Setting(kind),
+        Kind::LineEnd => Way::Setting(kind),
+        Kind::LineEndExtend => Way::Setting(kind),
+        Kind::DocumentStart => Way::Setting(kind),
+        Kind::DocumentStartExtend => Way::Setting(kind),
+        Kind::DocumentEnd => Way::Setting(kind),
+        Kind::DocumentEndExtend => Way::Setting(kind),
+        Kind::SetModEventMask => Way::Setting(kind),
+        Kind::SetPasteConvertEndings => Way::Setting(kind),
+        Kind::SetIndicatorCurrent => Way::Setting(kind),
+        Kind::SetIndicatorValue => Way::Setting(kind),
+        Kind::SetEmptySelection => Way::Setting(kind),
+        Kind::SetTargetRange => Way::Setting(kind),
+        Kind::TargetWholeDocument => Way::Setting(kind),
+        Kind::StartRecord => Way::Setting(kind),
+        Kind::StopRecord => Way::Setting(kind),
+        Kind::AddText => Way::Planned(kind),
+        Kind::InsertText => Way::Planned(kind),
+        Kind::ClearAll => Way::Planned(kind),
+        Kind::Redo => Way::Planned(kind),
+        Kind::SetUndoCollection => Way::Planned(kind),
+        Kind::SetSavePoint => Way::Planned(kind),
+        Kind::GetStyledText => Way::Planned(kind),
+        Kind::MarkerDeleteHandle => Way::Planned(kind),
+        Kind::ConvertEols => Way::Planned(kind),
+        Kind::SetEolMode => Way::Planned(kind),
+        Kind::StartStyling => Way::Planned(kind),
+        Kind::SetStyling => Way::Planned(kind),
+        Kind::MarkerAdd => Way::Planned(kind),
+        Kind::MarkerDelete => Way::Planned(kind),
+        Kind::MarkerDeleteAll => Way::Planned(kind),
+        Kind::SetStylingEx => Way::Planned(kind),
+        Kind::BeginUndoAction => Way::Planned(kind),
+        Kind::EndUndoAction => Way::Planned(kind),
+        Kind::SetLineState => Way::Planned(kind),
+        Kind::ReplaceSel => Way::Planned(kind),
+        Kind::SetReadOnly => Way::Planned(kind),
+        Kind::EmptyUndoBuffer => Way::Planned(kind),
+        Kind::Undo => Way::Planned(kind),
+        Kind::Cut => Way::Planned(kind),
+        Kind::Copy => Way::Planned(kind),
+        Kind::Paste => Way::Planned(kind),
+        Kind::Clear => Way::Planned(kind),
+        Kind::SetText => Way::Planned(kind),
+        Kind::ReplaceTarget => Way::Planned(kind),
+        Kind::SearchInTarget => Way::Planned(kind),
+        Kind::SetFoldLevel => Way::Planned(kind),
+        Kind::ShowLines => Way::Planned(kind),
+        Kind::HideLines => Way::Planned(kind),
+        Kind::SetFoldExpanded => Way::Planned(kind),
+        Kind::ToggleFold => Way::Planned(kind),
+        Kind::EnsureVisible => Way::Planned(kind),
+        Kind::FoldLine => Way::Planned(kind),
+        Kind::AppendText => Way::Planned(kind),
+        Kind::DeleteBack => Way::Planned(kind),
+        Kind::NewLine => Way::Planned(kind),
+        Kind::SetDocPointer => Way::Planned(kind),
+        Kind::CreateDocument => Way::Planned(kind),
+        Kind::AddRefDocument => Way::Planned(kind),
+        Kind::ReleaseDocument => Way::Planned(kind),
+        Kind::CopyRange => Way::Planned(kind),
+        Kind::CopyText => Way::Planned(kind),
+        Kind::MarkerAddSet => Way::Planned(kind),
+        Kind::IndicatorFillRange => Way::Planned(kind),
+        Kind::IndicatorClearRange => Way::Planned(kind),
+        Kind::AddUndoAction => Way::Planned(kind),
+        Kind::DeleteRange => Way::Planned(kind),
+        Kind::SetLineEndTypesAllowed => Way::Planned(kind),
+        Kind::Colourise => Way::Planned(kind),
+    }
+}
+
+/// Returns how a session answers the message with this number. Inlined, as `Kind::from_number` is.
 #[inline(always)]
 pub fn way_of(number: u32) -> Way
+    ensures kind { kind_in result ≡ kind_of number }
     ensures question { question_in result ≡ question_of number }
     ensures text_question { text_question_in result ≡ text_question_of number }
+    ensures setting { setting_in result ≡ setting_at number }
 {
-    match number {
-        2006 => Way::Question(Kind::GetLength),
-        2007 => Way::Question(Kind::GetCharAt),
-        2008 => Way::Question(Kind::GetCurrentPos),
-        2009 => Way::Question(Kind::GetAnchor),
-        2010 => Way::Question(Kind::GetStyleAt),
-        2016 => Way::Question(Kind::CanRedo),
-        2017 => Way::Question(Kind::MarkerLineFromHandle),
-        2019 => Way::Question(Kind::GetUndoCollection),
-        2027 => Way::TextQuestion(Kind::GetCurLine),
-        2028 => Way::Question(Kind::GetEndStyled),
-        2030 => Way::Question(Kind::GetEolMode),
-        2046 => Way::Question(Kind::MarkerGet),
-        2047 => Way::Question(Kind::MarkerNext),
-        2048 => Way::Question(Kind::MarkerPrevious),
-        2093 => Way::Question(Kind::GetLineState),
-        2136 => Way::Question(Kind::GetLineEndPosition),
-        2140 => Way::Question(Kind::GetReadOnly),
-        2143 => Way::Question(Kind::GetSelectionStart),
-        2145 => Way::Question(Kind::GetSelectionEnd),
-        2153 => Way::TextQuestion(Kind::GetLine),
-        2154 => Way::Question(Kind::GetLineCount),
-        2159 => Way::Question(Kind::GetModify),
-        2161 => Way::TextQuestion(Kind::GetSelText),
-        2162 => Way::TextQuestion(Kind::GetTextRange),
-        2166 => Way::Question(Kind::LineFromPosition),
-        2167 => Way::Question(Kind::PositionFromLine),
-        2173 => Way::Question(Kind::CanPaste),
-        2174 => Way::Question(Kind::CanUndo),
-        2182 => Way::TextQuestion(Kind::GetText),
-        2183 => Way::Question(Kind::GetTextLength),
-        2191 => Way::Question(Kind::GetTargetStart),
-        2193 => Way::Question(Kind::GetTargetEnd),
-        2199 => Way::Question(Kind::GetSearchFlags),
-        2220 => Way::Question(Kind::VisibleFromDocLine),
-        2221 => Way::Question(Kind::DocLineFromVisible),
-        2223 => Way::Question(Kind::GetFoldLevel),
-        2224 => Way::Question(Kind::GetLastChild),
-        2225 => Way::Question(Kind::GetFoldParent),
-        2228 => Way::Question(Kind::GetLineVisible),
-        2230 => Way::Question(Kind::GetFoldExpanded),
-        2236 => Way::Question(Kind::GetAllLinesVisible),
-        2350 => Way::Question(Kind::LineLength),
-        2357 => Way::Question(Kind::GetDocPointer),
-        2378 => Way::Question(Kind::GetModEventMask),
-        2379 => Way::Question(Kind::GetDocumentOptions),
-        2417 => Way::Question(Kind::PositionBefore),
-        2418 => Way::Question(Kind::PositionAfter),
-        2468 => Way::Question(Kind::GetPasteConvertEndings),
-        2501 => Way::Question(Kind::GetIndicatorCurrent),
-        2503 => Way::Question(Kind::GetIndicatorValue),
-        2506 => Way::Question(Kind::IndicatorAllOnFor),
-        2507 => Way::Question(Kind::IndicatorValueAt),
-        2508 => Way::Question(Kind::IndicatorStart),
-        2509 => Way::Question(Kind::IndicatorEnd),
-        2650 => Way::Question(Kind::GetSelectionEmpty),
-        2657 => Way::Question(Kind::GetLineEndTypesAllowed),
-        2658 => Way::Question(Kind::GetLineEndTypesActive),
-        2687 => Way::TextQuestion(Kind::GetTargetText),
-        _ => Way::Planned,
+    // States that only its number finds a kind.
+    kinds_and_numbers();
+    match Kind::from_number(number) {
+        Some(kind) => way_for(kind),
+        None => Way::Unknown,
     }
 }
 
 /// Returns the value that the plan of a numeric query answers. `None` for all other messages, and if the query is refused.
-#[inline(always)]
 #[tactic(auto, using(crate::proofs::Plain::planned_so, crate::proofs::Plain::planned_if))]
 pub fn value_of(kind: Kind, r: &Request) -> Option<i64>
     ensures { result ≡ value_asked kind r.now }

@@ -1,22 +1,33 @@
 //! The plan of each message.
 
 ghost use Rattle.std.specs.Prelude.{◌≡◌};
+ghost use Rattle.ed_model.specs.Requests.{change_view, with_argument};
 ghost use Rattle.ed_model.specs.Table.{plan_of};
 
-use ed_model::Planned;
-use ed_types::Kind;
+use ed_model::{Planned, ViewChange};
+use ed_types::{Kind, Refusal};
 use message_requests::Request;
-use message_requests::answers::{answer, answer_some, hand_out, hand_out_or_zero, hand_out_some};
+use message_requests::answers::{
+    answer, answer_some, change_view, hand_out, hand_out_or_zero, hand_out_some,
+};
 use state_plans::{folding_plans, line_plans, session_plans, style_plans, undo_plans};
 use text_plans::{key_plans, selection_plans, target_plans, texts};
 
-/// Returns the plan of a message: what it is going to do. Allocates nothing, and changes nothing. Inlined where the plan is performed, so that
-/// it is made in its place: out of line, SETTARGETRANGE takes 35 instructions more, and a typed byte 37.
+// Returns the plan that makes this change of the view and answers 0, or refuses a bad argument.
+fn change_some(change: Option<ViewChange>) -> Planned
+    ensures { result ≡ with_argument change change_view }
+{
+    match change {
+        Some(change) => change_view(change),
+        None => Err(Refusal::BadArgument),
+    }
+}
+
+/// Returns the plan of a message: what it is going to do. Allocates nothing, and changes nothing.
 ///
 /// # Errors
 ///
 /// The first refusal that applies to the message, by the model's table.
-#[inline(always)]
 pub fn plan_of(kind: Kind, r: &Request) -> Planned
     ensures { result ≡ plan_of kind r.now }
 {
@@ -59,14 +70,14 @@ pub fn plan_of(kind: Kind, r: &Request) -> Planned
         Kind::GetSelectionStart => answer(selection_plans::get_selection_start(r)),
         Kind::GetSelectionEnd => answer(selection_plans::get_selection_end(r)),
         Kind::GetSelectionEmpty => answer(selection_plans::get_selection_empty(r)),
-        Kind::SelectAll => selection_plans::select_all(r),
-        Kind::GotoLine => selection_plans::go_to_line(r),
-        Kind::GotoPos | Kind::SetEmptySelection => selection_plans::go_to_pos(r),
-        Kind::SetAnchor => selection_plans::set_anchor(r),
-        Kind::SetCurrentPos => selection_plans::set_current_pos(r),
-        Kind::SetSelectionStart => selection_plans::set_selection_start(r),
-        Kind::SetSelectionEnd => selection_plans::set_selection_end(r),
-        Kind::SetSel => selection_plans::set_sel(r),
+        Kind::SelectAll => change_view(selection_plans::select_all(r)),
+        Kind::GotoLine => change_view(selection_plans::go_to_line(r)),
+        Kind::GotoPos | Kind::SetEmptySelection => change_view(selection_plans::go_to_pos(r)),
+        Kind::SetAnchor => change_view(selection_plans::set_anchor(r)),
+        Kind::SetCurrentPos => change_view(selection_plans::set_current_pos(r)),
+        Kind::SetSelectionStart => change_view(selection_plans::set_selection_start(r)),
+        Kind::SetSelectionEnd => change_view(selection_plans::set_selection_end(r)),
+        Kind::SetSel => change_view(selection_plans::set_sel(r)),
         Kind::GetSelText => hand_out(selection_plans::get_sel_text(r)),
         Kind::ReplaceSel => selection_plans::replace_sel(r),
         Kind::CanPaste => answer(selection_plans::can_paste(r)),
@@ -74,30 +85,30 @@ pub fn plan_of(kind: Kind, r: &Request) -> Planned
         Kind::Copy => selection_plans::copy(r),
         Kind::CopyRange => selection_plans::copy_range(r),
         Kind::CopyText => selection_plans::copy_text(r),
-        Kind::SetPasteConvertEndings => selection_plans::set_paste_convert_endings(r),
+        Kind::SetPasteConvertEndings => change_view(selection_plans::set_paste_convert_endings(r)),
         Kind::GetPasteConvertEndings => answer(selection_plans::get_paste_convert_endings(r)),
         Kind::Clear => selection_plans::clear(r),
-        Kind::CharLeft => key_plans::char_left(r),
-        Kind::CharLeftExtend => key_plans::extend_to(r, key_plans::place_left(r)),
-        Kind::CharRight => key_plans::char_right(r),
-        Kind::CharRightExtend => key_plans::extend_to(r, key_plans::place_right(r)),
-        Kind::Home => selection_plans::go_to(key_plans::place_home(r)),
-        Kind::HomeExtend => key_plans::extend_to(r, key_plans::place_home(r)),
-        Kind::LineEnd => selection_plans::go_to(key_plans::place_line_end(r)),
-        Kind::LineEndExtend => key_plans::extend_to(r, key_plans::place_line_end(r)),
-        Kind::DocumentStart => selection_plans::go_to(0),
-        Kind::DocumentStartExtend => key_plans::extend_to(r, 0),
-        Kind::DocumentEnd => selection_plans::go_to(r.size()),
-        Kind::DocumentEndExtend => key_plans::extend_to(r, r.size()),
+        Kind::CharLeft => change_view(key_plans::char_left(r)),
+        Kind::CharLeftExtend => change_view(key_plans::extend_to(r, key_plans::place_left(r))),
+        Kind::CharRight => change_view(key_plans::char_right(r)),
+        Kind::CharRightExtend => change_view(key_plans::extend_to(r, key_plans::place_right(r))),
+        Kind::Home => change_view(selection_plans::go_to(key_plans::place_home(r))),
+        Kind::HomeExtend => change_view(key_plans::extend_to(r, key_plans::place_home(r))),
+        Kind::LineEnd => change_view(selection_plans::go_to(key_plans::place_line_end(r))),
+        Kind::LineEndExtend => change_view(key_plans::extend_to(r, key_plans::place_line_end(r))),
+        Kind::DocumentStart => change_view(selection_plans::go_to(0)),
+        Kind::DocumentStartExtend => change_view(key_plans::extend_to(r, 0)),
+        Kind::DocumentEnd => change_view(selection_plans::go_to(r.size())),
+        Kind::DocumentEndExtend => change_view(key_plans::extend_to(r, r.size())),
         Kind::DeleteBack => key_plans::delete_back(r),
         Kind::NewLine => key_plans::new_line(r),
-        Kind::SetTargetStart => target_plans::set_target_start(r),
-        Kind::SetTargetEnd => target_plans::set_target_end(r),
-        Kind::SetTargetRange => target_plans::set_target_range(r),
+        Kind::SetTargetStart => change_view(target_plans::set_target_start(r)),
+        Kind::SetTargetEnd => change_view(target_plans::set_target_end(r)),
+        Kind::SetTargetRange => change_view(target_plans::set_target_range(r)),
         Kind::GetTargetStart => answer(target_plans::get_target_start(r)),
         Kind::GetTargetEnd => answer(target_plans::get_target_end(r)),
-        Kind::TargetFromSelection => target_plans::target_from_selection(r),
-        Kind::TargetWholeDocument => target_plans::target_whole_document(r),
+        Kind::TargetFromSelection => change_view(target_plans::target_from_selection(r)),
+        Kind::TargetWholeDocument => change_view(target_plans::target_whole_document(r)),
         Kind::GetTargetText => hand_out(target_plans::get_target_text(r)),
         Kind::ReplaceTarget => target_plans::replace_target(r),
         Kind::GetSearchFlags => answer(target_plans::get_search_flags(r)),
@@ -107,19 +118,19 @@ pub fn plan_of(kind: Kind, r: &Request) -> Planned
         Kind::GetLineEndTypesAllowed | Kind::GetLineEndTypesActive => {
             answer(session_plans::get_line_end_types(r))
         }
-        Kind::SetModEventMask => session_plans::set_mod_event_mask(r),
+        Kind::SetModEventMask => change_some(session_plans::set_mod_event_mask(r)),
         Kind::GetModEventMask => answer(session_plans::get_mod_event_mask(r)),
-        Kind::StartRecord => session_plans::set_recording(true),
-        Kind::StopRecord => session_plans::set_recording(false),
+        Kind::StartRecord => change_view(session_plans::set_recording(true)),
+        Kind::StopRecord => change_view(session_plans::set_recording(false)),
         Kind::GetStyledText => style_plans::get_styled_text(r),
         Kind::GetEndStyled => answer(style_plans::get_end_styled(r)),
         Kind::StartStyling => style_plans::start_styling(r),
         Kind::SetStyling => style_plans::set_styling(r),
         Kind::SetStylingEx => style_plans::set_styling_ex(r),
         Kind::Colourise => style_plans::colourise(r),
-        Kind::SetIndicatorCurrent => style_plans::set_indicator_current(r),
+        Kind::SetIndicatorCurrent => change_some(style_plans::set_indicator_current(r)),
         Kind::GetIndicatorCurrent => answer(style_plans::get_indicator_current(r)),
-        Kind::SetIndicatorValue => style_plans::set_indicator_value(r),
+        Kind::SetIndicatorValue => change_some(style_plans::set_indicator_value(r)),
         Kind::GetIndicatorValue => answer(style_plans::get_indicator_value(r)),
         Kind::IndicatorFillRange => style_plans::indicator_fill_range(r),
         Kind::IndicatorClearRange => style_plans::indicator_clear_range(r),
@@ -160,7 +171,7 @@ pub fn plan_of(kind: Kind, r: &Request) -> Planned
         Kind::CreateDocument => session_plans::create_document(r),
         Kind::AddRefDocument => session_plans::add_ref_document(r),
         Kind::ReleaseDocument => session_plans::release_document(r),
-        Kind::SetSearchFlags => target_plans::set_search_flags(r),
+        Kind::SetSearchFlags => change_some(target_plans::set_search_flags(r)),
         Kind::SearchInTarget => target_plans::search_in_target(r),
         Kind::ConvertEols => line_plans::convert_eols(r),
         Kind::Paste => selection_plans::paste(r),

@@ -1,14 +1,36 @@
 //! `Way`: how a session answers a message.
 
+ghost use Rattle.std.specs.Prelude.{◌≡◌};
+ghost use Rattle.message_plans.specs.Ways.{kind_in};
+
 use ed_types::Kind;
 
-/// How a session answers a message: a query without a plan, and all else by its plan.
+/// How a session answers a message: a query and a setting without a plan, and all else by its plan. It has the message's kind.
 #[derive(Clone, Copy, Debug)]
 pub enum Way {
     /// A numeric query, which is answered by a number.
     Question(Kind),
     /// A text query, which is answered by bytes of the document.
     TextQuestion(Kind),
-    /// All other messages, and unknown ones.
-    Planned,
+    /// A setting of the view, which is one change of the view.
+    Setting(Kind),
+    /// Any other message of the profile, which is planned and performed.
+    Planned(Kind),
+    /// None: the profile has no message with the number.
+    Unknown,
+}
+
+impl Way {
+    /// Returns the message's kind, or `None` if the profile has no such message.
+    pub fn kind(self) -> Option<Kind>
+        ensures { result ≡ kind_in self }
+    {
+        match self {
+            Way::Question(kind) => Some(kind),
+            Way::TextQuestion(kind) => Some(kind),
+            Way::Setting(kind) => Some(kind),
+            Way::Planned(kind) => Some(kind),
+            Way::Unknown => None,
+        }
+    }
 }

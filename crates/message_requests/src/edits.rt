@@ -1,5 +1,4 @@
-//! Edits: the plans of messages that change the text. The functions that plan a replacement are always inlined, so that
-//! a plan is made in its place and not copied from function to function.
+//! Edits: the plans of messages that change the text.
 
 ghost use Rattle.std.specs.Prelude.{◌≡◌, ◌≤◌, ◌+◌, ◌&&◌, ◌||◌, nat_le, nat_lt, length, pos};
 ghost use Rattle.ed_model.specs.Session.{limit_of};
@@ -55,7 +54,6 @@ impl Replacement {
 }
 
 /// Returns whether the document is read-only and the edit has a step: it deletes or inserts at least one byte.
-#[inline(always)]
 fn is_kept_out(r: &Request, count: usize, added: usize) -> bool
     ensures { result ≡ (r.now.document.read_only && (nat_lt 0 count || nat_lt 0 added)) }
 {
@@ -63,7 +61,6 @@ fn is_kept_out(r: &Request, count: usize, added: usize) -> bool
 }
 
 /// Returns whether `left` bytes and `added` more are at most `limit`, without computing a sum that may overflow.
-#[inline(always)]
 fn fits(left: usize, added: usize, limit: u64) -> bool
     ensures { result ≡ nat_le (left + added) limit }
 {
@@ -72,7 +69,6 @@ fn fits(left: usize, added: usize, limit: u64) -> bool
 
 /// Returns whether the text is within its limit after each step: a deletion of `count` bytes, and then an insertion of
 /// `added` bytes. A number of 0 makes no step.
-#[inline(always)]
 fn keeps_limit(r: &Request, count: usize, added: usize) -> bool
     requires range { count ≤ size r.now }
     ensures { result ≡ keeps_limit (limit_of r.now.session.limits r.now.document) (size r.now) count added }
@@ -87,7 +83,6 @@ fn keeps_limit(r: &Request, count: usize, added: usize) -> bool
 /// # Errors
 ///
 /// `TooLong` if the edit is neither kept out nor within the limit.
-#[inline(always)]
 fn edit_if(kept_out: bool, within: bool, edit: Plan) -> Planned
     ensures { result ≡ edit_if kept_out within edit }
 {
@@ -107,7 +102,6 @@ fn edit_if(kept_out: bool, within: bool, edit: Plan) -> Planned
 /// # Errors
 ///
 /// `TooLong` if the document is not read-only and a step takes the text past its limit.
-#[inline(always)]
 pub fn edit_plan(r: &Request, replacement: Replacement, value: i64, follow: Follow) -> Planned
     requires range { replacement.start + replacement.count ≤ size r.now }
     requires added { replacement.added ≡ length (source_bytes r.now replacement.source) }
@@ -140,7 +134,6 @@ pub fn edit_plan(r: &Request, replacement: Replacement, value: i64, follow: Foll
 /// # Errors
 ///
 /// Those of `edit_plan`.
-#[inline(always)]
 pub fn replace_plan(r: &Request, replacement: Replacement) -> Planned
     requires range { replacement.start + replacement.count ≤ size r.now }
     requires added { replacement.added ≡ length (source_bytes r.now replacement.source) }

@@ -71,7 +71,6 @@ impl<'a> Model for Request<'a> {
 // What plans read of a request. Most functions are named like the model's definition.
 impl<'a> Request<'a> {
     /// Returns the length of the text, in bytes (GETLENGTH).
-    #[inline(always)]
     pub fn size(&self) -> usize
         ensures size { result ≡ size self.now }
         ensures bounded { result < 2 ^ 62 }
@@ -80,7 +79,6 @@ impl<'a> Request<'a> {
     }
 
     /// Returns the number of lines, which is at least 1 (GETLINECOUNT).
-    #[inline(always)]
     pub fn line_total(&self) -> usize
         ensures lines { result ≡ line_total self.now }
         ensures some { 0 < line_total self.now }
@@ -90,7 +88,6 @@ impl<'a> Request<'a> {
     }
 
     /// Returns where a line starts, in bytes from 0 (POSITIONFROMLINE). Lines count from 0.
-    #[inline(always)]
     pub fn line_start(&self, line: usize) -> usize
         requires { line < line_total self.now }
         ensures start { result ≡ line_start self.now line }
@@ -100,7 +97,6 @@ impl<'a> Request<'a> {
     }
 
     /// Returns where the line behind a line starts, or the length of the text if there is none.
-    #[inline(always)]
     pub fn line_past(&self, line: usize) -> usize
         ensures past { result ≡ line_past self.now line }
         ensures bounded { result < 2 ^ 62 }
@@ -110,7 +106,6 @@ impl<'a> Request<'a> {
 
     /// Returns where the line end of a line begins (GETLINEENDPOSITION). For the last line and all lines behind it,
     /// this is the length of the text.
-    #[inline(always)]
     pub fn line_end(&self, line: usize) -> usize
         ensures end { result ≡ line_end self.now line }
         ensures bounded { result < 2 ^ 62 }
@@ -120,7 +115,6 @@ impl<'a> Request<'a> {
 
     /// Returns the line that contains a place, counted from 0 (LINEFROMPOSITION). For a place behind the text, this is
     /// the last line.
-    #[inline(always)]
     pub fn line_at(&self, place: usize) -> usize
         ensures line { result ≡ line_at self.now place }
         ensures within { result < line_total self.now }
@@ -130,7 +124,6 @@ impl<'a> Request<'a> {
     }
 
     /// Returns the byte at a place (GETCHARAT).
-    #[inline(always)]
     pub fn byte(&self, place: usize) -> u8
         requires { place < size self.now }
         ensures { slice_get (text self.now) place ≡ Some result }
@@ -139,7 +132,6 @@ impl<'a> Request<'a> {
     }
 
     /// Returns the last cut between characters before a place, or 0 if there is none (POSITIONBEFORE).
-    #[inline(always)]
     #[tactic(auto, using(crate::specs::proved::Standing::length_text))]
     pub fn cut_before(&self, place: usize) -> usize
         requires { place ≤ size self.now }
@@ -152,7 +144,6 @@ impl<'a> Request<'a> {
 
     /// Returns the next cut between characters behind a place, or the length of the text if there is none
     /// (POSITIONAFTER).
-    #[inline(always)]
     #[tactic(auto, using(crate::specs::proved::Standing::length_text))]
     pub fn cut_after(&self, place: usize) -> usize
         requires { place ≤ size self.now }
@@ -164,7 +155,6 @@ impl<'a> Request<'a> {
     }
 
     /// Returns the view's anchor, in bytes from 0 (GETANCHOR). It lies in the text.
-    #[inline(always)]
     #[tactic(auto, using(crate::specs::proved::Standing::anchor_in_text))]
     pub fn anchor(&self) -> usize
         ensures anchor { result ≡ self.now.view.anchor }
@@ -177,7 +167,6 @@ impl<'a> Request<'a> {
     }
 
     /// Returns the view's caret, in bytes from 0 (GETCURRENTPOS). It lies in the text.
-    #[inline(always)]
     #[tactic(auto, using(crate::specs::proved::Standing::caret_in_text))]
     pub fn caret(&self) -> usize
         ensures caret { result ≡ self.now.view.caret }
@@ -190,7 +179,6 @@ impl<'a> Request<'a> {
     }
 
     /// Returns where the selection starts: the lesser of anchor and caret (GETSELECTIONSTART).
-    #[inline(always)]
     pub fn selection_start(&self) -> usize
         ensures start { result ≡ selection_start self.now }
         ensures bounded { result < 2 ^ 62 }
@@ -199,7 +187,6 @@ impl<'a> Request<'a> {
     }
 
     /// Returns where the selection ends: the greater of anchor and caret (GETSELECTIONEND).
-    #[inline(always)]
     pub fn selection_end(&self) -> usize
         ensures end { result ≡ selection_end self.now }
         ensures within { result ≤ size self.now }
@@ -209,7 +196,6 @@ impl<'a> Request<'a> {
     }
 
     /// Returns the position up to which the document is styled, in bytes from 0 (GETENDSTYLED). It lies in the text.
-    #[inline(always)]
     #[tactic(auto, using(crate::specs::proved::Standing::styled_in_text))]
     pub fn end_styled(&self) -> usize
         ensures end { result ≡ self.now.document.end_styled }
@@ -222,7 +208,6 @@ impl<'a> Request<'a> {
     }
 
     /// Returns the start of the view's target, in bytes from 0 (GETTARGETSTART). It lies in the text.
-    #[inline(always)]
     #[tactic(auto, using(crate::specs::proved::Standing::target_start_in_text))]
     pub fn target_start(&self) -> usize
         ensures start { result ≡ self.now.view.target_start }
@@ -236,7 +221,6 @@ impl<'a> Request<'a> {
 
     /// Returns the end of the view's target, in bytes from 0 (GETTARGETEND). It lies in the text, possibly before the
     /// start of the target.
-    #[inline(always)]
     #[tactic(auto, using(crate::specs::proved::Standing::target_end_in_text))]
     pub fn target_end(&self) -> usize
         ensures end { result ≡ self.now.view.target_end }
@@ -266,7 +250,6 @@ impl<'a> Request<'a> {
     }
 
     /// Returns the view's flags of the document's lines: one entry for each line.
-    #[inline(always)]
     #[tactic(auto, using(crate::specs::proved::Standing::flags_of_lines))]
     pub fn lines(&self) -> &LineFlags
         ensures flags { result.now.flags ≡ self.now.view.flags }
@@ -276,7 +259,6 @@ impl<'a> Request<'a> {
     }
 
     /// Returns the rows of the document: one for each line.
-    #[inline(always)]
     pub fn rows(&self) -> &LineRows
         ensures rows { result.now.rows ≡ self.now.document.rows }
         ensures next_handle { result.now.next_handle ≡ self.now.document.next_handle }
@@ -289,7 +271,6 @@ impl<'a> Request<'a> {
     }
 
     /// Returns the fold levels of the document's lines (GETFOLDLEVEL): one for each line.
-    #[inline(always)]
     pub fn levels(&self) -> Levels<'_>
         ensures levels { result ≡ levels self.now }
         ensures lines { length (levels self.now) ≡ line_total self.now }

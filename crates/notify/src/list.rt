@@ -8,6 +8,7 @@ ghost use Rattle.notify.specs.Gathered.{CanPut, CanShare, is_full, no_notes, wit
 use ed_types::{Bytes, Note, Reply};
 use std::alloc::{AllocError, Global};
 use std::marker::Model;
+use vec_room::extend_reserved;
 
 /// Notes in order, each with its text.
 #[derive(Drop)]
@@ -102,8 +103,8 @@ impl NoteList {
         ensures { self.new ≡ with_shared first.now second.now self.old }
     {
         let from = self.pool.len();
-        append(&mut self.pool, first);
-        append(&mut self.pool, second);
+        extend_reserved(&mut self.pool, first);
+        extend_reserved(&mut self.pool, second);
         self.shared_from = from;
     }
 
@@ -173,15 +174,4 @@ pub fn blank(code: u32) -> Note
         l: 0,
         text: 0..0,
     }
-}
-
-// Appends bytes to a pool. There must be room for them.
-fn append(pool: &mut Vec<u8>, bytes: &[u8])
-    requires { vec_len pool.old + length bytes.now ≤ vec_capacity pool.old }
-    ensures bytes { pool.new.items ≡ pool.old.items ++ bytes.now }
-    ensures capacity { vec_capacity pool.old ≤ vec_capacity pool.new }
-{
-    let Ok(()) = pool.extend_from_slice(bytes) else {
-        unreachable!();
-    };
 }

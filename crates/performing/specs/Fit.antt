@@ -1,12 +1,11 @@
 -- Changes that fit their document.
-use Rattle.std.specs.Prelude.{◌≡◌, ◌≤◌, ◌<◌, ◌+◌, ◌-◌, ◌^◌, ℕ, true, pos, negsuc, length, int_le}
+use Rattle.std.specs.Prelude.{◌≤◌, ◌<◌, ◌+◌, ◌^◌, ℕ, length}
 use Rattle.ed_model.specs.declared.plan.DocumentChange.{DocumentChange}
 use Rattle.ed_model.specs.declared.plan.DocumentChange.TheVariants as change
 use Rattle.ed_model.specs.LinePlans.{numbers_in}
 use Rattle.ed_model.specs.Session.{Document, lines_in}
 
--- The numbers of a change are in range for the document, as for a fit plan. Handles stay below 2 ^ 32, and a state is a signed number
--- of 32 bits.
+-- The numbers of a change are in range for the document, as for a fit plan. Handles stay below 2 ^ 32.
 abbrev pub IsFitChange : Document → DocumentChange → Type 0
 IsFitChange d change.BeginGroup = d.history.depth + 1 < 2 ^ 64
 IsFitChange d (change.AddMarker line number) = (line < lines_in d) × (number < 32) × (d.next_handle + 1 < 2 ^ 32)
@@ -14,8 +13,8 @@ IsFitChange d (change.AddMarkers line mask) = (line < lines_in d) × (d.next_han
 IsFitChange d (change.DeleteMarker line number) = line < lines_in d
 IsFitChange d (change.DeleteHandle handle) = handle < d.next_handle
 IsFitChange d (change.SetLevel line level) = line < lines_in d
-IsFitChange d (change.SetState line state) = (line < lines_in d) × (int_le (negsuc (2 ^ 31 - 1)) state ≡ true) × (int_le state (pos (2 ^ 31 - 1)) ≡ true)
-IsFitChange d (change.StyleRun count style) = (d.end_styled + count ≤ length d.cells) × (style ≤ 255)
+IsFitChange d (change.SetState line state) = line < lines_in d
+IsFitChange d (change.StyleRun count style) = d.end_styled + count ≤ length d.cells
 IsFitChange d (change.StyleBytes count) = d.end_styled + count ≤ length d.cells
 IsFitChange d (change.NeedStyle start past) = past ≤ length d.cells
 IsFitChange d (change.FillIndicator indicator start count value) = (indicator < 32) × (start + count ≤ length d.cells)

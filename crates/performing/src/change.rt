@@ -55,9 +55,7 @@ fn make_free(document: &mut Document, change: &DocumentChange) -> ChangeNote
     ChangeNote::Nothing
 }
 
-// Makes a change of the document alone, and returns what there is to tell of it. Rare changes are out of line, so that
-// the stack frame of the others stays small.
-#[inline(always)]
+// Makes a change of the document alone, and returns what there is to tell of it.
 fn make(
     document: &mut Document,
     text: &[u8],
@@ -135,7 +133,6 @@ pub fn change_document(
 /// Makes a change of the document if no view hears it and it is not which line ends count, and returns whether it did.
 /// No list of notifications is set up. Allocates as `change_document` does. If it does not make the change, also since
 /// an allocation fails, nothing changes, except that more may fit in.
-#[inline(always)]
 pub fn change_unheard(
     document: &mut Document,
     views: &IdTable<View>,

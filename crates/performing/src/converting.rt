@@ -18,13 +18,11 @@ use std::alloc::AllocError;
 /// Converts all line ends of the document to `to`, with room that it makes first.
 ///
 /// More than one step makes a transaction of its own, outside groups. Listening views are notified of each step, and
-/// all views that watch the document follow it. If no line end has to change, no memory is needed. Out of line, since
-/// CONVERTEOLS is rare.
+/// all views that watch the document follow it. If no line end has to change, no memory is needed.
 ///
 /// # Errors
 ///
 /// `AllocError` if an allocation fails. The document and the views are then as they were.
-#[inline(never)]
 pub fn convert_with_room(
     document: &mut Document,
     views: &mut IdTable<View>,

@@ -10,7 +10,6 @@ use scene::leaves_save_point;
 use std::alloc::AllocError;
 
 /// Appends a container's step to the history.
-#[inline(never)]
 pub(crate) fn append_container(
     document: &mut Document,
     token: i64,

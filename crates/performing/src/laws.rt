@@ -7,7 +7,6 @@ ghost use Rattle.ed_model.specs.Session.{lines_in};
 use document::Document;
 
 /// A document has a row for each of its lines, and a value of each indicator for each of its bytes.
-#[inline(always)]
 pub(crate) fn parts_match_text(document: &Document)
     ensures rows { length document.now.document.rows ≡ lines_in document.now.document }
     ensures indicators { let d = document.now.document in AllByRecursion (λ (values : List ℕ). length values ≡ length d.cells) d.indicators }

@@ -13,7 +13,6 @@ use scene::document_is_small;
 use std::alloc::AllocError;
 
 /// Adds the marker `number` behind those of a line.
-#[inline(always)]
 pub(crate) fn add_marker(
     document: &mut Document,
     line: usize,
@@ -31,7 +30,6 @@ pub(crate) fn add_marker(
 }
 
 /// Adds a marker for each bit of a mask behind those of a line.
-#[inline(never)]
 pub(crate) fn add_markers(
     document: &mut Document,
     line: usize,
@@ -49,7 +47,6 @@ pub(crate) fn add_markers(
 }
 
 /// Deletes the marker with this handle, if there is one.
-#[inline(never)]
 pub(crate) fn delete_handle(document: &mut Document, handle: u64) -> ChangeNote
     requires { handle < document.old.document.next_handle }
     ensures { IsMade [] (change.DeleteHandle handle) document.old document.new result }

@@ -13,7 +13,6 @@ use id_table::IdTable;
 use scene::{count_hearers, count_watchers, is_heard, leaving_need};
 
 /// Returns the kind of the notes of a change, if the views that hear of that kind get one each; `None` for all other changes.
-#[inline]
 fn heard_kind(change: &DocumentChange) -> Option<u32>
     ensures { result ≡ heard_kind change.now }
 {
@@ -60,8 +59,7 @@ pub(crate) fn change_note_need(
     }
 }
 
-/// Returns whether a change of the document may have notes. Inlined, since most changes have none.
-#[inline]
+/// Returns whether a change of the document may have notes.
 pub(crate) fn is_told(document: &Document, views: &IdTable<View>, change: &DocumentChange) -> bool
     requires named { AreNamed views.now.entries }
     ensures { result ≡ nat_lt 0 (change_note_need change.now document.now views.now) }

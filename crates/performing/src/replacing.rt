@@ -66,7 +66,6 @@ fn replace_bytes(
 /// # Errors
 ///
 /// `AllocError` if an allocation fails. The document and the views are then as they were.
-#[inline(always)]
 pub fn replace_with_room(
     document: &mut Document,
     views: &mut IdTable<View>,

@@ -10,7 +10,6 @@ use document::Document;
 use std::alloc::AllocError;
 
 /// Sets the fold level of a line.
-#[inline(always)]
 pub(crate) fn set_level(
     document: &mut Document,
     line: usize,
@@ -32,27 +31,16 @@ pub(crate) fn set_level(
     ))
 }
 
-// Returns the state of a line, which fits 32 bits, as an `i32`.
-fn narrowed(state: i64) -> i32
-    requires { (int_le (negsuc (2 ^ 31 - 1)) state ≡ true) × (int_le state (pos (2 ^ 31 - 1)) ≡ true) }
-    ensures { result ≡ state }
-{
-    state as i32
-}
-
 /// Sets the state of a line.
-#[inline]
 pub(crate) fn set_state(
     document: &mut Document,
     line: usize,
-    state: i64,
+    state: i32,
 ) -> Result<ChangeNote, AllocError>
-    requires line { line < lines_in document.old.document }
-    requires state { (int_le (negsuc (2 ^ 31 - 1)) state ≡ true) × (int_le state (pos (2 ^ 31 - 1)) ≡ true) }
+    requires { line < lines_in document.old.document }
     ensures { Makes [] (change.SetState line state) document.old document.new result }
 {
     document.reserve_state(line)?;
-    let state = narrowed(state);
     let before = document.set_state(line, state);
     Ok(note_if(before != state, ChangeNote::State { line }))
 }

@@ -12,20 +12,18 @@ use scene::document_is_small;
 use std::alloc::AllocError;
 
 /// Sets one style on the `count` bytes from the end of the styled text on, and moves that end behind them.
-#[inline(always)]
 pub(crate) fn style_run(
     document: &mut Document,
     count: usize,
-    style: u32,
+    style: u8,
 ) -> Result<ChangeNote, AllocError>
-    requires within { document.old.document.end_styled + count ≤ length document.old.document.cells }
-    requires style { style ≤ 255 }
+    requires { document.old.document.end_styled + count ≤ length document.old.document.cells }
     ensures made { Makes [] (StyleRun count style) document.old document.new result }
     ensures err { OnErr result (document.new ≡ document.old) }
 {
     document_is_small(document);
     document.reserve_styles()?;
-    let changed = document.style_run(count, style as u8);
+    let changed = document.style_run(count, style);
     Ok(range_note(STYLE_KIND, changed))
 }
 
@@ -46,7 +44,6 @@ pub(crate) fn style_bytes(
 }
 
 /// Lowers the end of the styled text to `start` at most, and asks the sending view to style the text up to `end`.
-#[inline(never)]
 pub(crate) fn need_style(document: &mut Document, start: usize, end: usize) -> ChangeNote
     requires { end ≤ length document.old.document.cells }
     ensures { IsMade [] (NeedStyle start end) document.old document.new result }
@@ -58,10 +55,9 @@ pub(crate) fn need_style(document: &mut Document, start: usize, end: usize) -> C
 }
 
 /// Sets an indicator to a value on some bytes.
-#[inline(never)]
 pub(crate) fn fill_indicator(
     document: &mut Document,
-    indicator: u32,
+    indicator: usize,
     start: usize,
     count: usize,
     value: u32,
@@ -72,7 +68,7 @@ pub(crate) fn fill_indicator(
 {
     document_is_small(document);
     parts_match_text(document);
-    document.reserve_fill(indicator as usize)?;
-    let changed = document.fill(indicator as usize, start, count, value);
+    document.reserve_fill(indicator)?;
+    let changed = document.fill(indicator, start, count, value);
     Ok(range_note(INDICATOR_KIND, changed))
 }

@@ -103,8 +103,7 @@ fn audience_for(note: ChangeNote) -> Audience
 }
 
 /// Notifies the views that watch the document and hear of this change, and asks the view `sender` for styles. There
-/// must be room for the notes. Out of line, so that the hot path does not prepare a note.
-#[inline(never)]
+/// must be room for the notes.
 pub(crate) fn tell(
     document: &Document,
     views: &IdTable<View>,

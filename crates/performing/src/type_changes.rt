@@ -17,7 +17,6 @@ use std::alloc::{AllocError, Global};
 
 /// Sets which line ends count. The rows of the document and the flags of the views that watch it follow the lines. No
 /// view is notified.
-#[inline(never)]
 pub(crate) fn set_line_end_types(
     alloc: Global,
     document: &mut Document,

@@ -13,8 +13,7 @@ use message_requests::SessionState;
 use std::alloc::AllocError;
 
 /// Makes a change of `view` by the fold levels of its document, with room that it makes first for lines that it hides
-/// or contracts. Out of line, so that a change of a setting does not pay for its stack frame.
-#[inline(never)]
+/// or contracts.
 fn change_by_levels(
     state: &mut SessionState,
     document: u32,
@@ -53,7 +52,6 @@ fn change_by_levels(
 /// # Errors
 ///
 /// `AllocError` if an allocation fails. The session is then as it was, but that more may fit into the view.
-#[inline]
 pub fn change_view(
     state: &mut SessionState,
     document: u32,

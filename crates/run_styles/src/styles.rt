@@ -157,9 +157,7 @@ impl<P: Place, V: Copy + Eq, A: Allocator> RunStyles<P, V, A> {
         let end = place + count;
         let first = self.table.run_of(place);
         let last = self.table.run_near(end - 1, first);
-        let Some((low, high)) = self.table.changed_range(first, last, place, count, value) else {
-            return None;
-        };
+        let (low, high) = self.table.changed_range(first, last, place, count, value)?;
         // The places that change may begin behind the first of these runs, and end before the last.
         let likely_first = first + (low != place) as usize;
         let likely_last = last.saturating_sub((high != end) as usize);

@@ -18,7 +18,6 @@ const CONTRACT: usize = 0;
 const TOGGLE: usize = 2;
 
 /// SETFOLDLEVEL: sets the level of line `w` to `l`.
-#[inline(always)]
 pub fn set_fold_level(r: &Request) -> Planned
     ensures { result ≡ set_fold_level r.now }
 {
@@ -102,7 +101,6 @@ pub fn toggle_fold(r: &Request) -> Planned
 }
 
 /// VISIBLEFROMDOCLINE: returns the display line of line `w`, and for a hidden line that of the visible line before it.
-#[inline(always)]
 #[tactic(auto, using(crate::proofs::Ranges::display_bounded))]
 pub fn visible_from_doc_line(r: &Request) -> i64
     ensures { answer result ≡ visible_from_doc_line r.now }
@@ -114,7 +112,6 @@ pub fn visible_from_doc_line(r: &Request) -> i64
 }
 
 /// Returns the line at a display line. Display lines below 0 are the first.
-#[inline(always)]
 fn line_shown_at(r: &Request, argument: i64) -> usize
     ensures { result ≡ line_shown_at r.now argument }
 {
@@ -126,7 +123,6 @@ fn line_shown_at(r: &Request, argument: i64) -> usize
 }
 
 /// DOCLINEFROMVISIBLE: returns the line at display line `w`, and the number of lines if `w` is past the last.
-#[inline(always)]
 #[tactic(auto, using(crate::proofs::Ranges::shown_bounded))]
 pub fn doc_line_from_visible(r: &Request) -> i64
     ensures { answer result ≡ doc_line_from_visible r.now }
@@ -194,7 +190,6 @@ pub fn ensure_visible(r: &Request) -> Planned
 }
 
 /// GETFOLDLEVEL: returns the level of line `w`.
-#[inline(always)]
 pub fn get_fold_level(r: &Request) -> i64
     ensures { answer result ≡ get_fold_level r.now }
 {
@@ -205,7 +200,6 @@ pub fn get_fold_level(r: &Request) -> i64
 }
 
 /// GETLINEVISIBLE: returns whether line `w` is visible.
-#[inline(always)]
 pub fn get_line_visible(r: &Request) -> i64
     ensures { answer result ≡ get_line_visible r.now }
 {
@@ -223,7 +217,6 @@ pub fn get_all_lines_visible(r: &Request) -> i64
 }
 
 /// GETFOLDEXPANDED: returns whether line `w` counts as expanded.
-#[inline(always)]
 pub fn get_fold_expanded(r: &Request) -> i64
     ensures { answer result ≡ get_fold_expanded r.now }
 {

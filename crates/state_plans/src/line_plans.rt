@@ -74,7 +74,6 @@ fn has_handles(r: &Request, count: u32) -> bool
 }
 
 /// MARKERADD: adds a marker with number `l` to line `w`. The value is its handle.
-#[inline(always)]
 pub fn marker_add(r: &Request) -> Planned
     ensures { result ≡ marker_add r.now }
 {
@@ -145,7 +144,6 @@ pub fn marker_delete_all(r: &Request) -> Planned
 }
 
 /// MARKERGET: returns the mask of line `w`, with a bit for the number of each of its markers.
-#[inline(always)]
 pub fn marker_get(r: &Request) -> i64
     ensures { answer result ≡ marker_get r.now }
 {
@@ -156,7 +154,6 @@ pub fn marker_get(r: &Request) -> i64
 }
 
 /// MARKERNEXT: returns the first line from `w` on whose mask has a bit in common with the low 32 bits of `l`.
-#[inline(always)]
 #[tactic(auto, using(crate::proofs::Ranges::next_bounded))]
 pub fn marker_next(r: &Request) -> i64
     ensures { answer result ≡ marker_next r.now }
@@ -166,7 +163,6 @@ pub fn marker_next(r: &Request) -> i64
 }
 
 /// MARKERPREVIOUS: returns the last such line up to `w`, inclusive.
-#[inline(always)]
 #[tactic(auto, using(crate::proofs::Ranges::previous_bounded))]
 pub fn marker_previous(r: &Request) -> i64
     ensures { answer result ≡ marker_previous r.now }
@@ -212,10 +208,9 @@ pub fn marker_delete_handle(r: &Request) -> Planned
 pub fn set_line_state(r: &Request) -> Planned
     ensures { result ≡ set_line_state r.now }
 {
-    let state = r.message.l;
-    if state < -0x8000_0000 || state > 0x7FFF_FFFF {
+    let Ok(state) = i32::try_from(r.message.l) else {
         return Err(Refusal::BadArgument);
-    }
+    };
     match line_among(r.line_total(), r.message.w) {
         Some(line) => change_document(DocumentChange::SetState { line, state }),
         None => answer(0),
@@ -223,7 +218,6 @@ pub fn set_line_state(r: &Request) -> Planned
 }
 
 /// GETLINESTATE: returns the state of line `w`.
-#[inline(always)]
 pub fn get_line_state(r: &Request) -> i64
     ensures { answer result ≡ get_line_state r.now }
 {

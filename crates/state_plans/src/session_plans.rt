@@ -2,14 +2,14 @@
 
 ghost use Rattle.std.specs.Prelude.{◌≡◌, IfOk, IfErr};
 ghost use Rattle.ed_model.specs.declared.plan.ViewChange.TheVariants.{SetRecording};
-ghost use Rattle.ed_model.specs.Requests.{answer, change_view};
+ghost use Rattle.ed_model.specs.Requests.{answer, change_view, with_argument};
 ghost use Rattle.ed_model.specs.SessionPlans.{add_ref_document, create_document, document_options, get_doc_pointer, get_document_options, get_line_end_types, get_mod_event_mask, has_document_ids, release_document, set_doc_pointer, set_line_end_types_allowed, set_mod_event_mask, types_number};
 ghost use Rattle.state_plans.specs.Referring.{IsReferredTo, IsRefusedReference};
 
 use ed_model::{DocumentChange, LineEndTypes, Plan, Planned, SessionChange, ViewChange};
 use ed_types::{Refusal, document_option, modification};
 use message_requests::Request;
-use message_requests::answers::{answer, change_document, change_session, change_view};
+use message_requests::answers::{answer, change_document, change_session};
 use message_requests::arguments::within;
 
 // All options that a document may have.
@@ -168,12 +168,12 @@ pub fn get_line_end_types(r: &Request) -> i64
 }
 
 /// SETMODEVENTMASK: sets which kinds of change the view hears.
-pub fn set_mod_event_mask(r: &Request) -> Planned
-    ensures { result ≡ set_mod_event_mask r.now }
+pub fn set_mod_event_mask(r: &Request) -> Option<ViewChange>
+    ensures { with_argument result change_view ≡ set_mod_event_mask r.now }
 {
     match within(0, modification::ALL as usize, r.message.w) {
-        Some(mask) => change_view(ViewChange::SetMask { mask: mask as u32 }),
-        None => Err(Refusal::BadArgument),
+        Some(mask) => Some(ViewChange::SetMask { mask: mask as u32 }),
+        None => None,
     }
 }
 
@@ -185,8 +185,8 @@ pub fn get_mod_event_mask(r: &Request) -> i64
 }
 
 /// STARTRECORD and STOPRECORD: sets whether the view records the messages that it is sent.
-pub fn set_recording(on: bool) -> Planned
-    ensures { result ≡ change_view (SetRecording on) }
+pub fn set_recording(on: bool) -> ViewChange
+    ensures { result ≡ SetRecording on }
 {
-    change_view(ViewChange::SetRecording { on })
+    ViewChange::SetRecording { on }
 }

@@ -1,18 +1,17 @@
 //! Plans of the messages on styles and indicators.
 
 ghost use Rattle.std.specs.Prelude.{◌≡◌, ◌<◌, ◌^◌};
-ghost use Rattle.ed_model.specs.Requests.{answer, with_argument};
+ghost use Rattle.ed_model.specs.Requests.{answer, change_view, with_argument};
 ghost use Rattle.ed_model.specs.StylePlans.{colourise, fill_indicator, get_end_styled, get_indicator_current, get_indicator_value, get_style_at, get_styled_text, indicator_all_on_for, indicator_clear_range, indicator_end, indicator_fill_range, indicator_start, indicator_value_at, run_end_at, run_past, run_start, set_indicator_current, set_indicator_value, set_styling, set_styling_ex, start_styling, styles, unstyled, values_of};
 ghost use Rattle.ed_model.specs.TextPlans.{at_place};
 
 use ed_model::{DocumentChange, Plan, Planned, ViewChange};
 use ed_types::Refusal;
-use message_requests::answers::{change_document, change_view};
+use message_requests::answers::change_document;
 use message_requests::arguments::within;
 use message_requests::{Request, past_argument};
 
 /// Returns the style of the byte at a place, or 0 if the place is outside the text.
-#[inline(always)]
 fn style_at(r: &Request, argument: i64) -> u8
     ensures { result ≡ at_place (styles r.now) argument }
 {
@@ -28,7 +27,6 @@ fn style_at(r: &Request, argument: i64) -> u8
 }
 
 /// GETSTYLEAT: returns the style of the byte at `w`.
-#[inline(always)]
 pub fn get_style_at(r: &Request) -> i64
     ensures { answer result ≡ get_style_at r.now }
 {
@@ -52,7 +50,6 @@ pub fn get_styled_text(r: &Request) -> Planned
 }
 
 /// GETENDSTYLED: returns the place up to which the text is styled.
-#[inline(always)]
 pub fn get_end_styled(r: &Request) -> i64
     ensures { answer result ≡ get_end_styled r.now }
 {
@@ -77,7 +74,6 @@ fn unstyled(r: &Request) -> usize
 }
 
 /// SETSTYLING: sets the style of the next `w` bytes to `l`.
-#[inline(always)]
 pub fn set_styling(r: &Request) -> Planned
     ensures { result ≡ set_styling r.now }
 {
@@ -87,7 +83,7 @@ pub fn set_styling(r: &Request) -> Planned
     match within(0, unstyled(r), r.message.w) {
         Some(count) => change_document(DocumentChange::StyleRun {
             count,
-            style: style as u32,
+            style: style as u8,
         }),
         None => Err(Refusal::BadArgument),
     }
@@ -119,14 +115,14 @@ pub fn colourise(r: &Request) -> Planned
 }
 
 /// SETINDICATORCURRENT: sets the indicator that the view fills to `w`.
-pub fn set_indicator_current(r: &Request) -> Planned
-    ensures { result ≡ set_indicator_current r.now }
+pub fn set_indicator_current(r: &Request) -> Option<ViewChange>
+    ensures { with_argument result change_view ≡ set_indicator_current r.now }
 {
     match within(0, 31, r.message.w) {
-        Some(indicator) => change_view(ViewChange::SetIndicator {
+        Some(indicator) => Some(ViewChange::SetIndicator {
             indicator: indicator as u32,
         }),
-        None => Err(Refusal::BadArgument),
+        None => None,
     }
 }
 
@@ -138,14 +134,14 @@ pub fn get_indicator_current(r: &Request) -> i64
 }
 
 /// SETINDICATORVALUE: sets the value with which the view fills to `w`, or to 1 if `w` is 0.
-pub fn set_indicator_value(r: &Request) -> Planned
-    ensures { result ≡ set_indicator_value r.now }
+pub fn set_indicator_value(r: &Request) -> Option<ViewChange>
+    ensures { with_argument result change_view ≡ set_indicator_value r.now }
 {
     match within(0, i32::MAX as usize, r.message.w) {
-        Some(value) => change_view(ViewChange::SetIndicatorValue {
+        Some(value) => Some(ViewChange::SetIndicatorValue {
             value: (value as u32).max(1),
         }),
-        None => Err(Refusal::BadArgument),
+        None => None,
     }
 }
 
@@ -166,7 +162,7 @@ fn fill_indicator(r: &Request, value: u32) -> Planned
     };
     match within(0, size - start, r.message.l) {
         Some(count) => change_document(DocumentChange::FillIndicator {
-            indicator: r.view.indicator(),
+            indicator: r.view.indicator() as usize,
             start,
             count,
             value,
@@ -202,7 +198,6 @@ pub fn indicator_all_on_for(r: &Request) -> i64
 }
 
 /// Returns the value of an indicator at a place, or 0 if the place is outside the text.
-#[inline(always)]
 fn value_at(r: &Request, indicator: usize, argument: i64) -> u32
     requires { indicator < 32 }
     ensures { result ≡ at_place (values_of r.now indicator) argument }
@@ -215,7 +210,6 @@ fn value_at(r: &Request, indicator: usize, argument: i64) -> u32
 
 /// INDICATORVALUEAT: returns the value of indicator `w` at place `l`, and `None` if there is no such indicator, which
 /// is refused.
-#[inline(always)]
 pub fn indicator_value_at(r: &Request) -> Option<i64>
     ensures { with_argument result answer ≡ indicator_value_at r.now }
 {
@@ -227,7 +221,6 @@ pub fn indicator_value_at(r: &Request) -> Option<i64>
 
 /// Returns the start and the exclusive end of the longest range around a place in which an indicator has one value;
 /// both are 0 if the place is outside the text.
-#[inline(always)]
 fn run_at(r: &Request, indicator: usize, argument: i64) -> (usize, usize)
     requires { indicator < 32 }
     ensures start { result.0 ≡ run_end_at run_start (values_of r.now indicator) argument }
@@ -248,7 +241,6 @@ fn run_at(r: &Request, indicator: usize, argument: i64) -> (usize, usize)
 }
 
 /// INDICATORSTART: returns the start of the range around place `l` in which indicator `w` has one value.
-#[inline(always)]
 pub fn indicator_start(r: &Request) -> Option<i64>
     ensures { with_argument result answer ≡ indicator_start r.now }
 {
@@ -259,7 +251,6 @@ pub fn indicator_start(r: &Request) -> Option<i64>
 }
 
 /// INDICATOREND: returns the exclusive end of that range.
-#[inline(always)]
 pub fn indicator_end(r: &Request) -> Option<i64>
     ensures { with_argument result answer ≡ indicator_end r.now }
 {

@@ -40,7 +40,6 @@ fn act_if(can: bool, read_only: bool, act: Plan) -> Planned
 }
 
 /// UNDO: undoes the last transaction. No step of it exceeds the limit, since the text was that long before.
-#[inline(always)]
 pub fn undo(r: &Request) -> Planned
     ensures { result ≡ undo r.now }
 {
@@ -53,7 +52,6 @@ pub fn undo(r: &Request) -> Planned
 }
 
 /// REDO: performs the next transaction again. No step of it exceeds the limit, since the text was that long before.
-#[inline(always)]
 pub fn redo(r: &Request) -> Planned
     ensures { result ≡ redo r.now }
 {

@@ -2,10 +2,10 @@
 
 ghost use Rattle.std.specs.Prelude.{◌≡◌, ◌≤◌};
 ghost use Rattle.ed_model.specs.KeyPlans.{char_left, char_right, delete_back, extend_to, new_line, place_home, place_left, place_line_end, place_right};
-ghost use Rattle.ed_model.specs.Requests.{size};
+ghost use Rattle.ed_model.specs.Requests.{change_view, size};
 
 use crate::selection_plans::{go_to, select, selected};
-use ed_model::{LineEnd, Planned, Source};
+use ed_model::{LineEnd, Planned, Source, ViewChange};
 use message_requests::Request;
 use message_requests::edits::{Replacement, replace_and_go, replace_plan};
 
@@ -39,15 +39,15 @@ pub fn place_line_end(r: &Request) -> usize
 }
 
 /// Moves the caret to `place`, and leaves the anchor.
-pub fn extend_to(r: &Request, place: usize) -> Planned
-    ensures { result ≡ extend_to r.now place }
+pub fn extend_to(r: &Request, place: usize) -> ViewChange
+    ensures { change_view result ≡ extend_to r.now place }
 {
     select(r.view.selection().anchor, place)
 }
 
 /// CHARLEFT: moves the caret one character to the left, or to the start of a selection that is not empty.
-pub fn char_left(r: &Request) -> Planned
-    ensures { result ≡ char_left r.now }
+pub fn char_left(r: &Request) -> ViewChange
+    ensures { change_view result ≡ char_left r.now }
 {
     if selected(r) == 0 {
         go_to(place_left(r))
@@ -57,8 +57,8 @@ pub fn char_left(r: &Request) -> Planned
 }
 
 /// CHARRIGHT: moves the caret one character to the right, or to the end of a selection that is not empty.
-pub fn char_right(r: &Request) -> Planned
-    ensures { result ≡ char_right r.now }
+pub fn char_right(r: &Request) -> ViewChange
+    ensures { change_view result ≡ char_right r.now }
 {
     if selected(r) == 0 {
         go_to(place_right(r))

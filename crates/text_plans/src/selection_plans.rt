@@ -3,30 +3,28 @@
 ghost use Rattle.std.specs.Prelude.{◌≡◌, ◌≤◌, ◌+◌, length};
 ghost use Rattle.ed_model.specs.declared.plan.Source.TheVariants.{Clipboard};
 ghost use Rattle.ed_model.specs.Edits.{source_bytes};
-ghost use Rattle.ed_model.specs.Requests.{answer, selection_start, size};
+ghost use Rattle.ed_model.specs.Requests.{answer, change_view, selection_start, size};
 ghost use Rattle.message_requests.specs.HandingOut.{handed_out};
 ghost use Rattle.ed_model.specs.SelectionPlans.{can_paste, clear, copy, copy_range, copy_text, cut, get_anchor, get_current_pos, get_paste_convert_endings, get_sel_text, get_selection_empty, get_selection_end, get_selection_start, go_to, go_to_line, go_to_pos, paste, replace_sel, select, select_all, selected, set_anchor, set_current_pos, set_paste_convert_endings, set_sel, set_selection_end, set_selection_start};
 
 use ed_model::{Follow, Planned, SessionChange, Source, ViewChange};
 use ed_types::Refusal;
 use line_ends::converted_len;
-use message_requests::answers::{
-    HandedOut, answer, bytes_between, change_session, change_view, flag,
-};
+use message_requests::answers::{HandedOut, answer, bytes_between, change_session, flag};
 use message_requests::arguments::{clamped, is_on, within};
 use message_requests::edits::{Replacement, edit_plan, replace_and_go, replace_plan};
 use message_requests::{Request, past_argument};
 
 /// Sets the anchor and the caret.
-pub(crate) fn select(anchor: usize, caret: usize) -> Planned
-    ensures { result ≡ select anchor caret }
+pub(crate) fn select(anchor: usize, caret: usize) -> ViewChange
+    ensures { change_view result ≡ select anchor caret }
 {
-    change_view(ViewChange::Select { anchor, caret })
+    ViewChange::Select { anchor, caret }
 }
 
 /// Sets both ends of the selection to `place`.
-pub fn go_to(place: usize) -> Planned
-    ensures { result ≡ go_to place }
+pub fn go_to(place: usize) -> ViewChange
+    ensures { change_view result ≡ go_to place }
 {
     select(place, place)
 }
@@ -67,51 +65,51 @@ pub fn get_selection_empty(r: &Request) -> i64
 }
 
 /// SELECTALL: selects the whole text.
-pub fn select_all(r: &Request) -> Planned
-    ensures { result ≡ select_all r.now }
+pub fn select_all(r: &Request) -> ViewChange
+    ensures { change_view result ≡ select_all r.now }
 {
     select(0, r.size())
 }
 
 /// GOTOLINE: goes to the start of line `w`, clamped to the lines of the document.
-pub fn go_to_line(r: &Request) -> Planned
-    ensures { result ≡ go_to_line r.now }
+pub fn go_to_line(r: &Request) -> ViewChange
+    ensures { change_view result ≡ go_to_line r.now }
 {
     go_to(r.line_start(clamped(r.line_total() - 1, r.message.w)))
 }
 
 /// GOTOPOS and SETEMPTYSELECTION: goes to `w`, clamped to the text.
-pub fn go_to_pos(r: &Request) -> Planned
-    ensures { result ≡ go_to_pos r.now }
+pub fn go_to_pos(r: &Request) -> ViewChange
+    ensures { change_view result ≡ go_to_pos r.now }
 {
     go_to(clamped(r.size(), r.message.w))
 }
 
 /// SETANCHOR: moves only the anchor.
-pub fn set_anchor(r: &Request) -> Planned
-    ensures { result ≡ set_anchor r.now }
+pub fn set_anchor(r: &Request) -> ViewChange
+    ensures { change_view result ≡ set_anchor r.now }
 {
     select(clamped(r.size(), r.message.w), r.view.selection().caret)
 }
 
 /// SETCURRENTPOS: moves only the caret.
-pub fn set_current_pos(r: &Request) -> Planned
-    ensures { result ≡ set_current_pos r.now }
+pub fn set_current_pos(r: &Request) -> ViewChange
+    ensures { change_view result ≡ set_current_pos r.now }
 {
     select(r.view.selection().anchor, clamped(r.size(), r.message.w))
 }
 
 /// SETSELECTIONSTART: moves the anchor to `w`, and the caret too if it is before `w`.
-pub fn set_selection_start(r: &Request) -> Planned
-    ensures { result ≡ set_selection_start r.now }
+pub fn set_selection_start(r: &Request) -> ViewChange
+    ensures { change_view result ≡ set_selection_start r.now }
 {
     let place = clamped(r.size(), r.message.w);
     select(place, place.max(r.view.selection().caret))
 }
 
 /// SETSELECTIONEND: moves the caret to `w`, and the anchor too if it is behind `w`.
-pub fn set_selection_end(r: &Request) -> Planned
-    ensures { result ≡ set_selection_end r.now }
+pub fn set_selection_end(r: &Request) -> ViewChange
+    ensures { change_view result ≡ set_selection_end r.now }
 {
     let place = clamped(r.size(), r.message.w);
     select(place.min(r.view.selection().anchor), place)
@@ -119,8 +117,8 @@ pub fn set_selection_end(r: &Request) -> Planned
 
 /// SETSEL: moves the caret to `l`, or to the end of the text if `l` is negative, and the anchor to `w`, or to the caret
 /// if `w` is negative.
-pub fn set_sel(r: &Request) -> Planned
-    ensures { result ≡ set_sel r.now }
+pub fn set_sel(r: &Request) -> ViewChange
+    ensures { change_view result ≡ set_sel r.now }
 {
     let size = r.size();
     let caret = if r.message.l < 0 {
@@ -271,12 +269,12 @@ pub fn copy_text(r: &Request) -> Planned
 }
 
 /// SETPASTECONVERTENDINGS: sets whether pasted text gets the document's line ends.
-pub fn set_paste_convert_endings(r: &Request) -> Planned
-    ensures { result ≡ set_paste_convert_endings r.now }
+pub fn set_paste_convert_endings(r: &Request) -> ViewChange
+    ensures { change_view result ≡ set_paste_convert_endings r.now }
 {
-    change_view(ViewChange::SetPasteConversion {
+    ViewChange::SetPasteConversion {
         on: is_on(r.message.w),
-    })
+    }
 }
 
 /// GETPASTECONVERTENDINGS: returns whether pasted text gets the document's line ends.

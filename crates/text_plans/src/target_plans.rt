@@ -2,14 +2,14 @@
 
 ghost use Rattle.std.specs.Prelude.{◌≡◌, ◌≤◌, ◌<◌, ◌+◌, ◌^◌, length, IfSome};
 ghost use Rattle.message_requests.specs.HandingOut.{handed_out};
-ghost use Rattle.ed_model.specs.Requests.{answer};
+ghost use Rattle.ed_model.specs.Requests.{answer, change_view, with_argument};
 ghost use Rattle.ed_model.specs.TargetPlans.{found_target, get_search_flags, get_target_end, get_target_start, get_target_text, replace_target, replacement_length, search_flags, search_in_target, set_search_flags, set_target, set_target_end, set_target_range, set_target_start, target_from_selection, target_whole_document};
 ghost use Rattle.text_plans.specs.Finding.{match_in_target};
 
 use ed_model::{Follow, Plan, Planned, Source, ViewChange};
 use ed_types::Refusal;
 use message_requests::Request;
-use message_requests::answers::{HandedOut, answer, bytes_between, change_view};
+use message_requests::answers::{HandedOut, answer, bytes_between};
 use message_requests::arguments::{clamped, is_minus_one, within};
 use message_requests::edits::{Replacement, edit_plan};
 use target_search::SearchFlags;
@@ -20,29 +20,29 @@ const SEARCH_FLAGS: u32 = SearchFlags::WHOLE_WORD
     | SearchFlags::WORD_START;
 
 /// Sets the target to these ends.
-fn set_target(start: usize, end: usize) -> Planned
-    ensures { result ≡ set_target start end }
+fn set_target(start: usize, end: usize) -> ViewChange
+    ensures { change_view result ≡ set_target start end }
 {
-    change_view(ViewChange::SetTarget { start, end })
+    ViewChange::SetTarget { start, end }
 }
 
 /// SETTARGETSTART: sets the start of the target to `w`, clamped to the text.
-pub fn set_target_start(r: &Request) -> Planned
-    ensures { result ≡ set_target_start r.now }
+pub fn set_target_start(r: &Request) -> ViewChange
+    ensures { change_view result ≡ set_target_start r.now }
 {
     set_target(clamped(r.size(), r.message.w), r.view.target().end)
 }
 
 /// SETTARGETEND: sets the end of the target to `w`, clamped to the text.
-pub fn set_target_end(r: &Request) -> Planned
-    ensures { result ≡ set_target_end r.now }
+pub fn set_target_end(r: &Request) -> ViewChange
+    ensures { change_view result ≡ set_target_end r.now }
 {
     set_target(r.view.target().start, clamped(r.size(), r.message.w))
 }
 
 /// SETTARGETRANGE: sets the target to the range from `w` to `l`, both clamped to the text.
-pub fn set_target_range(r: &Request) -> Planned
-    ensures { result ≡ set_target_range r.now }
+pub fn set_target_range(r: &Request) -> ViewChange
+    ensures { change_view result ≡ set_target_range r.now }
 {
     let size = r.size();
     set_target(clamped(size, r.message.w), clamped(size, r.message.l))
@@ -63,15 +63,15 @@ pub fn get_target_end(r: &Request) -> i64
 }
 
 /// TARGETFROMSELECTION: sets the target to the selection.
-pub fn target_from_selection(r: &Request) -> Planned
-    ensures { result ≡ target_from_selection r.now }
+pub fn target_from_selection(r: &Request) -> ViewChange
+    ensures { change_view result ≡ target_from_selection r.now }
 {
     set_target(r.selection_start(), r.selection_end())
 }
 
 /// TARGETWHOLEDOCUMENT: sets the target to the whole text.
-pub fn target_whole_document(r: &Request) -> Planned
-    ensures { result ≡ target_whole_document r.now }
+pub fn target_whole_document(r: &Request) -> ViewChange
+    ensures { change_view result ≡ target_whole_document r.now }
 {
     set_target(0, r.size())
 }
@@ -97,12 +97,12 @@ fn search_flags(argument: i64) -> Option<u32>
 }
 
 /// SETSEARCHFLAGS: sets how the target is searched.
-pub fn set_search_flags(r: &Request) -> Planned
-    ensures { result ≡ set_search_flags r.now }
+pub fn set_search_flags(r: &Request) -> Option<ViewChange>
+    ensures { with_argument result change_view ≡ set_search_flags r.now }
 {
     match search_flags(r.message.w) {
-        Some(flags) => change_view(ViewChange::SetSearchFlags { flags }),
-        None => Err(Refusal::BadArgument),
+        Some(flags) => Some(ViewChange::SetSearchFlags { flags }),
+        None => None,
     }
 }
 

@@ -94,7 +94,6 @@ pub fn delete_range(r: &Request) -> Planned
 }
 
 /// GETLENGTH and GETTEXTLENGTH: returns the length of the text in bytes.
-#[inline(always)]
 pub fn get_length(r: &Request) -> i64
     ensures { answer result ≡ get_length r.now }
 {
@@ -102,7 +101,6 @@ pub fn get_length(r: &Request) -> i64
 }
 
 /// Returns the byte at a place, or 0 if the place is outside the text.
-#[inline(always)]
 fn byte_at(r: &Request, argument: i64) -> u8
     ensures { result ≡ at_place (text r.now) argument }
 {
@@ -114,7 +112,6 @@ fn byte_at(r: &Request, argument: i64) -> u8
 }
 
 /// GETCHARAT: returns the byte at `w`.
-#[inline(always)]
 pub fn get_char_at(r: &Request) -> i64
     ensures { answer result ≡ get_char_at r.now }
 {
@@ -130,13 +127,10 @@ pub fn get_text(r: &Request) -> HandedOut
 
 /// GETTEXTRANGE: returns the bytes from `w` up to `l`, and `None` if there is no such range, which is refused. `l` = -1
 /// is the end of the text.
-#[inline(always)]
 pub fn get_text_range(r: &Request) -> Option<HandedOut>
     ensures { with_argument result handed_out ≡ get_text_range r.now }
 {
-    let Some(start) = within(0, r.size(), r.message.w) else {
-        return None;
-    };
+    let start = within(0, r.size(), r.message.w)?;
     match past_argument(r, start) {
         Some(past) => Some(bytes_between(start, past)),
         None => None,
@@ -144,7 +138,6 @@ pub fn get_text_range(r: &Request) -> Option<HandedOut>
 }
 
 /// GETLINECOUNT: returns the number of lines.
-#[inline(always)]
 pub fn get_line_count(r: &Request) -> i64
     ensures { answer result ≡ get_line_count r.now }
 {
@@ -176,7 +169,6 @@ pub fn get_cur_line(r: &Request) -> HandedOut
 }
 
 /// LINELENGTH: returns how many bytes line `w` has, with its line end.
-#[inline(always)]
 pub fn line_length(r: &Request) -> i64
     ensures { answer result ≡ line_length r.now }
 {
@@ -188,7 +180,6 @@ pub fn line_length(r: &Request) -> i64
 
 /// GETLINEENDPOSITION: returns where the line end of line `w` begins, and the end of the text for the last line and all
 /// behind it.
-#[inline(always)]
 pub fn get_line_end_position(r: &Request) -> i64
     ensures { answer result ≡ get_line_end_position r.now }
 {
@@ -199,7 +190,6 @@ pub fn get_line_end_position(r: &Request) -> i64
 }
 
 /// LINEFROMPOSITION: returns the line that holds `w`, clamped to the text.
-#[inline(always)]
 pub fn line_from_position(r: &Request) -> i64
     ensures { answer result ≡ line_from_position r.now }
 {
@@ -208,7 +198,6 @@ pub fn line_from_position(r: &Request) -> i64
 
 /// POSITIONFROMLINE: returns the start of line `w`. A negative `w` means the selection's line. The line just behind the
 /// last starts at the end of the text, and for lines further behind the value is -1.
-#[inline(always)]
 pub fn position_from_line(r: &Request) -> i64
     ensures { answer result ≡ position_from_line r.now }
 {
@@ -228,7 +217,6 @@ pub fn position_from_line(r: &Request) -> i64
 }
 
 /// POSITIONBEFORE: returns the cut between characters before `w`, clamped to the text.
-#[inline(always)]
 pub fn position_before(r: &Request) -> i64
     ensures { answer result ≡ position_before r.now }
 {
@@ -236,7 +224,6 @@ pub fn position_before(r: &Request) -> i64
 }
 
 /// POSITIONAFTER: returns the cut between characters behind `w`, clamped to the text.
-#[inline(always)]
 pub fn position_after(r: &Request) -> i64
     ensures { answer result ≡ position_after r.now }
 {

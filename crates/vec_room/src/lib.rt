@@ -1,7 +1,8 @@
-//! Growth of a `Vec` with a bound on its capacity: `Vec::reserve` does not say how large the capacity is afterwards.
+//! Growth of a `Vec` with a bound on its capacity: `Vec::reserve` does not say how large the capacity is afterwards. And items that are
+//! appended where there is room, so that nothing can fail.
 #![tactic(auto)]
 
-ghost use Rattle.std.specs.Prelude.{◌≡◌, ◌≤◌, ◌+◌, ◌⊎◌, max, OnOk, OnErr, IsOk, vec_len, vec_capacity};
+ghost use Rattle.std.specs.Prelude.{◌≡◌, ◌≤◌, ◌+◌, ◌⊎◌, ◌++◌, length, max, OnOk, OnErr, IsOk, vec_len, vec_capacity};
 
 use std::alloc::AllocError;
 
@@ -25,4 +26,16 @@ pub fn reserve<T>(vec: &mut Vec<T>, count: usize) -> Result<(), AllocError>
         return Ok(());
     }
     vec.reserve_exact(count.max(vec.len()))
+}
+
+/// Appends items. There must be room for them. Allocates nothing.
+pub fn extend_reserved<T: Copy>(vec: &mut Vec<T>, items: &[T])
+    requires room { vec_len vec.old + length items.now ≤ vec_capacity vec.old }
+    ensures items { vec.new.items ≡ vec.old.items ++ items.now }
+    ensures len { vec_len vec.new ≡ vec_len vec.old + length items.now }
+    ensures room_stays { vec_capacity vec.old ≤ vec_capacity vec.new }
+{
+    let Ok(()) = vec.extend_from_slice(items) else {
+        unreachable!()
+    };
 }

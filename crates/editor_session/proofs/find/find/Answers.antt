@@ -5,8 +5,8 @@ use Rattle.editor_session.proofs.find.find.Goals as goal
 pub returns-in_default-clause-refused : goal.returns-in_default-clause-refused
 returns-in_default-clause-refused c = ap (table_from_view (session_in c.args.state.now) c.args.message.now) c.in_default.ensures.none
 
-pub returns-in_default-from_number-clause-refused : goal.returns-in_default-from_number-clause-refused
-returns-in_default-from_number-clause-refused c =
+pub returns-in_default-kind-clause-refused : goal.returns-in_default-kind-clause-refused
+returns-in_default-kind-clause-refused c =
     let s = session_in c.args.state.now in let m = c.args.message.now in
     let unknown : kind_of m.number ≡ None = search rules in
     ap (table_from_view s m) c.in-Some.ensures.view ∙ ap (table_from_kind s c.in-Some.found.view.now.view m) unknown
@@ -14,7 +14,7 @@ returns-in_default-from_number-clause-refused c =
 pub returns-clause-found : goal.returns-clause-found
 returns-clause-found c =
     let a = c.args in let f = c.in-Some.found in let e = c.in-Some.ensures in
-    is_found (session_in a.state.now) a.view a.message.now f.view.now.view c.in-Some-from_number.kind f.document.now.document c.requires.kept.sound e.view (search rules) e.document
+    is_found (session_in a.state.now) a.view a.message.now f.view.now.view c.in-Some-kind.kind f.document.now.document c.requires.kept.sound e.view (search rules) e.document
 
 pub returns-clause-request : goal.returns-clause-request
 returns-clause-request c =

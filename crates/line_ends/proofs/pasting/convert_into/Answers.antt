@@ -7,14 +7,14 @@ pieces-preserved c =
     let a = c.args in
     let old = c.pieces.invariant in
     let p = c.next_piece-piece in
-    let one = c.append.ensures in
-    let two = c.append-in-pieces.ensures in
+    let one = c.extend_reserved.ensures in
+    let two = c.extend_reserved-in-pieces.ensures in
     let last = c.bytes_of_end.ensures in
     record {
       within = within_on a.bytes.now c.pieces.place p.result.quiet p.result.end old.within p.ensures.within;
       items = items_on a.to a.bytes.now c.pieces.place p.result.quiet p.result.end old.within p.ensures.pieces
-          (a.target.now.items ++ converted a.to a.bytes.now) c.pieces.target.items c.append.new.target.items c.append-in-pieces.new.target.items old.items one.items (rw last at two.items);
+          (a.target.now.items ++ converted a.to a.bytes.now) c.pieces.target.items c.extend_reserved.new.vec.items c.extend_reserved-in-pieces.new.vec.items old.items one.items (rw last at two.items);
       room = room_on a.to a.bytes.now c.pieces.place p.result.quiet p.result.end old.within p.ensures.within p.ensures.pieces
-          (vec_len c.pieces.target) (vec_len c.append.new.target) (vec_len c.append-in-pieces.new.target) (vec_capacity c.pieces.target) (vec_capacity c.append-in-pieces.new.target)
-          old.room one.len (rw last at two.len) (let x = one.capacity in let y = two.capacity in omega arith);
+          (vec_len c.pieces.target) (vec_len c.extend_reserved.new.vec) (vec_len c.extend_reserved-in-pieces.new.vec) (vec_capacity c.pieces.target) (vec_capacity c.extend_reserved-in-pieces.new.vec)
+          old.room one.len (rw last at two.len) (let x = one.room_stays in let y = two.room_stays in omega arith);
     }

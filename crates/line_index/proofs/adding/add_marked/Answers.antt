@@ -3,7 +3,7 @@ use Rattle.line_index.proofs.Added.{none_seen, can_go_on, added_up_to, one_seen,
 use Rattle.line_index.proofs.adding.add_marked.Goals as goal
 
 pub adding-init : goal.adding-init
-adding-init g c = none_seen c.args.types (c.args.before.now ++ c.args.after.now) c.args.base c.args.place c.args.first c.args.marks c.args.starts.now c.requires.base c.requires.marked
+adding-init g c = none_seen c.args.text.types (c.args.text.before.now ++ c.args.text.after.now) c.args.base c.args.place c.args.first c.args.marks c.args.starts.now c.requires.base c.requires.marked
 
 pub add_at-line-requires : goal.add_at-line-requires
 add_at-line-requires g c =

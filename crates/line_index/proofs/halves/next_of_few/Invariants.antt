@@ -6,7 +6,7 @@ invariant-looking l =
     record {
       low : l.place ≤ l.at;
       high : l.at < l.to;
-      none : (k : ℕ) → l.place < k → k ≤ l.at → is_line_start l.types (l.before ++ l.after) k ≡ false;
+      none : (k : ℕ) → l.place < k → k ≤ l.at → is_line_start l.text.types (l.text.before.now ++ l.text.after.now) k ≡ false;
     }
 
 abbrev pub decreases-looking : goal.decreases-looking

@@ -7,7 +7,7 @@ looking-preserved c =
     record {
       low = omega (arith, c.next_place-place.ensures.within);
       high = c.next_place-place.ensures.within.1;
-      none = none_on c.args.types (c.args.before.now ++ c.args.after.now) c.args.from c.looking.place c.next_place-place.result c.looking.invariant.none
+      none = none_on c.args.text.types (c.args.text.before.now ++ c.args.text.after.now) c.args.from c.looking.place c.next_place-place.result c.looking.invariant.none
           (sym c.starts_at.ensures ∙ c.if-starts_at.false)
           c.next_place-place.ensures.none;
     }

@@ -6,7 +6,7 @@ invariant-looking l =
     record {
       low : l.from ≤ l.place;
       high : l.place ≤ l.to;
-      none : (k : ℕ) → l.from ≤ k → k < l.place → is_line_start l.types (l.before ++ l.after) k ≡ false;
+      none : (k : ℕ) → l.from ≤ k → k < l.place → is_line_start l.text.types (l.text.before.now ++ l.text.after.now) k ≡ false;
     }
 
 abbrev pub decreases-looking : goal.decreases-looking

@@ -35,6 +35,6 @@ counting-preserved c =
       low = omega (arith, inv.low, next.ensures.within);
       high = next.ensures.within.1;
       few = omega (arith, inv.few, next.ensures.within);
-      none = one_more_inside text c.args.start place next.result inv.low (sym c.starts_at.ensures ∙ c.if-starts_at.false) inv.none next.ensures.none;
+      none = one_more_inside text c.args.start place next.result inv.low (sym c.starts_by_default.ensures ∙ c.if-starts_by_default.false) inv.none next.ensures.none;
       found = next.ensures.start;
     }

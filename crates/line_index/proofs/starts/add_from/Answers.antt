@@ -43,7 +43,7 @@ adding-preserved g c =
 pub adding-init : goal.adding-init
 adding-init g c =
     record {
-      added = added_nothing c.args.types (c.args.before.now ++ c.args.after.now) c.args.base c.args.from c.args.first c.args.starts.now;
+      added = added_nothing c.args.text.types (c.args.text.before.now ++ c.args.text.after.now) c.args.base c.args.from c.args.first c.args.starts.now;
       low = omega arith;
       high = c.requires.near.1;
     }

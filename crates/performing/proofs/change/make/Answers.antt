@@ -1,4 +1,4 @@
-use Rattle.performing.proofs.Names.{[], rules, subst, w64, to_z-of_z, SFits, ℤ, Makes, AppendContainer, SetState}
+use Rattle.performing.proofs.Names.{[], rules, subst, w32, w64, to_z-of_z, SFits, ℤ, Makes, AppendContainer, SetState}
 use Rattle.performing.specs.Fit.{IsFitChange}
 use Rattle.performing.proofs.change.make.Goals as goal
 
@@ -16,8 +16,8 @@ returns-in-AppendContainer c =
 
 pub returns-in-SetState : goal.returns-in-SetState
 returns-in-SetState c =
-    let fits : SFits w64 c.in-SetState.state = search rules in
-    rw c.in-SetState.is (subst (λ (z : ℤ). Makes [] (SetState c.in-SetState.line z) c.args.document.now c.set_state.new.document c.set_state.result) (to_z-of_z w64 c.in-SetState.state fits) c.set_state.ensures)
+    let fits : SFits w32 c.in-SetState.state = search rules in
+    rw c.in-SetState.is (subst (λ (z : ℤ). Makes [] (SetState c.in-SetState.line z) c.args.document.now c.set_state.new.document c.set_state.result) (to_z-of_z w32 c.in-SetState.state fits) c.set_state.ensures)
 
 pub returns-in_default : goal.returns-in_default
 returns-in_default c = c.make_free.ensures c.args.text.now

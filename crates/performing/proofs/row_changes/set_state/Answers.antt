@@ -1,12 +1,11 @@
-use Rattle.performing.proofs.Changes.{[], ◌≡◌, refl, ap, ◌∙◌, ◌==◌, not, w32, w64, to_z-of_z, of_z, ℤ, arith, common_steps, document_of, changed_document, document_row, is_same, line_note, heard, change_line_state, SetState, State, same_states, is_made_if, flipped}
+use Rattle.performing.proofs.Changes.{[], ◌≡◌, refl, ap, ◌∙◌, ◌==◌, not, w32, to_z-of_z, of_z, ℤ, arith, common_steps, document_of, changed_document, document_row, is_same, line_note, heard, change_line_state, SetState, State, same_states, is_made_if, flipped}
 use Rattle.performing.proofs.row_changes.set_state.Goals as goal
 
 pub returns : goal.returns
 returns c =
-    let k = c.args.document.now in let line = c.args.line in let old = (document_row k.document line).state in let mid = c.reserve_state.new.self in
-    let same = ap document_of c.reserve_state.ensures.grown.0 in let state = c.narrowed-state in let before = c.set_state-before in
-    let is : state.result ≡ c.args.state = state.ensures ∙ to_z-of_z w64 c.args.state c.ranges.state in let was : before.result ≡ old = before.ensures.before ∙ rw same refl in
-    let states = same_states before.result state.result (record { sfits = before.type_inv }) (record { sfits = state.type_inv }) in
-    is_made_if (not (of_z w32 before.result == of_z w32 state.result)) [] (SetState line c.args.state) k mid before.new.self (State line) c.note_if.result same c.note_if.ensures
-    (ap document_of before.ensures.document ∙ ap (λ (z : ℤ). changed_document [] (SetState line z) mid.document) (to_z-of_z w32 state.result (record { sfits = state.type_inv }) ∙ is))
-    (λ v views. flipped (is_same old c.args.state) _ (heard views (line_note change_line_state line)) (ap not (states ∙ rw (was, is) refl))) c.requires.line (grind (arith, common_steps))
+    let k = c.args.document.now in let line = c.args.line in let state = c.args.state in let old = (document_row k.document line).state in let mid = c.reserve_state.new.self in
+    let same = ap document_of c.reserve_state.ensures.grown.0 in let before = c.set_state-before in let was : before.result ≡ old = before.ensures.before ∙ rw same refl in
+    let states = same_states before.result state (record { sfits = before.type_inv }) c.ranges.state in
+    is_made_if (not (of_z w32 before.result == of_z w32 state)) [] (SetState line state) k mid before.new.self (State line) c.note_if.result same c.note_if.ensures
+    (ap document_of before.ensures.document ∙ ap (λ (z : ℤ). changed_document [] (SetState line z) mid.document) (to_z-of_z w32 state c.ranges.state))
+    (λ v views. flipped (is_same old state) _ (heard views (line_note change_line_state line)) (ap not (states ∙ rw was refl))) c.requires (grind (arith, common_steps))

@@ -8,4 +8,4 @@ returns-then-count-eq0-clause-filled g c = rw (c.if-count-eq0.true, filled-none 
 
 pub returns-clause-changed : goal.returns-clause-changed
 returns-clause-changed g c =
-    rw (← c.self.view_is, c.overwrite.ensures.becomes.list) (changed_is (list_of c.self.inside.table) c.args.place c.args.count c.in-Some.low c.in-Some.high c.args.value c.in-Some.ensures.some)
+    rw (← c.self.view_is, c.overwrite.ensures.becomes.list) (changed_is (list_of c.self.inside.table) c.args.place c.args.count c.in_ok-low.low c.in_ok-low.high c.args.value c.in_ok-low.ensures.some)

@@ -1,0 +1,19 @@
+-- The change of the plan of a setting.
+use Rattle.std.proofs.Common.{◌≡◌, Option, Some, None, refl, sym, subst, IfSome}
+use Rattle.ed_model.specs.declared.plan.ViewChange.{ViewChange}
+use Rattle.ed_model.specs.Requests.{Planned, change_view, with_argument}
+use Rattle.message_plans.specs.Settings.{view_change_planned}
+
+pub set_so : (change : ViewChange) (p : Planned) → change_view change ≡ p → view_change_planned p ≡ Some change
+set_so change p is = subst (λ p. view_change_planned p ≡ Some change) is refl
+
+given : (o : Option ViewChange) → view_change_planned (with_argument o change_view) ≡ o
+given None = refl
+given (Some change) = refl
+
+pub set_if : (o : Option ViewChange) (p : Planned) → with_argument o change_view ≡ p → view_change_planned p ≡ o
+set_if o p is = subst (λ p. view_change_planned p ≡ o) is (given o)
+
+pub planned_if_some : (o : Option ViewChange) (p : Planned) → with_argument o change_view ≡ p → IfSome o (λ change. p ≡ change_view change)
+planned_if_some None p is = tt
+planned_if_some (Some change) p is = sym is
