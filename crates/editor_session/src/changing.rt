@@ -64,7 +64,9 @@ pub(crate) fn perform_change(
 }
 
 /// Makes `change` in the document with this id, for a message to `view`, if no view hears it. Returns whether it did; nothing
-/// has changed otherwise, also if an allocation fails.
+/// has changed otherwise, also if an allocation fails. Inlined into its two callers: as a call, SETSTYLING pays for one more
+/// stack frame.
+#[inline(always)]
 pub(crate) fn perform_unheard_change(
     state: &mut SessionState,
     document: u32,

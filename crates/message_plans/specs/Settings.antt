@@ -1,15 +1,18 @@
--- Settings: messages that change the view alone, and show and hide no lines: its selection, target, search flags, indicator, mask of what it hears,
--- and whether it converts what is pasted and records.
+-- Settings of a view: messages that change the view alone, and show and hide no lines: its selection, target, search flags, indicator, mask of
+-- what it hears, and whether it converts what is pasted and records. Settings of a document: its styles and where these end, levels and states of
+-- its lines, the line end that typing inserts, whether it is read-only and whether it collects undo. Both answer 0. And the search in the target.
 use Rattle.std.specs.Prelude.{ℕ, if◌then◌else◌, Bool, List, [], ◌∷◌, Ok, Option, Some, None, is_some}
 use Rattle.ed_types.specs.declared.kind.Kind.{Kind}
 use Rattle.ed_types.specs.declared.kind.Kind.TheVariants as kinds
 use Rattle.ed_types.specs.Messages.{number_of, kind_among}
 use Rattle.ed_model.specs.declared.plan.Plan.TheVariants as plan
+use Rattle.ed_model.specs.declared.plan.DocumentChange.{DocumentChange}
 use Rattle.ed_model.specs.declared.plan.ViewChange.{ViewChange}
 use Rattle.ed_model.specs.Requests.{Request, Planned}
 use Rattle.ed_model.specs.Table.{plan_of}
+use Rattle.text_plans.specs.declared.target_plans.Found.{Found}
 
--- the settings, in rising order of their numbers
+-- the settings of a view, in rising order of their numbers
 abbrev pub settings : List Kind
 settings = kinds.SelectAll ∷ kinds.GotoLine ∷ kinds.GotoPos ∷ kinds.SetAnchor ∷ kinds.SetCurrentPos ∷ kinds.SetSelectionStart ∷
     kinds.SetSelectionEnd ∷ kinds.SetSel ∷ kinds.SetTargetStart ∷ kinds.SetTargetEnd ∷ kinds.SetSearchFlags ∷ kinds.TargetFromSelection ∷
@@ -18,7 +21,7 @@ settings = kinds.SelectAll ∷ kinds.GotoLine ∷ kinds.GotoPos ∷ kinds.SetAnc
     kinds.SetPasteConvertEndings ∷ kinds.SetIndicatorCurrent ∷ kinds.SetIndicatorValue ∷ kinds.SetEmptySelection ∷ kinds.SetTargetRange ∷
     kinds.TargetWholeDocument ∷ kinds.StartRecord ∷ kinds.StopRecord ∷ []
 
--- the setting with this number
+-- the one with this number
 abbrev pub setting_at : ℕ → Option Kind
 setting_at number = kind_among settings number
 
@@ -33,3 +36,38 @@ view_change_planned other = None
 -- the change that the plan of a setting makes; none for all other messages, and if the setting is refused
 abbrev pub setting_asked : Kind → Request → Option ViewChange
 setting_asked kind r = if is_setting kind then view_change_planned (plan_of kind r) else None
+
+-- the settings of a document, in rising order of their numbers
+abbrev pub document_settings : List Kind
+document_settings = kinds.SetUndoCollection ∷ kinds.SetEolMode ∷ kinds.StartStyling ∷ kinds.SetStyling ∷ kinds.SetStylingEx ∷ kinds.SetLineState ∷
+    kinds.SetReadOnly ∷ kinds.SetFoldLevel ∷ []
+
+-- the one with this number
+abbrev pub document_setting_at : ℕ → Option Kind
+document_setting_at number = kind_among document_settings number
+
+abbrev pub is_document_setting : Kind → Bool
+is_document_setting kind = is_some (document_setting_at (number_of kind))
+
+-- the change of a `ChangeDocument` plan; none for other plans
+abbrev pub document_change_planned : Planned → Option DocumentChange
+document_change_planned (Ok (plan.ChangeDocument change value)) = Some change
+document_change_planned other = None
+
+-- the change that the plan of such a setting makes; none for all other messages, if the setting is refused, and if it changes nothing
+abbrev pub document_setting_asked : Kind → Request → Option DocumentChange
+document_setting_asked kind r = if is_document_setting kind then document_change_planned (plan_of kind r) else None
+
+-- the search in the target, which has this number
+abbrev pub search_at : ℕ → Option Kind
+search_at number = kind_among (kinds.SearchInTarget ∷ []) number
+
+-- what the plan of a search finds; none for other plans
+abbrev pub found_planned : Planned → Option Found
+found_planned (Ok (plan.ChangeView change value)) = Some (record { change = Some change; value = value })
+found_planned (Ok (plan.Answer value)) = Some (record { change = None; value = value })
+found_planned other = None
+
+-- what a search finds; none for all other messages, and if the search is refused
+abbrev pub found_asked : Kind → Request → Option Found
+found_asked kind r = if is_some (search_at (number_of kind)) then found_planned (plan_of kind r) else None

@@ -14,15 +14,27 @@ abbrev pub text_question_in : Way → Option Kind
 text_question_in (way.TextQuestion kind) = Some kind
 text_question_in other = None
 
--- the setting that is
+-- the setting of a view that is
 abbrev pub setting_in : Way → Option Kind
 setting_in (way.Setting kind) = Some kind
 setting_in other = None
+
+-- the setting of a document that is
+abbrev pub document_setting_in : Way → Option Kind
+document_setting_in (way.DocumentSetting kind) = Some kind
+document_setting_in other = None
+
+-- the search that is
+abbrev pub search_in : Way → Option Kind
+search_in (way.Search kind) = Some kind
+search_in other = None
 
 -- the message's kind, if the profile has the message
 abbrev pub kind_in : Way → Option Kind
 kind_in (way.Question kind) = Some kind
 kind_in (way.TextQuestion kind) = Some kind
 kind_in (way.Setting kind) = Some kind
+kind_in (way.DocumentSetting kind) = Some kind
+kind_in (way.Search kind) = Some kind
 kind_in (way.Planned kind) = Some kind
 kind_in way.Unknown = None

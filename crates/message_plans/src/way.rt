@@ -5,7 +5,7 @@ ghost use Rattle.message_plans.specs.Ways.{kind_in};
 
 use ed_types::Kind;
 
-/// How a session answers a message: a query and a setting without a plan, and all else by its plan. It has the message's kind.
+/// How a session answers a message: queries, settings and searches without a plan, and all else by its plan. It has the message's kind.
 #[derive(Clone, Copy, Debug)]
 pub enum Way {
     /// A numeric query, which is answered by a number.
@@ -14,6 +14,10 @@ pub enum Way {
     TextQuestion(Kind),
     /// A setting of the view, which is one change of the view.
     Setting(Kind),
+    /// A setting of the document, which is one change of the document.
+    DocumentSetting(Kind),
+    /// A search in the target, which sets the target to a match.
+    Search(Kind),
     /// Any other message of the profile, which is planned and performed.
     Planned(Kind),
     /// None: the profile has no message with the number.
@@ -29,6 +33,8 @@ impl Way {
             Way::Question(kind) => Some(kind),
             Way::TextQuestion(kind) => Some(kind),
             Way::Setting(kind) => Some(kind),
+            Way::DocumentSetting(kind) => Some(kind),
+            Way::Search(kind) => Some(kind),
             Way::Planned(kind) => Some(kind),
             Way::Unknown => None,
         }

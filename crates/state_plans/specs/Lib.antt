@@ -1,3 +1,4 @@
 -- Definitions that the contracts cite.
 pub mod Acting
+pub mod Changing
 pub mod Referring

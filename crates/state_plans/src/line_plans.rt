@@ -1,7 +1,8 @@
 //! Plans of the messages on line ends, markers and line states.
 
 ghost use Rattle.std.specs.Prelude.{◌≡◌, ◌≤◌, ◌<◌, ◌^◌, length, IfSome};
-ghost use Rattle.ed_model.specs.Requests.{answer};
+ghost use Rattle.ed_model.specs.Requests.{answer, change_document, with_argument};
+ghost use Rattle.state_plans.specs.Changing.{changed};
 ghost use Rattle.ed_model.specs.LinePlans.{convert_eols, get_eol_mode, get_line_state, has_handles, line_end_kind, line_end_number, line_of_handle, marker_add, marker_add_set, marker_delete, marker_delete_all, marker_delete_handle, marker_get, marker_line_from_handle, marker_next, marker_previous, numbers_in, set_eol_mode, set_line_state};
 
 use document::count_numbers;
@@ -43,16 +44,14 @@ pub fn get_eol_mode(r: &Request) -> i64
     line_end_number(r.document.typed_line_end()) as i64
 }
 
-/// SETEOLMODE: sets the line end that typing inserts.
-pub fn set_eol_mode(r: &Request) -> Planned
-    ensures { result ≡ set_eol_mode r.now }
+/// SETEOLMODE: sets the line end that typing inserts. `None` if it is refused.
+pub fn set_eol_mode(r: &Request) -> Option<DocumentChange>
+    ensures { with_argument result change_document ≡ set_eol_mode r.now }
 {
-    match within(0, 2, r.message.w) {
-        Some(mode) => change_document(DocumentChange::SetLineEnd {
-            to: line_end_kind(mode),
-        }),
-        None => Err(Refusal::BadArgument),
-    }
+    let mode = within(0, 2, r.message.w)?;
+    Some(DocumentChange::SetLineEnd {
+        to: line_end_kind(mode),
+    })
 }
 
 /// CONVERTEOLS: converts all line ends of the text to the kind `w`.
@@ -204,17 +203,21 @@ pub fn marker_delete_handle(r: &Request) -> Planned
     }
 }
 
-/// SETLINESTATE: sets the state of line `w` to `l`, a number of 32 bits.
-pub fn set_line_state(r: &Request) -> Planned
-    ensures { result ≡ set_line_state r.now }
+/// SETLINESTATE: sets the state of line `w` to `l`, a number of 32 bits. `None` if there is no such line.
+///
+/// # Errors
+///
+/// `BadArgument` if `l` is no number of 32 bits.
+pub fn set_line_state(r: &Request) -> Result<Option<DocumentChange>, Refusal>
+    ensures { changed result ≡ set_line_state r.now }
 {
     let Ok(state) = i32::try_from(r.message.l) else {
         return Err(Refusal::BadArgument);
     };
-    match line_among(r.line_total(), r.message.w) {
-        Some(line) => change_document(DocumentChange::SetState { line, state }),
-        None => answer(0),
-    }
+    let Some(line) = line_among(r.line_total(), r.message.w) else {
+        return Ok(None);
+    };
+    Ok(Some(DocumentChange::SetState { line, state }))
 }
 
 /// GETLINESTATE: returns the state of line `w`.

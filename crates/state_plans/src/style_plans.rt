@@ -1,7 +1,7 @@
 //! Plans of the messages on styles and indicators.
 
 ghost use Rattle.std.specs.Prelude.{◌≡◌, ◌<◌, ◌^◌};
-ghost use Rattle.ed_model.specs.Requests.{answer, change_view, with_argument};
+ghost use Rattle.ed_model.specs.Requests.{answer, change_document, change_view, with_argument};
 ghost use Rattle.ed_model.specs.StylePlans.{colourise, fill_indicator, get_end_styled, get_indicator_current, get_indicator_value, get_style_at, get_styled_text, indicator_all_on_for, indicator_clear_range, indicator_end, indicator_fill_range, indicator_start, indicator_value_at, run_end_at, run_past, run_start, set_indicator_current, set_indicator_value, set_styling, set_styling_ex, start_styling, styles, unstyled, values_of};
 ghost use Rattle.ed_model.specs.TextPlans.{at_place};
 
@@ -56,14 +56,12 @@ pub fn get_end_styled(r: &Request) -> i64
     r.end_styled() as i64
 }
 
-/// STARTSTYLING: sets the end of the styled text to `w`.
-pub fn start_styling(r: &Request) -> Planned
-    ensures { result ≡ start_styling r.now }
+/// STARTSTYLING: sets the end of the styled text to `w`. `None` if it is refused.
+pub fn start_styling(r: &Request) -> Option<DocumentChange>
+    ensures { with_argument result change_document ≡ start_styling r.now }
 {
-    match within(0, r.size(), r.message.w) {
-        Some(place) => change_document(DocumentChange::SetEndStyled { place }),
-        None => Err(Refusal::BadArgument),
-    }
+    let place = within(0, r.size(), r.message.w)?;
+    Some(DocumentChange::SetEndStyled { place })
 }
 
 /// Returns how many bytes follow the end of the styled text.
@@ -73,32 +71,27 @@ fn unstyled(r: &Request) -> usize
     r.size() - r.end_styled()
 }
 
-/// SETSTYLING: sets the style of the next `w` bytes to `l`.
-pub fn set_styling(r: &Request) -> Planned
-    ensures { result ≡ set_styling r.now }
+/// SETSTYLING: sets the style of the next `w` bytes to `l`. `None` if it is refused.
+pub fn set_styling(r: &Request) -> Option<DocumentChange>
+    ensures { with_argument result change_document ≡ set_styling r.now }
 {
-    let Some(style) = within(0, 255, r.message.l) else {
-        return Err(Refusal::BadArgument);
-    };
-    match within(0, unstyled(r), r.message.w) {
-        Some(count) => change_document(DocumentChange::StyleRun {
-            count,
-            style: style as u8,
-        }),
-        None => Err(Refusal::BadArgument),
-    }
+    let style = within(0, 255, r.message.l)?;
+    let count = within(0, unstyled(r), r.message.w)?;
+    Some(DocumentChange::StyleRun {
+        count,
+        style: style as u8,
+    })
 }
 
-/// SETSTYLINGEX: sets the styles of the next `w` bytes to those in the message's text.
-pub fn set_styling_ex(r: &Request) -> Planned
-    ensures { result ≡ set_styling_ex r.now }
+/// SETSTYLINGEX: sets the styles of the next `w` bytes to those in the message's text. `None` if it is refused.
+pub fn set_styling_ex(r: &Request) -> Option<DocumentChange>
+    ensures { with_argument result change_document ≡ set_styling_ex r.now }
 {
-    match within(0, r.message.text.len(), r.message.w) {
-        Some(count) if count <= unstyled(r) => {
-            change_document(DocumentChange::StyleBytes { count })
-        }
-        _ => Err(Refusal::BadArgument),
+    let count = within(0, r.message.text.len(), r.message.w)?;
+    if count > unstyled(r) {
+        return None;
     }
+    Some(DocumentChange::StyleBytes { count })
 }
 
 /// COLOURISE: requests styles for the text from `w` up to `l`.

@@ -1,9 +1,10 @@
 //! Plans of the messages on undo and redo, and on whether the text can be edited at all.
 
-ghost use Rattle.std.specs.Prelude.{◌≡◌};
-ghost use Rattle.ed_model.specs.Requests.{answer};
+ghost use Rattle.std.specs.Prelude.{◌≡◌, Ok};
+ghost use Rattle.ed_model.specs.Requests.{answer, change_document};
 ghost use Rattle.ed_model.specs.UndoPlans.{add_undo_action, begin_undo_action, empty_undo_buffer, end_undo_action, get_can_redo, get_can_undo, get_modify, get_read_only, get_undo_collection, redo, set_read_only, set_save_point, set_undo_collection, undo};
 ghost use Rattle.state_plans.specs.Acting.{act_if};
+ghost use Rattle.state_plans.specs.Changing.{changed};
 
 use ed_model::{DocumentChange, Plan, Planned, undo_and_redo_are_never_too_long};
 use ed_types::Refusal;
@@ -11,15 +12,15 @@ use message_requests::Request;
 use message_requests::answers::{answer, change_document, flag};
 use message_requests::arguments::{is_on, within};
 
-/// SETUNDOCOLLECTION: sets whether the history collects steps. To turn collecting on while it is on changes nothing.
-pub fn set_undo_collection(r: &Request) -> Planned
-    ensures { result ≡ set_undo_collection r.now }
+/// SETUNDOCOLLECTION: sets whether the history collects steps. `None` if collecting is turned on while it is on, which changes nothing.
+pub fn set_undo_collection(r: &Request) -> Option<DocumentChange>
+    ensures { changed (Ok result) ≡ set_undo_collection r.now }
 {
     let on = is_on(r.message.w);
     if on && r.document.history().is_collecting() {
-        return answer(0);
+        return None;
     }
-    change_document(DocumentChange::CollectUndo { on })
+    Some(DocumentChange::CollectUndo { on })
 }
 
 /// GETUNDOCOLLECTION: returns whether the history collects steps.
@@ -85,12 +86,12 @@ pub fn get_read_only(r: &Request) -> i64
 }
 
 /// SETREADONLY: sets whether the document is read-only.
-pub fn set_read_only(r: &Request) -> Planned
-    ensures { result ≡ set_read_only r.now }
+pub fn set_read_only(r: &Request) -> DocumentChange
+    ensures { change_document result ≡ set_read_only r.now }
 {
-    change_document(DocumentChange::SetReadOnly {
+    DocumentChange::SetReadOnly {
         on: is_on(r.message.w),
-    })
+    }
 }
 
 /// GETMODIFY: returns whether the document is not at its save point.

@@ -4,7 +4,7 @@ ghost use Rattle.std.specs.Prelude.{◌≡◌, ◌≤◌, ◌<◌, ◌+◌, ◌^
 ghost use Rattle.message_requests.specs.HandingOut.{handed_out};
 ghost use Rattle.ed_model.specs.Requests.{answer, change_view, with_argument};
 ghost use Rattle.ed_model.specs.TargetPlans.{found_target, get_search_flags, get_target_end, get_target_start, get_target_text, replace_target, replacement_length, search_flags, search_in_target, set_search_flags, set_target, set_target_end, set_target_range, set_target_start, target_from_selection, target_whole_document};
-ghost use Rattle.text_plans.specs.Finding.{match_in_target};
+ghost use Rattle.text_plans.specs.Finding.{found, match_in_target};
 
 use ed_model::{Follow, Plan, Planned, Source, ViewChange};
 use ed_types::Refusal;
@@ -118,32 +118,39 @@ fn find_in_target(r: &Request, pattern: &[u8]) -> Option<usize>
     target_search::find(flags, first, second, pattern, start, end)
 }
 
-/// Sets the target to a match of `count` bytes, if there is one. The value is its start, or -1.
-fn found_target(count: usize, found: Option<usize>) -> Planned
-    requires { IfSome found (λ place. place + count < 2 ^ 63) }
-    ensures { result ≡ found_target count found }
+/// What a search finds.
+#[derive(Clone, Copy, Debug)]
+pub struct Found {
+    /// The target becomes the match, if there is one.
+    pub change: Option<ViewChange>,
+    /// The start of the match, in bytes from 0, or -1 if there is none.
+    pub value: i64,
+}
+
+/// Returns a match of `count` bytes, if there is one.
+fn found_target(count: usize, place: Option<usize>) -> Found
+    requires { IfSome place (λ place. place + count < 2 ^ 63) }
+    ensures { found result ≡ found_target count place }
 {
-    match found {
-        Some(start) => Ok(Plan::ChangeView {
-            change: ViewChange::SetTarget {
-                start,
-                end: start + count,
-            },
+    match place {
+        Some(start) => Found {
+            change: Some(set_target(start, start + count)),
             value: start as i64,
-        }),
-        None => answer(-1),
+        },
+        None => Found {
+            change: None,
+            value: -1,
+        },
     }
 }
 
 /// SEARCHINTARGET: searches for the first `w` bytes of the message's text in the target, and sets the target to the
-/// match. The value is its start, or -1 if there is none.
-pub fn search_in_target(r: &Request) -> Planned
-    ensures { result ≡ search_in_target r.now }
+/// match. `None` if it is refused.
+pub fn search_in_target(r: &Request) -> Option<Found>
+    ensures { with_argument result found ≡ search_in_target r.now }
 {
-    match within(0, r.message.text.len(), r.message.w) {
-        Some(count) => found_target(count, find_in_target(r, &r.message.text[..count])),
-        None => Err(Refusal::BadArgument),
-    }
+    let count = within(0, r.message.text.len(), r.message.w)?;
+    Some(found_target(count, find_in_target(r, &r.message.text[..count])))
 }
 
 /// GETSEARCHFLAGS: returns how the target is searched.

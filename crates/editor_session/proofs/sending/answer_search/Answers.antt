@@ -1,0 +1,14 @@
+use Rattle.editor_session.proofs.Names.{rules, ◌≡◌, ◌∙◌, Ok, ap, subst, quiet, Session, session_in, IsAnswered}
+use Rattle.editor_session.specs.Answers.{told}
+use Rattle.editor_session.proofs.TableWay.{replied_so}
+use Rattle.editor_session.proofs.sending.answer_search.Goals as goal
+
+pub returns-in-Some-clause-answered : goal.returns-in-Some-clause-answered
+returns-in-Some-clause-answered c =
+    let left : quiet c.in-Some.value ≡ c.answer.new.self = search rules in
+    replied_so (c.in-Some.ensures.done ∙ ap (λ x. Ok (session_in c.search.new.state, x)) left)
+
+pub returns-in-None-clause-answered : goal.returns-in-None-clause-answered
+returns-in-None-clause-answered c =
+    let p = c.answer_by_plan in
+    subst (λ (s : Session). IsAnswered s c.args.view c.args.message.now (session_in p.new.state) (told p.result p.new.reply)) c.in-None.ensures.same p.ensures.answered
