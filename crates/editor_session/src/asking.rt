@@ -11,7 +11,9 @@ use ed_types::{Kind, kinds_and_numbers};
 use message_plans::{Way, value_of, way_of};
 use message_requests::{SentMessage, SessionState};
 
-/// Returns the value of this numeric query to `view`, or `None` if the table refuses it.
+/// Returns the value of this numeric query to `view`, or `None` if the table refuses it. Inlined, with its callers, into each call of `Session`: by
+/// instructions counted, GETLENGTH through the library for C takes 134 so, and 203 as a call.
+#[inline(always)]
 pub(crate) fn ask_as(
     state: &SessionState,
     view: u32,
@@ -33,6 +35,7 @@ pub(crate) fn ask_as(
 
 /// Returns the value of a numeric query to `view`. Returns `None` for all other messages and for what the table
 /// refuses; such a message has to be sent. Allocates nothing.
+#[inline(always)]
 pub(crate) fn ask(state: &SessionState, view: u32, message: &SentMessage) -> Option<i64>
     requires kept { IsKept state.now }
     ensures { AnswersQuery (session_in state.now) view message.now result }

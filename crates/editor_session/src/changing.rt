@@ -15,7 +15,7 @@ ghost use Rattle.editor_session.specs.Plans.{needs_no_memory};
 
 use crate::perform::Task;
 use ed_model::{DocumentChange, ViewChange, plans_are_fit};
-use message_requests::{SentMessage, SessionState};
+use message_requests::SessionState;
 use notify::NoteList;
 use performing::{change_document, change_unheard, change_view};
 use scene::attempt;
@@ -63,20 +63,15 @@ pub(crate) fn perform_change(
     Ok(())
 }
 
-/// Makes `change` in the document with this id, for a message to `view`, if no view hears it. Returns whether it did; nothing
-/// has changed otherwise, also if an allocation fails. Inlined into its two callers: as a call, SETSTYLING pays for one more
-/// stack frame.
-#[inline(always)]
+/// Makes `change` in the document, if no view hears it. Returns whether it did; nothing has changed otherwise, also if an allocation fails.
 pub(crate) fn perform_unheard_change(
     state: &mut SessionState,
-    document: u32,
-    view: u32,
-    message: &SentMessage,
+    task: &Task,
     change: &DocumentChange,
 ) -> bool
     requires kept { IsKept state.old }
-    requires can { CanPerform (session_in state.old) document view message.now (plan.ChangeDocument change.now (pos 0)) }
-    ensures done { result ≡ true → IsPerformed (session_in state.old) view message.now (plan.ChangeDocument change.now (pos 0)) state.new [] [] (pos 0) [] }
+    requires can { CanPerform (session_in state.old) task.now.document task.now.view task.now.message.now (plan.ChangeDocument change.now (pos 0)) }
+    ensures done { result ≡ true → IsPerformed (session_in state.old) task.now.view task.now.message.now (plan.ChangeDocument change.now (pos 0)) state.new [] [] (pos 0) [] }
     ensures same { result ≡ false → session_in state.new ≡ session_in state.old }
     ensures kept { IsKept state.new }
 {
@@ -87,9 +82,10 @@ pub(crate) fn perform_unheard_change(
         views,
         ..
     } = state;
-    let Some(document) = documents.get_mut(document) else {
+    let Some(document) = documents.get_mut(task.document) else {
         unreachable!()
     };
+    let message = task.message;
     change_unheard(document, views, message.text, change)
 }
 

@@ -11,9 +11,7 @@ fn put(reply: &mut Reply, new: Reply)
     *reply = new;
 }
 
-/// Replaces `reply` by `new`. If that is a value alone, a small buffer of the text is kept for the next text. Inlined
-/// with its caller, `perform_with_notes`.
-#[inline(always)]
+/// Replaces `reply` by `new`. If that is a value alone, a small buffer of the text is kept for the next text.
 pub(crate) fn keep(reply: &mut Reply, new: Reply)
     ensures { reply.new ≡ new }
 {

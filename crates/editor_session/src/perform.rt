@@ -1,8 +1,7 @@
 //! Performing a plan: room is made for all that it needs, and then all is done. If an allocation fails, nothing has
 //! changed.
 
-ghost use Rattle.std.specs.Prelude.{◌≡◌, [], pos, true, false, OnErr, IfOk, IfNone, IfSome, IsOk};
-ghost use Rattle.ed_model.specs.declared.plan.Plan.TheVariants as plan;
+ghost use Rattle.std.specs.Prelude.{◌≡◌, [], true, OnErr, IfOk, IsOk};
 ghost use Rattle.message_requests.specs.Requested.{session_in};
 ghost use Rattle.performing.specs.Kept.{IsKept};
 ghost use Rattle.editor_session.specs.Answers.{told, IsLeft, IsAnswered};
@@ -10,16 +9,14 @@ ghost use Rattle.editor_session.specs.Plans.{needs_no_memory};
 ghost use Rattle.editor_session.specs.Planned.{IsPlannedAs};
 ghost use Rattle.editor_session.specs.Performing.{CanPerform, IsPerformed, request_of};
 
-use crate::changing::{
-    perform_attempt, perform_change, perform_unheard_change, perform_view_change,
-};
+use crate::changing::{perform_attempt, perform_change, perform_view_change};
 use crate::editing::perform_edit;
 use crate::handing_out::{hand_out, hand_out_styled};
 use crate::history::perform_transaction;
 use crate::left::keep;
 use crate::recording::record_if;
 use document::Direction;
-use ed_model::{DocumentChange, Plan, plans_are_fit};
+use ed_model::{Plan, plans_are_fit};
 use ed_types::{Bytes, Refusal, Reply};
 use message_requests::{SentMessage, SessionState};
 use notify::NoteList;
@@ -36,8 +33,6 @@ pub(crate) struct Task<'a> {
     pub message: &'a SentMessage<'a>,
     /// Whether the view records the message.
     pub is_recorded: bool,
-    /// Whether the view listens for a frequent kind of change. It is then likely that a change has notes.
-    pub listens: bool,
 }
 
 /// Performs a plan, and returns the value that its message answers. Its notes are appended to `notes`, and the bytes that
@@ -122,13 +117,12 @@ fn perform(
 }
 
 /// Performs the plan of a message with all notes, its own first if it is recorded, and leaves the reply in the place of
-/// another. Inlined into its two callers: as a call, an edit pays for one more stack frame.
+/// another.
 ///
 /// # Errors
 ///
 /// `OutOfMemory` if an allocation fails. The session and the place of the reply are then as they were.
-#[inline(always)]
-fn perform_with_notes(
+pub(crate) fn perform_message(
     alloc: Global,
     state: &mut SessionState,
     task: &Task,
@@ -147,123 +141,4 @@ fn perform_with_notes(
     let value = perform(alloc, state, task, plan, &mut handed_out, &mut notes)?;
     keep(reply, notes.finish(value, Bytes::new(handed_out)));
     Ok(value)
-}
-
-/// Performs a plan without notes, if the message is not recorded and the plan is one of these: an answer; a change of the
-/// view; a change of the document that no view hears. Returns the value that its message answers. `None`, with nothing
-/// changed, for all other plans, and if an allocation fails. By instructions counted, a session takes 393 for MARKERADD in
-/// this way, and 495 in the general one.
-fn perform_quietly(state: &mut SessionState, task: &Task, plan: &Plan) -> Option<i64>
-    requires kept { IsKept state.old }
-    requires can { CanPerform (session_in state.old) task.now.document task.now.view task.now.message.now plan.now }
-    ensures done { IfSome result (λ value. IsPerformed (session_in state.old) task.now.view task.now.message.now plan.now state.new [] [] value []) }
-    ensures unrecorded { IfSome result (λ _. task.now.is_recorded ≡ false) }
-    ensures same { IfNone result (session_in state.new ≡ session_in state.old) }
-    ensures kept { IsKept state.new }
-{
-    if task.is_recorded {
-        return None;
-    }
-    match plan {
-        Plan::Answer { value } => Some(*value),
-        Plan::ChangeView { change, value } => {
-            match perform_view_change(state, task, *change) {
-                Ok(()) => Some(*value),
-                Err(_) => None,
-            }
-        }
-        Plan::ChangeDocument { change, value } if !task.listens => {
-            if perform_unheard_change(state, task.document, task.view, task.message, change) {
-                Some(*value)
-            } else {
-                None
-            }
-        }
-        _ => None,
-    }
-}
-
-/// Like `perform_with_notes`, but sets up nothing for notes if the plan is performed without any.
-///
-/// # Errors
-///
-/// Those of `perform_with_notes`.
-pub(crate) fn perform_message(
-    alloc: Global,
-    state: &mut SessionState,
-    task: &Task,
-    plan: &Plan,
-    reply: &mut Reply,
-) -> Result<i64, Refusal>
-    requires kept { IsKept state.old }
-    requires planned { IsPlannedAs (session_in state.old) task.now.view task.now.message.now task.now.document plan.now task.now.is_recorded }
-    ensures answered { IsAnswered (session_in state.old) task.now.view task.now.message.now (session_in state.new) (told result reply.new) }
-    ensures place { IsLeft result reply.old reply.new }
-    ensures kept { IsKept state.new }
-{
-    match perform_quietly(state, task, plan) {
-        Some(value) => {
-            reply.answer(value);
-            Ok(value)
-        }
-        None => perform_with_notes(alloc, state, task, plan, reply),
-    }
-}
-
-/// Performs a change of the document that is heard or recorded, as `perform_message` does. Out of line, so that one that is not does not pay for
-/// the plan and the list of notifications.
-///
-/// # Errors
-///
-/// Those of `perform_with_notes`.
-#[inline(never)]
-fn set_aloud(
-    alloc: Global,
-    state: &mut SessionState,
-    task: &Task,
-    change: DocumentChange,
-    reply: &mut Reply,
-) -> Result<i64, Refusal>
-    requires kept { IsKept state.old }
-    requires planned { IsPlannedAs (session_in state.old) task.now.view task.now.message.now task.now.document (plan.ChangeDocument change (pos 0)) task.now.is_recorded }
-    ensures answered { IsAnswered (session_in state.old) task.now.view task.now.message.now (session_in state.new) (told result reply.new) }
-    ensures place { IsLeft result reply.old reply.new }
-    ensures kept { IsKept state.new }
-{
-    perform_with_notes(
-        alloc,
-        state,
-        task,
-        &Plan::ChangeDocument { change, value: 0 },
-        reply,
-    )
-}
-
-/// Makes a change of the document that its message has planned, and whose value is 0, as `perform_message` would, but has no plan if no view hears
-/// it.
-///
-/// # Errors
-///
-/// Those of `perform_with_notes`.
-pub(crate) fn set_document(
-    alloc: Global,
-    state: &mut SessionState,
-    task: &Task,
-    change: DocumentChange,
-    reply: &mut Reply,
-) -> Result<i64, Refusal>
-    requires kept { IsKept state.old }
-    requires planned { IsPlannedAs (session_in state.old) task.now.view task.now.message.now task.now.document (plan.ChangeDocument change (pos 0)) task.now.is_recorded }
-    ensures answered { IsAnswered (session_in state.old) task.now.view task.now.message.now (session_in state.new) (told result reply.new) }
-    ensures place { IsLeft result reply.old reply.new }
-    ensures kept { IsKept state.new }
-{
-    if task.is_recorded || task.listens {
-        return set_aloud(alloc, state, task, change, reply);
-    }
-    if perform_unheard_change(state, task.document, task.view, task.message, &change) {
-        reply.answer(0);
-        return Ok(0);
-    }
-    set_aloud(alloc, state, task, change, reply)
 }

@@ -1,31 +1,30 @@
 //! A message on its way through a session. `way_of` says by its number which way it takes: a numeric query is answered by a number, a text query
-//! by bytes of the document, a setting by one change of the view or of the document, and a search by the target that it finds, these without a
-//! plan. All other messages are planned and performed, and so is what is refused.
+//! by bytes of the document; a setting, a change of the document and a search are made at once, unless something has to be told of them. All other
+//! messages are planned and performed, and so is what is refused.
 
-ghost use Rattle.std.specs.Prelude.{◌≡◌};
+ghost use Rattle.std.specs.Prelude.{◌≡◌, Ok, IfNone, IfSome};
 ghost use Rattle.ed_types.specs.Messages.{kind_of};
-ghost use Rattle.message_plans.specs.Ways.{kind_in};
+ghost use Rattle.ed_model.specs.Performing.{quiet};
+ghost use Rattle.ed_model.specs.Table.{table};
+ghost use Rattle.message_plans.specs.Asking.{question_of};
+ghost use Rattle.message_plans.specs.Ways.{kind_in, question_in};
 ghost use Rattle.message_requests.specs.Requested.{session_in};
 ghost use Rattle.performing.specs.Kept.{IsKept};
 ghost use Rattle.editor_session.specs.Answers.{told, IsLeft, IsAnswered};
 
 use crate::asking::ask_as;
 use crate::find::find;
-use crate::perform::{Task, perform_message, set_document};
+use crate::perform::{Task, perform_message};
 use crate::reading::read_into;
-use crate::setting::{is_recorded, search, set};
+use crate::setting::{change, is_recorded, search, set};
 use ed_model::plans_are_fit;
-use ed_types::modification::{CHANGE_FOLD, CHANGE_MARKER, CHANGE_STYLE};
 use ed_types::{Bytes, Kind, Refusal, Reply};
-use message_plans::{Way, document_setting_of, plan_of, way_of};
+use message_plans::{Way, plan_of, way_of};
 use message_requests::{SentMessage, SessionState};
 use std::alloc::Global;
 
-/// The bits by which a view listens for the changes that are sent by the thousand: of styles, fold levels and markers.
-const FREQUENT_CHANGES: u32 = CHANGE_STYLE | CHANGE_FOLD | CHANGE_MARKER;
-
-/// Plans and performs a message to `view`. Replaces `reply` by the message's reply, and returns the value. Out of line, so that a query does
-/// not pay for its stack frame, which takes 18 instructions.
+/// Plans and performs a message to `view`. Replaces `reply` by the message's reply, and returns the value. Out of line, so that no other message
+/// pays for its stack frame, which takes 18 instructions.
 ///
 /// # Errors
 ///
@@ -53,7 +52,6 @@ fn answer_by_plan(
         document: request.document.id(),
         message,
         is_recorded: is_recorded(kind, &request),
-        listens: request.view.mask() & FREQUENT_CHANGES != 0,
     };
     // Bound to a local so that the plan of 80 bytes is not copied.
     let planned = plan_of(kind, &request);
@@ -63,126 +61,31 @@ fn answer_by_plan(
     }
 }
 
-/// Answers a setting of `view`: makes it at once if it can, and plans it otherwise. Out of line, so that no other message pays for its stack frame.
+/// Answers a message to `view` at once, if it is a numeric query, or if it is a setting of the view, a change of the document or a search of which
+/// nothing has to be told. Returns the value, which is the whole reply. With `None`, nothing has changed, and the message has to be planned.
 ///
-/// # Errors
-///
-/// Those of `answer_by_plan`.
-#[inline(never)]
-fn answer_setting(
-    alloc: Global,
-    state: &mut SessionState,
-    view: u32,
-    kind: Option<Kind>,
-    message: &SentMessage,
-    reply: &mut Reply,
-) -> Result<i64, Refusal>
-    requires kept { IsKept state.old }
-    requires kind { kind ≡ kind_of message.now.number }
-    ensures answered { IsAnswered (session_in state.old) view message.now (session_in state.new) (told result reply.new) }
-    ensures place { IsLeft result reply.old reply.new }
-    ensures kept { IsKept state.new }
-{
-    if set(state, view, kind, message) {
-        reply.answer(0);
-        return Ok(0);
-    }
-    answer_by_plan(alloc, state, view, kind, message, reply)
-}
-
-/// Answers a setting of the document of `view`: makes it without a plan, unless it is refused or changes nothing. Out of line, as `answer_setting`.
-///
-/// # Errors
-///
-/// Those of `answer_by_plan`.
-#[inline(never)]
-fn answer_document_setting(
-    alloc: Global,
-    state: &mut SessionState,
-    view: u32,
-    kind: Option<Kind>,
-    message: &SentMessage,
-    reply: &mut Reply,
-) -> Result<i64, Refusal>
-    requires kept { IsKept state.old }
-    requires kind { kind ≡ kind_of message.now.number }
-    ensures answered { IsAnswered (session_in state.old) view message.now (session_in state.new) (told result reply.new) }
-    ensures place { IsLeft result reply.old reply.new }
-    ensures kept { IsKept state.new }
-{
-    // States that a plan's numbers are in range.
-    plans_are_fit();
-    let (found, request) = find(state, view, kind, message)?;
-    let task = Task {
-        view,
-        document: request.document.id(),
-        message,
-        is_recorded: is_recorded(found, &request),
-        listens: request.view.mask() & FREQUENT_CHANGES != 0,
-    };
-    let Some(change) = document_setting_of(found, &request) else {
-        return answer_by_plan(alloc, state, view, kind, message, reply);
-    };
-    set_document(alloc, state, &task, change, reply)
-}
-
-/// Answers a search in the target of `view`: makes it at once if it can, and plans it otherwise. Out of line, as `answer_setting`.
-///
-/// # Errors
-///
-/// Those of `answer_by_plan`.
-#[inline(never)]
-fn answer_search(
-    alloc: Global,
-    state: &mut SessionState,
-    view: u32,
-    kind: Option<Kind>,
-    message: &SentMessage,
-    reply: &mut Reply,
-) -> Result<i64, Refusal>
-    requires kept { IsKept state.old }
-    requires kind { kind ≡ kind_of message.now.number }
-    ensures answered { IsAnswered (session_in state.old) view message.now (session_in state.new) (told result reply.new) }
-    ensures place { IsLeft result reply.old reply.new }
-    ensures kept { IsKept state.new }
-{
-    match search(state, view, kind, message) {
-        Some(value) => {
-            reply.answer(value);
-            Ok(value)
-        }
-        None => answer_by_plan(alloc, state, view, kind, message, reply),
-    }
-}
-
-/// Answers a message to `view` that is no query, or as if it were none. Inlined: as a call, a message takes some 20 instructions more.
-///
-/// # Errors
-///
-/// Those of `answer_by_plan`.
+/// Each way but that of queries is a function out of line: as one function, their stack frames are one of all, and SETTARGETRANGE takes 84
+/// instructions more, a byte typed 70.
 #[inline(always)]
-fn answer_change(
-    alloc: Global,
+fn answer_at_once(
     state: &mut SessionState,
     view: u32,
     way: Way,
     message: &SentMessage,
-    reply: &mut Reply,
-) -> Result<i64, Refusal>
+) -> Option<i64>
     requires kept { IsKept state.old }
     requires kind { kind_in way ≡ kind_of message.now.number }
-    ensures answered { IsAnswered (session_in state.old) view message.now (session_in state.new) (told result reply.new) }
-    ensures place { IsLeft result reply.old reply.new }
+    requires question { question_in way ≡ question_of message.now.number }
+    ensures done { IfSome result (λ value. table (session_in state.old) view message.now ≡ Ok (session_in state.new, quiet value)) }
+    ensures same { IfNone result (session_in state.new ≡ session_in state.old) }
     ensures kept { IsKept state.new }
 {
-    let kind = way.kind();
     match way {
-        Way::Setting(_) => answer_setting(alloc, state, view, kind, message, reply),
-        Way::DocumentSetting(_) => answer_document_setting(
-            alloc, state, view, kind, message, reply,
-        ),
-        Way::Search(_) => answer_search(alloc, state, view, kind, message, reply),
-        _ => answer_by_plan(alloc, state, view, kind, message, reply),
+        Way::Question(kind) => ask_as(state, view, kind, message),
+        Way::Setting(kind) => set(state, view, kind, message),
+        Way::DocumentChange(kind) => change(state, view, kind, message),
+        Way::Search(kind) => search(state, view, kind, message),
+        _ => None,
     }
 }
 
@@ -191,6 +94,7 @@ fn answer_change(
 /// # Errors
 ///
 /// The refusal of the message table, or `OutOfMemory` if an allocation fails. The session and `reply` are then as they were.
+#[inline(always)]
 pub(crate) fn answer_into(
     alloc: Global,
     state: &mut SessionState,
@@ -204,21 +108,16 @@ pub(crate) fn answer_into(
     ensures kept { IsKept state.new }
 {
     let way = way_of(message.number);
-    match way {
-        Way::Question(kind) => {
-            if let Some(value) = ask_as(state, view, kind, message) {
-                reply.answer(value);
-                return Ok(value);
-            }
-        }
-        Way::TextQuestion(kind) => {
-            if let Some(value) = read_into(alloc, state, view, kind, message, reply) {
-                return Ok(value);
-            }
-        }
-        _ => {}
+    if let Some(value) = answer_at_once(state, view, way, message) {
+        reply.answer(value);
+        return Ok(value);
     }
-    answer_change(alloc, state, view, way, message, reply)
+    if let Way::TextQuestion(kind) = way {
+        if let Some(value) = read_into(alloc, state, view, kind, message, reply) {
+            return Ok(value);
+        }
+    }
+    answer_by_plan(alloc, state, view, way.kind(), message, reply)
 }
 
 /// Answers a message to `view`.
@@ -237,10 +136,8 @@ pub(crate) fn answer_message(
     ensures kept { IsKept state.new }
 {
     let way = way_of(message.number);
-    if let Way::Question(kind) = way {
-        if let Some(value) = ask_as(state, view, kind, message) {
-            return Ok(Reply::quiet(alloc, value, Bytes::empty(alloc)));
-        }
+    if let Some(value) = answer_at_once(state, view, way, message) {
+        return Ok(Reply::quiet(alloc, value, Bytes::empty(alloc)));
     }
     let mut reply = Reply::quiet(alloc, 0, Bytes::empty(alloc));
     if let Way::TextQuestion(kind) = way {
@@ -248,7 +145,7 @@ pub(crate) fn answer_message(
             return Ok(reply);
         }
     }
-    match answer_change(alloc, state, view, way, message, &mut reply) {
+    match answer_by_plan(alloc, state, view, way.kind(), message, &mut reply) {
         Ok(_) => Ok(reply),
         Err(refusal) => Err(refusal),
     }

@@ -200,6 +200,7 @@ impl Session {
     /// # Errors
     ///
     /// As of `send`. `reply` is then as it was, too.
+    #[inline(always)]
     pub fn send_into(
         &mut self,
         view: u32,
@@ -221,6 +222,7 @@ impl Session {
     /// Asks a view a numeric query: each query that is answered by a number (`questions` of the definitions; marked Q in
     /// `docs/MESSAGES.md`). It does not change the session. `send` would answer the same value, with whatever text. `None` for all other
     /// messages, and for what is refused: `send` says why. Allocates nothing.
+    #[inline(always)]
     pub fn ask(&self, view: u32, number: u32, w: i64, l: i64) -> Option<i64>
         ensures value { result ≡ value_to self.now view (message_with number w l []) }
         ensures answer { IfSome result (λ value. (text : List ℕ) → table self.now view (message_with number w l text) ≡ Ok (self.now, quiet value)) }

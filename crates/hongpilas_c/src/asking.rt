@@ -28,8 +28,10 @@ fn is_query(number: u32) -> bool
 }
 
 /// Sends a question to a view, and replaces `reply` by its reply. Returns 0 or the number of the refusal, which is that
-/// of `UnknownMessage` for a message that is no question.
+/// of `UnknownMessage` for a message that is no question. Out of line, so that a numeric query that was asked first does
+/// not pay for its stack frame.
 #[tactic(auto, using(crate::proofs::Refusing::refused_as_said, crate::proofs::Refusing::memory_alone, crate::proofs::QueryAnswers::question_leaves, crate::proofs::QueryAnswers::question_refused))]
+#[inline(never)]
 fn send_question(
     session: &mut Session,
     view: u32,

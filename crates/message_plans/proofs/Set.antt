@@ -1,9 +1,8 @@
 -- The change of the plan of a setting.
 use Rattle.std.proofs.Common.{◌≡◌, ℤ, Option, Some, None, refl, sym, subst, IfSome}
-use Rattle.ed_model.specs.declared.plan.DocumentChange.{DocumentChange}
 use Rattle.ed_model.specs.declared.plan.ViewChange.{ViewChange}
-use Rattle.ed_model.specs.Requests.{Planned, change_document, change_view, with_argument}
-use Rattle.message_plans.specs.Settings.{document_change_planned, found_planned, view_change_planned}
+use Rattle.ed_model.specs.Requests.{Planned, change_view, with_argument}
+use Rattle.message_plans.specs.Settings.{found_planned, view_change_planned}
 use Rattle.text_plans.specs.declared.target_plans.Found.{Found}
 use Rattle.text_plans.specs.Finding.{found}
 
@@ -20,20 +19,6 @@ set_if o p is = subst (λ p. view_change_planned p ≡ o) is (given o)
 pub planned_if_some : (o : Option ViewChange) (p : Planned) → with_argument o change_view ≡ p → IfSome o (λ change. p ≡ change_view change)
 planned_if_some None p is = tt
 planned_if_some (Some change) p is = sym is
-
-pub made_so : (change : DocumentChange) (p : Planned) → change_document change ≡ p → document_change_planned p ≡ Some change
-made_so change p is = subst (λ p. document_change_planned p ≡ Some change) is refl
-
-made : (o : Option DocumentChange) → document_change_planned (with_argument o change_document) ≡ o
-made None = refl
-made (Some change) = refl
-
-pub made_if : (o : Option DocumentChange) (p : Planned) → with_argument o change_document ≡ p → document_change_planned p ≡ o
-made_if o p is = subst (λ p. document_change_planned p ≡ o) is (made o)
-
-pub made_if_some : (o : Option DocumentChange) (p : Planned) → with_argument o change_document ≡ p → IfSome o (λ change. p ≡ change_document change)
-made_if_some None p is = tt
-made_if_some (Some change) p is = sym is
 
 finding : (o : Option Found) → found_planned (with_argument o found) ≡ o
 finding None = refl

@@ -1,15 +1,17 @@
 -- Settings of a view: messages that change the view alone, and show and hide no lines: its selection, target, search flags, indicator, mask of
--- what it hears, and whether it converts what is pasted and records. Settings of a document: its styles and where these end, levels and states of
--- its lines, the line end that typing inserts, whether it is read-only and whether it collects undo. Both answer 0. And the search in the target.
-use Rattle.std.specs.Prelude.{ℕ, if◌then◌else◌, Bool, List, [], ◌∷◌, Ok, Option, Some, None, is_some}
+-- what it hears, and whether it converts what is pasted and records. They answer 0. Changes of a document other than edits of its text: of styles,
+-- markers, indicators, levels and states of lines, of its modes, and of its undo history. And the search in the target.
+use Rattle.std.specs.Prelude.{ℕ, ℤ, if◌then◌else◌, Bool, List, [], ◌∷◌, Ok, Option, Some, None, is_some}
 use Rattle.ed_types.specs.declared.kind.Kind.{Kind}
 use Rattle.ed_types.specs.declared.kind.Kind.TheVariants as kinds
 use Rattle.ed_types.specs.Messages.{number_of, kind_among}
+use Rattle.ed_model.specs.declared.plan.Plan.{Plan}
 use Rattle.ed_model.specs.declared.plan.Plan.TheVariants as plan
 use Rattle.ed_model.specs.declared.plan.DocumentChange.{DocumentChange}
 use Rattle.ed_model.specs.declared.plan.ViewChange.{ViewChange}
 use Rattle.ed_model.specs.Requests.{Request, Planned}
 use Rattle.ed_model.specs.Table.{plan_of}
+use Rattle.message_plans.specs.declared.settings.ChangePlan.{ChangePlan}
 use Rattle.text_plans.specs.declared.target_plans.Found.{Found}
 
 -- the settings of a view, in rising order of their numbers
@@ -37,26 +39,37 @@ view_change_planned other = None
 abbrev pub setting_asked : Kind → Request → Option ViewChange
 setting_asked kind r = if is_setting kind then view_change_planned (plan_of kind r) else None
 
--- the settings of a document, in rising order of their numbers
-abbrev pub document_settings : List Kind
-document_settings = kinds.SetUndoCollection ∷ kinds.SetEolMode ∷ kinds.StartStyling ∷ kinds.SetStyling ∷ kinds.SetStylingEx ∷ kinds.SetLineState ∷
-    kinds.SetReadOnly ∷ kinds.SetFoldLevel ∷ []
+-- the changes of a document, in rising order of their numbers
+abbrev pub document_changes : List Kind
+document_changes = kinds.SetUndoCollection ∷ kinds.SetSavePoint ∷ kinds.MarkerDeleteHandle ∷ kinds.SetEolMode ∷ kinds.StartStyling ∷
+    kinds.SetStyling ∷ kinds.MarkerAdd ∷ kinds.MarkerDelete ∷ kinds.MarkerDeleteAll ∷ kinds.SetStylingEx ∷ kinds.BeginUndoAction ∷
+    kinds.EndUndoAction ∷ kinds.SetLineState ∷ kinds.SetReadOnly ∷ kinds.EmptyUndoBuffer ∷ kinds.SetFoldLevel ∷ kinds.MarkerAddSet ∷
+    kinds.IndicatorFillRange ∷ kinds.IndicatorClearRange ∷ kinds.AddUndoAction ∷ kinds.SetLineEndTypesAllowed ∷ kinds.Colourise ∷ []
 
 -- the one with this number
-abbrev pub document_setting_at : ℕ → Option Kind
-document_setting_at number = kind_among document_settings number
+abbrev pub document_change_at : ℕ → Option Kind
+document_change_at number = kind_among document_changes number
 
-abbrev pub is_document_setting : Kind → Bool
-is_document_setting kind = is_some (document_setting_at (number_of kind))
+abbrev pub is_document_change : Kind → Bool
+is_document_change kind = is_some (document_change_at (number_of kind))
 
--- the change of a `ChangeDocument` plan; none for other plans
-abbrev pub document_change_planned : Planned → Option DocumentChange
-document_change_planned (Ok (plan.ChangeDocument change value)) = Some change
+-- what a plan changes in the document, or that it changes nothing; none for other plans
+abbrev pub document_change_planned : Planned → Option ChangePlan
+document_change_planned (Ok (plan.ChangeDocument change value)) = Some (record { change = Some change; value = value })
+document_change_planned (Ok (plan.Answer value)) = Some (record { change = None; value = value })
 document_change_planned other = None
 
--- the change that the plan of such a setting makes; none for all other messages, if the setting is refused, and if it changes nothing
-abbrev pub document_setting_asked : Kind → Request → Option DocumentChange
-document_setting_asked kind r = if is_document_setting kind then document_change_planned (plan_of kind r) else None
+-- the plan that makes the change, if there is one, and answers the value
+abbrev pub plan_with : Option DocumentChange → ℤ → Plan
+plan_with (Some change) value = plan.ChangeDocument change value
+plan_with None value = plan.Answer value
+
+abbrev pub changing : ChangePlan → Planned
+changing it = Ok (plan_with it.change it.value)
+
+-- what the plan of such a message changes; none for all other messages, and if the message is refused
+abbrev pub document_change_asked : Kind → Request → Option ChangePlan
+document_change_asked kind r = if is_document_change kind then document_change_planned (plan_of kind r) else None
 
 -- the search in the target, which has this number
 abbrev pub search_at : ℕ → Option Kind

@@ -19,10 +19,10 @@ abbrev pub setting_in : Way → Option Kind
 setting_in (way.Setting kind) = Some kind
 setting_in other = None
 
--- the setting of a document that is
-abbrev pub document_setting_in : Way → Option Kind
-document_setting_in (way.DocumentSetting kind) = Some kind
-document_setting_in other = None
+-- the change of a document that is
+abbrev pub document_change_in : Way → Option Kind
+document_change_in (way.DocumentChange kind) = Some kind
+document_change_in other = None
 
 -- the search that is
 abbrev pub search_in : Way → Option Kind
@@ -34,7 +34,7 @@ abbrev pub kind_in : Way → Option Kind
 kind_in (way.Question kind) = Some kind
 kind_in (way.TextQuestion kind) = Some kind
 kind_in (way.Setting kind) = Some kind
-kind_in (way.DocumentSetting kind) = Some kind
+kind_in (way.DocumentChange kind) = Some kind
 kind_in (way.Search kind) = Some kind
 kind_in (way.Planned kind) = Some kind
 kind_in way.Unknown = None

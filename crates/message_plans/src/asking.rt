@@ -4,8 +4,8 @@
 ghost use Rattle.std.specs.Prelude.{◌≡◌, Some};
 ghost use Rattle.ed_types.specs.Messages.{kind_of, number_of};
 ghost use Rattle.message_plans.specs.Asking.{handed_asked, question_of, text_question_of, value_asked};
-ghost use Rattle.message_plans.specs.Settings.{document_setting_at, search_at, setting_at};
-ghost use Rattle.message_plans.specs.Ways.{document_setting_in, kind_in, question_in, search_in, setting_in, text_question_in};
+ghost use Rattle.message_plans.specs.Settings.{document_change_at, search_at, setting_at};
+ghost use Rattle.message_plans.specs.Ways.{document_change_in, kind_in, question_in, search_in, setting_in, text_question_in};
 
 use crate::way::Way;
 use ed_types::{Kind, kinds_and_numbers};
@@ -20,7 +20,7 @@ fn way_for(kind: Kind) -> Way
     ensures question { question_in result ≡ question_of (number_of kind) }
     ensures text_question { text_question_in result ≡ text_question_of (number_of kind) }
     ensures setting { setting_in result ≡ setting_at (number_of kind) }
-    ensures document_setting { document_setting_in result ≡ document_setting_at (number_of kind) }
+    ensures document_change { document_change_in result ≡ document_change_at (number_of kind) }
     ensures search { search_in result ≡ search_at (number_of kind) }
 {
     match kind {
@@ -115,29 +115,36 @@ fn way_for(kind: Kind) -> Way
         Kind::TargetWholeDocument => Way::Setting(kind),
         Kind::StartRecord => Way::Setting(kind),
         Kind::StopRecord => Way::Setting(kind),
-        Kind::SetUndoCollection => Way::DocumentSetting(kind),
-        Kind::SetEolMode => Way::DocumentSetting(kind),
-        Kind::StartStyling => Way::DocumentSetting(kind),
-        Kind::SetStyling => Way::DocumentSetting(kind),
-        Kind::SetStylingEx => Way::DocumentSetting(kind),
-        Kind::SetLineState => Way::DocumentSetting(kind),
-        Kind::SetReadOnly => Way::DocumentSetting(kind),
-        Kind::SetFoldLevel => Way::DocumentSetting(kind),
+        Kind::SetUndoCollection => Way::DocumentChange(kind),
+        Kind::SetSavePoint => Way::DocumentChange(kind),
+        Kind::MarkerDeleteHandle => Way::DocumentChange(kind),
+        Kind::SetEolMode => Way::DocumentChange(kind),
+        Kind::StartStyling => Way::DocumentChange(kind),
+        Kind::SetStyling => Way::DocumentChange(kind),
+        Kind::MarkerAdd => Way::DocumentChange(kind),
+        Kind::MarkerDelete => Way::DocumentChange(kind),
+        Kind::MarkerDeleteAll => Way::DocumentChange(kind),
+        Kind::SetStylingEx => Way::DocumentChange(kind),
+        Kind::BeginUndoAction => Way::DocumentChange(kind),
+        Kind::EndUndoAction => Way::DocumentChange(kind),
+        Kind::SetLineState => Way::DocumentChange(kind),
+        Kind::SetReadOnly => Way::DocumentChange(kind),
+        Kind::EmptyUndoBuffer => Way::DocumentChange(kind),
+        Kind::SetFoldLevel => Way::DocumentChange(kind),
+        Kind::MarkerAddSet => Way::DocumentChange(kind),
+        Kind::IndicatorFillRange => Way::DocumentChange(kind),
+        Kind::IndicatorClearRange => Way::DocumentChange(kind),
+        Kind::AddUndoAction => Way::DocumentChange(kind),
+        Kind::SetLineEndTypesAllowed => Way::DocumentChange(kind),
+        Kind::Colourise => Way::DocumentChange(kind),
+        Kind::SearchInTarget => Way::Search(kind),
         Kind::AddText => Way::Planned(kind),
         Kind::InsertText => Way::Planned(kind),
         Kind::ClearAll => Way::Planned(kind),
         Kind::Redo => Way::Planned(kind),
-        Kind::SetSavePoint => Way::Planned(kind),
         Kind::GetStyledText => Way::Planned(kind),
-        Kind::MarkerDeleteHandle => Way::Planned(kind),
         Kind::ConvertEols => Way::Planned(kind),
-        Kind::MarkerAdd => Way::Planned(kind),
-        Kind::MarkerDelete => Way::Planned(kind),
-        Kind::MarkerDeleteAll => Way::Planned(kind),
-        Kind::BeginUndoAction => Way::Planned(kind),
-        Kind::EndUndoAction => Way::Planned(kind),
         Kind::ReplaceSel => Way::Planned(kind),
-        Kind::EmptyUndoBuffer => Way::Planned(kind),
         Kind::Undo => Way::Planned(kind),
         Kind::Cut => Way::Planned(kind),
         Kind::Copy => Way::Planned(kind),
@@ -145,7 +152,6 @@ fn way_for(kind: Kind) -> Way
         Kind::Clear => Way::Planned(kind),
         Kind::SetText => Way::Planned(kind),
         Kind::ReplaceTarget => Way::Planned(kind),
-        Kind::SearchInTarget => Way::Search(kind),
         Kind::ShowLines => Way::Planned(kind),
         Kind::HideLines => Way::Planned(kind),
         Kind::SetFoldExpanded => Way::Planned(kind),
@@ -161,13 +167,7 @@ fn way_for(kind: Kind) -> Way
         Kind::ReleaseDocument => Way::Planned(kind),
         Kind::CopyRange => Way::Planned(kind),
         Kind::CopyText => Way::Planned(kind),
-        Kind::MarkerAddSet => Way::Planned(kind),
-        Kind::IndicatorFillRange => Way::Planned(kind),
-        Kind::IndicatorClearRange => Way::Planned(kind),
-        Kind::AddUndoAction => Way::Planned(kind),
         Kind::DeleteRange => Way::Planned(kind),
-        Kind::SetLineEndTypesAllowed => Way::Planned(kind),
-        Kind::Colourise => Way::Planned(kind),
     }
 }
 
@@ -178,7 +178,7 @@ pub fn way_of(number: u32) -> Way
     ensures question { question_in result ≡ question_of number }
     ensures text_question { text_question_in result ≡ text_question_of number }
     ensures setting { setting_in result ≡ setting_at number }
-    ensures document_setting { document_setting_in result ≡ document_setting_at number }
+    ensures document_change { document_change_in result ≡ document_change_at number }
     ensures search { search_in result ≡ search_at number }
 {
     // States that only its number finds a kind.

@@ -1,14 +1,14 @@
-//! Settings of a view, which change the view alone and show and hide no lines, and of a document; and searches. They are found by their number,
-//! and made without a plan.
+//! Settings of a view, which change the view alone and show and hide no lines; changes of the document other than edits of its text; and searches.
+//! They are found by their number, and made without the plan of any message.
 
 ghost use Rattle.std.specs.Prelude.{◌≡◌, IfSome};
-ghost use Rattle.ed_model.specs.Requests.{change_document, change_view};
+ghost use Rattle.ed_model.specs.Requests.{change_document, change_view, with_argument};
 ghost use Rattle.ed_model.specs.Table.{plan_of};
-ghost use Rattle.message_plans.specs.Settings.{document_change_planned, document_setting_asked, found_asked, setting_asked};
+ghost use Rattle.message_plans.specs.Settings.{changing, document_change_asked, document_change_planned, found_asked, setting_asked};
 ghost use Rattle.state_plans.specs.Changing.{changed};
 ghost use Rattle.text_plans.specs.Finding.{found};
 
-use ed_model::{DocumentChange, ViewChange};
+use ed_model::{DocumentChange, Plan, Planned, ViewChange};
 use ed_types::{Kind, Refusal};
 use message_requests::Request;
 use state_plans::{folding_plans, line_plans, session_plans, style_plans, undo_plans};
@@ -58,33 +58,84 @@ pub fn setting_of(kind: Kind, r: &Request) -> Option<ViewChange>
     }
 }
 
-// Returns the change, if there is one.
-fn change_in(change: Result<Option<DocumentChange>, Refusal>) -> Option<DocumentChange>
-    ensures change { result ≡ document_change_planned (changed change) }
-    ensures planned { IfSome result (λ made. changed change ≡ change_document made) }
+/// The plan of a message that makes one change of its document, or none.
+#[derive(Clone, Copy, Debug)]
+pub struct ChangePlan {
+    /// The change, if the message makes one.
+    pub change: Option<DocumentChange>,
+    /// The value that the message answers.
+    pub value: i64,
+}
+
+// Returns what a plan changes in the document, if it changes nothing else.
+fn change_in(planned: Planned) -> Option<ChangePlan>
+    ensures change { result ≡ document_change_planned planned }
+    ensures planned { IfSome result (λ it. planned ≡ changing it) }
+{
+    match planned {
+        Ok(Plan::ChangeDocument { change, value }) => Some(ChangePlan {
+            change: Some(change),
+            value,
+        }),
+        Ok(Plan::Answer { value }) => Some(ChangePlan {
+            change: None,
+            value,
+        }),
+        _ => None,
+    }
+}
+
+// Returns the plan of this change, or none for a bad argument.
+fn change_some(change: Option<DocumentChange>) -> Option<ChangePlan>
+    ensures change { result ≡ document_change_planned (with_argument change change_document) }
+    ensures planned { IfSome result (λ it. with_argument change change_document ≡ changing it) }
 {
     match change {
-        Ok(change) => change,
+        Some(_) => Some(ChangePlan { change, value: 0 }),
+        None => None,
+    }
+}
+
+// Returns the plan of this change, if there is one, or none if it is refused.
+fn change_if(change: Result<Option<DocumentChange>, Refusal>) -> Option<ChangePlan>
+    ensures change { result ≡ document_change_planned (changed change) }
+    ensures planned { IfSome result (λ it. changed change ≡ changing it) }
+{
+    match change {
+        Ok(change) => Some(ChangePlan { change, value: 0 }),
         Err(_) => None,
     }
 }
 
-/// Returns the change of the document that a setting of a document plans, which answers 0. `None` for all other messages, if the setting is
-/// refused, and if it changes nothing.
-#[tactic(auto, using(crate::proofs::Set::made_so, crate::proofs::Set::made_if, crate::proofs::Set::made_if_some))]
-pub fn document_setting_of(kind: Kind, r: &Request) -> Option<DocumentChange>
-    ensures change { result ≡ document_setting_asked kind r.now }
-    ensures planned { IfSome result (λ change. plan_of kind r.now ≡ change_document change) }
+/// Returns the plan of a change of the document, and of a message of this kind that changes nothing. `None` for all other messages, and if the
+/// message is refused.
+pub fn document_change_of(kind: Kind, r: &Request) -> Option<ChangePlan>
+    ensures change { result ≡ document_change_asked kind r.now }
+    ensures planned { IfSome result (λ it. plan_of kind r.now ≡ changing it) }
 {
     match kind {
-        Kind::SetUndoCollection => change_in(Ok(undo_plans::set_undo_collection(r))),
-        Kind::SetEolMode => line_plans::set_eol_mode(r),
-        Kind::StartStyling => style_plans::start_styling(r),
-        Kind::SetStyling => style_plans::set_styling(r),
-        Kind::SetStylingEx => style_plans::set_styling_ex(r),
-        Kind::SetLineState => change_in(line_plans::set_line_state(r)),
-        Kind::SetReadOnly => Some(undo_plans::set_read_only(r)),
-        Kind::SetFoldLevel => change_in(folding_plans::set_fold_level(r)),
+        Kind::SetUndoCollection => change_if(Ok(undo_plans::set_undo_collection(r))),
+        Kind::SetSavePoint => change_in(undo_plans::set_save_point(r)),
+        Kind::MarkerDeleteHandle => change_in(line_plans::marker_delete_handle(r)),
+        Kind::SetEolMode => change_some(line_plans::set_eol_mode(r)),
+        Kind::StartStyling => change_some(style_plans::start_styling(r)),
+        Kind::SetStyling => change_some(style_plans::set_styling(r)),
+        Kind::MarkerAdd => change_in(line_plans::marker_add(r)),
+        Kind::MarkerDelete => change_in(line_plans::marker_delete(r)),
+        Kind::MarkerDeleteAll => change_in(line_plans::marker_delete_all(r)),
+        Kind::SetStylingEx => change_some(style_plans::set_styling_ex(r)),
+        Kind::BeginUndoAction => change_in(undo_plans::begin_undo_action(r)),
+        Kind::EndUndoAction => change_in(undo_plans::end_undo_action(r)),
+        Kind::SetLineState => change_if(line_plans::set_line_state(r)),
+        Kind::SetReadOnly => change_some(Some(undo_plans::set_read_only(r))),
+        Kind::EmptyUndoBuffer => change_in(undo_plans::empty_undo_buffer(r)),
+        Kind::SetFoldLevel => change_if(folding_plans::set_fold_level(r)),
+        Kind::MarkerAddSet => change_in(line_plans::marker_add_set(r)),
+        Kind::IndicatorFillRange => change_in(style_plans::indicator_fill_range(r)),
+        Kind::IndicatorClearRange => change_in(style_plans::indicator_clear_range(r)),
+        Kind::AddUndoAction => change_in(undo_plans::add_undo_action(r)),
+        Kind::SetLineEndTypesAllowed => change_in(session_plans::set_line_end_types_allowed(r)),
+        Kind::Colourise => change_in(style_plans::colourise(r)),
         _ => None,
     }
 }

@@ -5,7 +5,8 @@ ghost use Rattle.message_plans.specs.Ways.{kind_in};
 
 use ed_types::Kind;
 
-/// How a session answers a message: queries, settings and searches without a plan, and all else by its plan. It has the message's kind.
+/// How a session answers a message: queries, settings, changes of the document and searches at once, where nothing has to be told of them, and all
+/// else by its plan. It has the message's kind.
 #[derive(Clone, Copy, Debug)]
 pub enum Way {
     /// A numeric query, which is answered by a number.
@@ -14,8 +15,8 @@ pub enum Way {
     TextQuestion(Kind),
     /// A setting of the view, which is one change of the view.
     Setting(Kind),
-    /// A setting of the document, which is one change of the document.
-    DocumentSetting(Kind),
+    /// A change of the document other than an edit of its text, which is one change or none.
+    DocumentChange(Kind),
     /// A search in the target, which sets the target to a match.
     Search(Kind),
     /// Any other message of the profile, which is planned and performed.
@@ -33,7 +34,7 @@ impl Way {
             Way::Question(kind) => Some(kind),
             Way::TextQuestion(kind) => Some(kind),
             Way::Setting(kind) => Some(kind),
-            Way::DocumentSetting(kind) => Some(kind),
+            Way::DocumentChange(kind) => Some(kind),
             Way::Search(kind) => Some(kind),
             Way::Planned(kind) => Some(kind),
             Way::Unknown => None,

@@ -23,13 +23,13 @@ returns c =
     let a = c.args in let s = a.state.now in let kept = c.requires.kept in let can = c.requires.can in
     let old = c.in-Some.document.now in let made = c.change_unheard.result in let new = c.change_unheard.new.document in
     let at = sym c.get_mut.ensures.value ∙ ap option_copied_mut c.in-Some.is in
-    let m = a.message.now in let same : c.message.inside.text.now ≡ m.text = search rules in
-    let unheard = λ (h : made ≡ true). subst (λ x. IsMadeUnheard x a.change.now old new s.views) same (c.change_unheard.ensures.made h) a.view no_notes in
+    let m = a.task.now.message.now in let same : c.message.inside.text.now ≡ m.text = search rules in
+    let unheard = λ (h : made ≡ true). subst (λ x. IsMadeUnheard x a.change.now old new s.views) same (c.change_unheard.ensures.made h) a.task.now.view no_notes in
     let done = λ (h : made ≡ true). (let e = unheard h in change_performed kept can old at new s.views [] [] e.document e.lines refl e.told) in
-    let named = λ (h : made ≡ true). still_named s kept a.document old new at (ap (λ (d : Document). d.id) (unheard h).document ∙ changed_id m.text a.change.now old.document) in
+    let named = λ (h : made ≡ true). still_named s kept a.task.now.document old new at (ap (λ (d : Document). d.id) (unheard h).document ∙ changed_id m.text a.change.now old.document) in
     let left = c.change_unheard.ensures.same in
     record {
       done = done;
-      same = λ h. same_session s kept a.document old new at s.views (left h) refl;
-      kept = by_cases made (λ h. kept_performed c.plans_are_fit.ensures.keep_sound kept can (done h).done refl (named h) kept.views (widths_after kept a.document new s.views refl (unheard h).watched.widths)) (λ h. still_kept s kept a.document old new at s.views (left h) refl);
+      same = λ h. same_session s kept a.task.now.document old new at s.views (left h) refl;
+      kept = by_cases made (λ h. kept_performed c.plans_are_fit.ensures.keep_sound kept can (done h).done refl (named h) kept.views (widths_after kept a.task.now.document new s.views refl (unheard h).watched.widths)) (λ h. still_kept s kept a.task.now.document old new at s.views (left h) refl);
     }

@@ -1,21 +1,20 @@
-use Rattle.editor_session.proofs.Names.{rules, ◌≡◌, ◌∙◌, Ok, refl, sym, ap, subst, quiet, Session, session_in, IsPlannedAs, IsAnswered}
-use Rattle.editor_session.specs.Answers.{told}
-use Rattle.editor_session.proofs.TableWay.{answered_so, replied_so}
+use Rattle.editor_session.proofs.Names.{rules, ◌≡◌, false, true, Ok, refl, ap, ◌∙◌, response, session_in, first_note, err_from_is_err_and}
+use Rattle.editor_session.proofs.TableWay.{answered_so, free_plan, replied_so, unperformed}
 use Rattle.editor_session.proofs.perform.perform_message.Goals as goal
 
-pub returns-in-Some-clause-answered : goal.returns-in-Some-clause-answered
-returns-in-Some-clause-answered c =
-    let a = c.args in let t = a.task.now in
-    let left : quiet c.in-Some.value ≡ c.answer.new.self = search rules in
-    let unrecorded = subst (IsPlannedAs (session_in a.state.now) t.view t.message.now t.document a.plan.now) c.in-Some.ensures.unrecorded c.requires.planned in
-    replied_so (answered_so unrecorded refl c.in-Some.ensures.done ∙ ap (λ x. Ok (session_in c.perform_quietly.new.state, x)) left)
+pub returns-clause-answered : goal.returns-clause-answered
+returns-clause-answered c =
+    let a = c.args in let n = c.perform.new in
+    let first : c.record_if.new.notes.notes ≡ first_note a.task.now.is_recorded a.task.now.view a.task.now.message.now = search rules in
+    let left : response c.in_ok-value.value n.handed_out.items n.notes.notes ≡ c.keep.new.reply = search rules in
+    replied_so (answered_so c.requires.planned first c.in_ok-value.ensures.done ∙ ap (λ x. Ok (session_in n.state, x)) left)
 
-pub perform_with_notes-requires-clause-planned : goal.perform_with_notes-requires-clause-planned
-perform_with_notes-requires-clause-planned c =
-    let a = c.args in let t = a.task.now in
-    subst (λ (s : Session). IsPlannedAs s t.view t.message.now t.document a.plan.now t.is_recorded) (sym c.in-None.ensures.same) c.requires.planned
+pub returns-in_err-record_if-clause-answered : goal.returns-in_err-record_if-clause-answered
+returns-in_err-record_if-clause-answered c =
+    let p = err_from_is_err_and c.from_residual.result c.from_residual.ensures.1 in
+    rw (p.1, p.2) (unperformed c.requires.planned refl (λ free. let bad : false ≡ true = c.in_err-record_if.ensures.free (free_plan c.requires.planned free).1 in cc))
 
-pub returns-in-None-clause-answered : goal.returns-in-None-clause-answered
-returns-in-None-clause-answered c =
-    let n = c.perform_with_notes in
-    subst (λ (s : Session). IsAnswered s c.args.task.now.view c.args.task.now.message.now (session_in n.new.state) (told n.result n.new.reply)) c.in-None.ensures.same n.ensures.answered
+pub returns-in_err-value-clause-answered : goal.returns-in_err-value-clause-answered
+returns-in_err-value-clause-answered c =
+    let p = err_from_is_err_and c.from_residual-in_err-value.result c.from_residual-in_err-value.ensures.1 in
+    rw (p.1, p.2) (unperformed c.requires.planned c.in_err-value.ensures.same (λ free. let bad : false ≡ true = c.in_err-value.ensures.free (free_plan c.requires.planned free).0 in cc))

@@ -1,15 +1,15 @@
 -- What a search does is what its plan would.
-use Rattle.editor_session.proofs.Names.{rules, ◌≡◌, ◌∙◌, Ok, Some, None, ap, false, [], pos, refl, session_in, plan_of, IsPlannedAs}
+use Rattle.editor_session.proofs.Names.{rules, ◌≡◌, ◌∙◌, Ok, ap, refl, session_in, plan_of, IsPlannedAs}
 use Rattle.ed_model.specs.declared.plan.Plan.TheVariants as plan
-use Rattle.text_plans.specs.Finding.{plan_changing, found}
-use Rattle.editor_session.proofs.TableWay.{has_plan, answered_so, can_as, quietly, revalued}
+use Rattle.text_plans.specs.Finding.{plan_changing}
+use Rattle.editor_session.proofs.TableWay.{has_plan, can_as}
 use Rattle.editor_session.proofs.setting.search.Goals as goal
 
 pub perform_view_change-requires-clause-can : goal.perform_view_change-requires-clause-can
 perform_view_change-requires-clause-can c =
-    let e = c.in-Ok.ensures in let a = c.args in let f = c.in-Some.found in
-    let is : plan_of c.in-Ok.kind c.in-Ok.request ≡ Ok (plan.ChangeView c.in-Some-change.change f.value) =
-    c.in-Some.ensures.planned ∙ ap (λ change. Ok (plan_changing change f.value)) c.in-Some-change.is in
-    let planned : IsPlannedAs (session_in a.state.now) a.view a.message.now c.id.result (plan.ChangeView c.in-Some-change.change f.value) c.is_recorded.result =
+    let e = c.in-Ok.ensures in let a = c.args in let f = c.in_ok-found.found in
+    let is : plan_of c.in-Ok.kind c.in-Ok.request ≡ Ok (plan.ChangeView c.in-Some.change f.value) =
+    c.in_ok-found.ensures.planned ∙ ap (λ change. Ok (plan_changing change f.value)) c.in-Some.is in
+    let planned : IsPlannedAs (session_in a.state.now) a.view a.message.now c.id.result (plan.ChangeView c.in-Some.change f.value) c.is_recorded.result =
     has_plan c.plans_are_fit.ensures.in_range c.in-Ok.request e.request e.found is _ (search rules) _ (search rules) in
     can_as planned.can refl (λ h. h)
