@@ -11,7 +11,9 @@ fn put(reply: &mut Reply, new: Reply)
     *reply = new;
 }
 
-/// Replaces `reply` by `new`. If that is a value alone, a small buffer of the text is kept for the next text.
+/// Replaces `reply` by `new`. If that is a value alone, a small buffer of the text is kept for the next text. Inlined
+/// with its caller, `perform_message`: as calls, this and `record_if` cost a byte typed 48 instructions.
+#[inline(always)]
 pub(crate) fn keep(reply: &mut Reply, new: Reply)
     ensures { reply.new ≡ new }
 {

@@ -1,7 +1,7 @@
-//! Performing a plan: room is made for all that it needs, and then all is done. If an allocation fails, nothing has
-//! changed.
+//! Performing a plan: room is made for all that it needs, and then all is done. If an allocation fails, nothing has changed.
 
 ghost use Rattle.std.specs.Prelude.{◌≡◌, [], true, OnErr, IfOk, IsOk};
+ghost use Rattle.message_requests.specs.Changing.{plan_with};
 ghost use Rattle.message_requests.specs.Requested.{session_in};
 ghost use Rattle.performing.specs.Kept.{IsKept};
 ghost use Rattle.editor_session.specs.Answers.{told, IsLeft, IsAnswered};
@@ -9,7 +9,9 @@ ghost use Rattle.editor_session.specs.Plans.{needs_no_memory};
 ghost use Rattle.editor_session.specs.Planned.{IsPlannedAs};
 ghost use Rattle.editor_session.specs.Performing.{CanPerform, IsPerformed, request_of};
 
-use crate::changing::{perform_attempt, perform_change, perform_view_change};
+use crate::changing::{
+    perform_attempt, perform_change, perform_unheard_change, perform_view_change,
+};
 use crate::editing::perform_edit;
 use crate::handing_out::{hand_out, hand_out_styled};
 use crate::history::perform_transaction;
@@ -18,6 +20,7 @@ use crate::recording::record_if;
 use document::Direction;
 use ed_model::{Plan, plans_are_fit};
 use ed_types::{Bytes, Refusal, Reply};
+use message_requests::answers::ChangePlan;
 use message_requests::{SentMessage, SessionState};
 use notify::NoteList;
 use performing::change_session;
@@ -117,11 +120,12 @@ fn perform(
 }
 
 /// Performs the plan of a message with all notes, its own first if it is recorded, and leaves the reply in the place of
-/// another.
+/// another. Inlined into its two callers: as a call, an edit pays for one more stack frame.
 ///
 /// # Errors
 ///
 /// `OutOfMemory` if an allocation fails. The session and the place of the reply are then as they were.
+#[inline(always)]
 pub(crate) fn perform_message(
     alloc: Global,
     state: &mut SessionState,
@@ -141,4 +145,71 @@ pub(crate) fn perform_message(
     let value = perform(alloc, state, task, plan, &mut handed_out, &mut notes)?;
     keep(reply, notes.finish(value, Bytes::new(handed_out)));
     Ok(value)
+}
+
+/// Returns the plan that makes this change, if there is one, and answers the value.
+fn whole(plan: ChangePlan) -> Plan
+    ensures { result ≡ plan_with plan.change plan.value }
+{
+    let value = plan.value;
+    match plan.change {
+        Some(change) => Plan::ChangeDocument { change, value },
+        None => Plan::Answer { value },
+    }
+}
+
+/// Makes a change of the document that is heard or recorded. Out of line, so that one that is not does not pay for the plan and the list of
+/// notifications.
+///
+/// # Errors
+///
+/// Those of `perform_message`.
+#[inline(never)]
+fn change_aloud(
+    alloc: Global,
+    state: &mut SessionState,
+    task: &Task,
+    plan: ChangePlan,
+    reply: &mut Reply,
+) -> Result<i64, Refusal>
+    requires kept { IsKept state.old }
+    requires planned { IsPlannedAs (session_in state.old) task.now.view task.now.message.now task.now.document (plan_with plan.change plan.value) task.now.is_recorded }
+    ensures answered { IsAnswered (session_in state.old) task.now.view task.now.message.now (session_in state.new) (told result reply.new) }
+    ensures place { IsLeft result reply.old reply.new }
+    ensures kept { IsKept state.new }
+{
+    perform_message(alloc, state, task, &whole(plan), reply)
+}
+
+/// Makes what a message changes in its document, as `perform_message` does, but sets up nothing for notes if no view hears of it. `listens` is
+/// whether the message's own view listens for a frequent kind of change.
+///
+/// # Errors
+///
+/// Those of `perform_message`.
+pub(crate) fn make_change(
+    alloc: Global,
+    state: &mut SessionState,
+    task: &Task,
+    plan: ChangePlan,
+    listens: bool,
+    reply: &mut Reply,
+) -> Result<i64, Refusal>
+    requires kept { IsKept state.old }
+    requires planned { IsPlannedAs (session_in state.old) task.now.view task.now.message.now task.now.document (plan_with plan.change plan.value) task.now.is_recorded }
+    ensures answered { IsAnswered (session_in state.old) task.now.view task.now.message.now (session_in state.new) (told result reply.new) }
+    ensures place { IsLeft result reply.old reply.new }
+    ensures kept { IsKept state.new }
+{
+    if task.is_recorded || listens {
+        return change_aloud(alloc, state, task, plan, reply);
+    }
+    let Some(change) = plan.change else {
+        return change_aloud(alloc, state, task, plan, reply);
+    };
+    if perform_unheard_change(state, task, &change) {
+        reply.answer(plan.value);
+        return Ok(plan.value);
+    }
+    change_aloud(alloc, state, task, plan, reply)
 }

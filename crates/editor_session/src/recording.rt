@@ -26,11 +26,12 @@ fn record(view: u32, message: &SentMessage, notes: &mut NoteList) -> Result<(), 
     Ok(())
 }
 
-/// Like `record` if the message is recorded; otherwise does nothing.
+/// Like `record` if the message is recorded; otherwise does nothing. Inlined with its caller, `perform_message`.
 ///
 /// # Errors
 ///
 /// `AllocError` if an allocation fails.
+#[inline(always)]
 pub(crate) fn record_if(
     is_recorded: bool,
     view: u32,

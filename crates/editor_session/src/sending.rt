@@ -1,27 +1,32 @@
 //! A message on its way through a session. `way_of` says by its number which way it takes: a numeric query is answered by a number, a text query
-//! by bytes of the document; a setting, a change of the document and a search are made at once, unless something has to be told of them. All other
-//! messages are planned and performed, and so is what is refused.
+//! by bytes of the document. A change of the view alone is made without a plan, and so is one of the document other than an edit of its text, unless
+//! something has to be told of it. All other messages are planned and performed, and so is what is refused.
 
-ghost use Rattle.std.specs.Prelude.{◌≡◌, Ok, IfNone, IfSome};
+ghost use Rattle.std.specs.Prelude.{◌≡◌, Ok, Some, IfNone, IfSome};
 ghost use Rattle.ed_types.specs.Messages.{kind_of};
 ghost use Rattle.ed_model.specs.Performing.{quiet};
 ghost use Rattle.ed_model.specs.Table.{table};
-ghost use Rattle.message_plans.specs.Asking.{question_of};
-ghost use Rattle.message_plans.specs.Ways.{kind_in, question_in};
+ghost use Rattle.message_plans.specs.Asking.{question_of, text_question_of};
+ghost use Rattle.message_plans.specs.Ways.{kind_in, question_in, text_question_in};
 ghost use Rattle.message_requests.specs.Requested.{session_in};
 ghost use Rattle.performing.specs.Kept.{IsKept};
 ghost use Rattle.editor_session.specs.Answers.{told, IsLeft, IsAnswered};
 
 use crate::asking::ask_as;
 use crate::find::find;
-use crate::perform::{Task, perform_message};
+use crate::perform::{Task, make_change, perform_message};
 use crate::reading::read_into;
-use crate::setting::{change, is_recorded, search, set};
+use crate::setting::{is_recorded, set};
 use ed_model::plans_are_fit;
+use ed_types::modification::{CHANGE_FOLD, CHANGE_MARKER, CHANGE_STYLE};
 use ed_types::{Bytes, Kind, Refusal, Reply};
-use message_plans::{Way, plan_of, way_of};
+use message_plans::{Way, document_change_of, plan_of, way_of};
 use message_requests::{SentMessage, SessionState};
 use std::alloc::Global;
+
+/// The bits by which a view listens for the changes that are sent by the thousand: of styles, fold levels and markers. It is then likely that a change
+/// has notes.
+const FREQUENT_CHANGES: u32 = CHANGE_STYLE | CHANGE_FOLD | CHANGE_MARKER;
 
 /// Plans and performs a message to `view`. Replaces `reply` by the message's reply, and returns the value. Out of line, so that no other message
 /// pays for its stack frame, which takes 18 instructions.
@@ -61,11 +66,45 @@ fn answer_by_plan(
     }
 }
 
-/// Answers a message to `view` at once, if it is a numeric query, or if it is a setting of the view, a change of the document or a search of which
-/// nothing has to be told. Returns the value, which is the whole reply. With `None`, nothing has changed, and the message has to be planned.
+/// Answers a change of the document of `view`: makes it without a list of notifications, if nothing has to be told of it. When it was tried, SETSTYLING of
+/// 5 bytes took 549 instructions by a plan and 501 so. Out of line, as all ways but that of numeric queries: as one function, their stack frames are
+/// one of all, and SETTARGETRANGE takes 84 instructions more, a byte typed 70.
 ///
-/// Each way but that of queries is a function out of line: as one function, their stack frames are one of all, and SETTARGETRANGE takes 84
-/// instructions more, a byte typed 70.
+/// # Errors
+///
+/// Those of `answer_by_plan`.
+#[inline(never)]
+fn answer_change(
+    alloc: Global,
+    state: &mut SessionState,
+    view: u32,
+    kind: Kind,
+    message: &SentMessage,
+    reply: &mut Reply,
+) -> Result<i64, Refusal>
+    requires kept { IsKept state.old }
+    requires kind { Some kind ≡ kind_of message.now.number }
+    ensures answered { IsAnswered (session_in state.old) view message.now (session_in state.new) (told result reply.new) }
+    ensures place { IsLeft result reply.old reply.new }
+    ensures kept { IsKept state.new }
+{
+    // States that a plan's numbers are in range.
+    plans_are_fit();
+    let (found, request) = find(state, view, Some(kind), message)?;
+    let task = Task {
+        view,
+        document: request.document.id(),
+        message,
+        is_recorded: is_recorded(found, &request),
+    };
+    let listens = request.view.mask() & FREQUENT_CHANGES != 0;
+    let Some(plan) = document_change_of(found, &request) else {
+        return answer_by_plan(alloc, state, view, Some(kind), message, reply);
+    };
+    make_change(alloc, state, &task, plan, listens, reply)
+}
+
+/// Answers a message to `view` at once, if it is a numeric query, or a change of the view alone that is not recorded. Returns the value, which is the whole reply. With `None`, nothing has changed, and the message has to be answered otherwise.
 #[inline(always)]
 fn answer_at_once(
     state: &mut SessionState,
@@ -82,11 +121,40 @@ fn answer_at_once(
 {
     match way {
         Way::Question(kind) => ask_as(state, view, kind, message),
-        Way::Setting(kind) => set(state, view, kind, message),
-        Way::DocumentChange(kind) => change(state, view, kind, message),
-        Way::Search(kind) => search(state, view, kind, message),
+        Way::ViewChange(kind) => set(state, view, kind, message),
         _ => None,
     }
+}
+
+/// Answers a message to `view` that was not answered at once.
+#[inline(always)]
+fn answer_otherwise(
+    alloc: Global,
+    state: &mut SessionState,
+    view: u32,
+    way: Way,
+    message: &SentMessage,
+    reply: &mut Reply,
+) -> Result<i64, Refusal>
+    requires kept { IsKept state.old }
+    requires kind { kind_in way ≡ kind_of message.now.number }
+    requires text_question { text_question_in way ≡ text_question_of message.now.number }
+    ensures answered { IsAnswered (session_in state.old) view message.now (session_in state.new) (told result reply.new) }
+    ensures place { IsLeft result reply.old reply.new }
+    ensures kept { IsKept state.new }
+{
+    match way {
+        Way::TextQuestion(kind) => {
+            if let Some(value) = read_into(alloc, state, view, kind, message, reply) {
+                return Ok(value);
+            }
+        }
+        Way::DocumentChange(kind) => {
+            return answer_change(alloc, state, view, kind, message, reply);
+        }
+        _ => {}
+    }
+    answer_by_plan(alloc, state, view, way.kind(), message, reply)
 }
 
 /// Answers a message to `view`. Replaces `reply` by the message's reply, and returns the value.
@@ -112,12 +180,7 @@ pub(crate) fn answer_into(
         reply.answer(value);
         return Ok(value);
     }
-    if let Way::TextQuestion(kind) = way {
-        if let Some(value) = read_into(alloc, state, view, kind, message, reply) {
-            return Ok(value);
-        }
-    }
-    answer_by_plan(alloc, state, view, way.kind(), message, reply)
+    answer_otherwise(alloc, state, view, way, message, reply)
 }
 
 /// Answers a message to `view`.
@@ -140,12 +203,7 @@ pub(crate) fn answer_message(
         return Ok(Reply::quiet(alloc, value, Bytes::empty(alloc)));
     }
     let mut reply = Reply::quiet(alloc, 0, Bytes::empty(alloc));
-    if let Way::TextQuestion(kind) = way {
-        if let Some(_) = read_into(alloc, state, view, kind, message, &mut reply) {
-            return Ok(reply);
-        }
-    }
-    match answer_by_plan(alloc, state, view, way.kind(), message, &mut reply) {
+    match answer_otherwise(alloc, state, view, way, message, &mut reply) {
         Ok(_) => Ok(reply),
         Err(refusal) => Err(refusal),
     }

@@ -14,27 +14,21 @@ abbrev pub text_question_in : Way → Option Kind
 text_question_in (way.TextQuestion kind) = Some kind
 text_question_in other = None
 
--- the setting of a view that is
-abbrev pub setting_in : Way → Option Kind
-setting_in (way.Setting kind) = Some kind
-setting_in other = None
+-- the change of a view that is
+abbrev pub view_change_in : Way → Option Kind
+view_change_in (way.ViewChange kind) = Some kind
+view_change_in other = None
 
 -- the change of a document that is
 abbrev pub document_change_in : Way → Option Kind
 document_change_in (way.DocumentChange kind) = Some kind
 document_change_in other = None
 
--- the search that is
-abbrev pub search_in : Way → Option Kind
-search_in (way.Search kind) = Some kind
-search_in other = None
-
 -- the message's kind, if the profile has the message
 abbrev pub kind_in : Way → Option Kind
 kind_in (way.Question kind) = Some kind
 kind_in (way.TextQuestion kind) = Some kind
-kind_in (way.Setting kind) = Some kind
+kind_in (way.ViewChange kind) = Some kind
 kind_in (way.DocumentChange kind) = Some kind
-kind_in (way.Search kind) = Some kind
 kind_in (way.Planned kind) = Some kind
 kind_in way.Unknown = None

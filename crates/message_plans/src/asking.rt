@@ -4,8 +4,8 @@
 ghost use Rattle.std.specs.Prelude.{◌≡◌, Some};
 ghost use Rattle.ed_types.specs.Messages.{kind_of, number_of};
 ghost use Rattle.message_plans.specs.Asking.{handed_asked, question_of, text_question_of, value_asked};
-ghost use Rattle.message_plans.specs.Settings.{document_change_at, search_at, setting_at};
-ghost use Rattle.message_plans.specs.Ways.{document_change_in, kind_in, question_in, search_in, setting_in, text_question_in};
+ghost use Rattle.message_plans.specs.Settings.{document_change_at, view_change_at};
+ghost use Rattle.message_plans.specs.Ways.{document_change_in, kind_in, question_in, text_question_in, view_change_in};
 
 use crate::way::Way;
 use ed_types::{Kind, kinds_and_numbers};
@@ -14,14 +14,14 @@ use message_requests::answers::HandedOut;
 use state_plans::{folding_plans, line_plans, session_plans, style_plans, undo_plans};
 use text_plans::{selection_plans, target_plans, texts};
 
-// Returns how a session answers a message of this kind.
+// Returns how a session answers a message of this kind. Inlined into the one match over numbers.
+#[inline(always)]
 fn way_for(kind: Kind) -> Way
     ensures kind { kind_in result ≡ Some kind }
     ensures question { question_in result ≡ question_of (number_of kind) }
     ensures text_question { text_question_in result ≡ text_question_of (number_of kind) }
-    ensures setting { setting_in result ≡ setting_at (number_of kind) }
+    ensures view_change { view_change_in result ≡ view_change_at (number_of kind) }
     ensures document_change { document_change_in result ≡ document_change_at (number_of kind) }
-    ensures search { search_in result ≡ search_at (number_of kind) }
 {
     match kind {
         Kind::GetLength => Way::Question(kind),
@@ -82,39 +82,40 @@ fn way_for(kind: Kind) -> Way
         Kind::GetTextRange => Way::TextQuestion(kind),
         Kind::GetText => Way::TextQuestion(kind),
         Kind::GetTargetText => Way::TextQuestion(kind),
-        Kind::SelectAll => Way::Setting(kind),
-        Kind::GotoLine => Way::Setting(kind),
-        Kind::GotoPos => Way::Setting(kind),
-        Kind::SetAnchor => Way::Setting(kind),
-        Kind::SetCurrentPos => Way::Setting(kind),
-        Kind::SetSelectionStart => Way::Setting(kind),
-        Kind::SetSelectionEnd => Way::Setting(kind),
-        Kind::SetSel => Way::Setting(kind),
-        Kind::SetTargetStart => Way::Setting(kind),
-        Kind::SetTargetEnd => Way::Setting(kind),
-        Kind::SetSearchFlags => Way::Setting(kind),
-        Kind::TargetFromSelection => Way::Setting(kind),
-        Kind::CharLeft => Way::Setting(kind),
-        Kind::CharLeftExtend => Way::Setting(kind),
-        Kind::CharRight => Way::Setting(kind),
-        Kind::CharRightExtend => Way::Setting(kind),
-        Kind::Home => Way::Setting(kind),
-        Kind::HomeExtend => Way::Setting(kind),
-        Kind::LineEnd => Way::Setting(kind),
-        Kind::LineEndExtend => Way::Setting(kind),
-        Kind::DocumentStart => Way::Setting(kind),
-        Kind::DocumentStartExtend => Way::Setting(kind),
-        Kind::DocumentEnd => Way::Setting(kind),
-        Kind::DocumentEndExtend => Way::Setting(kind),
-        Kind::SetModEventMask => Way::Setting(kind),
-        Kind::SetPasteConvertEndings => Way::Setting(kind),
-        Kind::SetIndicatorCurrent => Way::Setting(kind),
-        Kind::SetIndicatorValue => Way::Setting(kind),
-        Kind::SetEmptySelection => Way::Setting(kind),
-        Kind::SetTargetRange => Way::Setting(kind),
-        Kind::TargetWholeDocument => Way::Setting(kind),
-        Kind::StartRecord => Way::Setting(kind),
-        Kind::StopRecord => Way::Setting(kind),
+        Kind::SelectAll => Way::ViewChange(kind),
+        Kind::GotoLine => Way::ViewChange(kind),
+        Kind::GotoPos => Way::ViewChange(kind),
+        Kind::SetAnchor => Way::ViewChange(kind),
+        Kind::SetCurrentPos => Way::ViewChange(kind),
+        Kind::SetSelectionStart => Way::ViewChange(kind),
+        Kind::SetSelectionEnd => Way::ViewChange(kind),
+        Kind::SetSel => Way::ViewChange(kind),
+        Kind::SetTargetStart => Way::ViewChange(kind),
+        Kind::SetTargetEnd => Way::ViewChange(kind),
+        Kind::SetSearchFlags => Way::ViewChange(kind),
+        Kind::SearchInTarget => Way::ViewChange(kind),
+        Kind::TargetFromSelection => Way::ViewChange(kind),
+        Kind::CharLeft => Way::ViewChange(kind),
+        Kind::CharLeftExtend => Way::ViewChange(kind),
+        Kind::CharRight => Way::ViewChange(kind),
+        Kind::CharRightExtend => Way::ViewChange(kind),
+        Kind::Home => Way::ViewChange(kind),
+        Kind::HomeExtend => Way::ViewChange(kind),
+        Kind::LineEnd => Way::ViewChange(kind),
+        Kind::LineEndExtend => Way::ViewChange(kind),
+        Kind::DocumentStart => Way::ViewChange(kind),
+        Kind::DocumentStartExtend => Way::ViewChange(kind),
+        Kind::DocumentEnd => Way::ViewChange(kind),
+        Kind::DocumentEndExtend => Way::ViewChange(kind),
+        Kind::SetModEventMask => Way::ViewChange(kind),
+        Kind::SetPasteConvertEndings => Way::ViewChange(kind),
+        Kind::SetIndicatorCurrent => Way::ViewChange(kind),
+        Kind::SetIndicatorValue => Way::ViewChange(kind),
+        Kind::SetEmptySelection => Way::ViewChange(kind),
+        Kind::SetTargetRange => Way::ViewChange(kind),
+        Kind::TargetWholeDocument => Way::ViewChange(kind),
+        Kind::StartRecord => Way::ViewChange(kind),
+        Kind::StopRecord => Way::ViewChange(kind),
         Kind::SetUndoCollection => Way::DocumentChange(kind),
         Kind::SetSavePoint => Way::DocumentChange(kind),
         Kind::MarkerDeleteHandle => Way::DocumentChange(kind),
@@ -137,7 +138,6 @@ fn way_for(kind: Kind) -> Way
         Kind::AddUndoAction => Way::DocumentChange(kind),
         Kind::SetLineEndTypesAllowed => Way::DocumentChange(kind),
         Kind::Colourise => Way::DocumentChange(kind),
-        Kind::SearchInTarget => Way::Search(kind),
         Kind::AddText => Way::Planned(kind),
         Kind::InsertText => Way::Planned(kind),
         Kind::ClearAll => Way::Planned(kind),
@@ -177,9 +177,8 @@ pub fn way_of(number: u32) -> Way
     ensures kind { kind_in result ≡ kind_of number }
     ensures question { question_in result ≡ question_of number }
     ensures text_question { text_question_in result ≡ text_question_of number }
-    ensures setting { setting_in result ≡ setting_at number }
+    ensures view_change { view_change_in result ≡ view_change_at number }
     ensures document_change { document_change_in result ≡ document_change_at number }
-    ensures search { search_in result ≡ search_at number }
 {
     // States that only its number finds a kind.
     kinds_and_numbers();

@@ -1,19 +1,19 @@
 //! The plan of each message.
 
 ghost use Rattle.std.specs.Prelude.{◌≡◌};
-ghost use Rattle.ed_model.specs.Requests.{change_document, change_view, with_argument};
+ghost use Rattle.ed_model.specs.Requests.{change_view, with_argument};
 ghost use Rattle.ed_model.specs.Table.{plan_of};
-ghost use Rattle.state_plans.specs.Changing.{changed};
-ghost use Rattle.text_plans.specs.Finding.{found as found_planned_as};
+ghost use Rattle.text_plans.specs.Finding.{view_changing};
 
-use ed_model::{DocumentChange, Plan, Planned, ViewChange};
+use crate::settings::plan_of_change;
+use ed_model::{Plan, Planned, ViewChange};
 use ed_types::{Kind, Refusal};
 use message_requests::Request;
 use message_requests::answers::{
-    answer, answer_some, change_document, change_view, hand_out, hand_out_or_zero, hand_out_some,
+    answer, answer_some, change_view, hand_out, hand_out_or_zero, hand_out_some,
 };
 use state_plans::{folding_plans, line_plans, session_plans, style_plans, undo_plans};
-use text_plans::target_plans::Found;
+use text_plans::target_plans::ViewPlan;
 use text_plans::{key_plans, selection_plans, target_plans, texts};
 
 // Returns the plan that makes this change of the view and answers 0, or refuses a bad argument.
@@ -26,31 +26,11 @@ fn change_some(change: Option<ViewChange>) -> Planned
     }
 }
 
-// Returns the plan that makes this change of the document and answers 0, or refuses a bad argument.
-fn change_document_some(change: Option<DocumentChange>) -> Planned
-    ensures { result ≡ with_argument change change_document }
+// Returns the plan of a message that changes its view so, or refuses a bad argument.
+fn view_change_some(plan: Option<ViewPlan>) -> Planned
+    ensures { result ≡ with_argument plan view_changing }
 {
-    match change {
-        Some(change) => change_document(change),
-        None => Err(Refusal::BadArgument),
-    }
-}
-
-// Returns the plan that makes this change of the document, if there is one, and answers 0.
-fn change_document_if(change: Result<Option<DocumentChange>, Refusal>) -> Planned
-    ensures { result ≡ changed change }
-{
-    match change? {
-        Some(change) => change_document(change),
-        None => answer(0),
-    }
-}
-
-// Returns the plan of what a search finds, or refuses a bad argument.
-fn found_some(found: Option<Found>) -> Planned
-    ensures { result ≡ with_argument found found_planned_as }
-{
-    let Some(Found { change, value }) = found else {
+    let Some(ViewPlan { change, value }) = plan else {
         return Err(Refusal::BadArgument);
     };
     match change {
@@ -87,20 +67,13 @@ pub fn plan_of(kind: Kind, r: &Request) -> Planned
         Kind::ClearAll => texts::clear_all(r),
         Kind::PositionBefore => answer(texts::position_before(r)),
         Kind::PositionAfter => answer(texts::position_after(r)),
-        Kind::SetUndoCollection => change_document_if(Ok(undo_plans::set_undo_collection(r))),
         Kind::GetUndoCollection => answer(undo_plans::get_undo_collection(r)),
         Kind::Undo => undo_plans::undo(r),
         Kind::Redo => undo_plans::redo(r),
         Kind::CanUndo => answer(undo_plans::get_can_undo(r)),
         Kind::CanRedo => answer(undo_plans::get_can_redo(r)),
         Kind::GetReadOnly => answer(undo_plans::get_read_only(r)),
-        Kind::SetReadOnly => change_document(undo_plans::set_read_only(r)),
         Kind::GetModify => answer(undo_plans::get_modify(r)),
-        Kind::SetSavePoint => undo_plans::set_save_point(r),
-        Kind::BeginUndoAction => undo_plans::begin_undo_action(r),
-        Kind::EndUndoAction => undo_plans::end_undo_action(r),
-        Kind::EmptyUndoBuffer => undo_plans::empty_undo_buffer(r),
-        Kind::AddUndoAction => undo_plans::add_undo_action(r),
         Kind::GetCurrentPos => answer(selection_plans::get_current_pos(r)),
         Kind::GetAnchor => answer(selection_plans::get_anchor(r)),
         Kind::GetSelectionStart => answer(selection_plans::get_selection_start(r)),
@@ -150,7 +123,6 @@ pub fn plan_of(kind: Kind, r: &Request) -> Planned
         Kind::GetSearchFlags => answer(target_plans::get_search_flags(r)),
         Kind::GetDocPointer => answer(session_plans::get_doc_pointer(r)),
         Kind::GetDocumentOptions => answer(session_plans::get_document_options(r)),
-        Kind::SetLineEndTypesAllowed => session_plans::set_line_end_types_allowed(r),
         Kind::GetLineEndTypesAllowed | Kind::GetLineEndTypesActive => {
             answer(session_plans::get_line_end_types(r))
         }
@@ -160,39 +132,25 @@ pub fn plan_of(kind: Kind, r: &Request) -> Planned
         Kind::StopRecord => change_view(session_plans::set_recording(false)),
         Kind::GetStyledText => style_plans::get_styled_text(r),
         Kind::GetEndStyled => answer(style_plans::get_end_styled(r)),
-        Kind::StartStyling => change_document_some(style_plans::start_styling(r)),
-        Kind::SetStyling => change_document_some(style_plans::set_styling(r)),
-        Kind::SetStylingEx => change_document_some(style_plans::set_styling_ex(r)),
-        Kind::Colourise => style_plans::colourise(r),
         Kind::SetIndicatorCurrent => change_some(style_plans::set_indicator_current(r)),
         Kind::GetIndicatorCurrent => answer(style_plans::get_indicator_current(r)),
         Kind::SetIndicatorValue => change_some(style_plans::set_indicator_value(r)),
         Kind::GetIndicatorValue => answer(style_plans::get_indicator_value(r)),
-        Kind::IndicatorFillRange => style_plans::indicator_fill_range(r),
-        Kind::IndicatorClearRange => style_plans::indicator_clear_range(r),
-        Kind::SetFoldLevel => change_document_if(folding_plans::set_fold_level(r)),
         Kind::ShowLines => folding_plans::show_lines(r),
         Kind::HideLines => folding_plans::hide_lines(r),
         Kind::SetFoldExpanded => folding_plans::set_fold_expanded(r),
         Kind::EnsureVisible => folding_plans::ensure_visible(r),
         Kind::GetEolMode => answer(line_plans::get_eol_mode(r)),
-        Kind::SetEolMode => change_document_some(line_plans::set_eol_mode(r)),
-        Kind::MarkerDelete => line_plans::marker_delete(r),
-        Kind::MarkerDeleteAll => line_plans::marker_delete_all(r),
-        Kind::SetLineState => change_document_if(line_plans::set_line_state(r)),
         Kind::GetLineState => answer(line_plans::get_line_state(r)),
         Kind::GetFoldLevel => answer(folding_plans::get_fold_level(r)),
         Kind::GetLineVisible => answer(folding_plans::get_line_visible(r)),
         Kind::GetAllLinesVisible => answer(folding_plans::get_all_lines_visible(r)),
         Kind::GetFoldExpanded => answer(folding_plans::get_fold_expanded(r)),
         Kind::GetStyleAt => answer(style_plans::get_style_at(r)),
-        Kind::MarkerAdd => line_plans::marker_add(r),
-        Kind::MarkerAddSet => line_plans::marker_add_set(r),
         Kind::MarkerGet => answer(line_plans::marker_get(r)),
         Kind::MarkerNext => answer(line_plans::marker_next(r)),
         Kind::MarkerPrevious => answer(line_plans::marker_previous(r)),
         Kind::MarkerLineFromHandle => answer(line_plans::marker_line_from_handle(r)),
-        Kind::MarkerDeleteHandle => line_plans::marker_delete_handle(r),
         Kind::GetLastChild => answer_some(folding_plans::get_last_child(r)),
         Kind::GetFoldParent => answer(folding_plans::get_fold_parent(r)),
         Kind::FoldLine => folding_plans::fold_line(r),
@@ -208,8 +166,30 @@ pub fn plan_of(kind: Kind, r: &Request) -> Planned
         Kind::AddRefDocument => session_plans::add_ref_document(r),
         Kind::ReleaseDocument => session_plans::release_document(r),
         Kind::SetSearchFlags => change_some(target_plans::set_search_flags(r)),
-        Kind::SearchInTarget => found_some(target_plans::search_in_target(r)),
+        Kind::SearchInTarget => view_change_some(target_plans::search_in_target(r)),
         Kind::ConvertEols => line_plans::convert_eols(r),
         Kind::Paste => selection_plans::paste(r),
+        Kind::SetUndoCollection
+        | Kind::SetSavePoint
+        | Kind::MarkerDeleteHandle
+        | Kind::SetEolMode
+        | Kind::StartStyling
+        | Kind::SetStyling
+        | Kind::MarkerAdd
+        | Kind::MarkerDelete
+        | Kind::MarkerDeleteAll
+        | Kind::SetStylingEx
+        | Kind::BeginUndoAction
+        | Kind::EndUndoAction
+        | Kind::SetLineState
+        | Kind::SetReadOnly
+        | Kind::EmptyUndoBuffer
+        | Kind::SetFoldLevel
+        | Kind::MarkerAddSet
+        | Kind::IndicatorFillRange
+        | Kind::IndicatorClearRange
+        | Kind::AddUndoAction
+        | Kind::SetLineEndTypesAllowed
+        | Kind::Colourise => plan_of_change(kind, r),
     }
 }

@@ -5,20 +5,18 @@ ghost use Rattle.message_plans.specs.Ways.{kind_in};
 
 use ed_types::Kind;
 
-/// How a session answers a message: queries, settings, changes of the document and searches at once, where nothing has to be told of them, and all
-/// else by its plan. It has the message's kind.
+/// How a session answers a message: queries and changes of the view or document without a plan, where nothing has to be told of them, and all else by
+/// its plan. It has the message's kind.
 #[derive(Clone, Copy, Debug)]
 pub enum Way {
     /// A numeric query, which is answered by a number.
     Question(Kind),
     /// A text query, which is answered by bytes of the document.
     TextQuestion(Kind),
-    /// A setting of the view, which is one change of the view.
-    Setting(Kind),
+    /// A change of the view alone, which is one change or none: a setting, or a search in the target.
+    ViewChange(Kind),
     /// A change of the document other than an edit of its text, which is one change or none.
     DocumentChange(Kind),
-    /// A search in the target, which sets the target to a match.
-    Search(Kind),
     /// Any other message of the profile, which is planned and performed.
     Planned(Kind),
     /// None: the profile has no message with the number.
@@ -33,9 +31,8 @@ impl Way {
         match self {
             Way::Question(kind) => Some(kind),
             Way::TextQuestion(kind) => Some(kind),
-            Way::Setting(kind) => Some(kind),
+            Way::ViewChange(kind) => Some(kind),
             Way::DocumentChange(kind) => Some(kind),
-            Way::Search(kind) => Some(kind),
             Way::Planned(kind) => Some(kind),
             Way::Unknown => None,
         }

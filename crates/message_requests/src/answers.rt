@@ -5,6 +5,7 @@ ghost use Rattle.ed_model.specs.Numbers.{flag};
 ghost use Rattle.ed_model.specs.Requests.{answer, change_document, change_session, change_view, with_argument};
 ghost use Rattle.ed_model.specs.LinePlans.{line_or_none};
 ghost use Rattle.ed_model.specs.TextPlans.{hand_out as hand_out_plan};
+ghost use Rattle.message_requests.specs.Changing.{changed};
 ghost use Rattle.message_requests.specs.HandingOut.{handed_out, handed_or_zero};
 
 use ed_model::{DocumentChange, Plan, Planned, SessionChange, ViewChange};
@@ -114,11 +115,44 @@ pub fn hand_out_or_zero(handed: Option<HandedOut>) -> Planned
     }
 }
 
-/// Returns the plan that makes this change of the document and answers 0.
-pub fn change_document(change: DocumentChange) -> Planned
-    ensures { result ≡ change_document change }
+/// The answer to a message that changes its document, but not the text.
+#[derive(Clone, Copy, Debug)]
+pub struct ChangePlan {
+    /// The change, if the message makes one.
+    pub change: Option<DocumentChange>,
+    /// The value that the message answers.
+    pub value: i64,
+}
+
+/// Returns the answer of a message that makes this change of the document: 0.
+pub fn change_document(change: DocumentChange) -> Result<ChangePlan, Refusal>
+    ensures { changed result ≡ change_document change }
 {
-    Ok(Plan::ChangeDocument { change, value: 0 })
+    Ok(ChangePlan {
+        change: Some(change),
+        value: 0,
+    })
+}
+
+/// Returns the answer of a message that changes nothing: `value`.
+pub fn change_nothing(value: i64) -> Result<ChangePlan, Refusal>
+    ensures { changed result ≡ answer value }
+{
+    Ok(ChangePlan {
+        change: None,
+        value,
+    })
+}
+
+/// Returns the plan of such a message, or refuses it.
+pub fn plan_change(planned: Result<ChangePlan, Refusal>) -> Planned
+    ensures { result ≡ changed planned }
+{
+    let ChangePlan { change, value } = planned?;
+    match change {
+        Some(change) => Ok(Plan::ChangeDocument { change, value }),
+        None => answer(value),
+    }
 }
 
 /// Returns the plan that makes this change of the view and answers 0.

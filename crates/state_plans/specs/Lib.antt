@@ -1,4 +1,3 @@
 -- Definitions that the contracts cite.
 pub mod Acting
-pub mod Changing
 pub mod Referring

@@ -2,14 +2,16 @@
 
 ghost use Rattle.std.specs.Prelude.{◌≡◌, ◌≤◌, ◌<◌, ◌^◌, IfSome};
 ghost use Rattle.ed_model.specs.Requests.{answer, line_total, with_argument};
-ghost use Rattle.state_plans.specs.Changing.{changed};
 ghost use Rattle.ed_model.specs.FoldingPlans.{doc_line_from_visible, ensure_visible, fold_at, fold_by, fold_line, get_all_lines_visible, get_fold_expanded, get_fold_level, get_fold_parent, get_last_child, get_line_visible, hide_lines, line_shown_at, past_line, set_fold_expanded, set_fold_level, show_lines, toggle_fold, visible_from_doc_line};
+ghost use Rattle.message_requests.specs.Changing.{changed};
 
 use contraction::folds::{fold_header, fold_parent, last_child_at};
 use ed_model::{DocumentChange, Planned, ViewChange};
 use ed_types::{Refusal, fold_level};
 use message_requests::Request;
-use message_requests::answers::{answer, change_view, flag, line_or_none};
+use message_requests::answers::{
+    ChangePlan, answer, change_document, change_nothing, change_view, flag, line_or_none,
+};
 use message_requests::arguments::{clamped, is_on, line_among, some_or_all, within};
 
 // The actions of FOLDLINE on a header: `SC_FOLDACTION_CONTRACT`, and `SC_FOLDACTION_TOGGLE`. Any other action expands
@@ -18,24 +20,24 @@ const CONTRACT: usize = 0;
 
 const TOGGLE: usize = 2;
 
-/// SETFOLDLEVEL: sets the level of line `w` to `l`. `None` if there is no such line.
+/// SETFOLDLEVEL: sets the level of line `w` to `l`.
 ///
 /// # Errors
 ///
 /// `BadArgument` if `l` is no level.
-pub fn set_fold_level(r: &Request) -> Result<Option<DocumentChange>, Refusal>
+pub fn set_fold_level(r: &Request) -> Result<ChangePlan, Refusal>
     ensures { changed result ≡ set_fold_level r.now }
 {
     let Some(level) = within(0, i32::MAX as usize, r.message.l) else {
         return Err(Refusal::BadArgument);
     };
     let Some(line) = line_among(r.line_total(), r.message.w) else {
-        return Ok(None);
+        return change_nothing(0);
     };
-    Ok(Some(DocumentChange::SetLevel {
+    change_document(DocumentChange::SetLevel {
         line,
         level: level as u32,
-    }))
+    })
 }
 
 /// GETLASTCHILD: returns the last line of the block below line `w`. The block ends before the next line whose level

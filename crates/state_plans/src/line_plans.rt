@@ -1,15 +1,15 @@
 //! Plans of the messages on line ends, markers and line states.
 
 ghost use Rattle.std.specs.Prelude.{◌≡◌, ◌≤◌, ◌<◌, ◌^◌, length, IfSome};
-ghost use Rattle.ed_model.specs.Requests.{answer, change_document, with_argument};
-ghost use Rattle.state_plans.specs.Changing.{changed};
+ghost use Rattle.ed_model.specs.Requests.{answer};
 ghost use Rattle.ed_model.specs.LinePlans.{convert_eols, get_eol_mode, get_line_state, has_handles, line_end_kind, line_end_number, line_of_handle, marker_add, marker_add_set, marker_delete, marker_delete_all, marker_delete_handle, marker_get, marker_line_from_handle, marker_next, marker_previous, numbers_in, set_eol_mode, set_line_state};
+ghost use Rattle.message_requests.specs.Changing.{changed};
 
 use document::count_numbers;
-use ed_model::{DocumentChange, LineEnd, Plan, Planned};
+use ed_model::{DocumentChange, LineEnd, Planned};
 use ed_types::Refusal;
 use message_requests::Request;
-use message_requests::answers::{answer, change_document, line_or_none};
+use message_requests::answers::{ChangePlan, change_document, change_nothing, line_or_none};
 use message_requests::arguments::{at_least_zero, line_among, low_bits, some_or_all, within};
 use message_requests::edits::conversion_plan;
 
@@ -44,14 +44,16 @@ pub fn get_eol_mode(r: &Request) -> i64
     line_end_number(r.document.typed_line_end()) as i64
 }
 
-/// SETEOLMODE: sets the line end that typing inserts. `None` if it is refused.
-pub fn set_eol_mode(r: &Request) -> Option<DocumentChange>
-    ensures { with_argument result change_document ≡ set_eol_mode r.now }
+/// SETEOLMODE: sets the line end that typing inserts.
+pub fn set_eol_mode(r: &Request) -> Result<ChangePlan, Refusal>
+    ensures { changed result ≡ set_eol_mode r.now }
 {
-    let mode = within(0, 2, r.message.w)?;
-    Some(DocumentChange::SetLineEnd {
-        to: line_end_kind(mode),
-    })
+    match within(0, 2, r.message.w) {
+        Some(mode) => change_document(DocumentChange::SetLineEnd {
+            to: line_end_kind(mode),
+        }),
+        None => Err(Refusal::BadArgument),
+    }
 }
 
 /// CONVERTEOLS: converts all line ends of the text to the kind `w`.
@@ -73,23 +75,23 @@ fn has_handles(r: &Request, count: u32) -> bool
 }
 
 /// MARKERADD: adds a marker with number `l` to line `w`. The value is its handle.
-pub fn marker_add(r: &Request) -> Planned
-    ensures { result ≡ marker_add r.now }
+pub fn marker_add(r: &Request) -> Result<ChangePlan, Refusal>
+    ensures { changed result ≡ marker_add r.now }
 {
     let Some(number) = within(0, 31, r.message.l) else {
         return Err(Refusal::BadArgument);
     };
     let Some(line) = line_among(r.line_total(), r.message.w) else {
-        return answer(-1);
+        return change_nothing(-1);
     };
     if !has_handles(r, 1) {
         return Err(Refusal::TooMany);
     }
-    Ok(Plan::ChangeDocument {
-        change: DocumentChange::AddMarker {
+    Ok(ChangePlan {
+        change: Some(DocumentChange::AddMarker {
             line,
             number: number as u32,
-        },
+        }),
         value: i64::from(r.document.rows().next_handle()),
     })
 }
@@ -102,14 +104,14 @@ fn has_handles_for(r: &Request, mask: u32) -> bool
 }
 
 /// MARKERADDSET: adds a marker to line `w` for each bit of `l`.
-pub fn marker_add_set(r: &Request) -> Planned
-    ensures { result ≡ marker_add_set r.now }
+pub fn marker_add_set(r: &Request) -> Result<ChangePlan, Refusal>
+    ensures { changed result ≡ marker_add_set r.now }
 {
     let Some(mask) = within(0, u32::MAX as usize, r.message.l) else {
         return Err(Refusal::BadArgument);
     };
     let Some(line) = line_among(r.line_total(), r.message.w) else {
-        return answer(0);
+        return change_nothing(0);
     };
     let mask = mask as u32;
     if has_handles_for(r, mask) {
@@ -120,21 +122,21 @@ pub fn marker_add_set(r: &Request) -> Planned
 }
 
 /// MARKERDELETE: deletes the first marker with number `l` on line `w`, or all markers of the line if `l` is -1.
-pub fn marker_delete(r: &Request) -> Planned
-    ensures { result ≡ marker_delete r.now }
+pub fn marker_delete(r: &Request) -> Result<ChangePlan, Refusal>
+    ensures { changed result ≡ marker_delete r.now }
 {
     let Some(number) = some_or_all(31, r.message.l) else {
         return Err(Refusal::BadArgument);
     };
     match line_among(r.line_total(), r.message.w) {
         Some(line) => change_document(DocumentChange::DeleteMarker { line, number }),
-        None => answer(0),
+        None => change_nothing(0),
     }
 }
 
 /// MARKERDELETEALL: deletes all markers with number `w`, or all markers if `w` is -1.
-pub fn marker_delete_all(r: &Request) -> Planned
-    ensures { result ≡ marker_delete_all r.now }
+pub fn marker_delete_all(r: &Request) -> Result<ChangePlan, Refusal>
+    ensures { changed result ≡ marker_delete_all r.now }
 {
     match some_or_all(31, r.message.w) {
         Some(number) => change_document(DocumentChange::DeleteMarkers { number }),
@@ -193,31 +195,31 @@ pub fn marker_line_from_handle(r: &Request) -> i64
 }
 
 /// MARKERDELETEHANDLE: deletes the marker with handle `w`.
-pub fn marker_delete_handle(r: &Request) -> Planned
-    ensures { result ≡ marker_delete_handle r.now }
+pub fn marker_delete_handle(r: &Request) -> Result<ChangePlan, Refusal>
+    ensures { changed result ≡ marker_delete_handle r.now }
 {
     let handle = at_least_zero(r.message.w) as u64;
     match line_of_handle(r) {
         Some(_) => change_document(DocumentChange::DeleteHandle { handle }),
-        None => answer(0),
+        None => change_nothing(0),
     }
 }
 
-/// SETLINESTATE: sets the state of line `w` to `l`, a number of 32 bits. `None` if there is no such line.
+/// SETLINESTATE: sets the state of line `w` to `l`, a number of 32 bits.
 ///
 /// # Errors
 ///
 /// `BadArgument` if `l` is no number of 32 bits.
-pub fn set_line_state(r: &Request) -> Result<Option<DocumentChange>, Refusal>
+pub fn set_line_state(r: &Request) -> Result<ChangePlan, Refusal>
     ensures { changed result ≡ set_line_state r.now }
 {
     let Ok(state) = i32::try_from(r.message.l) else {
         return Err(Refusal::BadArgument);
     };
     let Some(line) = line_among(r.line_total(), r.message.w) else {
-        return Ok(None);
+        return change_nothing(0);
     };
-    Ok(Some(DocumentChange::SetState { line, state }))
+    change_document(DocumentChange::SetState { line, state })
 }
 
 /// GETLINESTATE: returns the state of line `w`.

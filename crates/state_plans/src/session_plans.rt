@@ -4,12 +4,15 @@ ghost use Rattle.std.specs.Prelude.{◌≡◌, IfOk, IfErr};
 ghost use Rattle.ed_model.specs.declared.plan.ViewChange.TheVariants.{SetRecording};
 ghost use Rattle.ed_model.specs.Requests.{answer, change_view, with_argument};
 ghost use Rattle.ed_model.specs.SessionPlans.{add_ref_document, create_document, document_options, get_doc_pointer, get_document_options, get_line_end_types, get_mod_event_mask, has_document_ids, release_document, set_doc_pointer, set_line_end_types_allowed, set_mod_event_mask, types_number};
+ghost use Rattle.message_requests.specs.Changing.{changed};
 ghost use Rattle.state_plans.specs.Referring.{IsReferredTo, IsRefusedReference};
 
 use ed_model::{DocumentChange, LineEndTypes, Plan, Planned, SessionChange, ViewChange};
 use ed_types::{Refusal, document_option, modification};
 use message_requests::Request;
-use message_requests::answers::{answer, change_document, change_session};
+use message_requests::answers::{
+    ChangePlan, answer, change_document, change_nothing, change_session,
+};
 use message_requests::arguments::within;
 
 // All options that a document may have.
@@ -143,14 +146,14 @@ fn types_number(types: LineEndTypes) -> usize
 }
 
 /// SETLINEENDTYPESALLOWED: sets which line ends count in the document.
-pub fn set_line_end_types_allowed(r: &Request) -> Planned
-    ensures { result ≡ set_line_end_types_allowed r.now }
+pub fn set_line_end_types_allowed(r: &Request) -> Result<ChangePlan, Refusal>
+    ensures { changed result ≡ set_line_end_types_allowed r.now }
 {
     let Some(types) = within(0, 1, r.message.w) else {
         return Err(Refusal::BadArgument);
     };
     if types == types_number(r.document.line_end_types()) {
-        return answer(0);
+        return change_nothing(0);
     }
     let to = if types == 0 {
         LineEndTypes::Default

@@ -1,13 +1,14 @@
 //! Plans of the messages on styles and indicators.
 
 ghost use Rattle.std.specs.Prelude.{◌≡◌, ◌<◌, ◌^◌};
-ghost use Rattle.ed_model.specs.Requests.{answer, change_document, change_view, with_argument};
+ghost use Rattle.ed_model.specs.Requests.{answer, change_view, with_argument};
 ghost use Rattle.ed_model.specs.StylePlans.{colourise, fill_indicator, get_end_styled, get_indicator_current, get_indicator_value, get_style_at, get_styled_text, indicator_all_on_for, indicator_clear_range, indicator_end, indicator_fill_range, indicator_start, indicator_value_at, run_end_at, run_past, run_start, set_indicator_current, set_indicator_value, set_styling, set_styling_ex, start_styling, styles, unstyled, values_of};
 ghost use Rattle.ed_model.specs.TextPlans.{at_place};
+ghost use Rattle.message_requests.specs.Changing.{changed};
 
 use ed_model::{DocumentChange, Plan, Planned, ViewChange};
 use ed_types::Refusal;
-use message_requests::answers::change_document;
+use message_requests::answers::{ChangePlan, change_document};
 use message_requests::arguments::within;
 use message_requests::{Request, past_argument};
 
@@ -56,12 +57,14 @@ pub fn get_end_styled(r: &Request) -> i64
     r.end_styled() as i64
 }
 
-/// STARTSTYLING: sets the end of the styled text to `w`. `None` if it is refused.
-pub fn start_styling(r: &Request) -> Option<DocumentChange>
-    ensures { with_argument result change_document ≡ start_styling r.now }
+/// STARTSTYLING: sets the end of the styled text to `w`.
+pub fn start_styling(r: &Request) -> Result<ChangePlan, Refusal>
+    ensures { changed result ≡ start_styling r.now }
 {
-    let place = within(0, r.size(), r.message.w)?;
-    Some(DocumentChange::SetEndStyled { place })
+    match within(0, r.size(), r.message.w) {
+        Some(place) => change_document(DocumentChange::SetEndStyled { place }),
+        None => Err(Refusal::BadArgument),
+    }
 }
 
 /// Returns how many bytes follow the end of the styled text.
@@ -71,32 +74,38 @@ fn unstyled(r: &Request) -> usize
     r.size() - r.end_styled()
 }
 
-/// SETSTYLING: sets the style of the next `w` bytes to `l`. `None` if it is refused.
-pub fn set_styling(r: &Request) -> Option<DocumentChange>
-    ensures { with_argument result change_document ≡ set_styling r.now }
+/// SETSTYLING: sets the style of the next `w` bytes to `l`.
+pub fn set_styling(r: &Request) -> Result<ChangePlan, Refusal>
+    ensures { changed result ≡ set_styling r.now }
 {
-    let style = within(0, 255, r.message.l)?;
-    let count = within(0, unstyled(r), r.message.w)?;
-    Some(DocumentChange::StyleRun {
-        count,
-        style: style as u8,
-    })
+    let Some(style) = within(0, 255, r.message.l) else {
+        return Err(Refusal::BadArgument);
+    };
+    match within(0, unstyled(r), r.message.w) {
+        Some(count) => change_document(DocumentChange::StyleRun {
+            count,
+            style: style as u8,
+        }),
+        None => Err(Refusal::BadArgument),
+    }
 }
 
-/// SETSTYLINGEX: sets the styles of the next `w` bytes to those in the message's text. `None` if it is refused.
-pub fn set_styling_ex(r: &Request) -> Option<DocumentChange>
-    ensures { with_argument result change_document ≡ set_styling_ex r.now }
+/// SETSTYLINGEX: sets the styles of the next `w` bytes to those in the message's text.
+pub fn set_styling_ex(r: &Request) -> Result<ChangePlan, Refusal>
+    ensures { changed result ≡ set_styling_ex r.now }
 {
-    let count = within(0, r.message.text.len(), r.message.w)?;
+    let Some(count) = within(0, r.message.text.len(), r.message.w) else {
+        return Err(Refusal::BadArgument);
+    };
     if count > unstyled(r) {
-        return None;
+        return Err(Refusal::BadArgument);
     }
-    Some(DocumentChange::StyleBytes { count })
+    change_document(DocumentChange::StyleBytes { count })
 }
 
 /// COLOURISE: requests styles for the text from `w` up to `l`.
-pub fn colourise(r: &Request) -> Planned
-    ensures { result ≡ colourise r.now }
+pub fn colourise(r: &Request) -> Result<ChangePlan, Refusal>
+    ensures { changed result ≡ colourise r.now }
 {
     let Some(start) = within(0, r.size(), r.message.w) else {
         return Err(Refusal::BadArgument);
@@ -146,8 +155,8 @@ pub fn get_indicator_value(r: &Request) -> i64
 }
 
 /// Sets the view's indicator to this value on the `l` bytes from `w` on.
-fn fill_indicator(r: &Request, value: u32) -> Planned
-    ensures { result ≡ fill_indicator r.now value }
+fn fill_indicator(r: &Request, value: u32) -> Result<ChangePlan, Refusal>
+    ensures { changed result ≡ fill_indicator r.now value }
 {
     let size = r.size();
     let Some(start) = within(0, size, r.message.w) else {
@@ -165,15 +174,15 @@ fn fill_indicator(r: &Request, value: u32) -> Planned
 }
 
 /// INDICATORFILLRANGE: fills a range with the view's value.
-pub fn indicator_fill_range(r: &Request) -> Planned
-    ensures { result ≡ indicator_fill_range r.now }
+pub fn indicator_fill_range(r: &Request) -> Result<ChangePlan, Refusal>
+    ensures { changed result ≡ indicator_fill_range r.now }
 {
     fill_indicator(r, r.view.indicator_value())
 }
 
 /// INDICATORCLEARRANGE: fills a range with 0.
-pub fn indicator_clear_range(r: &Request) -> Planned
-    ensures { result ≡ indicator_clear_range r.now }
+pub fn indicator_clear_range(r: &Request) -> Result<ChangePlan, Refusal>
+    ensures { changed result ≡ indicator_clear_range r.now }
 {
     fill_indicator(r, 0)
 }

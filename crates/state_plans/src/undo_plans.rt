@@ -1,26 +1,26 @@
 //! Plans of the messages on undo and redo, and on whether the text can be edited at all.
 
-ghost use Rattle.std.specs.Prelude.{◌≡◌, Ok};
-ghost use Rattle.ed_model.specs.Requests.{answer, change_document};
+ghost use Rattle.std.specs.Prelude.{◌≡◌};
+ghost use Rattle.ed_model.specs.Requests.{answer};
 ghost use Rattle.ed_model.specs.UndoPlans.{add_undo_action, begin_undo_action, empty_undo_buffer, end_undo_action, get_can_redo, get_can_undo, get_modify, get_read_only, get_undo_collection, redo, set_read_only, set_save_point, set_undo_collection, undo};
+ghost use Rattle.message_requests.specs.Changing.{changed};
 ghost use Rattle.state_plans.specs.Acting.{act_if};
-ghost use Rattle.state_plans.specs.Changing.{changed};
 
 use ed_model::{DocumentChange, Plan, Planned, undo_and_redo_are_never_too_long};
 use ed_types::Refusal;
 use message_requests::Request;
-use message_requests::answers::{answer, change_document, flag};
+use message_requests::answers::{ChangePlan, answer, change_document, change_nothing, flag};
 use message_requests::arguments::{is_on, within};
 
-/// SETUNDOCOLLECTION: sets whether the history collects steps. `None` if collecting is turned on while it is on, which changes nothing.
-pub fn set_undo_collection(r: &Request) -> Option<DocumentChange>
-    ensures { changed (Ok result) ≡ set_undo_collection r.now }
+/// SETUNDOCOLLECTION: sets whether the history collects steps. To turn collecting on while it is on changes nothing.
+pub fn set_undo_collection(r: &Request) -> Result<ChangePlan, Refusal>
+    ensures { changed result ≡ set_undo_collection r.now }
 {
     let on = is_on(r.message.w);
     if on && r.document.history().is_collecting() {
-        return None;
+        return change_nothing(0);
     }
-    Some(DocumentChange::CollectUndo { on })
+    change_document(DocumentChange::CollectUndo { on })
 }
 
 /// GETUNDOCOLLECTION: returns whether the history collects steps.
@@ -86,12 +86,12 @@ pub fn get_read_only(r: &Request) -> i64
 }
 
 /// SETREADONLY: sets whether the document is read-only.
-pub fn set_read_only(r: &Request) -> DocumentChange
-    ensures { change_document result ≡ set_read_only r.now }
+pub fn set_read_only(r: &Request) -> Result<ChangePlan, Refusal>
+    ensures { changed result ≡ set_read_only r.now }
 {
-    DocumentChange::SetReadOnly {
+    change_document(DocumentChange::SetReadOnly {
         on: is_on(r.message.w),
-    }
+    })
 }
 
 /// GETMODIFY: returns whether the document is not at its save point.
@@ -102,15 +102,15 @@ pub fn get_modify(r: &Request) -> i64
 }
 
 /// SETSAVEPOINT: makes the current state the save point.
-pub fn set_save_point(r: &Request) -> Planned
-    ensures { result ≡ set_save_point r.now }
+pub fn set_save_point(r: &Request) -> Result<ChangePlan, Refusal>
+    ensures { changed result ≡ set_save_point r.now }
 {
     change_document(DocumentChange::SetSavePoint)
 }
 
 /// BEGINUNDOACTION: begins a group, unless groups are nested too deeply.
-pub fn begin_undo_action(r: &Request) -> Planned
-    ensures { result ≡ begin_undo_action r.now }
+pub fn begin_undo_action(r: &Request) -> Result<ChangePlan, Refusal>
+    ensures { changed result ≡ begin_undo_action r.now }
 {
     if r.document.history().depth() < r.session.limits.depth {
         change_document(DocumentChange::BeginGroup)
@@ -120,22 +120,22 @@ pub fn begin_undo_action(r: &Request) -> Planned
 }
 
 /// ENDUNDOACTION: ends a group.
-pub fn end_undo_action(r: &Request) -> Planned
-    ensures { result ≡ end_undo_action r.now }
+pub fn end_undo_action(r: &Request) -> Result<ChangePlan, Refusal>
+    ensures { changed result ≡ end_undo_action r.now }
 {
     change_document(DocumentChange::EndGroup)
 }
 
 /// EMPTYUNDOBUFFER: empties the history.
-pub fn empty_undo_buffer(r: &Request) -> Planned
-    ensures { result ≡ empty_undo_buffer r.now }
+pub fn empty_undo_buffer(r: &Request) -> Result<ChangePlan, Refusal>
+    ensures { changed result ≡ empty_undo_buffer r.now }
 {
     change_document(DocumentChange::ForgetHistory)
 }
 
 /// ADDUNDOACTION: appends a container's step with token `w`, which coalesces if `l` is 1.
-pub fn add_undo_action(r: &Request) -> Planned
-    ensures { result ≡ add_undo_action r.now }
+pub fn add_undo_action(r: &Request) -> Result<ChangePlan, Refusal>
+    ensures { changed result ≡ add_undo_action r.now }
 {
     match within(0, 1, r.message.l) {
         Some(flags) => change_document(DocumentChange::AppendContainer {

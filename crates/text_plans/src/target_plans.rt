@@ -4,7 +4,7 @@ ghost use Rattle.std.specs.Prelude.{◌≡◌, ◌≤◌, ◌<◌, ◌+◌, ◌^
 ghost use Rattle.message_requests.specs.HandingOut.{handed_out};
 ghost use Rattle.ed_model.specs.Requests.{answer, change_view, with_argument};
 ghost use Rattle.ed_model.specs.TargetPlans.{found_target, get_search_flags, get_target_end, get_target_start, get_target_text, replace_target, replacement_length, search_flags, search_in_target, set_search_flags, set_target, set_target_end, set_target_range, set_target_start, target_from_selection, target_whole_document};
-ghost use Rattle.text_plans.specs.Finding.{found, match_in_target};
+ghost use Rattle.text_plans.specs.Finding.{match_in_target, view_changing};
 
 use ed_model::{Follow, Plan, Planned, Source, ViewChange};
 use ed_types::Refusal;
@@ -118,26 +118,26 @@ fn find_in_target(r: &Request, pattern: &[u8]) -> Option<usize>
     target_search::find(flags, first, second, pattern, start, end)
 }
 
-/// What a search finds.
+/// The answer to a message that changes its view alone.
 #[derive(Clone, Copy, Debug)]
-pub struct Found {
-    /// The target becomes the match, if there is one.
+pub struct ViewPlan {
+    /// The change, if the message makes one.
     pub change: Option<ViewChange>,
-    /// The start of the match, in bytes from 0, or -1 if there is none.
+    /// The value that the message answers.
     pub value: i64,
 }
 
 /// Returns a match of `count` bytes, if there is one.
-fn found_target(count: usize, place: Option<usize>) -> Found
+fn found_target(count: usize, place: Option<usize>) -> ViewPlan
     requires { IfSome place (λ place. place + count < 2 ^ 63) }
-    ensures { found result ≡ found_target count place }
+    ensures { view_changing result ≡ found_target count place }
 {
     match place {
-        Some(start) => Found {
+        Some(start) => ViewPlan {
             change: Some(set_target(start, start + count)),
             value: start as i64,
         },
-        None => Found {
+        None => ViewPlan {
             change: None,
             value: -1,
         },
@@ -146,8 +146,8 @@ fn found_target(count: usize, place: Option<usize>) -> Found
 
 /// SEARCHINTARGET: searches for the first `w` bytes of the message's text in the target, and sets the target to the
 /// match. `None` if it is refused.
-pub fn search_in_target(r: &Request) -> Option<Found>
-    ensures { with_argument result found ≡ search_in_target r.now }
+pub fn search_in_target(r: &Request) -> Option<ViewPlan>
+    ensures { with_argument result view_changing ≡ search_in_target r.now }
 {
     let count = within(0, r.message.text.len(), r.message.w)?;
     Some(found_target(count, find_in_target(r, &r.message.text[..count])))

@@ -8,12 +8,7 @@ returns-in-Some-clause-answered c =
     let left : quiet c.in-Some.value ≡ c.answer.new.self = search rules in
     replied_so (c.in-Some.ensures.done ∙ ap (λ x. Ok (session_in c.answer_at_once.new.state, x)) left)
 
-pub returns-in-Some-read_into-clause-answered : goal.returns-in-Some-read_into-clause-answered
-returns-in-Some-read_into-clause-answered c =
-    let a = c.args in
-    subst (λ (s : Session). IsAnswered s a.view a.message.now (session_in c.answer_at_once.new.state) (Ok c.read_into.new.reply)) c.in_default.ensures.same (replied_so c.in-Some-read_into.ensures.answer)
-
 pub returns-clause-answered : goal.returns-clause-answered
 returns-clause-answered c =
-    let p = c.answer_by_plan in
+    let p = c.answer_otherwise in
     subst (λ (s : Session). IsAnswered s c.args.view c.args.message.now (session_in p.new.state) (told p.result p.new.reply)) c.in_default.ensures.same p.ensures.answered

@@ -1,12 +1,6 @@
-use Rattle.editor_session.proofs.Names.{rules, ◌≡◌, ◌∙◌, Ok, ap, subst, quiet, Session, session_in, IsAnswered}
-use Rattle.editor_session.specs.Answers.{told}
+use Rattle.editor_session.proofs.Names.{rules, ◌∙◌, Ok, ap, session_in}
 use Rattle.editor_session.proofs.TableWay.{replied_so}
 use Rattle.editor_session.proofs.sending.answer_message.Goals as goal
 
 pub returns-in-Some-clause-answered : goal.returns-in-Some-clause-answered
 returns-in-Some-clause-answered c = replied_so (c.in-Some.ensures.done ∙ ap (λ x. Ok (session_in c.answer_at_once.new.state, x)) (search rules))
-
-pub returns-in-Some-read_into-clause-answered : goal.returns-in-Some-read_into-clause-answered
-returns-in-Some-read_into-clause-answered c =
-    let a = c.args in
-    subst (λ (s : Session). IsAnswered s a.view a.message.now (session_in c.answer_at_once.new.state) (Ok c.read_into.new.reply)) c.in_default.ensures.same (replied_so c.in-Some-read_into.ensures.answer)
