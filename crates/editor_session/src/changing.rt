@@ -1,4 +1,4 @@
-//! Changes of the document and of the view other than edits of the text; and attempts to edit a read-only document. If an allocation fails, nothing has changed.
+//! Changes of the document and the view other than edits of the text; and attempts to edit a read-only document. If an allocation fails, nothing has changed.
 
 ghost use Rattle.editor_session.specs.Documents.{OfDocument};
 ghost use Rattle.ed_model.specs.Notes.{blank as blank_note, modify_attempt, told as notes_told};

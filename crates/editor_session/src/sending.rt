@@ -104,7 +104,8 @@ fn answer_change(
     make_change(alloc, state, &task, plan, listens, reply)
 }
 
-/// Answers a message to `view` at once, if it is a numeric query, or a change of the view alone that is not recorded. Returns the value, which is the whole reply. With `None`, nothing has changed, and the message has to be answered otherwise.
+/// Answers a message to `view` at once, if it is a numeric query, or a change of the view alone that is not recorded. Returns the value, which is the
+/// whole reply. With `None`, nothing has changed, and the message has to be answered otherwise.
 #[inline(always)]
 fn answer_at_once(
     state: &mut SessionState,
