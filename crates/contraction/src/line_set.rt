@@ -6,7 +6,7 @@ ghost use Rattle.vec_room.specs.Reserved.{IsReserved};
 ghost use Rattle.contraction.specs.LineSets.{holds, holds_with_fresh, holds_without, holds_after, lines_outside, AreBefore, AreLines, Becomes};
 ghost use Rattle.contraction.specs.ViewLines.{GrowsFor};
 
-use rising_numbers::{Place, Probes, RisingNumbers};
+use rising_numbers::{Place, RisingNumbers};
 use std::alloc::{AllocError, Global};
 use std::cell::Cell;
 use std::marker::Model;
@@ -91,8 +91,7 @@ impl<P: Place> LineSet<P> {
         if line <= self.lines.number(0) {
             return 0;
         }
-        let mut probes = Probes::new();
-        self.lines.last_at_most(line - 1, &mut probes) + 1
+        self.lines.last_by_quarters(line - 1) + 1
     }
 
     // Like `before`, and tries the number `likely` and the next one first, so that lines in order need no search. One

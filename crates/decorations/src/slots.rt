@@ -28,14 +28,14 @@ pub(crate) fn runs_in<P: Place>(
     slots.get(indicator)?.as_ref()
 }
 
-/// Returns the value of a slot's indicator at a place of the text.
+/// Returns the value of a slot's indicator at a place of the text, for a caller that asks all slots in turn.
 #[inline(always)]
 fn value_in<P: Place>(slot: &Slot<P>, place: usize) -> u32
     requires { IfSome slot.now (λ runs. place < length runs.values) }
     ensures { (size : ℕ) → result ≡ at_place (shown size slot.now) (pos place) }
 {
     match slot {
-        Some(runs) => runs.value_at(place),
+        Some(runs) => runs.value_in_turn(place),
         None => 0,
     }
 }

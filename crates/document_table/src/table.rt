@@ -1,5 +1,5 @@
 //! `DocumentTable` and its calls.
-ghost use Rattle.std.specs.Prelude.{◌≡◌, ◌≢◌, ◌≤◌, ◌<◌, ◌+◌, ◌^◌, ◌∷◌, ◌++◌, ℕ, [], map, IfSome, IsSomeAnd, option_copied};
+ghost use Rattle.std.specs.Prelude.{◌≡◌, ◌≢◌, ◌≤◌, ◌<◌, ◌+◌, ◌^◌, ◌∷◌, ◌++◌, ℕ, [], map, IfSome, IsSome, IsSomeAnd, Some, option_copied};
 ghost use Rattle.std.specs.Option.{option_copied_mut};
 ghost use Rattle.std.specs.Borrow.{sem};
 ghost use Rattle.ed_model.specs.Session.{left_by};
@@ -28,7 +28,7 @@ impl Model for DocumentTable {
 }
 
 impl DocumentTable {
-    ghost use Rattle.document_table.specs.Lends.{lends_document};
+    ghost use Rattle.document_table.specs.Lends.{lends_document, lends_document_at};
 
     /// Returns a table without documents. Allocates nothing.
     pub fn new(alloc: Global) -> Self
@@ -60,6 +60,23 @@ impl DocumentTable {
         ensures value { option_copied_mut result ≡ value_at self.old.entries id }
     {
         self.documents.get_mut(id)
+    }
+
+    /// Returns the document with the id, which must be there.
+    pub fn at(&self, id: u32) -> &Document
+        requires there { IsSome (value_at self.now.entries id) }
+        ensures { value_at self.now.entries id ≡ Some result.now }
+    {
+        self.documents.at(id)
+    }
+
+    /// Returns the document with the id, which must be there, to write to. No other document changes.
+    pub fn at_mut(&mut self, id: u32) -> &mut Document
+        requires there { IsSome (value_at self.old.entries id) }
+        ensures* writes_back { sem 𝓛 (lends_document_at self.entry id result) }
+        ensures value { value_at self.old.entries id ≡ Some result.now }
+    {
+        self.documents.at_mut(id)
     }
 
     /// Makes room for `count` more documents. Allocates nothing if they fit.

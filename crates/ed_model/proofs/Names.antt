@@ -39,7 +39,7 @@ pub use Rattle.ed_model.specs.Lines.{line_starts, line_count, line_of, start_of_
 pub use Rattle.ed_model.specs.Listing.{listed_command, FitsTypes, is_expect, listing, ended_line, version_line, speaks, fits_line, fits_script}
 pub use Rattle.ed_model.specs.Matches.{match_in, is_match, starts_within}
 pub use Rattle.ed_model.specs.MergeLaws.{lines_before, merged, JoinsRows}
-pub use Rattle.ed_model.specs.Numbers.{is_number, within, clamped, line_among, meets, at_least_zero, is_on, is_minus_one, some_or_all, is_negative}
+pub use Rattle.ed_model.specs.Numbers.{is_number, within, clamped, line_among, meets, at_least_zero, is_on, is_minus_one, is_same, some_or_all, is_negative}
 pub use Rattle.ed_model.specs.Performing.{Scene, step_made, steps_made, sealed_scene, scene_of, session_of, edit_made, followed, document_after, moved_view, place_behind, edit_performed, with_caret, with_target, transaction_performed, changes_performed, with_history, history_performed, caret_behind, view_after, change_performed, changes_lines, is_last}
 pub use Rattle.ed_model.specs.PlansFit.{IsSoundRequest, IsFitPlan, IsFitPlanned, IsMarkerNumber, IsLineState, IsFitSource, IsFitEdit, IsFitFollow, IsRoomFor, IsFitSessionChange, PlansFit, IsFitDocumentChange, IsFitViewChange, EditStepsFit, UndoStepsFit, RedoStepsFit, PlansKeepSound}
 pub use Rattle.ed_model.specs.Reading.{◌>>=◌, natural, integer, behind, word_of, behind_word, number_field, text_field, ended, Verb, opens, closes, loads, sends, expects, verb_in, verbs, verbs_of, command_of, read_command, not_empty, word_field, read_version, at_line, read_lines, read_script, reading, front_byte, spells_front, with_byte, text_past}
@@ -52,7 +52,7 @@ pub use Rattle.ed_model.specs.SessionPlans.{with_reference, release_of, document
 pub use Rattle.ed_model.specs.SoundLaws.{occurrences, handles_in, IsSound, Rise, FitsText, IsSoundDocument, StandsOn, IsStepOf, AreStepsOf, IsStepWithin, AreStepsWithin, undo_path, redo_path, ThePastCanBeUndone, UndoneThenRedoneIsTheSame, IsViewOn, ListsItsViews, AreLineStarts, IsSoundView, NewSessionIsSound, MessageKeepsSound, OpeningKeepsSound, ClosingKeepsSound, CommandKeepsSound, IsSoundInEveryStateFrom, IsSoundInEveryState, InTurn}
 pub use Rattle.ed_model.specs.Spelling.{space, quote, spelled, spelled_int, spelled_bytes, spelled_text, is_64_bits, spelled_byte}
 pub use Rattle.ed_model.specs.Steps.{Step, edited, moved_start, Insert, Delete, inverse_of, edited_cells, place_of, moved_position, replacement, deletion, insertion, moved_back}
-pub use Rattle.ed_model.specs.Table.{plan_of, performed, table, table_from_view, table_from_kind, table_from_document, answered, request, opened, closed_view, closed}
+pub use Rattle.ed_model.specs.Table.{plan_of, performed_for, table, table_from_view, table_from_kind, table_from_document, answered, request, opened, closed_view, closed}
 pub use Rattle.ed_model.specs.TableLaws.{Answered, LeavesSession, QueriesLeaveTheSession, RefusedCommandsLeaveTheSession, is_refused, kept_unless, unrefused, RefusedCommandsCanBeLeftOut}
 pub use Rattle.ed_model.specs.TargetPlans.{found_target, replacement_length, search_flags}
 pub use Rattle.ed_model.specs.Text.{Cell, bytes_of, line_feed, carriage_return, plain_cells, plain_cell}

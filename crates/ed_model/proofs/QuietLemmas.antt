@@ -1,6 +1,6 @@
 -- Plans of queries and of messages marked N, and what performing them leaves
 -- unchanged. Facts on plans are shown for each kind of message.
-use Rattle.ed_model.proofs.Names.{◌≡◌, ℕ, nat_lt, Bool, true, false, cond, refl, Option, Some, None, Ok, Err, Kind, Refusal, TooMany, NoSuchDocument, marks_of, Plan, Document, references, Request, Planned, size, with_argument, with_line, change_session, found_target, with_reference, release_of, document_named, plan_of, performed}
+use Rattle.ed_model.proofs.Names.{◌≡◌, ℕ, nat_lt, Bool, true, false, cond, refl, Option, Some, None, Ok, Err, Kind, Refusal, TooMany, NoSuchDocument, marks_of, Plan, Document, references, Request, Planned, size, with_argument, with_line, change_session, found_target, with_reference, release_of, document_named, plan_of, performed_for}
 use Rattle.ed_types.specs.declared.kind.Kind.TheVariants as kinds
 use Rattle.ed_model.specs.declared.plan.SessionChange.TheVariants as session_change
 use Rattle.ed_model.specs.declared.plan.Plan.TheVariants as plan
@@ -27,7 +27,7 @@ IsQuiet (Err refusal) = Unit {0}
 IsQuiet (Ok p) = IsQuietPlan p
 
 -- such a plan leaves the session unchanged
-pub quiet_plan_leaves : (r : Request) (p : Plan) → IsQuietPlan p → (performed r p).0 ≡ r.session
+pub quiet_plan_leaves : (r : Request) (p : Plan) → IsQuietPlan p → (performed_for r p).0 ≡ r.session
 quiet_plan_leaves r (plan.Answer value) h = refl
 quiet_plan_leaves r (plan.HandOut value start count) h = refl
 quiet_plan_leaves r (plan.HandOutStyled start count) h = refl

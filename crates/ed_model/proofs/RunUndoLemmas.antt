@@ -1,5 +1,5 @@
 -- Documents keep their earlier texts, message by message, so undo goes back to earlier states of every run.
-use Rattle.ed_model.proofs.Names.{◌≡◌, ℕ, ◌+◌, ◌-◌, ◌==◌, nat_lt, cond, Bool, true, false, List, [], ◌∷◌, ◌++◌, length, map, refl, ap, ◌∙◌, sym, subst, Option, Some, None, Result, Ok, Err, option_map, ◌||◌, nat_le, cons_option, eqb-true, eq-eqb, cond_both, find-append, Kind, Limits, Message, Refusal, TooMany, Command, OpenView, CloseView, LoadFile, SendMessage, Expect, Response, kind_of, Follow, SessionChange, Plan, Cell, bytes_of, History, undo_changes, redo_changes, Session, Document, View, document_at, view_at, with_document, living, left_by, new_session, new_document, new_view, text_of, Request, Planned, text, steps_of, text_steps, scene_of, session_of, edit_made, followed, changed_document, session_changed, with_attached, attached_last, with_new_document, held_more, held_less, table, table_from_view, table_from_kind, table_from_document, answered, plan_of, performed, request, opened, closed_view, Running, after_command, after_opening, after_closing, after_message, loaded, file_at, run_to, starting, set_text_message, after_undo, after_redo, KeepsEarlierTexts, GoesBackAmong, IsLeftAlone, LeavesOthersAlone, MessagesLeaveOtherDocumentsAlone, OpeningLeavesDocumentsAlone, ClosingLeavesDocumentsAlone, IsSound, Rise, IsSoundRequest, IsFitPlan, IsFitPlanned, document_id, view_id, replaced_found, replaced_other, same_document, living_from, mapped_found, mapped_ids, documents_added, changed_id, edit_made_id, own_document, request_document, fit_in_turn}
+use Rattle.ed_model.proofs.Names.{◌≡◌, ℕ, ◌+◌, ◌-◌, ◌==◌, nat_lt, cond, Bool, true, false, List, [], ◌∷◌, ◌++◌, length, map, refl, ap, ◌∙◌, sym, subst, Option, Some, None, Result, Ok, Err, option_map, ◌||◌, nat_le, cons_option, eqb-true, eq-eqb, cond_both, find-append, Kind, Limits, Message, Refusal, TooMany, Command, OpenView, CloseView, LoadFile, SendMessage, Expect, Response, kind_of, Follow, SessionChange, Plan, Cell, bytes_of, History, undo_changes, redo_changes, Session, Document, View, document_at, view_at, with_document, living, left_by, new_session, new_document, new_view, text_of, Request, Planned, text, steps_of, text_steps, scene_of, session_of, edit_made, followed, changed_document, session_changed, with_attached, attached_last, with_new_document, held_more, held_less, table, table_from_view, table_from_kind, table_from_document, answered, plan_of, performed_for, request, opened, closed_view, Running, after_command, after_opening, after_closing, after_message, loaded, file_at, run_to, starting, set_text_message, after_undo, after_redo, KeepsEarlierTexts, GoesBackAmong, IsLeftAlone, LeavesOthersAlone, MessagesLeaveOtherDocumentsAlone, OpeningLeavesDocumentsAlone, ClosingLeavesDocumentsAlone, IsSound, Rise, IsSoundRequest, IsFitPlan, IsFitPlanned, document_id, view_id, replaced_found, replaced_other, same_document, living_from, mapped_found, mapped_ids, documents_added, changed_id, edit_made_id, own_document, request_document, fit_in_turn}
 use Rattle.std.specs.Option.{option_or}
 use Rattle.ed_model.specs.declared.plan.Follow.TheVariants as follow
 use Rattle.ed_model.specs.declared.plan.SessionChange.TheVariants as session_change
@@ -128,7 +128,7 @@ attached_go_on : (Own : ℕ → Type 0) (ds : List Document) (s : Session) (o : 
 attached_go_on Own ds s None v high rise h = h
 attached_go_on Own ds s (Some d) v high rise h = lists_go_on_relisted Own ds s.documents (attached_last v.id d.id) 0 high (attached_relisted v.id d.id) rise h
 
-session_change_goes_on : (Own : ℕ → Type 0) (r : Request) (what : SessionChange) → IsSound r.session → ListsGoOn Own r.session.documents (session_changed r what).documents
+session_change_goes_on : (Own : ℕ → Type 0) (r : Request) (what : SessionChange) → IsSound r.session → ListsGoOn Own r.session.documents (session_changed r.session r.view r.document r.message.text what).documents
 session_change_goes_on Own r (session_change.Copy start count) h = lists_go_on_same Own r.session.documents
 session_change_goes_on Own r (session_change.CopyText count) h = lists_go_on_same Own r.session.documents
 session_change_goes_on Own r (session_change.Attach id) h =
@@ -160,7 +160,7 @@ followed_documents view before (follow.Caret place) s = refl
 followed_documents view before (follow.Target start past) s = refl
 followed_documents view before (follow.Clipboard start count) s = refl
 
-performed_goes_on : (r : Request) (what : Plan) → IsSoundRequest r → IsFitPlan r what → ListsGoOn (λ id. id ≡ r.view.document) r.session.documents (performed r what).0.documents
+performed_goes_on : (r : Request) (what : Plan) → IsSoundRequest r → IsFitPlan r what → ListsGoOn (λ id. id ≡ r.view.document) r.session.documents (performed_for r what).0.documents
 performed_goes_on r (plan.Answer value) h fit = lists_go_on_same (λ id. id ≡ r.view.document) r.session.documents
 performed_goes_on r (plan.HandOut value start count) h fit = lists_go_on_same (λ id. id ≡ r.view.document) r.session.documents
 performed_goes_on r (plan.HandOutStyled start count) h fit = lists_go_on_same (λ id. id ≡ r.view.document) r.session.documents
@@ -170,21 +170,21 @@ performed_goes_on r (plan.ChangeSession change value) h fit = session_change_goe
 performed_goes_on r (plan.ChangeDocument change value) h fit =
     own_replaced r (changed_document r.message.text change r.document) h (changed_id r.message.text change r.document) (document_changes_keep_earlier_texts r.message.text change r.document)
 performed_goes_on r (plan.Edit change value after) h fit =
-    let scene = edit_made (steps_of r change) (scene_of r) in
+    let scene = edit_made (steps_of r change) (scene_of r.session r.document) in
     let history = (request_document r h).history in
     subst (ListsGoOn (λ id. id ≡ r.view.document) r.session.documents) (sym (followed_documents r.view.id (text r) after (session_of r.session scene)))
-    (own_replaced r scene.document h (edit_made_id (steps_of r change) (scene_of r))
-    (edits_keep_earlier_texts (steps_of r change) (scene_of r) (fit_in_turn (steps_of r change) (text r) (edit_steps_fit r change fit.0)) (λ e. (history.kept e).0)))
+    (own_replaced r scene.document h (edit_made_id (steps_of r change) (scene_of r.session r.document))
+    (edits_keep_earlier_texts (steps_of r change) (scene_of r.session r.document) (fit_in_turn (steps_of r change) (text r) (edit_steps_fit r change fit.0)) (λ e. (history.kept e).0)))
 performed_goes_on r plan.Undo h fit =
     let past = undo_changes r.document.history in
-    own_replaced r (after_undo (scene_of r)).document h
-    (changes_keep notes.performed_undo (notes.bit_if (nat_lt 1 (length past)) notes.multi_step) false past (scene_of r)).id
-    (undo_keeps_the_texts_before (scene_of r))
+    own_replaced r (after_undo (scene_of r.session r.document)).document h
+    (changes_keep notes.performed_undo (notes.bit_if (nat_lt 1 (length past)) notes.multi_step) false past (scene_of r.session r.document)).id
+    (undo_keeps_the_texts_before (scene_of r.session r.document))
 performed_goes_on r plan.Redo h fit =
     let future = redo_changes r.document.history in
-    own_replaced r (after_redo (scene_of r)).document h
-    (changes_keep notes.performed_redo (notes.bit_if (nat_lt 1 (length future)) notes.multi_step) false future (scene_of r)).id
-    (redo_keeps_the_texts_before (scene_of r) (fit_in_turn (text_steps future) (text r) (redo_steps_fit r h)))
+    own_replaced r (after_redo (scene_of r.session r.document)).document h
+    (changes_keep notes.performed_redo (notes.bit_if (nat_lt 1 (length future)) notes.multi_step) false future (scene_of r.session r.document)).id
+    (redo_keeps_the_texts_before (scene_of r.session r.document) (fit_in_turn (text_steps future) (text r) (redo_steps_fit r h)))
 
 -- Messages.
 

@@ -1,5 +1,5 @@
 -- In a sound session the plan of each message is fit.
-use Rattle.ed_model.proofs.Names.{◌≡◌, ℕ, ◌+◌, ◌-◌, ◌^◌, ◌<◌, ◌≤◌, min, max, Bool, true, false, cond, List, [], ◌∷◌, length, map, zero, suc, reverse, refl, ap, sym, ◌∙◌, subst, arith, ℤ, pos, negsuc, int_le, filter, slice_index_or, ◌==◌, ◌&&◌, ◌||◌, not, nat_lt, nat_le, Option, Some, None, Ok, Err, if◌then◌else◌, take, is_some, range_with_len, list_any, leb-true, ltb-true, ltb-false, and_parts, not-false, TooLong, Edit, Follow, SessionChange, Plan, at_least_zero, is_on, is_minus_one, within, clamped, some_or_all, is_negative, Marker, Row, fresh_row, base_level, after_steps, replacement, Change, can_undo, can_redo, undo_changes, redo_changes, match_in, cut_after, fold_header, fold_parent, is_header, is_parent_of, is_expanded, Document, document_at, references, limit_of, Request, answer, answer_number, text, size, line_total, selection_start, selection_end, target_least, target_greatest, edit_plan, steps_of, source_bytes, replace_plan, replace_and_go, stays_within, has_steps, act_on_history, text_steps, has_handles, numbers_in, int_within, found_target, replacement_length, search_flags, past_line, fold_by, fold_at, levels, document_named, has_document_ids, with_reference, release_of, is_zero, document_options, occurrences, handles_in, IsSoundRequest, IsMarkerNumber, IsLineState, IsFitSource, IsFitEdit, IsFitFollow, IsFitPlan, IsFitPlanned, IsRoomFor, IsFitSessionChange, PlansFit, found_test, found_all, all_reverse, document_id, occurrences_append, length_text, request_document, request_stands, end_in_range}
+use Rattle.ed_model.proofs.Names.{is_same, ◌≡◌, ℕ, ◌+◌, ◌-◌, ◌^◌, ◌<◌, ◌≤◌, min, max, Bool, true, false, cond, List, [], ◌∷◌, length, map, zero, suc, reverse, refl, ap, sym, ◌∙◌, subst, arith, ℤ, pos, negsuc, int_le, filter, slice_index_or, ◌==◌, ◌&&◌, ◌||◌, not, nat_lt, nat_le, Option, Some, None, Ok, Err, if◌then◌else◌, take, is_some, range_with_len, list_any, leb-true, ltb-true, ltb-false, and_parts, not-false, TooLong, Edit, Follow, SessionChange, Plan, at_least_zero, is_on, is_minus_one, within, clamped, some_or_all, is_negative, Marker, Row, fresh_row, base_level, after_steps, replacement, Change, can_undo, can_redo, undo_changes, redo_changes, match_in, cut_after, fold_header, fold_parent, is_header, is_parent_of, is_expanded, Document, document_at, references, limit_of, Request, answer, answer_number, text, size, line_total, selection_start, selection_end, target_least, target_greatest, edit_plan, steps_of, source_bytes, replace_plan, replace_and_go, stays_within, has_steps, act_on_history, text_steps, has_handles, numbers_in, int_within, found_target, replacement_length, search_flags, past_line, fold_by, fold_at, levels, document_named, has_document_ids, with_reference, release_of, is_zero, document_options, occurrences, handles_in, IsSoundRequest, IsMarkerNumber, IsLineState, IsFitSource, IsFitEdit, IsFitFollow, IsFitPlan, IsFitPlanned, IsRoomFor, IsFitSessionChange, PlansFit, found_test, found_all, all_reverse, document_id, occurrences_append, length_text, request_document, request_stands, end_in_range}
 use Rattle.std.proofs.lemmas.List.{length-take}
 use Rattle.ed_types.specs.declared.kind.Kind.TheVariants as kinds
 use Rattle.ed_model.specs.declared.plan.Source.{Source}
@@ -368,7 +368,8 @@ plan_fits kinds.MarkerDelete r h = with_argument_fits r (some_or_all 31 r.messag
 plan_fits kinds.MarkerDeleteAll r h = with_argument_fits r (some_or_all 31 r.message.w) _ (λ number e. marker_number_fits r.message.w number e)
 plan_fits kinds.MarkerGet r h = line_fits r (answer (pos 0)) (λ line. answer_number (LinePlans.line_mask r line)) tt (λ line l. tt)
 plan_fits kinds.SetLineState r h =
-    with_argument_fits r (int_within (negsuc (2 ^ 31 - 1)) (pos (2 ^ 31 - 1)) r.message.l) _ (λ state e. line_fits r (answer (pos 0)) _ tt (λ line l. (l, line_state_fits r.message.l state e)))
+    with_argument_fits r (int_within (negsuc (2 ^ 31 - 1)) (pos (2 ^ 31 - 1)) r.message.l) _ (λ state e. line_fits r (answer (pos 0)) _ tt (λ line l.
+    if_fits r (is_same (LinePlans.row_at r line).state state) _ _ (λ _. tt) (λ _. (l, line_state_fits r.message.l state e))))
 plan_fits kinds.GetLineState r h = line_fits r (answer (pos 0)) (λ line. answer (LinePlans.row_at r line).state) tt (λ line l. tt)
 plan_fits kinds.StartStyling r h = argument_fits r 0 (size r) r.message.w _ (λ place a b. b)
 plan_fits kinds.SetStyling r h =
@@ -393,7 +394,8 @@ plan_fits kinds.TargetWholeDocument r h = (omega arith, omega arith)
 plan_fits kinds.ReplaceTarget r h = replace_target_fits r h
 plan_fits kinds.SearchInTarget r h = search_fits r h
 plan_fits kinds.SetSearchFlags r h = with_argument_fits r (search_flags r.message.w) _ (λ flags e. tt)
-plan_fits kinds.SetFoldLevel r h = argument_fits r 0 (2 ^ 31 - 1) r.message.l _ (λ level a b. line_fits r (answer (pos 0)) _ tt (λ line l. (l, omega arith)))
+plan_fits kinds.SetFoldLevel r h = argument_fits r 0 (2 ^ 31 - 1) r.message.l _ (λ level a b. line_fits r (answer (pos 0)) _ tt (λ line l.
+    if_fits r ((LinePlans.row_at r line).level == level) _ _ (λ _. tt) (λ _. (l, omega arith))))
 plan_fits kinds.GetFoldLevel r h = line_fits r (answer_number base_level) _ tt (λ line l. tt)
 plan_fits kinds.GetLastChild r h = with_argument_fits r (some_or_all (2 ^ 31 - 1) r.message.l) _ (λ level e. line_fits r (answer (negsuc 0)) _ tt (λ line l. tt))
 plan_fits kinds.GetFoldParent r h = line_fits r (answer (negsuc 0)) _ tt (λ line l. tt)

@@ -20,7 +20,7 @@ use Rattle.ed_model.proofs.SoundPlans.{plan_fits}
 
 -- The scene of a request.
 
-pub scene_of_sound : (r : Request) → IsSoundRequest r → IsSoundScene r.view.id r.session (scene_of r)
+pub scene_of_sound : (r : Request) → IsSoundRequest r → IsSoundScene r.view.id r.session (scene_of r.session r.document)
 scene_of_sound r h =
     let s = r.session in
     let d = r.document in
@@ -73,11 +73,11 @@ followed_sound r before (follow.Target start past) scene n h fit e =
     target_sound r.view.id r.session scene start past h (subst (λ k. start ≤ k) (sym e) fit.0) (subst (λ k. past ≤ k) (sym e) fit.1)
 followed_sound r before (follow.Clipboard start count) scene n h fit e = clipboard_sound (session_of r.session scene) _ h.sound
 
-edit_sound : (r : Request) (change : Edit) (value : ℤ) (after : Follow) → IsSoundRequest r → IsFitPlan r (plan.Edit change value after) → IsSound (edit_performed r change value after).0
+edit_sound : (r : Request) (change : Edit) (value : ℤ) (after : Follow) → IsSoundRequest r → IsFitPlan r (plan.Edit change value after) → IsSound (edit_performed r.session r.view r.document r.message.text change value after).0
 edit_sound r change value after h fit =
-    followed_sound r (text r) after (edit_made (steps_of r change) (scene_of r)) (length (after_steps (steps_of r change) (text r)))
-    (edit_made_sound r.view.id r.session (steps_of r change) (scene_of r) (scene_of_sound r h) (record { fits = edit_steps_fit r change fit.0; within = fit.2 }))
-    fit.1 (ap length (edit_made_text (steps_of r change) (scene_of r)))
+    followed_sound r (text r) after (edit_made (steps_of r change) (scene_of r.session r.document)) (length (after_steps (steps_of r change) (text r)))
+    (edit_made_sound r.view.id r.session (steps_of r change) (scene_of r.session r.document) (scene_of_sound r h) (record { fits = edit_steps_fit r change fit.0; within = fit.2 }))
+    fit.1 (ap length (edit_made_text (steps_of r change) (scene_of r.session r.document)))
 
 -- Undo and redo.
 
@@ -87,18 +87,18 @@ behind_sound sender s scene None h b = h.sound
 behind_sound sender s scene (Some step) h b = caret_sound sender s scene (place_behind step) h b
 
 history_sound : (r : Request) (who : ℕ) (cs : List Change) (new : History) → IsSoundRequest r → AreStepsOf (text r) (text_steps cs) → IsRoomFor r (text_steps cs)
-    → FitsText (limit_of r.session.limits r.document) (after_steps (text_steps cs) (text r)) new → IsSound (history_performed r who cs new).0
+    → FitsText (limit_of r.session.limits r.document) (after_steps (text_steps cs) (text r)) new → IsSound (history_performed r.session r.view r.document who cs new).0
 history_sound r who cs new h fits room history =
     let several = notes.bit_if (nat_lt 1 (length cs)) notes.multi_step in
-    let done = changes_performed who several false cs (scene_of r) in
-    let start : IsSoundScene r.view.id r.session (without_history (scene_of r)) = scene_history r.view.id r.session (scene_of r) fresh_history (scene_of_sound r h) (fresh_fits (text r)) in
-    let made : IsSoundScene r.view.id r.session (without_history done) = changes_performed_sound r.view.id r.session who several false cs (scene_of r) start (record { fits = fits; within = room }) in
-    let same : text_of done.document ≡ after_steps (text_steps cs) (text r) = text_after_changes who several false cs (scene_of r) in
+    let done = changes_performed who several false cs (scene_of r.session r.document) in
+    let start : IsSoundScene r.view.id r.session (without_history (scene_of r.session r.document)) = scene_history r.view.id r.session (scene_of r.session r.document) fresh_history (scene_of_sound r h) (fresh_fits (text r)) in
+    let made : IsSoundScene r.view.id r.session (without_history done) = changes_performed_sound r.view.id r.session who several false cs (scene_of r.session r.document) start (record { fits = fits; within = room }) in
+    let same : text_of done.document ≡ after_steps (text_steps cs) (text r) = text_after_changes who several false cs (scene_of r.session r.document) in
     let kept : IsSoundScene r.view.id r.session (with_history new (without_history done)) =
     scene_history r.view.id r.session (without_history done) new made
-    (subst (λ limit. FitsText limit (text_of done.document) new) (sym (limit_kept r.session.limits who several false cs (scene_of r)))
+    (subst (λ limit. FitsText limit (text_of done.document) new) (sym (limit_kept r.session.limits who several false cs (scene_of r.session r.document)))
     (subst (λ t. FitsText (limit_of r.session.limits r.document) t new) (sym same) history)) in
-    let scene = transaction_performed who cs new (scene_of r) in
+    let scene = transaction_performed who cs new (scene_of r.session r.document) in
     let told : IsSoundScene r.view.id r.session scene = scene_told r.view.id r.session (with_history new (without_history done)) scene.notes kept in
     behind_sound r.view.id r.session scene (latest_text_step (reverse cs)) told
     (subst (λ o. BehindWithin o (length (text_of done.document))) (sym (latest_is_last cs))
@@ -119,7 +119,7 @@ fit_on r (document_change.StyleBytes count) fit = fit.0
 fit_on r (document_change.FillIndicator indicator start count value) fit = fit.1
 fit_on r _ fit = tt
 
-document_change_sound : (r : Request) (what : DocumentChange) (value : ℤ) → IsSoundRequest r → IsFitDocumentChange r what → IsSound (document_change_performed r what value).0
+document_change_sound : (r : Request) (what : DocumentChange) (value : ℤ) → IsSoundRequest r → IsFitDocumentChange r what → IsSound (document_change_performed r.session r.view r.document r.message.text what value).0
 document_change_sound r what value h fit =
     document_replaced r.session r.document (changed_document r.message.text what r.document) (changed_lines what r.document) h.sound (own_document r h)
     (changed_id r.message.text what r.document) (changed_views r.message.text what r.document)
@@ -137,14 +137,14 @@ fit_here r _ fit = tt
 same_view : (r : Request) (old : View) → IsSoundRequest r → view_at r.session.views r.view.id ≡ Some old → r.view ≡ old
 same_view r old h e = let f : view_at r.session.views r.view.id ≡ Some r.view = h.view in cc
 
-view_change_sound : (r : Request) (what : ViewChange) → IsSoundRequest r → IsFitViewChange r what → IsSound (view_change_performed r what)
+view_change_sound : (r : Request) (what : ViewChange) → IsSoundRequest r → IsFitViewChange r what → IsSound (view_change_performed r.session r.view r.document what)
 view_change_sound r what h fit =
     view_replaced r.session r.document (changed_view (levels r) what r.view) h.sound
     (ap (document_at r.session.documents) (changed_view_document (levels r) what r.view) ∙ h.document)
     (λ old e. changed_view_document (levels r) what r.view ∙ ap (λ (v : View). v.document) (same_view r old h (ap (view_at r.session.views) (sym (changed_view_id (levels r) what r.view)) ∙ e)))
     (changed_view_stands (levels r) what r.document r.view (request_stands r h) (fit_here r what fit))
 
-session_change_sound : (r : Request) (what : SessionChange) → IsSoundRequest r → IsSound (session_changed r what)
+session_change_sound : (r : Request) (what : SessionChange) → IsSoundRequest r → IsSound (session_changed r.session r.view r.document r.message.text what)
 session_change_sound r (session_change.Copy start count) h = clipboard_sound r.session _ h.sound
 session_change_sound r (session_change.CopyText count) h = clipboard_sound r.session _ h.sound
 session_change_sound r (session_change.Attach id) h = attached_any_sound r.session id r.view h.sound h.view (request_stands r h).indicator

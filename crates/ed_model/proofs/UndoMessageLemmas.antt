@@ -51,20 +51,20 @@ pub undo_undoes : UndoUndoes
 undo_undoes s view m v d done k e f can write answer =
     let r = request s v d m in
     let cs = undo_changes d.history in
-    let same : (after_undo (scene_of r)).document.id ≡ d.id = (changes_keep notes.performed_undo (notes.bit_if (nat_lt 1 (length cs)) notes.multi_step) false cs (scene_of r)).id in
+    let same : (after_undo (scene_of r.session r.document)).document.id ≡ d.id = (changes_keep notes.performed_undo (notes.bit_if (nat_lt 1 (length cs)) notes.multi_step) false cs (scene_of r.session r.document)).id in
     let C : Session → Type 0 = λ t. (x : Document) × (document_at t.documents v.document ≡ Some x) × IsUndone d x in
     subst (Afterwards C) answer
     (at_table (Afterwards C) (λ refusal other. tt) s m Undo view v d k e f
     (acts (λ (p : Planned). Afterwards C (answered Undo r p)) r (can_undo d.history) cs plan.Undo can write
-    ((after_undo (scene_of r)).document, found_again s.documents v.document d (after_undo (scene_of r)).document f same, undone_document (scene_of r)) tt))
+    ((after_undo (scene_of r.session r.document)).document, found_again s.documents v.document d (after_undo (scene_of r.session r.document)).document f same, undone_document (scene_of r.session r.document)) tt))
 
 pub redo_redoes : RedoRedoes
 redo_redoes s view m v d done k e f can write answer =
     let r = request s v d m in
     let cs = redo_changes d.history in
-    let same : (after_redo (scene_of r)).document.id ≡ d.id = (changes_keep notes.performed_redo (notes.bit_if (nat_lt 1 (length cs)) notes.multi_step) false cs (scene_of r)).id in
+    let same : (after_redo (scene_of r.session r.document)).document.id ≡ d.id = (changes_keep notes.performed_redo (notes.bit_if (nat_lt 1 (length cs)) notes.multi_step) false cs (scene_of r.session r.document)).id in
     let C : Session → Type 0 = λ t. (x : Document) × (document_at t.documents v.document ≡ Some x) × IsRedone d x in
     subst (Afterwards C) answer
     (at_table (Afterwards C) (λ refusal other. tt) s m Redo view v d k e f
     (acts (λ (p : Planned). Afterwards C (answered Redo r p)) r (can_redo d.history) cs plan.Redo can write
-    ((after_redo (scene_of r)).document, found_again s.documents v.document d (after_redo (scene_of r)).document f same, redone_document (scene_of r)) tt))
+    ((after_redo (scene_of r.session r.document)).document, found_again s.documents v.document d (after_redo (scene_of r.session r.document)).document f same, redone_document (scene_of r.session r.document)) tt))

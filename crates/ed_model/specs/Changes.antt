@@ -1,6 +1,6 @@
 -- Changes of a document that are no edit of its text, changes of a view, and changes of the session. [Scintilla: markers,
 -- styling, indicators, folding, document pointers]
-use Rattle.std.specs.Prelude.{ℕ, ◌+◌, ◌-◌, ◌==◌, min, not, ◌&&◌, if◌then◌else◌, Bool, true, ℤ, pos, negsuc, List, [], ◌∷◌, ◌++◌, length, map, filter, take, drop, replicate, slice_range, slice_set, slice_index_or, Option, Some, None, sum_by, bit_or, int_le}
+use Rattle.std.specs.Prelude.{ℕ, ◌+◌, ◌-◌, ◌==◌, min, not, if◌then◌else◌, Bool, true, ℤ, pos, negsuc, List, [], ◌∷◌, ◌++◌, length, map, filter, take, drop, replicate, slice_range, slice_set, slice_index_or, Option, Some, None, sum_by, bit_or}
 use Rattle.ed_types.specs.Notices.{Notice, Response}
 use Rattle.ed_model.specs.declared.plan.DocumentChange.{DocumentChange}
 use Rattle.ed_model.specs.declared.plan.DocumentChange.TheVariants as change
@@ -8,6 +8,7 @@ use Rattle.ed_model.specs.declared.plan.ViewChange.{ViewChange}
 use Rattle.ed_model.specs.declared.plan.ViewChange.TheVariants as view_change
 use Rattle.ed_model.specs.declared.plan.SessionChange.{SessionChange}
 use Rattle.ed_model.specs.declared.plan.SessionChange.TheVariants as session_change
+use Rattle.ed_model.specs.Numbers.{is_same}
 use Rattle.ed_model.specs.Text.{Cell, styles_of}
 use Rattle.ed_model.specs.Lines.{start_of_line}
 use Rattle.ed_model.specs.Carry.{regrouped}
@@ -17,9 +18,8 @@ use Rattle.ed_model.specs.History.{group_begun, group_ended, emptied, collecting
 use Rattle.ed_model.specs.Folding.{lines_shown, lines_hidden, with_expanded, contracted, expanded, revealed}
 use Rattle.ed_model.specs.Session.{Session, View, Document, text_of, with_view, with_document, watching, keeps_no_styles, attached_to, new_document, living, left_by, document_at}
 use Rattle.ed_model.specs.Notes as notes
-use Rattle.ed_model.specs.Requests.{Request, text}
 use Rattle.ed_model.specs.LinePlans.{numbers_in}
-use Rattle.ed_model.specs.FoldingPlans.{levels}
+use Rattle.ed_model.specs.FoldingPlans.{levels_of}
 use Rattle.ed_model.specs.Performing.{leaving}
 
 -- Markers.
@@ -134,9 +134,6 @@ line_with_handle handle line [] = line
 line_with_handle handle line (row ∷ rows) =
     if length (filter (λ (m : Marker). m.handle == handle) row.markers) == 0 then line_with_handle handle (line + 1) rows else line
 
-abbrev pub is_same : ℤ → ℤ → Bool
-is_same a b = int_le a b && int_le b a
-
 abbrev pub state_note : ℕ → ℤ → ℤ → List View → List Notice
 state_note line old new views = if is_same old new then [] else notes.heard views (line_note notes.change_line_state line)
 
@@ -168,11 +165,11 @@ change_told sender views old new (change.NeedStyle start past) = let n = notes.b
 change_told sender views old new (change.FillIndicator indicator start count value) =
     range_notes notes.change_indicator (changed_range (slice_index_or old.indicators indicator []) (slice_index_or new.indicators indicator [])) views
 
-abbrev pub document_change_performed : Request → DocumentChange → ℤ → Session × Response
-document_change_performed r what value =
-    let new = changed_document r.message.text what r.document in (
-      record r.session { documents = with_document new r.session.documents; views = map (changed_lines what r.document) r.session.views },
-      record { value = value; text = []; notes = change_told r.view (watching r.session.views r.document) r.document new what },
+abbrev pub document_change_performed : Session → View → Document → List ℕ → DocumentChange → ℤ → Session × Response
+document_change_performed s v d bytes what value =
+    let new = changed_document bytes what d in (
+      record s { documents = with_document new s.documents; views = map (changed_lines what d) s.views },
+      record { value = value; text = []; notes = change_told v (watching s.views d) d new what },
     )
 
 -- The view after a change; `levels` are the fold levels of its document's lines.
@@ -192,10 +189,10 @@ changed_view levels (view_change.Contract line) v = record v { flags = contracte
 changed_view levels (view_change.Expand line) v = record v { flags = expanded levels line v.flags }
 changed_view levels (view_change.EnsureVisible line) v = record v { flags = revealed levels line v.flags }
 
-abbrev pub view_change_performed : Request → ViewChange → Session
-view_change_performed r what = record r.session { views = with_view (changed_view (levels r) what r.view) r.session.views }
+abbrev pub view_change_performed : Session → View → Document → ViewChange → Session
+view_change_performed s v d what = record s { views = with_view (changed_view (levels_of d) what v) s.views }
 
--- The session after a change.
+-- The session after a change; `bytes` is the message's text.
 
 -- a document after the view is detached from it; the document `id` then lists the view last
 abbrev pub attached_last : ℕ → ℕ → Document → Document
@@ -218,13 +215,12 @@ held_more id d = if d.id == id then record d { held_by_callers = d.held_by_calle
 abbrev pub held_less : ℕ → Document → Document
 held_less id d = if d.id == id then record d { held_by_callers = d.held_by_callers - 1 } else d
 
-abbrev pub session_changed : Request → SessionChange → Session
-session_changed r (session_change.Copy start count) = let s = r.session in record s { clipboard = slice_range (text r) start (start + count) }
-session_changed r (session_change.CopyText count) = let s = r.session in record s { clipboard = take count r.message.text }
-session_changed r (session_change.Attach document) = attached document r.view r.session
-session_changed r session_change.AttachNew =
-    let s = r.session in attached s.next_document r.view (with_new_document (new_document s.next_document 0) s)
-session_changed r (session_change.Create options) =
-    let s = r.session in let d = new_document s.next_document options in with_new_document (record d { held_by_callers = 1 }) s
-session_changed r (session_change.AddReference document) = let s = r.session in record s { documents = map (held_more document) s.documents }
-session_changed r (session_change.Release document) = let s = r.session in record s { documents = living (map (held_less document) s.documents) }
+abbrev pub session_changed : Session → View → Document → List ℕ → SessionChange → Session
+session_changed s v d bytes (session_change.Copy start count) = record s { clipboard = slice_range (text_of d) start (start + count) }
+session_changed s v d bytes (session_change.CopyText count) = record s { clipboard = take count bytes }
+session_changed s v d bytes (session_change.Attach document) = attached document v s
+session_changed s v d bytes session_change.AttachNew = attached s.next_document v (with_new_document (new_document s.next_document 0) s)
+session_changed s v d bytes (session_change.Create options) =
+    let new = new_document s.next_document options in with_new_document (record new { held_by_callers = 1 }) s
+session_changed s v d bytes (session_change.AddReference document) = record s { documents = map (held_more document) s.documents }
+session_changed s v d bytes (session_change.Release document) = record s { documents = living (map (held_less document) s.documents) }

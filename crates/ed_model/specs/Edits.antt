@@ -11,24 +11,31 @@ use Rattle.ed_model.specs.declared.plan.Plan.{Plan}
 use Rattle.ed_model.specs.declared.plan.Plan.TheVariants as plan
 use Rattle.ed_model.specs.Steps.{Step, Insert, Delete, replacement}
 use Rattle.ed_model.specs.LineEnds.{line_end_bytes, converted, conversion_steps}
-use Rattle.ed_model.specs.Session.{limit_of}
-use Rattle.ed_model.specs.Requests.{Request, Planned, text, size}
+use Rattle.ed_model.specs.Session.{Session, Document, limit_of, text_of}
+use Rattle.ed_model.specs.Requests.{Request, Planned, size}
 
-abbrev pub converted_if : Bool → Request → List ℕ → List ℕ
-converted_if true r bytes = converted r.document.line_end bytes
-converted_if false r bytes = bytes
+abbrev pub converted_if : Bool → Document → List ℕ → List ℕ
+converted_if true d bytes = converted d.line_end bytes
+converted_if false d bytes = bytes
 
--- the bytes that an edit inserts
+-- the bytes that an edit inserts in a document of a session; `bytes` is the message's text
+abbrev pub source_in : Session → Document → List ℕ → Source → List ℕ
+source_in s d bytes source.Nothing = []
+source_in s d bytes (source.MessageText count) = take count bytes
+source_in s d bytes (source.Clipboard convert) = converted_if convert d s.clipboard
+source_in s d bytes source.LineEnd = line_end_bytes d.line_end
+
+-- the steps of an edit there
+abbrev pub steps_in : Session → Document → List ℕ → Edit → List Step
+steps_in s d bytes (edit.Replace start count from) = replacement start count (source_in s d bytes from) (text_of d)
+steps_in s d bytes (edit.ConvertLineEnds to) = conversion_steps to (text_of d)
+
+-- both, for a request
 abbrev pub source_bytes : Request → Source → List ℕ
-source_bytes r source.Nothing = []
-source_bytes r (source.MessageText count) = take count r.message.text
-source_bytes r (source.Clipboard convert) = converted_if convert r r.session.clipboard
-source_bytes r source.LineEnd = line_end_bytes r.document.line_end
+source_bytes r from = source_in r.session r.document r.message.text from
 
--- the steps of an edit
 abbrev pub steps_of : Request → Edit → List Step
-steps_of r (edit.Replace start count from) = replacement start count (source_bytes r from) (text r)
-steps_of r (edit.ConvertLineEnds to) = conversion_steps to (text r)
+steps_of r change = steps_in r.session r.document r.message.text change
 
 abbrev pub size_after : ℕ → Step → ℕ
 size_after n (Insert p bytes) = n + length bytes

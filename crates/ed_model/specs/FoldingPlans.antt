@@ -7,15 +7,21 @@ use Rattle.ed_model.specs.Numbers.{flag, is_on, clamped, some_or_all}
 use Rattle.ed_model.specs.Rows.{Row, base_level}
 use Rattle.ed_model.specs.Folding.{level_number, last_child_at, fold_parent, fold_header, is_visible, is_expanded}
 use Rattle.ed_model.specs.DisplayLines.{display_line, line_shown, all_visible}
+use Rattle.ed_model.specs.Session.{Document}
 use Rattle.ed_model.specs.Requests.{Request, Planned, answer, answer_number, line_total, with_argument, argument, line_argument, change_document, change_view}
 use Rattle.ed_model.specs.LinePlans.{row_at, line_or_none}
 
-abbrev pub levels : Request → List ℕ
-levels r = map (λ (row : Row). row.level) r.document.rows
+abbrev pub levels_of : Document → List ℕ
+levels_of d = map (λ (row : Row). row.level) d.rows
 
+abbrev pub levels : Request → List ℕ
+levels r = levels_of r.document
+
+-- a level that the line has already is no change
 abbrev pub set_fold_level : Request → Planned
 set_fold_level r =
-    argument 0 (2 ^ 31 - 1) r.message.l (λ level. line_argument r (answer (pos 0)) (λ line. change_document (document_change.SetLevel line level)))
+    argument 0 (2 ^ 31 - 1) r.message.l (λ level. line_argument r (answer (pos 0)) (λ line.
+    if (row_at r line).level == level then answer (pos 0) else change_document (document_change.SetLevel line level)))
 
 abbrev pub get_fold_level : Request → Planned
 get_fold_level r = line_argument r (answer_number base_level) (λ line. answer_number (row_at r line).level)

@@ -7,7 +7,7 @@ use Rattle.ed_model.specs.declared.plan.DocumentChange.TheVariants as document_c
 use Rattle.ed_model.specs.declared.plan.Plan.TheVariants as plan
 use Rattle.ed_model.specs.declared.plan.Edit.TheVariants as edit
 use Rattle.ed_model.specs.declared.plan.Follow.TheVariants as follow
-use Rattle.ed_model.specs.Numbers.{at_least_zero, some_or_all, low_bits, has_bit, meets}
+use Rattle.ed_model.specs.Numbers.{at_least_zero, some_or_all, low_bits, has_bit, meets, is_same}
 use Rattle.ed_model.specs.Rows.{Marker, Row, fresh_row}
 use Rattle.ed_model.specs.Requests.{Request, Planned, answer, answer_number, line_total, with_argument, argument, line_argument, change_document}
 use Rattle.ed_model.specs.Edits.{edit_plan}
@@ -113,10 +113,11 @@ marker_delete_handle r =
 abbrev pub int_within : ℤ → ℤ → ℤ → Option ℤ
 int_within low high x = if int_le low x && int_le x high then Some x else None
 
+-- a state that the line has already is no change
 abbrev pub set_line_state : Request → Planned
 set_line_state r =
     with_argument (int_within (negsuc (2 ^ 31 - 1)) (pos (2 ^ 31 - 1)) r.message.l) (λ state. line_argument r (answer (pos 0)) (λ line.
-    change_document (document_change.SetState line state)))
+    if is_same (row_at r line).state state then answer (pos 0) else change_document (document_change.SetState line state)))
 
 abbrev pub get_line_state : Request → Planned
 get_line_state r = line_argument r (answer (pos 0)) (λ line. answer (row_at r line).state)

@@ -1,5 +1,5 @@
 -- Numbers in arguments and answers.
-use Rattle.std.specs.Prelude.{ℕ, ◌-◌, ◌/◌, ◌%◌, ◌^◌, ◌==◌, nat_le, nat_lt, min, not, ◌&&◌, if◌then◌else◌, Bool, true, false, ℤ, pos, negsuc, ◌-ℤ◌, Option, Some, None, bit_and}
+use Rattle.std.specs.Prelude.{ℕ, ◌-◌, ◌/◌, ◌%◌, ◌^◌, ◌==◌, nat_le, nat_lt, int_le, min, not, ◌&&◌, if◌then◌else◌, Bool, true, false, ℤ, pos, negsuc, ◌-ℤ◌, Option, Some, None, bit_and}
 
 -- whether there is a number, and it is n
 abbrev pub is_number : ℕ → Option ℕ → Bool
@@ -15,6 +15,10 @@ flag false = pos 0
 abbrev pub is_on : ℤ → Bool
 is_on (pos n) = not (n == 0)
 is_on (negsuc n) = true
+
+-- whether two integers are the same
+abbrev pub is_same : ℤ → ℤ → Bool
+is_same a b = int_le a b && int_le b a
 
 abbrev pub is_negative : ℤ → Bool
 is_negative (pos n) = false

@@ -13,8 +13,7 @@ use Rattle.ed_model.specs.History.{History, Change, TextStep, ContainerStep, app
 use Rattle.ed_model.specs.Numbers.{growth}
 use Rattle.ed_model.specs.Session.{Session, View, Document, text_of, lines_in, with_document, watching}
 use Rattle.ed_model.specs.Notes as notes
-use Rattle.ed_model.specs.Requests.{Request, text}
-use Rattle.ed_model.specs.Edits.{steps_of}
+use Rattle.ed_model.specs.Edits.{steps_in}
 
 abbrev pub response : ℤ → List ℕ → List Notice → Response
 response value bytes notes = record { value = value; text = bytes; notes = notes }
@@ -141,8 +140,8 @@ transaction_performed who changes new scene =
 
 -- The session afterwards.
 
-abbrev pub scene_of : Request → Scene
-scene_of r = record { document = r.document; views = r.session.views; notes = [] }
+abbrev pub scene_of : Session → Document → Scene
+scene_of s d = record { document = d; views = s.views; notes = [] }
 
 abbrev pub session_of : Session → Scene → Session
 session_of s scene = record s { documents = with_document scene.document s.documents; views = scene.views }
@@ -160,10 +159,10 @@ followed view before (follow.Caret place) s = record s { views = with_caret view
 followed view before (follow.Target start past) s = record s { views = with_target view start past s.views }
 followed view before (follow.Clipboard start count) s = record s { clipboard = slice_range before start (start + count) }
 
-abbrev pub edit_performed : Request → Edit → ℤ → Follow → Session × Response
-edit_performed r change value after =
-    let scene = edit_made (steps_of r change) (scene_of r) in
-    (followed r.view.id (text r) after (session_of r.session scene), response value [] scene.notes)
+abbrev pub edit_performed : Session → View → Document → List ℕ → Edit → ℤ → Follow → Session × Response
+edit_performed s v d bytes change value after =
+    let scene = edit_made (steps_in s d bytes change) (scene_of s d) in
+    (followed v.id (text_of d) after (session_of s scene), response value [] scene.notes)
 
 -- the position of anchor and caret after the last step that undo or redo performed
 abbrev pub place_behind : Step → ℕ
@@ -174,11 +173,11 @@ abbrev pub caret_behind : ℕ → Option Step → List View → List View
 caret_behind view None views = views
 caret_behind view (Some step) views = with_caret view (place_behind step) views
 
-abbrev pub history_performed : Request → ℕ → List Change → History → Session × Response
-history_performed r who changes new =
-    let scene = transaction_performed who changes new (scene_of r) in
-    let s = session_of r.session scene in
-    (record s { views = caret_behind r.view.id (latest_text_step (reverse changes)) s.views }, response (pos 0) [] scene.notes)
+abbrev pub history_performed : Session → View → Document → ℕ → List Change → History → Session × Response
+history_performed s v d who changes new =
+    let scene = transaction_performed who changes new (scene_of s d) in
+    let after = session_of s scene in
+    (record after { views = caret_behind v.id (latest_text_step (reverse changes)) after.views }, response (pos 0) [] scene.notes)
 
 -- byte, style, byte, style and so on (SCI_GETSTYLEDTEXT)
 abbrev pub styled_text : List Cell → List ℕ

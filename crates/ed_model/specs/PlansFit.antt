@@ -24,7 +24,7 @@ use Rattle.ed_model.specs.Requests.{Request, Planned, text, size, line_total}
 use Rattle.ed_model.specs.Edits.{steps_of, stays_within}
 use Rattle.ed_model.specs.UndoPlans.{text_steps}
 use Rattle.ed_model.specs.LinePlans.{numbers_in}
-use Rattle.ed_model.specs.Table.{plan_of, performed}
+use Rattle.ed_model.specs.Table.{plan_of, performed_for}
 use Rattle.ed_model.specs.SoundLaws.{IsSound, AreStepsOf}
 
 -- a request of a sound session: its view is the one with that id in the session, and its document is that view's
@@ -134,4 +134,4 @@ RedoStepsFit = (r : Request) → IsSoundRequest r → AreStepsOf (text r) (text_
 
 -- a fit plan leaves a sound session sound
 abbrev pub PlansKeepSound : Type 0
-PlansKeepSound = (r : Request) (what : Plan) → IsSoundRequest r → IsFitPlan r what → IsSound (performed r what).0
+PlansKeepSound = (r : Request) (what : Plan) → IsSoundRequest r → IsFitPlan r what → IsSound (performed_for r what).0

@@ -11,7 +11,7 @@ use Rattle.ed_types.specs.Notices.{Response}
 use Rattle.ed_types.specs.Messages.{number_of}
 use Rattle.ed_types.specs.declared.kind.Kind.TheVariants.{SetText}
 use Rattle.ed_model.specs.Session.{Session, View, view_at}
-use Rattle.ed_model.specs.Changes.{is_same}
+use Rattle.ed_model.specs.Numbers.{is_same}
 use Rattle.ed_model.specs.Table.{table, opened, closed}
 
 -- The state of a run: the session, and the value that the last command other

@@ -5,7 +5,7 @@
 -- of messages (`TextPlans` to `SessionPlans`), and `Edits` for edits of the text. `performed` performs the plan: steps with their
 -- notes, undo and redo in `Performing` (over `Steps`, `Carry`, `Rows`, `Indicators`, `History` and `Notes`), all other changes in
 -- `Changes` (with `Folding`). `Run` has runs of several commands.
-use Rattle.std.specs.Prelude.{ℕ, ◌+◌, nat_lt, nat_le, ◌==◌, not, ◌||◌, ◌&&◌, if◌then◌else◌, pos, [], ◌∷◌, ◌++◌, length, map, filter, slice_range, Result, Ok, Err, Option, Some, None}
+use Rattle.std.specs.Prelude.{ℕ, ◌+◌, nat_lt, nat_le, ◌==◌, not, ◌||◌, ◌&&◌, if◌then◌else◌, pos, List, [], ◌∷◌, ◌++◌, length, map, filter, slice_range, Result, Ok, Err, Option, Some, None}
 use Rattle.ed_types.specs.declared.kind.Kind.{Kind}
 use Rattle.ed_types.specs.declared.kind.Kind.TheVariants as kinds
 use Rattle.ed_types.specs.declared.message.Message.{Message}
@@ -17,9 +17,9 @@ use Rattle.ed_types.specs.Notices.{Notice, Response}
 use Rattle.ed_model.specs.declared.plan.Plan.{Plan}
 use Rattle.ed_model.specs.declared.plan.Plan.TheVariants as plan
 use Rattle.ed_model.specs.History.{undo_changes, redo_changes, undone, redone}
-use Rattle.ed_model.specs.Session.{Session, Document, View, view_at, document_at, watching, new_document, new_view, new_session, is_allowed, left_by, living}
+use Rattle.ed_model.specs.Session.{Session, Document, View, text_of, view_at, document_at, watching, new_document, new_view, new_session, is_allowed, left_by, living}
 use Rattle.ed_model.specs.Notes as notes
-use Rattle.ed_model.specs.Requests.{Request, Planned, size, text}
+use Rattle.ed_model.specs.Requests.{Request, Planned, size}
 use Rattle.ed_model.specs.TextPlans as text_plans
 use Rattle.ed_model.specs.SelectionPlans as selection_plans
 use Rattle.ed_model.specs.KeyPlans as key_plans
@@ -179,20 +179,22 @@ plan_of kinds.StartRecord r = session_plans.start_record r
 plan_of kinds.StopRecord r = session_plans.stop_record r
 plan_of kinds.Colourise r = style_plans.colourise r
 
--- the session after the plan, and the reply
-abbrev pub performed : Request → Plan → Session × Response
-performed r (plan.Answer value) = (r.session, quiet value)
-performed r (plan.HandOut value start count) = (r.session, response value (slice_range (text r) start (start + count)) [])
-performed r (plan.HandOutStyled start count) =
-    let bytes = styled_text (slice_range r.document.cells start (start + count)) in (r.session, response (pos (length bytes)) bytes [])
-performed r (plan.Edit change value after) = edit_performed r change value after
-performed r plan.Attempt =
-    (r.session, response (pos 0) [] (notes.told (watching r.session.views r.document) (notes.blank notes.modify_attempt)))
-performed r plan.Undo = let h = r.document.history in history_performed r notes.performed_undo (undo_changes h) (undone h)
-performed r plan.Redo = let h = r.document.history in history_performed r notes.performed_redo (redo_changes h) (redone h)
-performed r (plan.ChangeDocument change value) = document_change_performed r change value
-performed r (plan.ChangeView change value) = (view_change_performed r change, quiet value)
-performed r (plan.ChangeSession change value) = (session_changed r change, quiet value)
+-- the session after a plan of a message with this text, to this view on this document, and the reply
+abbrev pub performed : Session → View → Document → List ℕ → Plan → Session × Response
+performed s v d bytes (plan.Answer value) = (s, quiet value)
+performed s v d bytes (plan.HandOut value start count) = (s, response value (slice_range (text_of d) start (start + count)) [])
+performed s v d bytes (plan.HandOutStyled start count) =
+    let out = styled_text (slice_range d.cells start (start + count)) in (s, response (pos (length out)) out [])
+performed s v d bytes (plan.Edit change value after) = edit_performed s v d bytes change value after
+performed s v d bytes plan.Attempt = (s, response (pos 0) [] (notes.told (watching s.views d) (notes.blank notes.modify_attempt)))
+performed s v d bytes plan.Undo = let h = d.history in history_performed s v d notes.performed_undo (undo_changes h) (undone h)
+performed s v d bytes plan.Redo = let h = d.history in history_performed s v d notes.performed_redo (redo_changes h) (redone h)
+performed s v d bytes (plan.ChangeDocument change value) = document_change_performed s v d bytes change value
+performed s v d bytes (plan.ChangeView change value) = (view_change_performed s v d change, quiet value)
+performed s v d bytes (plan.ChangeSession change value) = (session_changed s v d bytes change, quiet value)
+
+abbrev pub performed_for : Request → Plan → Session × Response
+performed_for r what = performed r.session r.view r.document r.message.text what
 
 -- Recording.
 
@@ -208,7 +210,7 @@ with_recording kind r reply =
 
 abbrev pub answered : Kind → Request → Planned → Result (Session × Response) Refusal
 answered kind r (Err refusal) = Err refusal
-answered kind r (Ok what) = let done = performed r what in Ok (done.0, with_recording kind r done.1)
+answered kind r (Ok what) = let done = performed_for r what in Ok (done.0, with_recording kind r done.1)
 
 -- The table.
 

@@ -14,6 +14,7 @@ pub mod Requests
 pub mod Limits
 pub mod Conversions
 pub mod Neighbours
+pub mod Numbers
 pub mod Spelling
 pub mod Texts
 pub mod Reading

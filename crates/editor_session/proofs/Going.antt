@@ -1,5 +1,5 @@
 -- Undo and redo at once.
-use Rattle.editor_session.proofs.Names.{◌≡◌, ℕ, List, pos, [], refl, sym, ap, ◌∙◌, subst, reverse, Option, Some, None, history_performed, UndoStepsFit, RedoStepsFit, IsSoundRequest, IsFitPlan, IsRoomFor, Request, text, Session, Document, View, text_of, with_caret_if, AreStepsOf, Step, latest_text_step, Scene, scene_of, session_of, transaction_performed, caret_behind, place_behind_any, response, performed, changes_of, history_behind, Direction, value_at, Entries, Kept, KeptView, Gathered, views_of, kept_scene, scene_gone, bits_of, session_in, SessionState, IsKept, ChangesFitWidth, request_of, Message, CanPerform, IsPerformed, going}
+use Rattle.editor_session.proofs.Names.{◌≡◌, ℕ, List, pos, [], refl, sym, ap, ◌∙◌, subst, reverse, Option, Some, None, history_performed, UndoStepsFit, RedoStepsFit, IsSoundRequest, IsFitPlan, IsRoomFor, Request, text, Session, Document, View, text_of, with_caret_if, AreStepsOf, Step, latest_text_step, Scene, scene_of, session_of, transaction_performed, caret_behind, place_behind_any, response, performed_for, changes_of, history_behind, Direction, value_at, Entries, Kept, KeptView, Gathered, views_of, kept_scene, scene_gone, bits_of, session_in, SessionState, IsKept, ChangesFitWidth, request_of, Message, CanPerform, IsPerformed, going}
 use Rattle.ed_model.specs.UndoPlans.{text_steps}
 use Rattle.document.specs.declared.undoing.Direction.TheVariants.{Undo, Redo}
 use Rattle.editor_session.proofs.OneDocument.{with_scene, found_is, scene_put}
@@ -10,7 +10,7 @@ steps_fit : UndoStepsFit → RedoStepsFit → (direction : Direction) (r : Reque
 steps_fit undo redo Undo r sound = undo r sound
 steps_fit undo redo Redo r sound = redo r sound
 
-going_is : (direction : Direction) (r : Request) → performed r (going direction) ≡ history_performed r (bits_of direction) (changes_of direction r.document.history) (history_behind direction r.document.history)
+going_is : (direction : Direction) (r : Request) → performed_for r (going direction) ≡ history_performed r.session r.view r.document (bits_of direction) (changes_of direction r.document.history) (history_behind direction r.document.history)
 going_is Undo r = refl
 going_is Redo r = refl
 
@@ -37,11 +37,11 @@ module _ {s : SessionState} {document view : ℕ} {m : Message} (direction : Dir
   -- the session after undo or redo in its document, and after the caret is set
   pub gone_performed : (new : Kept) (between views' : Entries KeptView) (notes notes' : Gathered) → kept_scene new between notes' ≡ scene_gone direction s.views notes old → new.document.id ≡ old.document.id
       → views_of views'.entries ≡ caret_behind view (latest_text_step (reverse (changes_of direction old.document.history))) (views_of between.entries) → between.next ≡ s.views.next → views'.next ≡ between.next
-      → IsPerformed (session_in s) view m (going direction) (with_scene s document new views') notes.notes notes'.notes (pos 0) []
+      → IsPerformed (session_in s) view m.text (going direction) (with_scene s document new views') notes.notes notes'.notes (pos 0) []
   gone_performed new between views' notes notes' gone same caret next next' =
       let r = request_of (session_in s) view m in
       let is : old.document ≡ r.document = found_is kept can.request old at in
-      let base = transaction_performed (bits_of direction) (changes_of direction r.document.history) (history_behind direction r.document.history) (scene_of r) in
+      let base = transaction_performed (bits_of direction) (changes_of direction r.document.history) (history_behind direction r.document.history) (scene_of r.session r.document) in
       let scene : kept_scene new between notes' ≡ telling notes.notes base =
       gone
       ∙ ap (λ (d : Document). transaction_performed (bits_of direction) (changes_of direction d.history) (history_behind direction d.history) (record { document = d; views = views_of s.views.entries; notes = notes.notes })) is

@@ -16,7 +16,7 @@ pub use Rattle.document.specs.Kept.{Kept, document_of, FitsWidth, bound_of}
 pub use Rattle.ed_view.specs.Kept.{KeptView, view_in}
 pub use Rattle.message_requests.specs.Requested.{session_in, documents_in}
 pub use Rattle.message_requests.specs.declared.state.SessionState.{SessionState}
-pub use Rattle.performing.specs.Asked.{document_asked, asked}
+pub use Rattle.performing.specs.Asked.{document_asked, asked, performed_at}
 pub use Rattle.performing.specs.Kept.{IsKept, DocumentsAreNamed}
 pub use Rattle.scene.specs.proved.ViewWidths.{widths_changed, widths_kept, widths_living, widths_opened, widths_put, widths_without, left_place}
 pub use Rattle.scene.specs.proved.Finding.{changed_at, keeping, id_of_view, id_of_document, id_of_old, found_some, found_none, found, unchanged, named_with, own_at, IsKeptAs, kept_as, changed, staying}
@@ -36,7 +36,7 @@ pub use Rattle.ed_types.specs.MessagesLaws.{EachKindIsFound}
 pub use Rattle.ed_model.specs.Changes.{changed_document, session_changed, changed_lines, change_told}
 pub use Rattle.ed_model.specs.declared.plan.DocumentChange.{DocumentChange}
 pub use Rattle.ed_model.specs.declared.plan.Plan.{Plan}
-pub use Rattle.ed_model.specs.Table.{table, request, plan_of, performed, opened, closed, closed_view, with_recording, record_note, table_from_view, table_from_kind, table_from_document, answered}
+pub use Rattle.ed_model.specs.Table.{table, request, plan_of, performed, performed_for, opened, closed, closed_view, with_recording, record_note, table_from_view, table_from_kind, table_from_document, answered}
 pub use Rattle.performing.specs.Fit.{IsFitChange, bytes_read}
 pub use Rattle.document.specs.Undoing.{changes_of, history_behind}
 pub use Rattle.document.specs.declared.undoing.Direction.{Direction}

@@ -1,5 +1,5 @@
 -- The document that a plan is performed on: it is in the session's table, and it changes there, the views with it; and views that the table has.
-use Rattle.editor_session.proofs.Names.{◌≡◌, ℕ, ◌==◌, ◌∙◌, List, [], ◌∷◌, map, refl, ap, sym, subst, Some, None, IfSome, IsSome, IsSomeAnd, if◌then◌else◌, AllByRecursion, Document, View, Session, Response, Notice, Plan, document_at, view_at, with_document, IsSound, IsSoundView, StandsOn, ListsItsViews, PlansKeepSound, Scene, session_of, performed, found_all, Entries, value_at, with_value_at, Kept, KeptView, Gathered, AreNamed, StandsIfOn, IsWatched, kept_scene, session_in, documents_in, SessionState, IsKept, DocumentsAreNamed, views_of, view_in, id_of_view, document_of, id_of_document, unchanged, named_with, own_document, changed, id_of_old, all_weaker, same_document, IsKeptAs, kept_as, IsSent, CanPerform, request_of, Message, true, false, cond, Option, option_map, is_some, Entry, found, width_at, HasWidths, HaveWidths, KeepWidths, widths_put}
+use Rattle.editor_session.proofs.Names.{◌≡◌, ℕ, ◌==◌, ◌∙◌, List, [], ◌∷◌, map, refl, ap, sym, subst, Some, None, IfSome, IsSome, IsSomeAnd, if◌then◌else◌, AllByRecursion, Document, View, Session, Response, Notice, Plan, document_at, view_at, with_document, IsSound, IsSoundView, StandsOn, ListsItsViews, PlansKeepSound, Scene, session_of, performed_at, found_all, Entries, value_at, with_value_at, Kept, KeptView, Gathered, AreNamed, StandsIfOn, IsWatched, kept_scene, session_in, documents_in, SessionState, IsKept, DocumentsAreNamed, views_of, view_in, id_of_view, document_of, id_of_document, unchanged, named_with, own_document, changed, id_of_old, all_weaker, same_document, IsKeptAs, kept_as, IsSent, CanPerform, request_of, Message, true, false, cond, Option, option_map, is_some, Entry, found, width_at, HasWidths, HaveWidths, KeepWidths, widths_put}
 use Rattle.editor_session.proofs.Keeping.{kept_with}
 use Rattle.editor_session.proofs.Telling.{telling}
 
@@ -40,9 +40,6 @@ module _ {s : SessionState} {document view : ℕ} {m : Message} (kept : IsKept s
 
   pub document_here : IsSome (value_at s.documents.entries document)
   document_here = subst (λ o. IsSome o) (sym kept_at.there) refl
-
-  pub missing : value_at s.documents.entries document ≡ None → ⊥
-  missing none = let there : value_at s.documents.entries document ≡ Some kept_at.value = kept_at.there in cc
 
   view_kept : IsKeptAs view_in id_of_view (value_at s.views.entries view) (request_of (session_in s) view m).view
   view_kept =
@@ -102,7 +99,7 @@ module _ (s : SessionState) (kept : IsKept s) (id : ℕ) (old new : Kept) (at : 
 
 -- what holds of a session goes on holding when a plan is performed
 pub kept_performed : PlansKeepSound → {s s' : SessionState} {document view : ℕ} {m : Message} {what : Plan} {reply : Response} → IsKept s → CanPerform (session_in s) document view m what
-    → performed (request_of (session_in s) view m) what ≡ (session_in s', reply) → s'.limits ≡ s.limits → DocumentsAreNamed s'.documents.entries → AreNamed s'.views.entries
+    → performed_at (session_in s) view m.text what ≡ (session_in s', reply) → s'.limits ≡ s.limits → DocumentsAreNamed s'.documents.entries → AreNamed s'.views.entries
     → HaveWidths (documents_in s'.documents) s'.views → IsKept s'
 kept_performed law {s} {s'} {document} {view} {m} {what} {reply} kept can done limits documents views widths =
     kept_with s s' kept (subst (λ (x : Session × Response). IsSound x.0) done (law (request_of (session_in s) view m) what can.request.sound can.fit)) limits documents views widths

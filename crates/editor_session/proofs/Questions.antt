@@ -79,9 +79,9 @@ handing d h = response h.value (slice_range (text_of d) h.start (h.start + h.cou
 -- What the table answers to a query, by the view and the document that are found.
 module _ (law : EachKindIsFound) (s : Session) (view : ℕ) (m : Message) {kind : Kind} {v : View} {d : Document} (found : view_at s.views view ≡ Some v) (there : document_at s.documents v.document ≡ Some d) where
   plain_answer : (those : List Kind) {what : Plan} → AllByRecursion IsPlain those → kind_among those m.number ≡ Some kind → plan_of kind (request s v d m) ≡ Ok what → (text : List ℕ)
-      → table s view (with_text m text) ≡ Ok (performed (request s v d (with_text m text)) what)
+      → table s view (with_text m text) ≡ Ok (performed s v d text what)
   plain_answer those {what} all is made text =
-      let with = request s v d (with_text m text) in let done = performed with what in let p = (found_plain m.number those kind all is).0 in
+      let with = request s v d (with_text m text) in let done = performed s v d text what in let p = (found_plain m.number those kind all is).0 in
       ap (table_from_view s (with_text m text)) found ∙ ap (table_from_kind s v (with_text m text)) (decoded law those all m.number kind is) ∙ ap (table_from_document s v kind (with_text m text)) there
       ∙ ap (answered kind with) (p.any_text (request s v d m) text ∙ made)
       ∙ ap (λ b. Ok (done.0, cond b (let reply = done.1 in record reply { notes = record_note with ∷ reply.notes }) done.1)) (unheard v.records (marks_of kind).r p.unrecorded)

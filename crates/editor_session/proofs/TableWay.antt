@@ -1,5 +1,5 @@
 -- The way of a message through the table: to its plan, and from what the plan did to the table's answer.
-use Rattle.editor_session.proofs.Names.{IsAnswered, ◌&&◌, inl, inr, ◌≡◌, ◌≢◌, ℕ, true, false, cond, ◌==◌, Bool, List, [], ◌∷◌, ◌++◌, ℤ, refl, ap, sym, ◌∙◌, subst, append-nil, Option, Some, None, Ok, Err, Result, not, IfErr, Message, Kind, Refusal, OutOfMemory, Notice, Response, kind_of, marks_of, Session, View, Document, document_at, view_at, watching, IsSound, IsSoundRequest, PlansFit, Request, Planned, IsFitPlan, IsFitPlanned, response, Plan, table, performed, record_note, with_recording, table_from_view, table_from_kind, table_from_document, answered, request, plan_of, id_of_view, own_at, session_in, SessionState, needs_no_fold_room, needs_no_memory, planned_without_memory, is_free, is_free_request, is_free_from_document, is_free_from_kind, is_free_from_view, is_marked_free, is_recorded_by, MarkedMessagesAreFree, document_asked, IsPerformed, request_of, IsFound, IsPlannedAs, recording, first_note, DocumentChange, ViewChange, SessionChange, History, and_parts, not-true, pos, session_changed, asked, IsSent, CanPerform}
+use Rattle.editor_session.proofs.Names.{IsAnswered, ◌&&◌, inl, inr, ◌≡◌, ◌≢◌, ℕ, true, false, cond, ◌==◌, Bool, List, [], ◌∷◌, ◌++◌, ℤ, refl, ap, sym, ◌∙◌, subst, append-nil, Option, Some, None, Ok, Err, Result, not, IfErr, Message, Kind, Refusal, OutOfMemory, Notice, Response, kind_of, marks_of, Session, View, Document, document_at, view_at, watching, IsSound, IsSoundRequest, PlansFit, Request, Planned, IsFitPlan, IsFitPlanned, response, Plan, table, performed_at, record_note, with_recording, table_from_view, table_from_kind, table_from_document, answered, request, plan_of, id_of_view, own_at, session_in, SessionState, needs_no_fold_room, needs_no_memory, planned_without_memory, is_free, is_free_request, is_free_from_document, is_free_from_kind, is_free_from_view, is_marked_free, is_recorded_by, MarkedMessagesAreFree, document_asked, IsPerformed, request_of, IsFound, IsPlannedAs, recording, first_note, DocumentChange, ViewChange, SessionChange, History, and_parts, not-true, pos, session_changed, asked, IsSent, CanPerform}
 use Rattle.ed_model.specs.Rows.{Flags}
 use Rattle.ed_model.specs.declared.plan.Plan.TheVariants as plan
 use Rattle.ed_model.specs.FreePlans.{IsFreeDocumentChange, IsFreeViewChange, IsFreeSessionChange, IsFreePlan, IsFreePlanned, MarkedPlansAreFree}
@@ -48,8 +48,8 @@ has_plan fit {s} {view} {m} {kind} {what} r same found planned document own is_r
     }
 
 -- a plan was performed that gave a value alone, and perhaps bytes
-pub quietly : {s : Session} {view : ℕ} {m : Message} {what : Plan} {new : SessionState} {value : ℤ} {bytes : List ℕ} (ns : List Notice) → performed (request_of s view m) what ≡ (session_in new, response value bytes [])
-    → IsPerformed s view m what new ns ns value bytes
+pub quietly : {s : Session} {view : ℕ} {text : List ℕ} {what : Plan} {new : SessionState} {value : ℤ} {bytes : List ℕ} (ns : List Notice) → performed_at s view text what ≡ (session_in new, response value bytes [])
+    → IsPerformed s view text what new ns ns value bytes
 quietly ns done = record { told = []; done = done; heard = sym (append-nil ns) }
 
 -- The answer to a message that is refused by the table, and to one that is not.
@@ -84,7 +84,7 @@ module _ {s : Session} {view : ℕ} {m : Message} {document : ℕ} {what : Plan}
       go false = refl
 
   -- the table's answer: what the plan did, behind the note by which the message is recorded
-  pub answered_so : {new : SessionState} {before after : List Notice} {value : ℤ} {bytes : List ℕ} → before ≡ first_note is_recorded view m → IsPerformed s view m what new before after value bytes
+  pub answered_so : {new : SessionState} {before after : List Notice} {value : ℤ} {bytes : List ℕ} → before ≡ first_note is_recorded view m → IsPerformed s view m.text what new before after value bytes
       → table s view m ≡ Ok (session_in new, response value bytes after)
   answered_so {new} {before} {after} {value} {bytes} first done =
       planned_answer
@@ -169,17 +169,17 @@ pub can_as : {s : Session} {document view : ℕ} {m : Message} {what what' what'
 can_as {s} {document} {view} {m} can is fits = record { request = can.request; fit = fits (subst (IsFitPlan (request_of s view m)) is can.fit) }
 
 -- it was performed
-pub performed_as : {s : Session} {view : ℕ} {m : Message} {what what' : Plan} {new : SessionState} {before after : List Notice} {value value' : ℤ} {bytes bytes' : List ℕ} → what ≡ what' → IsPerformed s view m what' new before after value' bytes' → value ≡ value' → bytes ≡ bytes'
-    → IsPerformed s view m what new before after value bytes
-performed_as {s} {view} {m} {what} {what'} {new} {before} {after} {value} {value'} {bytes} {bytes'} is h same_value same_bytes = record {
+pub performed_as : {s : Session} {view : ℕ} {text : List ℕ} {what what' : Plan} {new : SessionState} {before after : List Notice} {value value' : ℤ} {bytes bytes' : List ℕ} → what ≡ what' → IsPerformed s view text what' new before after value' bytes' → value ≡ value' → bytes ≡ bytes'
+    → IsPerformed s view text what new before after value bytes
+performed_as {s} {view} {text} {what} {what'} {new} {before} {after} {value} {value'} {bytes} {bytes'} is h same_value same_bytes = record {
   told = h.told;
-  done = ap (performed (request_of s view m)) is ∙ h.done ∙ ap (λ v. (session_in new, response v bytes' h.told)) (sym same_value) ∙ ap (λ b. (session_in new, response value b h.told)) (sym same_bytes);
+  done = ap (performed_at s view text) is ∙ h.done ∙ ap (λ v. (session_in new, response v bytes' h.told)) (sym same_value) ∙ ap (λ b. (session_in new, response value b h.told)) (sym same_bytes);
   heard = h.heard;
 }
 
 -- with its own value in place of another
-pub revalued : {s : Session} {view : ℕ} {m : Message} {what what' : Plan} {new : SessionState} {before after : List Notice} {other : ℤ} {bytes : List ℕ} (value : ℤ)
-    → IsPerformed s view m what new before after other bytes → performed (request_of s view m) what' ≡ with_value value (performed (request_of s view m) what) → IsPerformed s view m what' new before after value bytes
+pub revalued : {s : Session} {view : ℕ} {text : List ℕ} {what what' : Plan} {new : SessionState} {before after : List Notice} {other : ℤ} {bytes : List ℕ} (value : ℤ)
+    → IsPerformed s view text what new before after other bytes → performed_at s view text what' ≡ with_value value (performed_at s view text what) → IsPerformed s view text what' new before after value bytes
 revalued value h is = record { told = h.told; done = is ∙ ap (with_value value) h.done; heard = h.heard }
 
 -- A change of the view reads nothing of the message, and one of the session no more than its text.
@@ -198,13 +198,6 @@ fit_session : (r : Request) (m : Message) (what : SessionChange) → IsFitSessio
 fit_session r m session_change.AttachNew h = h
 fit_session r m _ h = h
 
-session_alike : (r : Request) (m : Message) (what : SessionChange) → session_changed (record r { message = record r.message { text = m.text } }) what ≡ session_changed (record r { message = m }) what
-session_alike r m session_change.AttachNew = refl
-session_alike r m _ = refl
-
 pub can_change_session : {s : Session} {document view : ℕ} {m : Message} {value : ℤ} (what : SessionChange) (text : List ℕ) → text ≡ m.text → CanPerform s document view m (plan.ChangeSession what value) → CanChangeSession s document view text what
 can_change_session {s} {document} {view} {m} what text same can =
     subst (λ x. CanChangeSession s document view x what) (sym same) (record { request = asked_so m.text can.request; fit = fit_session (asked s view m.text) m what can.fit })
-
-pub session_changed_so : (s : Session) (view : ℕ) (m : Message) (what : SessionChange) (text : List ℕ) → text ≡ m.text → session_changed (asked s view text) what ≡ session_changed (request_of s view m) what
-session_changed_so s view m what text same = ap (λ x. session_changed (asked s view x) what) same ∙ session_alike (asked s view m.text) m what

@@ -8,12 +8,11 @@ use Rattle.ed_model.specs.Session.{Session}
 use Rattle.ed_model.specs.PlansFit.{IsFitPlan, IsSoundRequest}
 use Rattle.ed_model.specs.Requests.{Request}
 use Rattle.ed_model.specs.Performing.{response}
-use Rattle.ed_model.specs.Table.{performed}
 use Rattle.document.specs.declared.undoing.Direction.{Direction}
 use Rattle.document.specs.declared.undoing.Direction.TheVariants.{Undo, Redo}
 use Rattle.message_requests.specs.Requested.{session_in}
 use Rattle.message_requests.specs.declared.state.SessionState.{SessionState}
-use Rattle.performing.specs.Asked.{asked}
+use Rattle.performing.specs.Asked.{asked, performed_at}
 
 -- the request of a message to the view with this id, on its document
 abbrev pub request_of : Session → ℕ → Message → Request
@@ -30,10 +29,11 @@ pub record CanPerform (s : Session) (document view : ℕ) (m : Message) (what : 
   pub request : IsSent s document view m
   pub fit : IsFitPlan (request_of s view m) what
 
--- it was performed: the session is that after it, the value and the bytes are the reply's, and its notes were put behind those before
-pub record IsPerformed (s : Session) (view : ℕ) (m : Message) (what : Plan) (new : SessionState) (before after : List Notice) (value : ℤ) (bytes : List ℕ) : Type 0 where
+-- for a message with this text it was performed: the session is that after it, the value and the bytes are the reply's, and its notes were put
+-- behind those before
+pub record IsPerformed (s : Session) (view : ℕ) (text : List ℕ) (what : Plan) (new : SessionState) (before after : List Notice) (value : ℤ) (bytes : List ℕ) : Type 0 where
   pub told : List Notice
-  pub done : performed (request_of s view m) what ≡ (session_in new, response value bytes told)
+  pub done : performed_at s view text what ≡ (session_in new, response value bytes told)
   pub heard : after ≡ before ++ told
 
 -- the plan of undo or redo

@@ -33,9 +33,7 @@ pub(crate) fn look_up(state: &SessionState, view: u32) -> Option<Attached<'_>>
     let Some(view) = state.views.get(view) else {
         return None;
     };
-    let Some(document) = state.documents.get(view.document()) else {
-        unreachable!()
-    };
+    let document = state.documents.at(view.document());
     Some(Attached { view, document })
 }
 

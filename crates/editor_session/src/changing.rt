@@ -3,9 +3,9 @@
 ghost use Rattle.editor_session.specs.Documents.{OfDocument};
 ghost use Rattle.ed_model.specs.Notes.{blank as blank_note, modify_attempt, told as notes_told};
 ghost use Rattle.std.specs.Prelude.{[], pos, ◌++◌, ◌≡◌, true, false, OnOk, OnErr, IsOk, IsSome};
-ghost use Rattle.ed_model.specs.declared.plan.Plan.TheVariants as plan;
+ghost use Rattle.ed_model.specs.declared.plan.Plan.TheVariants.{ChangeDocument, ChangeView};
 ghost use Rattle.ed_model.specs.Performing.{quiet};
-ghost use Rattle.ed_model.specs.Table.{performed};
+ghost use Rattle.performing.specs.Asked.{performed_at};
 ghost use Rattle.id_table.specs.Entries.{value_at};
 ghost use Rattle.scene.specs.Scenes.{watchers};
 ghost use Rattle.message_requests.specs.Requested.{session_in};
@@ -34,11 +34,11 @@ pub(crate) fn perform_change(
     notes: &mut NoteList,
 ) -> Result<(), AllocError>
     requires kept { IsKept state.old }
-    requires can { CanPerform (session_in state.old) task.now.document task.now.view task.now.message.now (plan.ChangeDocument change.now (pos 0)) }
-    ensures done { OnOk result (IsPerformed (session_in state.old) task.now.view task.now.message.now (plan.ChangeDocument change.now (pos 0)) state.new notes.old.notes notes.new.notes (pos 0) []) }
+    requires can { CanPerform (session_in state.old) task.now.document task.now.view task.now.message.now (ChangeDocument change.now (pos 0)) }
+    ensures done { OnOk result (IsPerformed (session_in state.old) task.now.view task.now.message.now.text (ChangeDocument change.now (pos 0)) state.new notes.old.notes notes.new.notes (pos 0) []) }
     ensures same { OnErr result (session_in state.new ≡ session_in state.old) }
     ensures kept { IsKept state.new }
-    ensures free { needs_no_memory (request_of (session_in state.old) task.now.view task.now.message.now) (plan.ChangeDocument change.now (pos 0)) ≡ true → IsOk result }
+    ensures free { needs_no_memory (request_of (session_in state.old) task.now.view task.now.message.now) (ChangeDocument change.now (pos 0)) ≡ true → IsOk result }
 {
     // States that performing a plan keeps the session sound.
     plans_are_fit();
@@ -47,9 +47,7 @@ pub(crate) fn perform_change(
         views,
         ..
     } = state;
-    let Some(document) = documents.get_mut(task.document) else {
-        unreachable!()
-    };
+    let document = documents.at_mut(task.document);
     let message = task.message;
     change_document(
         alloc,
@@ -70,8 +68,8 @@ pub(crate) fn perform_unheard_change(
     change: &DocumentChange,
 ) -> bool
     requires kept { IsKept state.old }
-    requires can { CanPerform (session_in state.old) task.now.document task.now.view task.now.message.now (plan.ChangeDocument change.now (pos 0)) }
-    ensures done { result ≡ true → IsPerformed (session_in state.old) task.now.view task.now.message.now (plan.ChangeDocument change.now (pos 0)) state.new [] [] (pos 0) [] }
+    requires can { CanPerform (session_in state.old) task.now.document task.now.view task.now.message.now (ChangeDocument change.now (pos 0)) }
+    ensures done { result ≡ true → IsPerformed (session_in state.old) task.now.view task.now.message.now.text (ChangeDocument change.now (pos 0)) state.new [] [] (pos 0) [] }
     ensures same { result ≡ false → session_in state.new ≡ session_in state.old }
     ensures kept { IsKept state.new }
 {
@@ -82,9 +80,7 @@ pub(crate) fn perform_unheard_change(
         views,
         ..
     } = state;
-    let Some(document) = documents.get_mut(task.document) else {
-        unreachable!()
-    };
+    let document = documents.at_mut(task.document);
     let message = task.message;
     change_unheard(document, views, message.text, change)
 }
@@ -100,11 +96,11 @@ pub(crate) fn perform_view_change(
     change: ViewChange,
 ) -> Result<(), AllocError>
     requires kept { IsKept state.old }
-    requires can { CanPerform (session_in state.old) task.now.document task.now.view task.now.message.now (plan.ChangeView change (pos 0)) }
-    ensures done { OnOk result (performed (request_of (session_in state.old) task.now.view task.now.message.now) (plan.ChangeView change (pos 0)) ≡ (session_in state.new, quiet (pos 0))) }
+    requires can { CanPerform (session_in state.old) task.now.document task.now.view task.now.message.now (ChangeView change (pos 0)) }
+    ensures done { OnOk result (performed_at (session_in state.old) task.now.view task.now.message.now.text (ChangeView change (pos 0)) ≡ (session_in state.new, quiet (pos 0))) }
     ensures same { OnErr result (session_in state.new ≡ session_in state.old) }
     ensures kept { IsKept state.new }
-    ensures free { needs_no_memory (request_of (session_in state.old) task.now.view task.now.message.now) (plan.ChangeView change (pos 0)) ≡ true → IsOk result }
+    ensures free { needs_no_memory (request_of (session_in state.old) task.now.view task.now.message.now) (ChangeView change (pos 0)) ≡ true → IsOk result }
 {
     // States that performing a plan keeps the session sound.
     plans_are_fit();
@@ -126,9 +122,7 @@ pub(crate) fn perform_attempt(
     requires there { IsSome (value_at state.now.documents.entries document) }
     ensures told { OnOk result (OfDocument state.now.documents document (λ k. notes.new.notes ≡ notes.old.notes ++ notes_told (watchers k.document state.now.views) (blank_note modify_attempt))) }
 {
-    let Some(document) = state.documents.get(document) else {
-        unreachable!()
-    };
+    let document = state.documents.at(document);
     notes.reserve(document.views().len(), 0)?;
     attempt(document, &state.views, notes);
     Ok(())

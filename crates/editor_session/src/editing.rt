@@ -119,9 +119,7 @@ fn pasted_bytes(
     if !is_turned(edit) {
         return Ok(Vec::new(alloc));
     }
-    let Some(document) = state.documents.get(document) else {
-        unreachable!()
-    };
+    let document = state.documents.at(document);
     converted_clipboard(alloc, &state.clipboard, document.typed_line_end())
 }
 
@@ -143,9 +141,7 @@ fn taken_bytes(
     let Follow::Clipboard { start, count } = follow else {
         return Ok(Vec::new(alloc));
     };
-    let Some(document) = state.documents.get(document) else {
-        unreachable!()
-    };
+    let document = state.documents.at(document);
     document.text_to_vec(alloc, start, count, 0)
 }
 
@@ -164,7 +160,7 @@ pub(crate) fn perform_edit(
 ) -> Result<(), AllocError>
     requires kept { IsKept state.old }
     requires can { CanPerform (session_in state.old) task.now.document task.now.view task.now.message.now (plan.Edit edit (pos 0) follow) }
-    ensures done { OnOk result (IsPerformed (session_in state.old) task.now.view task.now.message.now (plan.Edit edit (pos 0) follow) state.new notes.old.notes notes.new.notes (pos 0) []) }
+    ensures done { OnOk result (IsPerformed (session_in state.old) task.now.view task.now.message.now.text (plan.Edit edit (pos 0) follow) state.new notes.old.notes notes.new.notes (pos 0) []) }
     ensures same { OnErr result (session_in state.new ≡ session_in state.old) }
     ensures kept { IsKept state.new }
     ensures free { needs_no_memory (request_of (session_in state.old) task.now.view task.now.message.now) (plan.Edit edit (pos 0) follow) ≡ true → IsOk result }
@@ -179,9 +175,7 @@ pub(crate) fn perform_edit(
         clipboard,
         ..
     } = state;
-    let Some(document) = documents.get_mut(task.document) else {
-        unreachable!()
-    };
+    let document = documents.at_mut(task.document);
     let message = task.message;
     edit_with_room(
         document,

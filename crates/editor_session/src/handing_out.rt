@@ -38,9 +38,7 @@ pub(crate) fn hand_out(
     ensures bytes { IfOk result (λ bytes. OfDocument state.now.documents document (IsRange start count bytes.items)) }
     ensures free { count ≡ 0 → IsOk result }
 {
-    let Some(document) = state.documents.get(document) else {
-        unreachable!()
-    };
+    let document = state.documents.at(document);
     document.text_to_vec(alloc, start, count, 0)
 }
 
@@ -60,9 +58,7 @@ pub(crate) fn hand_out_styled(
     ensures bytes { IfOk result (λ bytes. OfDocument state.now.documents document (λ k. bytes.items ≡ styled_range start count k)) }
     ensures free { count ≡ 0 → IsOk result }
 {
-    let Some(document) = state.documents.get(document) else {
-        unreachable!()
-    };
+    let document = state.documents.at(document);
     let Some(room) = count.checked_mul(2) else {
         return Err(AllocError);
     };

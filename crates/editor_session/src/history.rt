@@ -27,7 +27,7 @@ pub(crate) fn perform_transaction(
 ) -> Result<(), AllocError>
     requires kept { IsKept state.old }
     requires can { CanPerform (session_in state.old) task.now.document task.now.view task.now.message.now (going direction) }
-    ensures done { OnOk result (IsPerformed (session_in state.old) task.now.view task.now.message.now (going direction) state.new notes.old.notes notes.new.notes (pos 0) []) }
+    ensures done { OnOk result (IsPerformed (session_in state.old) task.now.view task.now.message.now.text (going direction) state.new notes.old.notes notes.new.notes (pos 0) []) }
     ensures same { OnErr result (session_in state.new ≡ session_in state.old) }
     ensures kept { IsKept state.new }
 {
@@ -38,9 +38,7 @@ pub(crate) fn perform_transaction(
         views,
         ..
     } = state;
-    let Some(document) = documents.get_mut(task.document) else {
-        unreachable!()
-    };
+    let document = documents.at_mut(task.document);
     let place = go_with_room(document, views, notes, direction)?;
     move_caret(views, task.view, place);
     Ok(())

@@ -55,9 +55,7 @@ fn lend_in(documents: &mut DocumentTable, document: u32, start: usize, count: us
     ensures* back { sem 𝓛 (documents_back documents.entry) }
     ensures value { OfDocument documents.old document (IsRange start count result.now) }
 {
-    let Some(document) = documents.get_mut(document) else {
-        unreachable!()
-    };
+    let document = documents.at_mut(document);
     document.lend(start, count)
 }
 

@@ -55,7 +55,7 @@ fn perform(
     requires kept { IsKept state.old }
     requires can { CanPerform (session_in state.old) task.now.document task.now.view task.now.message.now plan.now }
     requires empty { handed_out.old.items ≡ [] }
-    ensures done { IfOk result (λ value. IsPerformed (session_in state.old) task.now.view task.now.message.now plan.now state.new notes.old.notes notes.new.notes value handed_out.new.items) }
+    ensures done { IfOk result (λ value. IsPerformed (session_in state.old) task.now.view task.now.message.now.text plan.now state.new notes.old.notes notes.new.notes value handed_out.new.items) }
     ensures same { OnErr result (session_in state.new ≡ session_in state.old) }
     ensures kept { IsKept state.new }
     ensures free { needs_no_memory (request_of (session_in state.old) task.now.view task.now.message.now) plan.now ≡ true → IsOk result }
@@ -181,8 +181,8 @@ fn change_aloud(
     perform_message(alloc, state, task, &whole(plan), reply)
 }
 
-/// Makes what a message changes in its document, as `perform_message` does, but sets up nothing for notes if no view hears of it. `listens` is
-/// whether the message's own view listens for a frequent kind of change.
+/// Makes what a message changes in its document, as `perform_message` does, but sets up nothing for notes if nothing changes or no view hears of it.
+/// `listens` is whether the message's own view listens for a frequent kind of change.
 ///
 /// # Errors
 ///
@@ -201,13 +201,14 @@ pub(crate) fn make_change(
     ensures place { IsLeft result reply.old reply.new }
     ensures kept { IsKept state.new }
 {
-    if task.is_recorded || listens {
+    if task.is_recorded {
         return change_aloud(alloc, state, task, plan, reply);
     }
     let Some(change) = plan.change else {
-        return change_aloud(alloc, state, task, plan, reply);
+        reply.answer(plan.value);
+        return Ok(plan.value);
     };
-    if perform_unheard_change(state, task, &change) {
+    if !listens && perform_unheard_change(state, task, &change) {
         reply.answer(plan.value);
         return Ok(plan.value);
     }

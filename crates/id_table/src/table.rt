@@ -1,5 +1,5 @@
 //! `IdTable` and its calls.
-ghost use Rattle.std.specs.Prelude.{◌≡◌, ◌≤◌, ◌<◌, ◌+◌, ◌^◌, ◌∷◌, ◌++◌, [], map, length, max, IfSome, IfNone, IsOk, OnOk, is_some, option_copied};
+ghost use Rattle.std.specs.Prelude.{◌≡◌, ◌≤◌, ◌<◌, ◌+◌, ◌^◌, ◌∷◌, ◌++◌, [], map, length, max, IfSome, IfNone, IsOk, OnOk, is_some, option_copied, IsSome, Some};
 ghost use Rattle.std.specs.Option.{option_copied_mut};
 ghost use Rattle.std.specs.Borrow.{sem};
 ghost use Rattle.id_table.specs.Entries.{HasRoom, KeepsCapacity, Rise, empty_table, id_of, most_ids, value_at, without_id};
@@ -57,7 +57,7 @@ fn position_of(order: &[Place], id: u32) -> Option<usize>
 }
 
 impl<T> IdTable<T> {
-    ghost use Rattle.id_table.specs.Lends.{lends_value};
+    ghost use Rattle.id_table.specs.Lends.{lends_value, lends_value_at};
 
     /// Returns an empty table. Allocates nothing.
     pub fn new(alloc: Global) -> Self
@@ -113,6 +113,29 @@ impl<T> IdTable<T> {
         let at = position_of(&self.order, id)?;
         let key = self.order[at].key;
         Some(&mut self.slab[key])
+    }
+
+    /// Returns the value of `id`, which must have one.
+    pub fn at(&self, id: u32) -> &T
+        requires there { IsSome (value_at self.now.entries id) }
+        ensures { value_at self.now.entries id ≡ Some result.now }
+    {
+        let Some(value) = self.get(id) else {
+            unreachable!()
+        };
+        value
+    }
+
+    /// Returns the value of `id`, which must have one, to write to. No other value changes.
+    pub fn at_mut(&mut self, id: u32) -> &mut T
+        requires there { IsSome (value_at self.old.entries id) }
+        ensures* writes_back { sem 𝓛 (lends_value_at T.row self.entry id result) }
+        ensures value { value_at self.old.entries id ≡ Some result.now }
+    {
+        let Some(value) = self.get_mut(id) else {
+            unreachable!()
+        };
+        value
     }
 
     /// Makes room for `count` more values. Allocates nothing if they fit.

@@ -1,6 +1,6 @@
--- Changes of a view alone, which show and hide no lines: its settings (selection, target, search flags, indicator, mask of what it hears, whether
--- it converts what is pasted and records), which answer 0, and the search in its target. Changes of a document other than edits of its text: of
--- styles, markers, indicators, levels and states of lines, of its modes, and of its undo history.
+-- Changes of a view alone: its settings (selection, target, search flags, indicator, mask of what it hears, whether it converts what is pasted and
+-- records) and the lines that it shows, which answer 0, and the search in its target. Changes of a document other than edits of its text: of styles,
+-- markers, indicators, levels and states of lines, of its modes, and of its undo history.
 use Rattle.std.specs.Prelude.{ℕ, if◌then◌else◌, Bool, List, [], ◌∷◌, Ok, Option, Some, None, is_some}
 use Rattle.ed_types.specs.declared.kind.Kind.{Kind}
 use Rattle.ed_types.specs.declared.kind.Kind.TheVariants as kinds
@@ -9,16 +9,17 @@ use Rattle.ed_model.specs.declared.plan.Plan.TheVariants as plan
 use Rattle.ed_model.specs.Requests.{Request, Planned}
 use Rattle.ed_model.specs.Table.{plan_of}
 use Rattle.message_requests.specs.declared.answers.ChangePlan.{ChangePlan}
-use Rattle.text_plans.specs.declared.target_plans.ViewPlan.{ViewPlan}
+use Rattle.message_requests.specs.declared.answers.ViewPlan.{ViewPlan}
 
 -- the changes of a view, in rising order of their numbers
 abbrev pub view_changes : List Kind
 view_changes = kinds.SelectAll ∷ kinds.GotoLine ∷ kinds.GotoPos ∷ kinds.SetAnchor ∷ kinds.SetCurrentPos ∷ kinds.SetSelectionStart ∷
     kinds.SetSelectionEnd ∷ kinds.SetSel ∷ kinds.SetTargetStart ∷ kinds.SetTargetEnd ∷ kinds.SearchInTarget ∷ kinds.SetSearchFlags ∷
-    kinds.TargetFromSelection ∷ kinds.CharLeft ∷ kinds.CharLeftExtend ∷ kinds.CharRight ∷ kinds.CharRightExtend ∷ kinds.Home ∷
-    kinds.HomeExtend ∷ kinds.LineEnd ∷ kinds.LineEndExtend ∷ kinds.DocumentStart ∷ kinds.DocumentStartExtend ∷ kinds.DocumentEnd ∷
-    kinds.DocumentEndExtend ∷ kinds.SetModEventMask ∷ kinds.SetPasteConvertEndings ∷ kinds.SetIndicatorCurrent ∷ kinds.SetIndicatorValue ∷
-    kinds.SetEmptySelection ∷ kinds.SetTargetRange ∷ kinds.TargetWholeDocument ∷ kinds.StartRecord ∷ kinds.StopRecord ∷ []
+    kinds.ShowLines ∷ kinds.HideLines ∷ kinds.SetFoldExpanded ∷ kinds.ToggleFold ∷ kinds.EnsureVisible ∷ kinds.FoldLine ∷
+    kinds.TargetFromSelection ∷ kinds.CharLeft ∷ kinds.CharLeftExtend ∷ kinds.CharRight ∷ kinds.CharRightExtend ∷ kinds.Home ∷ kinds.HomeExtend ∷
+    kinds.LineEnd ∷ kinds.LineEndExtend ∷ kinds.DocumentStart ∷ kinds.DocumentStartExtend ∷ kinds.DocumentEnd ∷ kinds.DocumentEndExtend ∷
+    kinds.SetModEventMask ∷ kinds.SetPasteConvertEndings ∷ kinds.SetIndicatorCurrent ∷ kinds.SetIndicatorValue ∷ kinds.SetEmptySelection ∷
+    kinds.SetTargetRange ∷ kinds.TargetWholeDocument ∷ kinds.StartRecord ∷ kinds.StopRecord ∷ []
 
 -- the one with this number
 abbrev pub view_change_at : ℕ → Option Kind

@@ -13,7 +13,7 @@ pub enum Way {
     Question(Kind),
     /// A text query, which is answered by bytes of the document.
     TextQuestion(Kind),
-    /// A change of the view alone, which is one change or none: a setting, or a search in the target.
+    /// A change of the view alone, which is one change or none: a setting, a search in the target, or lines shown or hidden.
     ViewChange(Kind),
     /// A change of the document other than an edit of its text, which is one change or none.
     DocumentChange(Kind),

@@ -5,7 +5,7 @@ ghost use Rattle.ed_model.specs.Numbers.{flag};
 ghost use Rattle.ed_model.specs.Requests.{answer, change_document, change_session, change_view, with_argument};
 ghost use Rattle.ed_model.specs.LinePlans.{line_or_none};
 ghost use Rattle.ed_model.specs.TextPlans.{hand_out as hand_out_plan};
-ghost use Rattle.message_requests.specs.Changing.{changed};
+ghost use Rattle.message_requests.specs.Changing.{changed, view_changed};
 ghost use Rattle.message_requests.specs.HandingOut.{handed_out, handed_or_zero};
 
 use ed_model::{DocumentChange, Plan, Planned, SessionChange, ViewChange};
@@ -128,20 +128,16 @@ pub struct ChangePlan {
 pub fn change_document(change: DocumentChange) -> Result<ChangePlan, Refusal>
     ensures { changed result ≡ change_document change }
 {
-    Ok(ChangePlan {
-        change: Some(change),
-        value: 0,
-    })
+    let change = Some(change);
+    Ok(ChangePlan { change, value: 0 })
 }
 
 /// Returns the answer of a message that changes nothing: `value`.
 pub fn change_nothing(value: i64) -> Result<ChangePlan, Refusal>
     ensures { changed result ≡ answer value }
 {
-    Ok(ChangePlan {
-        change: None,
-        value,
-    })
+    let change = None;
+    Ok(ChangePlan { change, value })
 }
 
 /// Returns the plan of such a message, or refuses it.
@@ -155,11 +151,54 @@ pub fn plan_change(planned: Result<ChangePlan, Refusal>) -> Planned
     }
 }
 
-/// Returns the plan that makes this change of the view and answers 0.
-pub fn change_view(change: ViewChange) -> Planned
-    ensures { result ≡ change_view change }
+/// The answer to a message that changes its view alone.
+#[derive(Clone, Copy, Debug)]
+pub struct ViewPlan {
+    /// The change, if the message makes one.
+    pub change: Option<ViewChange>,
+    /// The value that the message answers.
+    pub value: i64,
+}
+
+/// Returns the answer of a message that makes this change of the view: 0.
+pub fn change_view(change: ViewChange) -> Result<ViewPlan, Refusal>
+    ensures { view_changed result ≡ change_view change }
 {
-    Ok(Plan::ChangeView { change, value: 0 })
+    let change = Some(change);
+    Ok(ViewPlan { change, value: 0 })
+}
+
+/// Like `change_view`, for a change that may be missing.
+///
+/// # Errors
+///
+/// `BadArgument` if `change` is `None`.
+pub fn change_view_some(change: Option<ViewChange>) -> Result<ViewPlan, Refusal>
+    ensures { view_changed result ≡ with_argument change change_view }
+{
+    match change {
+        Some(change) => change_view(change),
+        None => Err(Refusal::BadArgument),
+    }
+}
+
+/// Returns the answer of a message that leaves its view as it is: `value`.
+pub fn leave_view(value: i64) -> Result<ViewPlan, Refusal>
+    ensures { view_changed result ≡ answer value }
+{
+    let change = None;
+    Ok(ViewPlan { change, value })
+}
+
+/// Returns the plan of such a message, or refuses it.
+pub fn plan_view_change(planned: Result<ViewPlan, Refusal>) -> Planned
+    ensures { result ≡ view_changed planned }
+{
+    let ViewPlan { change, value } = planned?;
+    match change {
+        Some(change) => Ok(Plan::ChangeView { change, value }),
+        None => answer(value),
+    }
 }
 
 /// Returns the plan that makes this change of the session and answers 0.

@@ -1,5 +1,5 @@
 -- Changes of a document: what they leave unmoved, what there is to tell of them, and the numbers that they give.
-pub use Rattle.performing.proofs.Names.{◌≡◌, ℕ, false, List, [], ◌∷◌, ◌++◌, map, length, take, replicate, refl, ap, sym, ◌∙◌, AllByRecursion, DocumentChange, line_count, Document, View, lines_in, is_large, changed_document, changed_lines, change_told, styled, text_of_styled, Entries, Gathered, KeptView, views_of, watchers, StandsIfOn, IsWatched, is_of_types, StyleBytes, StyleRun, SetLineEndTypes, ◌≤◌, Bool, true, cond, not, subst, arith, filter, bit_or, Option, Some, None, length-map, append-nil, Result, Ok, Err, is_ok, Notice, told, heard, blank, save_point_reached, save_point_left, change_line_state, change_style, change_indicator, range_note, performed_user, changed_range, styles_of, range_notes, line_note, line_with_handle, document_row, slice_index_or, Kept, hearers, with_notes, IsMade, Makes, Changes, IsMadeUnheard, ChangeNote, TakesMemory, IsFitNote, notes_of, notice_of, marker_notice, notes_of_change, change_note_need, AllocError, CanPut, with_room, is_full, eqb-true, needs_room, IsReady, ReservesFor, FillIndicator, AppendContainer, SetSavePoint, SetLevel, DeleteHandle, AddMarkers, DeleteMarkers, SetState, NeedStyle, DeleteMarker, AddMarker, Nothing, AllMarkers, Level, zero, suc, ◌+◌, ◌<◌, get_or, set, length-append, ◌==◌, nat_lt, eqb-false, eq-eqb, ne_eqb, lt-ltb, Row, Marker, fresh_row, new_markers, with_new_markers, without_markers, marker_count, marker_count-cons, ◌^◌, slice_index, unwrap_or, IfSome, range_with_len, last_or, changed_places, extent, ℤ, pos, negsuc, int_le, ◌&&◌, w32, to_z, of_z, to_z-of_z, SFits, is_same, length-filter_both, all_filter, w64, common_steps, document_of, SavePointLeft, Cell, State, Markers, err_from_is_err_and, rules, inl, inr, new_view, new_document, nil_from_length, take_all, map-id}
+pub use Rattle.performing.proofs.Names.{◌≡◌, ℕ, false, List, [], ◌∷◌, ◌++◌, map, length, take, replicate, refl, ap, sym, ◌∙◌, AllByRecursion, DocumentChange, line_count, Document, View, lines_in, is_large, changed_document, changed_lines, change_told, styled, text_of_styled, Entries, Gathered, KeptView, views_of, watchers, StandsIfOn, IsWatched, is_of_types, StyleBytes, StyleRun, SetLineEndTypes, ◌≤◌, Bool, true, cond, not, subst, arith, filter, bit_or, Option, Some, None, length-map, append-nil, Result, Ok, Err, is_ok, Notice, told, heard, blank, save_point_reached, save_point_left, change_line_state, change_style, change_indicator, range_note, performed_user, changed_range, styles_of, range_notes, line_note, line_with_handle, document_row, slice_index_or, Kept, hearers, with_notes, IsMade, Makes, Changes, IsMadeUnheard, ChangeNote, TakesMemory, IsFitNote, notes_of, notice_of, marker_notice, notes_of_change, change_note_need, AllocError, CanPut, with_room, is_full, eqb-true, needs_room, IsReady, ReservesFor, FillIndicator, AppendContainer, SetSavePoint, SetLevel, DeleteHandle, AddMarkers, DeleteMarkers, SetState, NeedStyle, DeleteMarker, AddMarker, Nothing, AllMarkers, Level, zero, suc, ◌+◌, ◌<◌, get_or, set, length-append, ◌==◌, nat_lt, eqb-false, eq-eqb, ne_eqb, lt-ltb, Row, Marker, fresh_row, new_markers, with_new_markers, without_markers, marker_count, marker_count-cons, ◌^◌, slice_index, unwrap_or, IfSome, range_with_len, last_or, changed_places, extent, ℤ, pos, negsuc, int_le, ◌&&◌, w32, to_z, of_z, to_z-of_z, SFits, length-filter_both, all_filter, w64, common_steps, document_of, SavePointLeft, Cell, State, Markers, err_from_is_err_and, rules, inl, inr, new_view, new_document, nil_from_length, take_all, map-id}
 use Rattle.scene.specs.proved.Watched.{KeepsPlaces, watched_still}
 use Rattle.ed_model.specs.proved.Steps.{length_of_bytes}
 use Rattle.ed_model.specs.Numbers.{meets}
@@ -236,22 +236,3 @@ pub values_length : (values : List (List ℕ)) (k n : ℕ) → AllByRecursion (�
 values_length [] k n all = omega arith
 values_length (v ∷ vs) zero n all = let a = all.0 in omega arith
 values_length (v ∷ vs) (suc k) n all = values_length vs k n all.1
-
--- The states of lines are the same or not.
-
-int_le_self : (a : ℤ) → int_le a a ≡ true
-int_le_self (pos n) = le-leb n n (omega arith)
-int_le_self (negsuc n) = le-leb n n (omega arith)
-
-int_same : (a b : ℤ) → int_le a b ≡ true → int_le b a ≡ true → a ≡ b
-int_same (pos n) (pos m) h k = let p = leb-true n m h in let q = leb-true m n k in ap pos (omega arith)
-int_same (pos n) (negsuc m) h k = absurd (cc)
-int_same (negsuc n) (pos m) h k = absurd (cc)
-int_same (negsuc n) (negsuc m) h k = let p = leb-true m n h in let q = leb-true n m k in ap negsuc (omega arith)
-
--- two states of 32 bits are the same if their bits are
-pub same_states : (a b : ℤ) → SFits w32 a → SFits w32 b → (of_z w32 a == of_z w32 b) ≡ is_same a b
-same_states a b fits fits' =
-    same_from_decides (of_z w32 a == of_z w32 b) (is_same a b)
-    (Decides-like (of_z w32 a == of_z w32 b) (λ e. sym (to_z-of_z w32 a fits) ∙ ap (to_z w32) e ∙ to_z-of_z w32 b fits') (λ e. ap (of_z w32) e) (Decides-eqb (of_z w32 a) (of_z w32 b)))
-    ((λ h. let p = and_parts (int_le a b) (int_le b a) h in int_same a b p.0 p.1), (λ e. rw e (let h = int_le_self b in rw h refl)))

@@ -12,11 +12,11 @@ pub use Rattle.std.proofs.lemmas.Result.{err_from_is_err_and}
 pub use Rattle.std.proofs.lemmas.Simd.{map-map}
 pub use Rattle.std.specs.List.{AllByRecursion, range_with_len, last_or}
 pub use Rattle.std.specs.Option.{option_copied_mut, option_copied, option_or}
-pub use Rattle.std.specs.Prelude.{◌==◌, not, filter, Some, None, slice_index_or, slice_index, unwrap_or, Option, IfSome, ℤ, pos, negsuc, int_le, nat_lt, ◌&&◌, bit_or, Result, Ok, Err, is_ok, max, if◌then◌else◌}
+pub use Rattle.std.specs.Prelude.{◌==◌, not, filter, Some, None, slice_index_or, slice_index, unwrap_or, Option, IfSome, IsSome, ℤ, pos, negsuc, int_le, nat_lt, ◌&&◌, bit_or, Result, Ok, Err, is_ok, max, if◌then◌else◌}
 pub use Rattle.std.specs.declared.alloc.AllocError.{AllocError}
 pub use Rattle.ed_types.specs.Notices.{Notice}
 pub use Rattle.ed_types.specs.declared.limits.Limits.{Limits}
-pub use Rattle.ed_model.specs.Changes.{new_markers, with_new_markers, without_markers, marker_count, line_with_handle, is_same, changed_document, change_told, range_notes, document_row, changed_lines, styled, line_note, changed_view, view_change_performed, attached_last, session_changed, held_less, attached, with_attached, with_new_document}
+pub use Rattle.ed_model.specs.Changes.{new_markers, with_new_markers, without_markers, marker_count, line_with_handle, changed_document, change_told, range_notes, document_row, changed_lines, styled, line_note, changed_view, view_change_performed, attached_last, session_changed, held_less, attached, with_attached, with_new_document}
 pub use Rattle.ed_model.specs.History.{TextStep, History, Change, ContainerStep, sealed_outside_groups}
 pub use Rattle.ed_model.specs.Indicators.{changed_places, changed_range, extent}
 pub use Rattle.ed_model.specs.Lines.{line_count}

@@ -1,6 +1,7 @@
 -- Sessions: the view and the document of a request, a view that is moved, and what fits in after a change.
-pub use Rattle.performing.proofs.Names.{◌≡◌, ℕ, ◌==◌, List, [], map, length, refl, ap, sym, ◌∙◌, subst, arith, Option, Some, None, IfSome, IsSomeAnd, if◌then◌else◌, ViewChange, Document, View, Session, Row, view_at, document_at, lines_in, IsSoundView, StandsOn, changed_view, view_change_performed, changed_view_document, changed_view_id, FitChangesAreWithin, IsWithin, FoldCapacity, KeptView, view_in, Kept, document_of, value_at, with_value_at, views_of, documents_in, session_in, SessionState, IsKept, IsAsked, CanChangeView, asked, view_asked, document_asked, GrowsAtMost, OnlyViewChanges, id_of_view, id_of_document, own_at, found_all, found_some, found_none, unchanged, named_with, other_replaced, value_replaced, at_each, by_id, changed_at, ◌≢◌, ◌+◌, ◌<◌, Bool, true, false, cond, ◌∷◌, ◌++◌, map-map, filter, option_map, nat_lt, not, width_at, width_of, HasWidths, HaveWidths, AllByRecursion, eqb-true, eqb-false, lt-ltb, cond_both, length-append, length-filter_both, all_map, all_weaker, map_where, mapped_ids, references, living, left_by, without, Rise, attached_last, Entry, Entries, value_of, HasViewRoom, let_go, LeavesTheLiving, DocumentsAreNamed, CanMove, ◌≤◌, max, option_or, unwrap_or, eq-eqb, ne_eqb, find-append, SessionChange, Attach, entry, new_kept, KeepsRest, DocumentsRise, found_below, own_document, request_document, request_stands, TableGrows, attaches_to, kept_or_new, KeepsRoom, RoomsGrow, KeepsClipboard, Stays, TableStays, AllStays, ◌-◌, ◌^◌, length-map, map-append, text_of, is_allowed, is_large, attached_to, new_document, with_view, IsSoundDocument, ListsItsViews, held_less, attached, with_attached, with_new_document, documents_added, all_added, all_append, append-nil, released, HasFewLines, AreFewLines, CanAttach, with_added, keeping, nat_tests, Limits, allowed_lengths, few_lines, Cell, option_copied_mut, rules, option_copied, err_from_is_err_and, HasRoomFor, changed, with_attached_view, AttachNew, Create, with_held_by_callers, IsFitSessionChange, session_changed, text_from, ids_of, living_left, named_left, stays_alike}
+pub use Rattle.performing.proofs.Names.{◌≡◌, ℕ, ◌==◌, List, [], map, length, refl, ap, sym, ◌∙◌, subst, arith, Option, Some, None, IfSome, IsSome, IsSomeAnd, if◌then◌else◌, ViewChange, Document, View, Session, Row, view_at, document_at, lines_in, IsSoundView, StandsOn, changed_view, view_change_performed, changed_view_document, changed_view_id, FitChangesAreWithin, IsWithin, FoldCapacity, KeptView, view_in, Kept, document_of, value_at, with_value_at, views_of, documents_in, session_in, SessionState, IsKept, IsAsked, CanChangeView, asked, view_asked, document_asked, GrowsAtMost, OnlyViewChanges, id_of_view, id_of_document, own_at, found_all, found_some, found_none, unchanged, named_with, other_replaced, value_replaced, at_each, by_id, changed_at, ◌≢◌, ◌+◌, ◌<◌, Bool, true, false, cond, ◌∷◌, ◌++◌, map-map, filter, option_map, nat_lt, not, width_at, width_of, HasWidths, HaveWidths, AllByRecursion, eqb-true, eqb-false, lt-ltb, cond_both, length-append, length-filter_both, all_map, all_weaker, map_where, mapped_ids, references, living, left_by, without, Rise, attached_last, Entry, Entries, value_of, HasViewRoom, let_go, LeavesTheLiving, DocumentsAreNamed, CanMove, ◌≤◌, max, option_or, unwrap_or, eq-eqb, ne_eqb, find-append, SessionChange, Attach, entry, new_kept, KeepsRest, DocumentsRise, found_below, own_document, request_document, request_stands, TableGrows, attaches_to, kept_or_new, KeepsRoom, RoomsGrow, KeepsClipboard, Stays, TableStays, AllStays, ◌-◌, ◌^◌, length-map, map-append, text_of, is_allowed, is_large, attached_to, new_document, with_view, IsSoundDocument, ListsItsViews, held_less, attached, with_attached, with_new_document, documents_added, all_added, all_append, append-nil, released, HasFewLines, AreFewLines, CanAttach, with_added, keeping, nat_tests, Limits, allowed_lengths, few_lines, Cell, option_copied_mut, rules, option_copied, err_from_is_err_and, HasRoomFor, changed, with_attached_view, AttachNew, Create, with_held_by_callers, IsFitSessionChange, session_changed, text_from, ids_of, living_left, named_left, stays_alike}
 use Rattle.document_table.specs.Leaving.{documents_in as entries_in}
+pub use Rattle.ed_model.specs.FoldingPlans.{levels_of}
 use Rattle.ed_view.specs.Flags.{kept_capacity}
 use Rattle.performing.specs.SessionMemory.{KeepFolds}
 use Rattle.scene.specs.proved.ViewWidths.{KeepsPlace, width_found, widths_changed, widths_living, widths_of_new, widths_replaced}
@@ -18,13 +19,20 @@ pub is_some_and : {V : Type 0} (P : V → Type 0) (o : Option V) → (o ≡ None
 is_some_and P None there has = there refl
 is_some_and P (Some v) there has = has v refl
 
+is_there : {V : Type 0} (o : Option V) → (o ≡ None → ⊥) → IsSome o
+is_there None there = absurd (there refl)
+is_there (Some v) there = refl
+
 -- A document that the model finds.
 module _ {s : SessionState} (kept : IsKept s) (id : ℕ) (d : Document) (found : document_at (documents_in s.documents) id ≡ Some d) where
   pub document_is : (k : Kept) → value_at s.documents.entries id ≡ Some k → k.document ≡ d
   document_is k at = some_same k.document d (sym (found_some document_of id_of_document s.documents.entries id k kept.documents at) ∙ found)
 
-  pub no_document_at : value_at s.documents.entries id ≡ None → ⊥
+  no_document_at : value_at s.documents.entries id ≡ None → ⊥
   no_document_at none = not_both (document_at (documents_in s.documents) id) d (found_none document_of id_of_document s.documents.entries id kept.documents none) found
+
+  pub document_there_at : IsSome (value_at s.documents.entries id)
+  document_there_at = is_there (value_at s.documents.entries id) no_document_at
 
 abbrev pub sender_of : SessionState → ℕ → View
 sender_of s view = view_asked (views_of s.views.entries) view
@@ -49,22 +57,22 @@ module _ {s : SessionState} {document view : ℕ} {text : List ℕ} (kept : IsKe
   pub same_view : (v : KeptView) → value_at s.views.entries view ≡ Some v → v.view ≡ sender_of s view
   same_view v at = some_same v.view (sender_of s view) (sym (found_some view_in id_of_view s.views.entries view v kept.views at) ∙ view_found)
 
-  pub no_view : value_at s.views.entries view ≡ None → ⊥
+  no_view : value_at s.views.entries view ≡ None → ⊥
   no_view none = not_both (view_at (views_of s.views.entries) view) (sender_of s view) (found_none view_in id_of_view s.views.entries view kept.views none) view_found
+
+  pub view_there : IsSome (value_at s.views.entries view)
+  view_there = is_there (value_at s.views.entries view) no_view
 
   pub same_document : (k : Kept) → value_at s.documents.entries document ≡ Some k → k.document ≡ document_for s view
   same_document = document_is kept document (document_for s view) document_found
 
-  pub no_document : value_at s.documents.entries document ≡ None → ⊥
-  no_document = no_document_at kept document (document_for s view) document_found
+  pub document_there : IsSome (value_at s.documents.entries document)
+  document_there = document_there_at kept document (document_for s view) document_found
 
   pub stands : StandsOn (document_for s view) (sender_of s view)
   stands = request_stands (asked (session_in s) view text) is.sound
 
 -- A view changes.
-
-abbrev pub levels_in : Document → List ℕ
-levels_in d = map (λ (row : Row). row.level) d.rows
 
 -- what fits into the view stays
 pub capacity_stays : (change : ViewChange) (old new : KeptView) → new.capacity ≡ old.capacity → new.large ≡ old.large → GrowsAtMost change old new
@@ -87,10 +95,10 @@ module _ {s : SessionState} {document view : ℕ} (kept : IsKept s) (is : IsAske
     with_new = record s { views = record s.views { entries = with_value_at view new s.views.entries } }
 
     -- the session is the model's after the change
-    pub view_changed : (levels : List ℕ) → levels ≡ levels_in (document_for s view) → new.view ≡ changed_view levels change old.view
-        → session_in with_new ≡ view_change_performed (asked (session_in s) view []) change
+    pub view_changed : (levels : List ℕ) → levels ≡ levels_of (document_for s view) → new.view ≡ changed_view levels change old.view
+        → session_in with_new ≡ view_change_performed (session_in s) (sender_of s view) (document_for s view) change
     view_changed levels are made =
-        let ls = levels_in (document_for s view) in let made_so = changed_view ls change (sender_of s view) in
+        let ls = levels_of (document_for s view) in let made_so = changed_view ls change (sender_of s view) in
         ap (λ views. let x = session_in s in record x { views = views })
         (changed view_in id_of_view s.views.entries view s.views.next kept.views kept.sound.view_ids old new at (λ _. made_so)
         (made ∙ ap (λ ls. changed_view ls change old.view) are ∙ ap (changed_view ls change) (same_view kept is old at))

@@ -1,9 +1,12 @@
--- A request to a session, as a function of what it is asked of; and the changes that are fit for it.
+-- What a session is asked by a view, as a function of the view's id: the request, what a plan of it does, and the changes that are fit for it.
 use Rattle.std.specs.Prelude.{◌≡◌, ℕ, List, [], pos, unwrap_or, ◌≢◌, ◌<◌, map, Some, IsSomeAnd}
 use Rattle.ed_model.specs.declared.plan.ViewChange.{ViewChange}
 use Rattle.ed_model.specs.declared.plan.SessionChange.{SessionChange}
 use Rattle.ed_model.specs.Session.{Session, View, Document, view_at, document_at, new_view, new_document, references, left_by}
 use Rattle.ed_model.specs.Requests.{Request}
+use Rattle.ed_model.specs.declared.plan.Plan.{Plan}
+use Rattle.ed_model.specs.Table.{performed}
+use Rattle.ed_types.specs.Notices.{Response}
 use Rattle.ed_model.specs.PlansFit.{IsSoundRequest, IsFitViewChange, IsFitSessionChange}
 use Rattle.std.specs.List.{AllByRecursion}
 use Rattle.ed_model.specs.SoundLaws.{Rise}
@@ -27,6 +30,10 @@ abbrev pub asked : Session → ℕ → List ℕ → Request
 asked s view text =
     let v = view_asked s.views view in
     record { session = s; view = v; document = document_asked s.documents v.document; message = record { number = 0; w = pos 0; l = pos 0; text = text } }
+
+-- the session after a plan of such a message, and the reply
+abbrev pub performed_at : Session → ℕ → List ℕ → Plan → Session × Response
+performed_at s view text what = let v = view_asked s.views view in performed s v (document_asked s.documents v.document) text what
 
 -- a sound request to the view with this id, whose document has that id
 pub record IsAsked (s : Session) (document view : ℕ) (text : List ℕ) : Type 0 where

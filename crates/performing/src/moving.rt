@@ -20,9 +20,7 @@ fn move_view(documents: &mut DocumentTable, from: u32, view: u32, to: u32)
 {
     // States that the documents that are left are those with a reference.
     the_living_are_left();
-    let Some(document) = documents.get_mut(to) else {
-        unreachable!()
-    };
+    let document = documents.at_mut(to);
     if from == to {
         document.detach(view);
         document.attach_reserved(view);
@@ -44,12 +42,8 @@ pub(crate) fn attach(state: &mut SessionState, from: u32, view: u32, to: u32)
         views,
         ..
     } = state;
-    let Some(document) = documents.get(to) else {
-        unreachable!()
-    };
-    let Some(sender) = views.get_mut(view) else {
-        unreachable!()
-    };
+    let document = documents.at(to);
+    let sender = views.at_mut(view);
     sender.attach_to(document.id(), document.line_count(), document.is_large());
     move_view(documents, from, view, to);
 }

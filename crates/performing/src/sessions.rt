@@ -1,12 +1,13 @@
 //! Changes of a session: of its clipboard, and of its documents and their references.
 
-ghost use Rattle.std.specs.Prelude.{◌≡◌, ◌+◌, ◌<◌, ◌≤◌, ◌^◌, [], map, take, length, false, IsOk, IfOk, OnOk, OnErr, IsSomeAnd};
-ghost use Rattle.ed_model.specs.Changes.{held_less, held_more, session_changed, with_new_document};
+ghost use Rattle.std.specs.Prelude.{◌≡◌, ◌+◌, ◌<◌, ◌≤◌, ◌^◌, [], pos, map, take, length, false, IsOk, IfOk, OnOk, OnErr, IsSomeAnd};
+ghost use Rattle.ed_model.specs.declared.plan.Plan.TheVariants as plan;
+ghost use Rattle.ed_model.specs.Changes.{held_less, held_more, with_new_document};
 ghost use Rattle.ed_model.specs.Session.{living, new_document};
 ghost use Rattle.id_table.specs.Entries.{value_at};
 ghost use Rattle.message_requests.specs.Requested.{session_in};
 ghost use Rattle.performing.specs.Kept.{IsKept};
-ghost use Rattle.performing.specs.Asked.{CanChangeSession, asked};
+ghost use Rattle.performing.specs.Asked.{CanChangeSession, performed_at};
 ghost use Rattle.performing.specs.SessionMemory.{AllStays, GrowsForOne, HasPlaceFor, Stays, takes_memory, with_added};
 
 use crate::moving::attach;
@@ -40,14 +41,12 @@ fn attach_existing(
 ) -> Result<(), AllocError>
     requires kept { IsKept state.old }
     requires can { CanChangeSession (session_in state.old) document view [] (SessionChange.Attach to) }
-    ensures changed { OnOk result (session_in state.new ≡ session_changed (asked (session_in state.old) view []) (SessionChange.Attach to)) }
+    ensures changed { OnOk result (session_in state.new ≡ (performed_at (session_in state.old) view [] (plan.ChangeSession (SessionChange.Attach to) (pos 0))).0) }
     ensures same { OnErr result (session_in state.new ≡ session_in state.old) }
     ensures place { HasPlaceFor (SessionChange.Attach to) state.old.documents.entries → IsOk result }
     ensures stays { Stays (SessionChange.Attach to) state.old state.new }
 {
-    let Some(other) = state.documents.get_mut(to) else {
-        unreachable!()
-    };
+    let other = state.documents.at_mut(to);
     other.reserve_view()?;
     attach(state, document, view, to);
     Ok(())
@@ -82,7 +81,7 @@ fn attach_new(
 ) -> Result<(), AllocError>
     requires kept { IsKept state.old }
     requires can { CanChangeSession (session_in state.old) document view [] SessionChange.AttachNew }
-    ensures changed { OnOk result (session_in state.new ≡ session_changed (asked (session_in state.old) view []) SessionChange.AttachNew) }
+    ensures changed { OnOk result (session_in state.new ≡ (performed_at (session_in state.old) view [] (plan.ChangeSession SessionChange.AttachNew (pos 0))).0) }
     ensures same { OnErr result (session_in state.new ≡ session_in state.old) }
     ensures stays { Stays SessionChange.AttachNew state.old state.new }
 {
@@ -118,9 +117,7 @@ fn add_reference(state: &mut SessionState, document: u32)
     ensures changed { let s = session_in state.old in session_in state.new ≡ record s { documents = map (held_more document) s.documents } }
     ensures stays { AllStays state.old state.new }
 {
-    let Some(document) = state.documents.get_mut(document) else {
-        unreachable!()
-    };
+    let document = state.documents.at_mut(document);
     document.hold();
 }
 
@@ -152,7 +149,7 @@ pub fn change_session(
 ) -> Result<(), AllocError>
     requires kept { IsKept state.old }
     requires can { CanChangeSession (session_in state.old) document view text.now change }
-    ensures changed { OnOk result (session_in state.new ≡ session_changed (asked (session_in state.old) view text.now) change) }
+    ensures changed { OnOk result (session_in state.new ≡ (performed_at (session_in state.old) view text.now (plan.ChangeSession change (pos 0))).0) }
     ensures same { OnErr result (session_in state.new ≡ session_in state.old) }
     ensures free { takes_memory change ≡ false → IsOk result }
     ensures place { HasPlaceFor change state.old.documents.entries → IsOk result }
@@ -161,9 +158,7 @@ pub fn change_session(
 {
     match change {
         SessionChange::Copy { start, count } => {
-            let Some(document) = state.documents.get(document) else {
-                unreachable!()
-            };
+            let document = state.documents.at(document);
             state.clipboard = document.text_to_vec(alloc, start, count, 0)?;
             Ok(())
         }

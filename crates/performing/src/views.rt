@@ -1,10 +1,10 @@
 //! Changes of a view: its settings, its selection, and which lines it shows.
 
-ghost use Rattle.std.specs.Prelude.{◌≡◌, [], IsOk, OnOk, OnErr};
-ghost use Rattle.ed_model.specs.Changes.{view_change_performed};
+ghost use Rattle.std.specs.Prelude.{◌≡◌, [], pos, IsOk, OnOk, OnErr};
+ghost use Rattle.ed_model.specs.declared.plan.Plan.TheVariants as plan;
 ghost use Rattle.message_requests.specs.Requested.{session_in};
 ghost use Rattle.performing.specs.Kept.{IsKept};
-ghost use Rattle.performing.specs.Asked.{CanChangeView, asked};
+ghost use Rattle.performing.specs.Asked.{CanChangeView, performed_at};
 ghost use Rattle.performing.specs.Folding.{HasFoldRoomAt, OnlyViewChanges};
 
 use ed_model::ViewChange;
@@ -22,7 +22,7 @@ fn change_by_levels(
 ) -> Result<(), AllocError>
     requires kept { IsKept state.old }
     requires can { CanChangeView (session_in state.old) document view change }
-    ensures changed { OnOk result (session_in state.new ≡ view_change_performed (asked (session_in state.old) view []) change) }
+    ensures changed { OnOk result (session_in state.new ≡ (performed_at (session_in state.old) view [] (plan.ChangeView change (pos 0))).0) }
     ensures same { OnErr result (session_in state.new ≡ session_in state.old) }
     ensures free { HasFoldRoomAt state.old.views.entries view change → IsOk result }
     ensures stays { OnlyViewChanges view change state.old state.new }
@@ -34,12 +34,8 @@ fn change_by_levels(
         views,
         ..
     } = state;
-    let Some(document) = documents.get(document) else {
-        unreachable!()
-    };
-    let Some(view) = views.get_mut(view) else {
-        unreachable!()
-    };
+    let document = documents.at(document);
+    let view = views.at_mut(view);
     let need = view.fold_need(change);
     view.reserve_folding(need)?;
     view.change(&document.rows().fold_levels(), change);
@@ -60,7 +56,7 @@ pub fn change_view(
 ) -> Result<(), AllocError>
     requires kept { IsKept state.old }
     requires can { CanChangeView (session_in state.old) document view change }
-    ensures changed { OnOk result (session_in state.new ≡ view_change_performed (asked (session_in state.old) view []) change) }
+    ensures changed { OnOk result (session_in state.new ≡ (performed_at (session_in state.old) view [] (plan.ChangeView change (pos 0))).0) }
     ensures same { OnErr result (session_in state.new ≡ session_in state.old) }
     ensures free { HasFoldRoomAt state.old.views.entries view change → IsOk result }
     ensures stays { OnlyViewChanges view change state.old state.new }
@@ -68,9 +64,7 @@ pub fn change_view(
     if !is_setting(change) {
         return change_by_levels(state, document, view, change);
     }
-    let Some(view) = state.views.get_mut(view) else {
-        unreachable!()
-    };
+    let view = state.views.at_mut(view);
     view.set(change);
     Ok(())
 }

@@ -1,5 +1,6 @@
 -- A look-up by halving: how many numbers it may still read, and what it found.
 use Rattle.rising_numbers.proofs.Names.{◌≡◌, ℕ, ◌+◌, ◌-◌, ◌*◌, ◌/◌, ◌%◌, ◌^◌, ◌<◌, ◌≤◌, zero, suc, min, List, length, get_or, ◌⊎◌, inl, inr, Bool, IsTrue, true, false, refl, arith, pow-suc, bool_byte, cases_lt, false≢true, add-one, AreRising, CountsReads, IsLastAtMost, IsFloorLog, counted}
+use Rattle.std.proofs.Common.{subst}
 use Rattle.std.proofs.Math.Pow.{pow_mono}
 use Rattle.rising_numbers.proofs.Parts.{rising_or_same}
 
@@ -44,7 +45,7 @@ pub halved :
 halved extra n old now now' width width' a b c is k log =
     let h = is k log in rw c (halved_on extra old now now' width k a b h (cases_lt k h.count))
 
-one_at_least : (j : ℕ) → 1 ≤ 2 ^ j
+pub one_at_least : (j : ℕ) → 1 ≤ 2 ^ j
 one_at_least zero = omega arith
 one_at_least (suc j) = rw pow-suc (omega (arith, one_at_least j))
 
@@ -163,3 +164,72 @@ halved_to_power n old now level a b c k log =
     let low : k - 0 ≡ level = omega arith in
     let high : k + 1 - 0 ≡ level + 1 = omega arith in
     record { count = 0; within = omega arith; many = omega arith; few = omega arith; low = rw low (omega arith); high = rw high (omega arith) }
+
+-- A look-up by quarters.
+
+pub one_at_most : (yes : Bool) → bool_byte yes ≤ 1
+one_at_most true = omega arith
+one_at_most false = omega arith
+
+-- three answers as a number, shifted up to a power of two
+pub moved_by : (one two three : Bool) (power : ℕ) → power * 4 < 18446744073709551616
+    → ((bool_byte one + bool_byte two + bool_byte three) * power % 18446744073709551616 ≡ (bool_byte one + bool_byte two + bool_byte three) * power)
+    × ((bool_byte one + bool_byte two + bool_byte three) * power ≤ power * 3)
+moved_by true true true power h = (omega arith, omega arith)
+moved_by true true false power h = (omega arith, omega arith)
+moved_by true false true power h = (omega arith, omega arith)
+moved_by true false false power h = (omega arith, omega arith)
+moved_by false true true power h = (omega arith, omega arith)
+moved_by false true false power h = (omega arith, omega arith)
+moved_by false false true power h = (omega arith, omega arith)
+moved_by false false false power h = (omega arith, omega arith)
+
+-- three answers as numbers, times the quarter, are how far the range moves up
+pub quartered :
+    (numbers : List ℕ) (end wanted low width quarter i j k low' : ℕ) (one two three : Bool) → AreRising numbers end → IsRange numbers wanted low width
+    → 0 < quarter → width ≡ quarter * 4 → low' ≡ low + (bool_byte one + bool_byte two + bool_byte three) * quarter
+    → i ≡ low + quarter → j ≡ low + quarter * 2 → k ≡ low + quarter * 3
+    → (IsTrue one → get_or numbers i 0 ≤ wanted) × (get_or numbers i 0 ≤ wanted → IsTrue one)
+    → (IsTrue two → get_or numbers j 0 ≤ wanted) × (get_or numbers j 0 ≤ wanted → IsTrue two)
+    → (IsTrue three → get_or numbers k 0 ≤ wanted) × (get_or numbers k 0 ≤ wanted → IsTrue three)
+    → IsRange numbers wanted low' quarter
+quartered numbers end wanted low width quarter i j k low' one two three sound range some wide moved is_i is_j is_k first second third =
+    go one two three moved
+    (subst (λ x. (IsTrue one → get_or numbers x 0 ≤ wanted) × (get_or numbers x 0 ≤ wanted → IsTrue one)) is_i first)
+    (subst (λ x. (IsTrue two → get_or numbers x 0 ≤ wanted) × (get_or numbers x 0 ≤ wanted → IsTrue two)) is_j second)
+    (subst (λ x. (IsTrue three → get_or numbers x 0 ≤ wanted) × (get_or numbers x 0 ≤ wanted → IsTrue three)) is_k third)
+  where
+    in_range : low + quarter * 4 ≤ length numbers
+    in_range = let w = range.within in omega arith
+
+    up : (i j : ℕ) → i ≤ j → j < length numbers → get_or numbers i 0 ≤ get_or numbers j 0
+    up i j a b = rising_or_same numbers sound.rising i j a b
+
+    at : (i : ℕ) → low' ≡ i → i + quarter ≤ length numbers → get_or numbers i 0 ≤ wanted → (i + quarter < length numbers → wanted < get_or numbers (i + quarter) 0) → IsRange numbers wanted low' quarter
+    at i is within at_most above = rw is (record { some = some; within = within; at_most = at_most; above = above })
+
+    go : (a b c : Bool) → low' ≡ low + (bool_byte a + bool_byte b + bool_byte c) * quarter
+        → (IsTrue a → get_or numbers (low + quarter) 0 ≤ wanted) × (get_or numbers (low + quarter) 0 ≤ wanted → IsTrue a)
+        → (IsTrue b → get_or numbers (low + quarter * 2) 0 ≤ wanted) × (get_or numbers (low + quarter * 2) 0 ≤ wanted → IsTrue b)
+        → (IsTrue c → get_or numbers (low + quarter * 3) 0 ≤ wanted) × (get_or numbers (low + quarter * 3) 0 ≤ wanted → IsTrue c)
+        → IsRange numbers wanted low' quarter
+    go false false false m p q r =
+        let w = below_where_not wanted (get_or numbers (low + quarter) 0) p.1 in
+        at low (omega (arith, m)) (omega (arith, in_range)) range.at_most (λ _. w)
+    go true false false m p q r =
+        let w = below_where_not wanted (get_or numbers (low + quarter * 2) 0) q.1 in let next : low + quarter + quarter ≡ low + quarter * 2 = omega arith in
+        at (low + quarter) (omega (arith, m)) (omega (arith, in_range)) (p.0 refl) (λ _. rw next w)
+    go true true false m p q r =
+        let w = below_where_not wanted (get_or numbers (low + quarter * 3) 0) r.1 in let next : low + quarter * 2 + quarter ≡ low + quarter * 3 = omega arith in
+        at (low + quarter * 2) (omega (arith, m)) (omega (arith, in_range)) (q.0 refl) (λ _. rw next w)
+    go true true true m p q r =
+        let next : low + quarter * 3 + quarter ≡ low + width = omega (arith, wide) in
+        at (low + quarter * 3) (omega (arith, m)) (omega (arith, in_range)) (r.0 refl) (λ h. rw next (range.above (rw next at h)))
+    go false true c m p q r = absurd (omega (arith, q.0 refl, up (low + quarter) (low + quarter * 2) (omega arith) (omega (arith, in_range, some)), below_where_not wanted (get_or numbers (low + quarter) 0) p.1))
+    go false false true m p q r = absurd (omega (arith, r.0 refl, up (low + quarter) (low + quarter * 3) (omega arith) (omega (arith, in_range, some)), below_where_not wanted (get_or numbers (low + quarter) 0) p.1))
+    go true false true m p q r = absurd (omega (arith, r.0 refl, up (low + quarter * 2) (low + quarter * 3) (omega arith) (omega (arith, in_range, some)), below_where_not wanted (get_or numbers (low + quarter * 2) 0) q.1))
+
+pub power_quartered : (level : ℕ) → 1 < level → 2 ^ level ≡ 2 ^ (level - 2) * 4
+power_quartered zero h = absurd (omega arith)
+power_quartered (suc zero) h = absurd (omega arith)
+power_quartered (suc (suc level)) h = let q : suc (suc level) - 2 ≡ level = omega arith in rw q (rw (pow-suc 2 (suc level), pow-suc 2 level) (omega arith))

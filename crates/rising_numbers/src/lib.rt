@@ -20,6 +20,7 @@ mod laws;
 mod lookups;
 mod numbers;
 mod places;
+mod quarters;
 mod stepping;
 
 pub use counted::Probes;

@@ -6,6 +6,7 @@ ghost use Rattle.vec_room.specs.Reserved.{IsReserved};
 use crate::counted::{CountedNumbers, Probes};
 use crate::lookups::{last_at_most, last_between};
 use crate::places::Place;
+use crate::quarters::last_by_quarters;
 use split_vector::SplitVector;
 use std::alloc::{AllocError, Allocator, Global};
 use std::marker::Model;
@@ -154,6 +155,15 @@ impl<P: Place, A: Allocator> RisingNumbers<P, A> {
         ensures reads { CountsReads 2 (length self.now.numbers) probes.old probes.new }
     {
         last_at_most(&CountedNumbers::of(self), place, probes)
+    }
+
+    /// Like `last_at_most`, but counts nothing, and is faster for all but few numbers: it reads half as many more, three at
+    /// a time.
+    pub fn last_by_quarters(&self, place: usize) -> usize
+        requires { (0 < length self.now.numbers) × (slice_index self.now.numbers 0 ≤ place) }
+        ensures { IsLastAtMost self.now.numbers place result }
+    {
+        last_by_quarters(self, P::from_usize(place.min(self.length())))
     }
 
     /// Like `last_at_most`, if the number is known to be one of those from `first` to before `behind`. Counts each number

@@ -1,5 +1,5 @@
 -- A message that is not marked E leaves every text unchanged, and notifies no view of an attempt.
-use Rattle.run_laws.proofs.Names.{◌≡◌, ℕ, true, false, List, ◌∷◌, replicate, take, refl, ap, ◌∙◌, subst, Option, Some, None, ◌≢◌, ◌&&◌, eqb-false, and_parts, Kind, Response, marks_of, DocumentChange, Plan, Session, Document, document_at, text_of, Request, changed_document, performed, request, record_note, PlansFit, text_of_styled, text_if_there, TellsNoAttempt, OnlyEditsChangeTexts, OnlyEditsTellOfAttempts}
+use Rattle.run_laws.proofs.Names.{◌≡◌, ℕ, true, false, List, ◌∷◌, replicate, take, refl, ap, ◌∙◌, subst, Option, Some, None, ◌≢◌, ◌&&◌, eqb-false, and_parts, Kind, Response, marks_of, DocumentChange, Plan, Session, Document, document_at, text_of, Request, changed_document, performed_for, request, record_note, PlansFit, text_of_styled, text_if_there, TellsNoAttempt, OnlyEditsChangeTexts, OnlyEditsTellOfAttempts}
 use Rattle.ed_model.specs.declared.plan.DocumentChange.TheVariants as document_change
 use Rattle.ed_model.specs.declared.plan.Plan.TheVariants as plan
 use Rattle.ed_model.specs.Notes as notes
@@ -48,7 +48,7 @@ only_edits_tell_of_attempts s view m kind done is unmarked e =
     of_answer (λ (done : Session × Response). TellsNoAttempt done.1) s view m
     (λ v k d p sent.
     let r = request s v d m in
-    let reply = (performed r p).1 in
+    let reply = (performed_for r p).1 in
     let same : k ≡ kind = (let there = sent.is in cc) in
     let barred : (marks_of k).e ≡ false = ap (λ (x : Kind). (marks_of x).e) same ∙ unmarked in
     let told : TellsNoAttempt reply =

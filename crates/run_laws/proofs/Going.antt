@@ -1,6 +1,6 @@
 -- How a message changes each document: that of its own view changes by the plan, and the others stay. `Goes` says which changes
 -- are allowed; the views attached to a document, and the number of references that callers hold, do not count.
-use Rattle.run_laws.proofs.Names.{◌≡◌, ℕ, ◌+◌, ◌≤◌, ◌==◌, nat_lt, cond, Bool, true, false, List, [], ◌∷◌, ◌++◌, length, map, refl, ap, ◌∙◌, sym, subst, arith, Option, Some, None, Result, Ok, Err, option_map, ◌||◌, nat_le, option_or, eqb-true, eq-eqb, Kind, Message, Refusal, TooMany, Command, LoadFile, SendMessage, Outcome, Response, SessionChange, Plan, Change, undo_changes, redo_changes, undone, redone, Session, Document, View, document_at, view_at, with_document, living, left_by, new_document, new_view, Request, text, steps_of, Scene, scene_of, session_of, edit_made, transaction_performed, changes_performed, changed_document, session_changed, with_attached, attached_last, with_new_document, held_more, held_less, table, performed, request, opened, closed_view, IsSound, Rise, IsSoundRequest, IsFitPlan, IsFitPlanned, PlansFit, Running, after_command, set_text_message, document_id, view_id, replaced_found, replaced_other, mapped_found, mapped_ids, living_from, documents_added, added_at, edit_made_id, changed_id, IfOk, IfOk-at_ok}
+use Rattle.run_laws.proofs.Names.{◌≡◌, ℕ, ◌+◌, ◌≤◌, ◌==◌, nat_lt, cond, Bool, true, false, List, [], ◌∷◌, ◌++◌, length, map, refl, ap, ◌∙◌, sym, subst, arith, Option, Some, None, Result, Ok, Err, option_map, ◌||◌, nat_le, option_or, eqb-true, eq-eqb, Kind, Message, Refusal, TooMany, Command, LoadFile, SendMessage, Outcome, Response, SessionChange, Plan, Change, undo_changes, redo_changes, undone, redone, Session, Document, View, document_at, view_at, with_document, living, left_by, new_document, new_view, Request, text, steps_of, Scene, scene_of, session_of, edit_made, transaction_performed, changes_performed, changed_document, session_changed, with_attached, attached_last, with_new_document, held_more, held_less, table, performed_for, request, opened, closed_view, IsSound, Rise, IsSoundRequest, IsFitPlan, IsFitPlanned, PlansFit, Running, after_command, set_text_message, document_id, view_id, replaced_found, replaced_other, mapped_found, mapped_ids, living_from, documents_added, added_at, edit_made_id, changed_id, IfOk, IfOk-at_ok}
 use Rattle.ed_model.specs.declared.plan.SessionChange.TheVariants as session_change
 use Rattle.ed_model.specs.declared.plan.Plan.TheVariants as plan
 use Rattle.ed_model.specs.Notes as notes
@@ -10,9 +10,9 @@ use Rattle.run_laws.proofs.TableWays.{OfMessages, of_command, Sent, of_answer}
 
 -- the request's document after its plan
 abbrev pub own_after : Request → Plan → Document
-own_after r (plan.Edit change value after) = (edit_made (steps_of r change) (scene_of r)).document
-own_after r plan.Undo = (transaction_performed notes.performed_undo (undo_changes r.document.history) (undone r.document.history) (scene_of r)).document
-own_after r plan.Redo = (transaction_performed notes.performed_redo (redo_changes r.document.history) (redone r.document.history) (scene_of r)).document
+own_after r (plan.Edit change value after) = (edit_made (steps_of r change) (scene_of r.session r.document)).document
+own_after r plan.Undo = (transaction_performed notes.performed_undo (undo_changes r.document.history) (undone r.document.history) (scene_of r.session r.document)).document
+own_after r plan.Redo = (transaction_performed notes.performed_redo (redo_changes r.document.history) (redone r.document.history) (scene_of r.session r.document)).document
 own_after r (plan.ChangeDocument change value) = changed_document r.message.text change r.document
 own_after r other = r.document
 
@@ -24,9 +24,9 @@ changes_performed_id who cs scene =
     (changes_views scene.document.id (λ views. Unit {0}) (λ step d views e h. tt) who (notes.bit_if (nat_lt 1 (length cs)) notes.multi_step) false cs scene (refl, tt)).0
 
 pub own_id : (r : Request) (p : Plan) → (own_after r p).id ≡ r.document.id
-own_id r (plan.Edit change value after) = edit_made_id (steps_of r change) (scene_of r)
-own_id r plan.Undo = changes_performed_id notes.performed_undo (undo_changes r.document.history) (scene_of r)
-own_id r plan.Redo = changes_performed_id notes.performed_redo (redo_changes r.document.history) (scene_of r)
+own_id r (plan.Edit change value after) = edit_made_id (steps_of r change) (scene_of r.session r.document)
+own_id r plan.Undo = changes_performed_id notes.performed_undo (undo_changes r.document.history) (scene_of r.session r.document)
+own_id r plan.Redo = changes_performed_id notes.performed_redo (redo_changes r.document.history) (scene_of r.session r.document)
 own_id r (plan.ChangeDocument change value) = changed_id r.message.text change r.document
 own_id r _ = refl
 
@@ -118,7 +118,7 @@ module _ (Goes : Document → Document → Type 0) (same : (d : Document) → Go
   attached_from t (Some d) v high rise h =
       all_living (attached_last v.id d.id) (λ x. either (IsRelisted x) (x.id == d.id) _ (left_by v.id x) refl refl) t.documents high rise h
 
-  session_change_from : (v : View) (d : Document) (m : Message) (what : SessionChange) → IsSound s → All (session_changed (request s v d m) what).documents
+  session_change_from : (v : View) (d : Document) (m : Message) (what : SessionChange) → IsSound s → All (session_changed s v d m.text what).documents
   session_change_from v d m (session_change.Attach id) h = attached_from s (document_at s.documents id) v s.next_document h.document_ids all_same
   session_change_from v d m session_change.AttachNew h =
       let new = new_document s.next_document 0 in
@@ -134,7 +134,7 @@ module _ (Goes : Document → Document → Type 0) (same : (d : Document) → Go
 
   -- The documents after a plan.
 
-  performed_from : (v : View) (d : Document) (m : Message) (p : Plan) → IsSoundRequest (request s v d m) → Goes d (own_after (request s v d m) p) → All (performed (request s v d m) p).0.documents
+  performed_from : (v : View) (d : Document) (m : Message) (p : Plan) → IsSoundRequest (request s v d m) → Goes d (own_after (request s v d m) p) → All (performed_for (request s v d m) p).0.documents
   performed_from v d m p h goes = go p goes
     where
       r : Request
@@ -144,11 +144,11 @@ module _ (Goes : Document → Document → Type 0) (same : (d : Document) → Go
       replaced p goes =
           all_replaced d (own_after r p) (ap (document_at s.documents) (own_id r p ∙ document_id s.documents v.document d h.document) ∙ h.document) goes
 
-      go : (p : Plan) → Goes d (own_after r p) → All (performed r p).0.documents
+      go : (p : Plan) → Goes d (own_after r p) → All (performed_for r p).0.documents
       go (plan.ChangeSession change value) goes = session_change_from v d m change h.sound
       go (plan.ChangeDocument change value) goes = replaced (plan.ChangeDocument change value) goes
       go (plan.Edit change value after) goes =
-          subst All (sym (followed_same (λ (s : Session). s.documents) (λ s views. refl) (λ s clipboard. refl) v.id (text r) after (session_of s (edit_made (steps_of r change) (scene_of r)))))
+          subst All (sym (followed_same (λ (s : Session). s.documents) (λ s views. refl) (λ s clipboard. refl) v.id (text r) after (session_of s (edit_made (steps_of r change) (scene_of r.session r.document)))))
           (replaced (plan.Edit change value after) goes)
       go plan.Undo goes = replaced plan.Undo goes
       go plan.Redo goes = replaced plan.Redo goes

@@ -1,5 +1,5 @@
 -- The next ids, and the ids of documents and views, after each command.
-use Rattle.run_laws.proofs.Names.{◌≡◌, ℕ, ◌+◌, ◌≤◌, ◌<◌, nat_lt, cond, Bool, true, false, List, [], ◌∷◌, ◌++◌, length, map, refl, ap, ◌∙◌, sym, subst, arith, Option, Some, None, Result, Ok, Err, ◌==◌, find, filter, not, nat_le, ◌||◌, option_map, option_or, ne_eqb, Message, Refusal, TooMany, Command, Outcome, Plan, Session, Document, View, document_at, view_at, new_document, new_view, attached_to, Request, text, steps_of, levels, scene_of, session_of, edit_made, followed, view_after, changed_lines, changed_view, with_attached, with_new_document, table, performed, request, opened, closed_view, Running, after_command, run_to, outcomes, IsSound, Rise, CommandKeepsSound, PlansFit, document_id, ids_of, same_ids, with_view_ids, view_after_id, changed_lines_id, IfOk, IfOk-at_ok, Response, found_below}
+use Rattle.run_laws.proofs.Names.{◌≡◌, ℕ, ◌+◌, ◌≤◌, ◌<◌, nat_lt, cond, Bool, true, false, List, [], ◌∷◌, ◌++◌, length, map, refl, ap, ◌∙◌, sym, subst, arith, Option, Some, None, Result, Ok, Err, ◌==◌, find, filter, not, nat_le, ◌||◌, option_map, option_or, ne_eqb, Message, Refusal, TooMany, Command, Outcome, Plan, Session, Document, View, document_at, view_at, new_document, new_view, attached_to, Request, text, steps_of, levels, scene_of, session_of, edit_made, followed, view_after, changed_lines, changed_view, with_attached, with_new_document, table, performed_for, request, opened, closed_view, Running, after_command, run_to, outcomes, IsSound, Rise, CommandKeepsSound, PlansFit, document_id, ids_of, same_ids, with_view_ids, view_after_id, changed_lines_id, IfOk, IfOk-at_ok, Response, found_below}
 use Rattle.std.proofs.lemmas.List.Folds.{find-append}
 use Rattle.run_laws.specs.IdLaws.{DocumentIdsNeverComeBack, ViewIdsNeverComeBack, NextIdsNeverFall, OpenedIdsRise, opened_ids}
 use Rattle.ed_model.specs.declared.plan.SessionChange.TheVariants as session_change
@@ -35,7 +35,7 @@ none_again s t id on below none = go (document_at t.documents id) refl
 sender_ids : (f : View → View) → ((v : View) → (f v).id ≡ v.id) → (sender : ℕ) (views : List View) → ids_of (map (λ (v : View). cond (v.id == sender) (f v) v) views) ≡ ids_of views
 sender_ids f same sender views = same_ids (λ (v : View). cond (v.id == sender) (f v) v) (sender_keeps (λ (w : View). w.id) f same sender) views
 
-performed_ids : (r : Request) (p : Plan) → ids_of (performed r p).0.views ≡ ids_of r.session.views
+performed_ids : (r : Request) (p : Plan) → ids_of (performed_for r p).0.views ≡ ids_of r.session.views
 performed_ids r p =
     performed_views r (λ (vs : List View). ids_of vs ≡ ids_of r.session.views)
     (λ step d vs is h. same_ids (view_after step d) (view_after_id step d) vs ∙ h)
@@ -60,9 +60,9 @@ attached_next : (o : Option Document) (v : View) (s : Session) → ((with_attach
 attached_next None v s = (refl, refl)
 attached_next (Some d) v s = (refl, refl)
 
-performed_next : (r : Request) (p : Plan) → (r.session.next_document ≤ (performed r p).0.next_document) × ((performed r p).0.next_view ≡ r.session.next_view)
+performed_next : (r : Request) (p : Plan) → (r.session.next_document ≤ (performed_for r p).0.next_document) × ((performed_for r p).0.next_view ≡ r.session.next_view)
 performed_next r (plan.Edit change value after) =
-    let s = session_of r.session (edit_made (steps_of r change) (scene_of r)) in
+    let s = session_of r.session (edit_made (steps_of r change) (scene_of r.session r.document)) in
     let same : (followed r.view.id (text r) after s).next_document ≡ r.session.next_document = followed_same (λ (x : Session). x.next_document) (λ x views. refl) (λ x clipboard. refl) r.view.id (text r) after s in
     (omega arith, followed_same (λ (x : Session). x.next_view) (λ x views. refl) (λ x clipboard. refl) r.view.id (text r) after s)
 performed_next r (plan.ChangeSession (session_change.Attach id) value) =
@@ -73,7 +73,7 @@ performed_next r (plan.ChangeSession session_change.AttachNew value) =
     let same = attached_next (document_at with.documents s.next_document) r.view with in (omega (arith, same.0), same.1)
 performed_next r _ = (omega arith, refl)
 
-performed_keeps : (r : Request) (p : Plan) → Keeps r.session (performed r p).0
+performed_keeps : (r : Request) (p : Plan) → Keeps r.session (performed_for r p).0
 performed_keeps r p = let next = performed_next r p in record { documents = next.0; views = next.1; ids_stay = performed_ids r p }
 
 message_keeps : (s : Session) (view : ℕ) (m : Message) (done : Session × Response) → table s view m ≡ Ok done → Keeps s done.0

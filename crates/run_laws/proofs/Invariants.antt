@@ -26,9 +26,9 @@ module _ (Holds : Document → Type 0) (low : ℕ) (new : (e : Document) → low
   own_holds : (r : Request) (p : Plan) → Holds r.document → Holds (own_after r p)
   own_holds r (plan.Edit change value after) h =
       edit_kept (λ (x : Scene). Holds x.document) (λ later step x k. recalled _ (document_after step x.document) (stepped step x.document k)) (λ x k. recalled _ x.document k)
-      (steps_of r change) (scene_of r) h
-  own_holds r plan.Undo h = transaction_holds notes.performed_undo (undo_changes r.document.history) (undone r.document.history) (scene_of r) h
-  own_holds r plan.Redo h = transaction_holds notes.performed_redo (redo_changes r.document.history) (redone r.document.history) (scene_of r) h
+      (steps_of r change) (scene_of r.session r.document) h
+  own_holds r plan.Undo h = transaction_holds notes.performed_undo (undo_changes r.document.history) (undone r.document.history) (scene_of r.session r.document) h
+  own_holds r plan.Redo h = transaction_holds notes.performed_redo (redo_changes r.document.history) (redone r.document.history) (scene_of r.session r.document) h
   own_holds r (plan.ChangeDocument change value) h = changed r.message.text change r.document h
   own_holds r _ h = h
 

@@ -1,5 +1,5 @@
 -- Two sessions that agree on a document: messages to its views do the same in both, and other messages leave it alone in each.
-use Rattle.run_laws.proofs.Names.{◌≡◌, ℕ, ◌==◌, nat_lt, cond, Bool, true, false, List, [], ◌∷◌, ◌++◌, length, map, refl, ap, ◌∙◌, sym, subst, Option, Some, None, Ok, Err, ℤ, pos, bit_or, reverse, option_map, not, AllByRecursion, eqb-true, eqb-false, not-true, not-false, Outcome, Replied, Refused, NoSuchView, Kind, Message, Notice, Response, kind_of, Edit, Follow, Plan, growth, Step, replacement, History, Change, TextStep, ContainerStep, undo_changes, redo_changes, undone, redone, latest_text_step, at_save_point, begins_transaction, Session, Document, View, document_at, view_at, with_document, with_view, watching, lines_in, Request, Planned, text, steps_of, source_bytes, converted_if, levels, Scene, scene_of, session_of, document_after, view_after, step_made, sealed_scene, edit_made, followed, with_caret, caret_behind, leaving, change_performed, changes_performed, transaction_performed, save_point_change, history_performed, place_behind, container_note, last_bits, response, changed_document, changed_lines, changed_view, change_told, table, answered, with_recording, plan_of, performed, request, table_from_view, table_from_kind, table_from_document, Answered, IsSound, IsViewOn, ListsItsViews, CommandKeepsSound, Running, starting, after_command, after_message, outcomes, run_to, found_all, document_id, view_id, replaced_found, mapped_found, found_once, IsOwner, view_after_id, changed_lines_id, view_after_document, is_copying, is_about_documents, Sending, sent, shows_other, goes_elsewhere, unless, without_others, own_outcomes, KeepsApart, DocumentsAreApart, changed_lines_document}
+use Rattle.run_laws.proofs.Names.{◌≡◌, ℕ, ◌==◌, nat_lt, cond, Bool, true, false, List, [], ◌∷◌, ◌++◌, length, map, refl, ap, ◌∙◌, sym, subst, Option, Some, None, Ok, Err, ℤ, pos, bit_or, reverse, option_map, not, AllByRecursion, eqb-true, eqb-false, not-true, not-false, Outcome, Replied, Refused, NoSuchView, Kind, Message, Notice, Response, kind_of, Edit, Follow, Plan, growth, Step, replacement, History, Change, TextStep, ContainerStep, undo_changes, redo_changes, undone, redone, latest_text_step, at_save_point, begins_transaction, Session, Document, View, document_at, view_at, with_document, with_view, watching, lines_in, Request, Planned, text, steps_of, source_bytes, converted_if, levels, Scene, scene_of, session_of, document_after, view_after, step_made, sealed_scene, edit_made, followed, with_caret, caret_behind, leaving, change_performed, changes_performed, transaction_performed, save_point_change, history_performed, place_behind, container_note, last_bits, response, changed_document, changed_lines, changed_view, change_told, table, answered, with_recording, plan_of, performed_for, request, table_from_view, table_from_kind, table_from_document, Answered, IsSound, IsViewOn, ListsItsViews, CommandKeepsSound, Running, starting, after_command, after_message, outcomes, run_to, found_all, document_id, view_id, replaced_found, mapped_found, found_once, IsOwner, view_after_id, changed_lines_id, view_after_document, is_copying, is_about_documents, Sending, sent, shows_other, goes_elsewhere, unless, without_others, own_outcomes, KeepsApart, DocumentsAreApart, changed_lines_document}
 use Rattle.ed_types.specs.declared.limits.Limits.{Limits}
 use Rattle.ed_model.specs.declared.plan.Source.{Source}
 use Rattle.ed_model.specs.declared.plan.Edit.TheVariants as edit
@@ -167,7 +167,7 @@ abbrev at : Request → Session → Request
 at r t = record r { session = t }
 
 source_same : (r : Request) (t : Session) (from : Source) → t.clipboard ≡ r.session.clipboard → source_bytes (at r t) from ≡ source_bytes r from
-source_same r t (source.Clipboard convert) e = same_converted convert r (at r t) t.clipboard refl ∙ ap (λ (bytes : List ℕ). converted_if convert r bytes) e
+source_same r t (source.Clipboard convert) e = same_converted convert r.document (at r t).document t.clipboard refl ∙ ap (λ (bytes : List ℕ). converted_if convert r.document bytes) e
 source_same r t _ e = refl
 
 steps_of_same : (r : Request) (t : Session) (change : Edit) → t.clipboard ≡ r.session.clipboard → steps_of (at r t) change ≡ steps_of r change
@@ -185,29 +185,29 @@ record OwnRequest (id : ℕ) (r : Request) : Type 0 where
   found : document_at r.session.documents id ≡ Some r.document
   listed : AllByRecursion (IsViewOn r.session.views id) r.document.views
 
-scene_same : (id : ℕ) (r : Request) (t : Session) → OwnRequest id r → Agree id r.session t → SameScenes id (scene_of r) (scene_of (at r t))
+scene_same : (id : ℕ) (r : Request) (t : Session) → OwnRequest id r → Agree id r.session t → SameScenes id (scene_of r.session r.document) (scene_of (at r t).session (at r t).document)
 scene_same id r t own h = record { document = refl; notes = refl; views = h.views; listed = own.listed }
 
 edit_done : (id : ℕ) (r : Request) (t : Session) (change : Edit) (value : ℤ) (after : Follow) → OwnRequest id r → Agree id r.session t
-    → SameDone id (performed r (plan.Edit change value after)) (performed (at r t) (plan.Edit change value after))
+    → SameDone id (performed_for r (plan.Edit change value after)) (performed_for (at r t) (plan.Edit change value after))
 edit_done id r t change value after own h =
-    subst (λ (steps : List Step). SameDone id (performed r (plan.Edit change value after))
-    (followed r.view.id (text r) after (session_of t (edit_made steps (scene_of (at r t)))), response value [] (edit_made steps (scene_of (at r t))).notes)) (sym (steps_of_same r t change h.clipboard))
-    (let a = edit_made (steps_of r change) (scene_of r) in
-    let b = edit_made (steps_of r change) (scene_of (at r t)) in
-    let same : SameScenes id a b = edit_related (SameScenes id) (step_same id) (sealed_same id) (steps_of r change) (scene_of r) (scene_of (at r t)) (scene_same id r t own h) in
+    subst (λ (steps : List Step). SameDone id (performed_for r (plan.Edit change value after))
+    (followed r.view.id (text r) after (session_of t (edit_made steps (scene_of (at r t).session (at r t).document))), response value [] (edit_made steps (scene_of (at r t).session (at r t).document)).notes)) (sym (steps_of_same r t change h.clipboard))
+    (let a = edit_made (steps_of r change) (scene_of r.session r.document) in
+    let b = edit_made (steps_of r change) (scene_of (at r t).session (at r t).document) in
+    let same : SameScenes id a b = edit_related (SameScenes id) (step_same id) (sealed_same id) (steps_of r change) (scene_of r.session r.document) (scene_of (at r t).session (at r t).document) (scene_same id r t own h) in
     record {
       reply = ap (λ (ns : List Notice). response value [] ns) same.notes;
       sessions = followed_agree id r.view.id (text r) after (session_of r.session a) (session_of t b)
           (scenes_agree id r.session t r.document a b h own.found (own_id r (plan.Edit change value after) ∙ own.is) same);
     })
 
-history_done : (id : ℕ) (r : Request) (t : Session) (who : ℕ) (cs : List Change) (new : History) → OwnRequest id r → Agree id r.session t → (transaction_performed who cs new (scene_of r)).document.id ≡ id
-    → SameDone id (history_performed r who cs new) (history_performed (at r t) who cs new)
+history_done : (id : ℕ) (r : Request) (t : Session) (who : ℕ) (cs : List Change) (new : History) → OwnRequest id r → Agree id r.session t → (transaction_performed who cs new (scene_of r.session r.document)).document.id ≡ id
+    → SameDone id (history_performed r.session r.view r.document who cs new) (history_performed (at r t).session (at r t).view (at r t).document who cs new)
 history_done id r t who cs new own h is =
-    let a = transaction_performed who cs new (scene_of r) in
-    let b = transaction_performed who cs new (scene_of (at r t)) in
-    let same : SameScenes id a b = transaction_same id who cs new (scene_of r) (scene_of (at r t)) (scene_same id r t own h) in
+    let a = transaction_performed who cs new (scene_of r.session r.document) in
+    let b = transaction_performed who cs new (scene_of (at r t).session (at r t).document) in
+    let same : SameScenes id a b = transaction_same id who cs new (scene_of r.session r.document) (scene_of (at r t).session (at r t).document) (scene_same id r t own h) in
     let agree = scenes_agree id r.session t r.document a b h own.found is same in
     record {
       reply = ap (λ (ns : List Notice). response (pos 0) [] ns) same.notes;
@@ -219,7 +219,7 @@ history_done id r t who cs new own h is =
       };
     }
 
-performed_done : (id : ℕ) (r : Request) (t : Session) (p : Plan) (l : Leave) → l.documents ≡ false → KeepsTo l p → OwnRequest id r → Agree id r.session t → SameDone id (performed r p) (performed (at r t) p)
+performed_done : (id : ℕ) (r : Request) (t : Session) (p : Plan) (l : Leave) → l.documents ≡ false → KeepsTo l p → OwnRequest id r → Agree id r.session t → SameDone id (performed_for r p) (performed_for (at r t) p)
 performed_done id r t (plan.Answer value) l barred keeps own h = record { reply = refl; sessions = h }
 performed_done id r t (plan.HandOut value start count) l barred keeps own h = record { reply = refl; sessions = h }
 performed_done id r t (plan.HandOutStyled start count) l barred keeps own h = record { reply = refl; sessions = h }

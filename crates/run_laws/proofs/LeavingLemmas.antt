@@ -1,5 +1,5 @@
 -- A message that is not about documents leaves the other views, other documents and the clipboard unchanged.
-use Rattle.run_laws.proofs.Names.{◌≡◌, ℕ, ◌==◌, cond, Bool, true, false, List, map, refl, ap, ◌∙◌, sym, subst, ℤ, eqb-true, and_parts, Follow, DocumentChange, SessionChange, Plan, Step, Session, Document, View, document_at, with_view, text_of, regrouped, flags_together, Request, text, steps_of, levels, scene_of, session_of, moved_view, view_after, edit_made, followed, changed_lines, changed_view, session_changed, performed, replaced_other, IsOwner, changed_view_id, changed_view_document}
+use Rattle.run_laws.proofs.Names.{◌≡◌, ℕ, ◌==◌, cond, Bool, true, false, List, map, refl, ap, ◌∙◌, sym, subst, ℤ, eqb-true, and_parts, Follow, DocumentChange, SessionChange, Plan, Step, Session, Document, View, document_at, with_view, text_of, regrouped, flags_together, Request, text, steps_of, levels, scene_of, session_of, moved_view, view_after, edit_made, followed, changed_lines, changed_view, session_changed, performed_for, replaced_other, IsOwner, changed_view_id, changed_view_document}
 use Rattle.ed_model.specs.declared.plan.Follow.TheVariants as follow
 use Rattle.ed_model.specs.declared.plan.DocumentChange.TheVariants as document_change
 use Rattle.ed_model.specs.declared.plan.SessionChange.TheVariants as session_change
@@ -58,7 +58,7 @@ module _ (Own : ℕ → Type 0) (sender document : ℕ) (apart : Own document �
 
 -- the views after a plan that is not about documents
 pub performed_leaves_views : (Own : ℕ → Type 0) (r : Request) (p : Plan) (l : Leave) → (Own r.view.document → ⊥) → l.documents ≡ false → KeepsTo l p → r.document.id ≡ r.view.document
-    → IsOwner r.view.id r.view.document r.session.views → AreAlike Own r.session.views (performed r p).0.views
+    → IsOwner r.view.id r.view.document r.session.views → AreAlike Own r.session.views (performed_for r p).0.views
 performed_leaves_views Own r p l apart barred keeps e once =
     performed_views r (AreAlike Own r.session.views)
     (λ step d vs is h. further vs _ h (step_leaves Own r.view.id r.view.document apart step d (is ∙ e) vs))
@@ -80,16 +80,16 @@ performed_leaves_views Own r p l apart barred keeps e once =
 
 -- a change of the session that is not about documents changes the clipboard alone
 session_leaves : (r : Request) (what : SessionChange) (value : ℤ) (l : Leave) → l.documents ≡ false → KeepsTo l (plan.ChangeSession what value)
-    → session_changed r what ≡ (let s = r.session in record s { clipboard = (session_changed r what).clipboard })
+    → session_changed r.session r.view r.document r.message.text what ≡ (let s = r.session in record s { clipboard = (session_changed r.session r.view r.document r.message.text what).clipboard })
 session_leaves r (session_change.Copy start count) value l barred keeps = refl
 session_leaves r (session_change.CopyText count) value l barred keeps = refl
 session_leaves r _ value l barred keeps = absurd (cc)
 
 pub performed_leaves_document : (r : Request) (p : Plan) (l : Leave) (id : ℕ) → l.documents ≡ false → KeepsTo l p → (id ≡ r.document.id → ⊥)
-    → document_at (performed r p).0.documents id ≡ document_at r.session.documents id
+    → document_at (performed_for r p).0.documents id ≡ document_at r.session.documents id
 performed_leaves_document r (plan.Edit change value after) l id barred keeps other =
     ap (λ (ds : List Document). document_at ds id)
-    (followed_same (λ (s : Session). s.documents) (λ s views. refl) (λ s clipboard. refl) r.view.id (text r) after (session_of r.session (edit_made (steps_of r change) (scene_of r))))
+    (followed_same (λ (s : Session). s.documents) (λ s views. refl) (λ s clipboard. refl) r.view.id (text r) after (session_of r.session (edit_made (steps_of r change) (scene_of r.session r.document))))
     ∙ replaced_other r.session.documents (own_after r (plan.Edit change value after)) id (λ e. other (e ∙ own_id r (plan.Edit change value after)))
 performed_leaves_document r plan.Undo l id barred keeps other = replaced_other r.session.documents (own_after r plan.Undo) id (λ e. other (e ∙ own_id r plan.Undo))
 performed_leaves_document r plan.Redo l id barred keeps other = replaced_other r.session.documents (own_after r plan.Redo) id (λ e. other (e ∙ own_id r plan.Redo))
@@ -104,9 +104,9 @@ followed_clipboard : (view : ℕ) (before : List ℕ) (after : Follow) (s : Sess
 followed_clipboard view before (follow.Clipboard start count) s l barred keeps = absurd (cc)
 followed_clipboard view before _ s l barred keeps = refl
 
-pub performed_leaves_clipboard : (r : Request) (p : Plan) (l : Leave) → l.documents ≡ false → l.copies ≡ false → KeepsTo l p → (performed r p).0.clipboard ≡ r.session.clipboard
+pub performed_leaves_clipboard : (r : Request) (p : Plan) (l : Leave) → l.documents ≡ false → l.copies ≡ false → KeepsTo l p → (performed_for r p).0.clipboard ≡ r.session.clipboard
 performed_leaves_clipboard r (plan.Edit change value after) l none barred keeps =
-    followed_clipboard r.view.id (text r) after (session_of r.session (edit_made (steps_of r change) (scene_of r))) l barred (and_parts l.edits (may_follow l after) keeps).1
+    followed_clipboard r.view.id (text r) after (session_of r.session (edit_made (steps_of r change) (scene_of r.session r.document))) l barred (and_parts l.edits (may_follow l after) keeps).1
 performed_leaves_clipboard r (plan.ChangeSession what value) l none barred keeps = absurd (go what keeps)
   where
     -- each change of the session needs a leave that is not given
@@ -115,8 +115,8 @@ performed_leaves_clipboard r (plan.ChangeSession what value) l none barred keeps
     go _ k = cc
 performed_leaves_clipboard r _ l none barred keeps = refl
 
-pub performed_leaves_limits : (r : Request) (p : Plan) (l : Leave) → l.documents ≡ false → KeepsTo l p → (performed r p).0.limits ≡ r.session.limits
+pub performed_leaves_limits : (r : Request) (p : Plan) (l : Leave) → l.documents ≡ false → KeepsTo l p → (performed_for r p).0.limits ≡ r.session.limits
 performed_leaves_limits r (plan.Edit change value after) l none keeps =
-    followed_same (λ (s : Session). s.limits) (λ s views. refl) (λ s clipboard. refl) r.view.id (text r) after (session_of r.session (edit_made (steps_of r change) (scene_of r)))
+    followed_same (λ (s : Session). s.limits) (λ s views. refl) (λ s clipboard. refl) r.view.id (text r) after (session_of r.session (edit_made (steps_of r change) (scene_of r.session r.document)))
 performed_leaves_limits r (plan.ChangeSession what value) l none keeps = ap (λ (s : Session). s.limits) (session_leaves r what value l none keeps)
 performed_leaves_limits r _ l none keeps = refl

@@ -1,5 +1,5 @@
 -- Recordings: a view that records keeps recording, each message is recorded once, and the messages that it recorded can be sent again.
-use Rattle.run_laws.proofs.Names.{◌≡◌, ℕ, ◌==◌, cond, Bool, true, false, List, [], ◌∷◌, ◌++◌, length, map, refl, ap, ◌∙◌, sym, subst, arith, ◌≤◌, inl, inr, Some, Ok, ◌⊎◌, IfOk, ℤ, ◌&&◌, filter, flat_map, option_map, AllByRecursion, eqb-true, eq-eqb, and_parts, StartRecord, StopRecord, Outcome, marks_of, Kind, Message, Notice, Response, kind_of, ViewChange, Plan, Session, Document, View, view_at, with_view, Request, Planned, levels, view_after, changed_lines, changed_view, table, answered, with_recording, plan_of, performed, request, Answered, IsSound, attached_to, record_note, LeavesSession, QueriesLeaveTheSession, Running, starting, after_command, after_message, outcomes, run_to, MessageKeepsSound, IsSoundInEveryStateFrom, view_id, put_found, mapped_found, found_once, view_after_id, changed_lines_id, changed_view_id, Sending, sent, not_recording, without_recording, CanStandBetween, RecordingsCanBeReplayed, RecordsOneAtMost, RepliesRecordOneMessage, RunsRecordOneMessageAReply, IfOk-at_ok, map-map, map_where, all_weaker}
+use Rattle.run_laws.proofs.Names.{◌≡◌, ℕ, ◌==◌, cond, Bool, true, false, List, [], ◌∷◌, ◌++◌, length, map, refl, ap, ◌∙◌, sym, subst, arith, ◌≤◌, inl, inr, Some, Ok, ◌⊎◌, IfOk, ℤ, ◌&&◌, filter, flat_map, option_map, AllByRecursion, eqb-true, eq-eqb, and_parts, StartRecord, StopRecord, Outcome, marks_of, Kind, Message, Notice, Response, kind_of, ViewChange, Plan, Session, Document, View, view_at, with_view, Request, Planned, levels, view_after, changed_lines, changed_view, table, answered, with_recording, plan_of, performed_for, request, Answered, IsSound, attached_to, record_note, LeavesSession, QueriesLeaveTheSession, Running, starting, after_command, after_message, outcomes, run_to, MessageKeepsSound, IsSoundInEveryStateFrom, view_id, put_found, mapped_found, found_once, view_after_id, changed_lines_id, changed_view_id, Sending, sent, not_recording, without_recording, CanStandBetween, RecordingsCanBeReplayed, RecordsOneAtMost, RepliesRecordOneMessage, RunsRecordOneMessageAReply, IfOk-at_ok, map-map, map_where, all_weaker}
 use Rattle.ed_model.specs.Recording.{told_message, recorded_messages, replies_in, sent_to}
 use Rattle.ed_model.specs.declared.plan.ViewChange.TheVariants as view_change
 use Rattle.ed_model.specs.declared.plan.Plan.TheVariants as plan
@@ -30,7 +30,7 @@ view_change_records levels (view_change.SetRecording on) v l answer barred keeps
 view_change_records levels _ v l answer barred keeps = refl
 
 -- the sender keeps recording
-performed_records : (r : Request) (p : Plan) (l : Leave) → l.recording ≡ false → KeepsTo l p → r.view.records ≡ true → Records r.view.id r.session.views → Records r.view.id (performed r p).0.views
+performed_records : (r : Request) (p : Plan) (l : Leave) → l.recording ≡ false → KeepsTo l p → r.view.records ≡ true → Records r.view.id r.session.views → Records r.view.id (performed_for r p).0.views
 performed_records r p l barred keeps e h =
     performed_views r (Records r.view.id)
     (λ step d vs is k. changed_records (view_after step d) (view_after_id step d) (step_keeps (λ (w : View). w.records) (λ step d w. refl) step d) vs r.view.id k)
@@ -89,7 +89,7 @@ message_steps leave view s m may records =
     first : (kind : Kind) (r : Request) (p : Plan) (os : List Outcome) (b : Bool) → ((r.view.records && (marks_of kind).r) && (r.view.id == view)) ≡ b
         → recorded_messages view (replies_in ((after_message r.session (answered kind r (Ok p))).1 ∷ os)) ≡ if_recorded b r.message (recorded_messages view (replies_in os))
     first kind r p os b e =
-        recorded_first view kind r (performed r p).1 (replies_in os) (plans_tell_no_record r p) ∙ ap (λ x. if_recorded x r.message (recorded_messages view (replies_in os))) e
+        recorded_first view kind r (performed_for r p).1 (replies_in os) (plans_tell_no_record r p) ∙ ap (λ x. if_recorded x r.message (recorded_messages view (replies_in os))) e
 
     go : (v : View) (kind : Kind) (d : Document) (p : Plan) → Sent s m.0 m.1 v kind d p → (b : Bool) → ((v.records && (marks_of kind).r) && (v.id == view)) ≡ b
         → ((marks_of kind).q ≡ true) ⊎ ((m.0 ≡ view) × ((marks_of kind).r ≡ true)) → Stepped view s m (answered kind (request s v d m.1) (Ok p))
@@ -101,7 +101,7 @@ message_steps leave view s m may records =
         inr (
           (λ os. first kind r p os true e),
           sym (view_id s.views m.0 v sent.sees) ∙ at,
-          subst (λ n. Records n (performed r p).0.views) at
+          subst (λ n. Records n (performed_for r p).0.views) at
               (performed_records r p (leave_of kind) (recorded_is_not_about_recording kind inner.1) sent.keeps inner.0 (subst (λ n. Records n s.views) (sym at) records)),
         )
     go v kind d p sent false e (inl query) =
@@ -245,7 +245,7 @@ replies_record_one_message s sender view m =
     of_answer (λ (done : Session × Response). RecordsOneAtMost view done.1) s sender m
     (λ v kind d p sent.
     let r = request s v d m in
-    subst (λ (ms : List Message). length ms ≤ 1) (sym (recorded_first view kind r (performed r p).1 [] (plans_tell_no_record r p)))
+    subst (λ (ms : List Message). length ms ≤ 1) (sym (recorded_first view kind r (performed_for r p).1 [] (plans_tell_no_record r p)))
     (one_at_most ((v.records && (marks_of kind).r) && (v.id == view)) m))
 
 pub runs_record_one_message_a_reply : RunsRecordOneMessageAReply

@@ -9,7 +9,7 @@ pub use Rattle.run_laws.specs.IsolationLaws.{views_on, Sending, sent, shows_othe
 pub use Rattle.std.specs.Option.{option_or}
 pub use Rattle.ed_types.specs.declared.kind.Kind.{Kind}
 pub use Rattle.ed_types.specs.Messages.{number_of, marks_of, every_kind, kind_among, kind_of}
-pub use Rattle.ed_model.specs.Table.{table, answered, performed, plan_of, request, record_note, opened, closed_view, with_recording, table_from_view, table_from_kind, table_from_document, closed}
+pub use Rattle.ed_model.specs.Table.{table, answered, performed_for, plan_of, request, record_note, opened, closed_view, with_recording, table_from_view, table_from_kind, table_from_document, closed}
 pub use Rattle.run_laws.specs.EditLaws.{something_to_edit, with_ones, tells_attempt, MarkedMessagesTellAttempts, text_if_there, TellsNoAttempt, OnlyEditsChangeTexts, OnlyEditsTellOfAttempts, text_at}
 pub use Rattle.ed_types.specs.Notices.{Response, Notice}
 pub use Rattle.ed_model.specs.declared.plan.DocumentChange.{DocumentChange}

@@ -1,5 +1,5 @@
 -- The codes of the notes of plans: none is SCN_MACRORECORD, which only the recording adds, and only an attempt has SCN_MODIFYATTEMPTRO.
-use Rattle.run_laws.proofs.Names.{◌≡◌, ℕ, ◌==◌, nat_lt, cond, Bool, true, false, List, [], ◌∷◌, ◌++◌, length, refl, Option, Some, None, ℤ, bit_or, filter, AllByRecursion, Notice, DocumentChange, Plan, growth, Step, Insert, Delete, History, Change, TextStep, ContainerStep, undo_changes, redo_changes, undone, redone, at_save_point, begins_transaction, Document, View, watching, lines_in, Request, steps_of, Scene, scene_of, document_after, step_heard, edit_made, leaving, change_performed, changes_performed, save_point_change, history_performed, changed_document, change_told, performed, meets, last_bits, container_note, range_notes, all_append}
+use Rattle.run_laws.proofs.Names.{◌≡◌, ℕ, ◌==◌, nat_lt, cond, Bool, true, false, List, [], ◌∷◌, ◌++◌, length, refl, Option, Some, None, ℤ, bit_or, filter, AllByRecursion, Notice, DocumentChange, Plan, growth, Step, Insert, Delete, History, Change, TextStep, ContainerStep, undo_changes, redo_changes, undone, redone, at_save_point, begins_transaction, Document, View, watching, lines_in, Request, steps_of, Scene, scene_of, document_after, step_heard, edit_made, leaving, change_performed, changes_performed, save_point_change, history_performed, changed_document, change_told, performed_for, meets, last_bits, container_note, range_notes, all_append}
 use Rattle.ed_model.specs.declared.plan.DocumentChange.TheVariants as document_change
 use Rattle.ed_model.specs.declared.plan.Plan.TheVariants as plan
 use Rattle.ed_model.specs.Notes as notes
@@ -63,11 +63,11 @@ module _ (Code : ℕ → Type 0) (needed : Code notes.style_needed) (reached : C
   codes_save_point views false true = codes_told views (notes.blank notes.save_point_reached) reached
   codes_save_point views false false = tt
 
-  codes_history : (r : Request) (who : ℕ) (cs : List Change) (new : History) → HaveCodes (history_performed r who cs new).1.notes
+  codes_history : (r : Request) (who : ℕ) (cs : List Change) (new : History) → HaveCodes (history_performed r.session r.view r.document who cs new).1.notes
   codes_history r who cs new =
-      let done = changes_performed who (notes.bit_if (nat_lt 1 (length cs)) notes.multi_step) false cs (scene_of r) in
+      let done = changes_performed who (notes.bit_if (nat_lt 1 (length cs)) notes.multi_step) false cs (scene_of r.session r.document) in
       all_append HasCode done.notes (save_point_change (watching done.views done.document) (at_save_point r.document.history) (at_save_point new))
-      (changes_kept (λ (x : Scene). HaveCodes x.notes) codes_performed who (notes.bit_if (nat_lt 1 (length cs)) notes.multi_step) false cs (scene_of r) tt)
+      (changes_kept (λ (x : Scene). HaveCodes x.notes) codes_performed who (notes.bit_if (nat_lt 1 (length cs)) notes.multi_step) false cs (scene_of r.session r.document) tt)
       (codes_save_point (watching done.views done.document) (at_save_point r.document.history) (at_save_point new))
 
   codes_range : (kind : ℕ) (range : Option (ℕ × ℕ)) (views : List View) → HaveCodes (range_notes kind range views)
@@ -81,8 +81,8 @@ module _ (Code : ℕ → Type 0) (needed : Code notes.style_needed) (reached : C
   codes_change sender views old new document_change.SetSavePoint = search codes
   codes_change sender views old new _ = search codes
 
-  pub plans_have_codes : (r : Request) (p : Plan) → (p ≡ plan.Attempt → Code notes.modify_attempt) → HaveCodes (performed r p).1.notes
-  plans_have_codes r (plan.Edit change value after) attempt = codes_edit (steps_of r change) (scene_of r) tt
+  pub plans_have_codes : (r : Request) (p : Plan) → (p ≡ plan.Attempt → Code notes.modify_attempt) → HaveCodes (performed_for r p).1.notes
+  plans_have_codes r (plan.Edit change value after) attempt = codes_edit (steps_of r change) (scene_of r.session r.document) tt
   plans_have_codes r plan.Attempt attempt = codes_told (watching r.session.views r.document) (notes.blank notes.modify_attempt) (attempt refl)
   plans_have_codes r plan.Undo attempt = codes_history r notes.performed_undo (undo_changes r.document.history) (undone r.document.history)
   plans_have_codes r plan.Redo attempt = codes_history r notes.performed_redo (redo_changes r.document.history) (redone r.document.history)
@@ -97,5 +97,5 @@ IsNoRecord n = (n.code == notes.macro_record) ≡ false
 abbrev pub NoRecords : List Notice → Type 0
 NoRecords ns = AllByRecursion IsNoRecord ns
 
-pub plans_tell_no_record : (r : Request) (p : Plan) → NoRecords (performed r p).1.notes
+pub plans_tell_no_record : (r : Request) (p : Plan) → NoRecords (performed_for r p).1.notes
 plans_tell_no_record r p = plans_have_codes (λ (code : ℕ). (code == notes.macro_record) ≡ false) refl refl refl refl r p (λ is. refl)

@@ -92,9 +92,9 @@ plan_is_shaped kinds.AddText r = search shapes
 plan_is_shaped _ r = search shapes
 
 -- the conversion of line ends depends only on the document
-pub same_converted : (b : Bool) (r q : Request) (bytes : List ℕ) → q.document ≡ r.document → converted_if b q bytes ≡ converted_if b r bytes
-same_converted true r q bytes e = ap (λ (d : Document). converted d.line_end bytes) e
-same_converted false r q bytes e = refl
+pub same_converted : (b : Bool) (d e : Document) (bytes : List ℕ) → e ≡ d → converted_if b e bytes ≡ converted_if b d bytes
+same_converted true d e bytes same = ap (λ (d : Document). converted d.line_end bytes) same
+same_converted false d e bytes same = refl
 
 -- A plan that is not about documents depends on the session only through its clipboard and limits.
 pub same_plan : (kind : Kind) (r : Request) (documents : List Document) (views : List View) (next_document next_view : ℕ) → is_about_documents kind ≡ false
@@ -102,7 +102,7 @@ pub same_plan : (kind : Kind) (r : Request) (documents : List Document) (views :
 same_plan kinds.Paste r documents views next_document next_view e =
     let s = r.session in
     let q = record r { session = record s { documents = documents; views = views; next_document = next_document; next_view = next_view } } in
-    rw (same_converted r.view.converts_pastes r q r.session.clipboard refl) refl
+    rw (same_converted r.view.converts_pastes r.document q.document r.session.clipboard refl) refl
 same_plan kinds.SetDocPointer r documents views next_document next_view e = absurd (cc)
 same_plan kinds.CreateDocument r documents views next_document next_view e = absurd (cc)
 same_plan kinds.AddRefDocument r documents views next_document next_view e = absurd (cc)
@@ -116,7 +116,7 @@ same_plan_recording kinds.Paste r views records =
     let s = r.session in
     let v = r.view in
     let q = record r { session = record s { views = views }; view = record v { records = records } } in
-    rw (same_converted r.view.converts_pastes r q r.session.clipboard refl) refl
+    rw (same_converted r.view.converts_pastes r.document q.document r.session.clipboard refl) refl
 same_plan_recording _ r views records = refl
 
 -- no message marked R starts or stops a recording

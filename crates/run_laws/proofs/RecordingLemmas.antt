@@ -1,5 +1,5 @@
 -- Whether a view records depends on nothing else, and nothing else depends on it.
-use Rattle.run_laws.proofs.Names.{◌≡◌, ℕ, ◌==◌, nat_lt, cond, Bool, true, false, List, [], ◌∷◌, length, map, refl, ap, ◌∙◌, sym, subst, Option, Some, None, Ok, Err, ◌+◌, slice_range, reverse, option_map, eq-eqb, Kind, Message, kind_of, Edit, Follow, DocumentChange, ViewChange, SessionChange, Plan, Step, History, Change, TextStep, ContainerStep, undo_changes, redo_changes, undone, redone, latest_text_step, sealed_outside_groups, Session, Document, View, document_at, view_at, with_document, with_view, Request, Planned, text, steps_of, levels, Scene, scene_of, session_of, document_after, moved_view, view_after, step_made, sealed_scene, edit_made, followed, with_caret, with_target, caret_behind, change_performed, changes_performed, history_performed, place_behind, changed_lines, changed_view, table, answered, plan_of, performed, request, table_from_view, table_from_kind, table_from_document, Answered, attached_to, new_document, text_of, regrouped, flags_together, replacement, appended, with_attached, with_new_document, session_changed, after_message, view_id, mapped_found, changed_view_id, not_recording}
+use Rattle.run_laws.proofs.Names.{◌≡◌, ℕ, ◌==◌, nat_lt, cond, Bool, true, false, List, [], ◌∷◌, length, map, refl, ap, ◌∙◌, sym, subst, Option, Some, None, Ok, Err, ◌+◌, slice_range, reverse, option_map, eq-eqb, Kind, Message, kind_of, Edit, Follow, DocumentChange, ViewChange, SessionChange, Plan, Step, History, Change, TextStep, ContainerStep, undo_changes, redo_changes, undone, redone, latest_text_step, sealed_outside_groups, Session, Document, View, document_at, view_at, with_document, with_view, Request, Planned, text, steps_of, levels, Scene, scene_of, session_of, document_after, moved_view, view_after, step_made, sealed_scene, edit_made, followed, with_caret, with_target, caret_behind, change_performed, changes_performed, history_performed, place_behind, changed_lines, changed_view, table, answered, plan_of, performed_for, request, table_from_view, table_from_kind, table_from_document, Answered, attached_to, new_document, text_of, regrouped, flags_together, replacement, appended, with_attached, with_new_document, session_changed, after_message, view_id, mapped_found, changed_view_id, not_recording}
 use Rattle.ed_model.specs.declared.plan.Edit.TheVariants as edit
 use Rattle.ed_model.specs.declared.plan.Source.TheVariants as source
 use Rattle.ed_model.specs.declared.plan.Follow.TheVariants as follow
@@ -96,7 +96,7 @@ module _ (view : ℕ) where
 
   same_steps : (r : Request) (ws : List View) (b : Bool) (change : Edit) → steps_of (other r ws b) change ≡ steps_of r change
   same_steps r ws b (edit.Replace start count (source.Clipboard convert)) =
-      ap (λ (bytes : List ℕ). replacement start count bytes (text r)) (same_converted convert r (other r ws b) r.session.clipboard refl)
+      ap (λ (bytes : List ℕ). replacement start count bytes (text r)) (same_converted convert r.document (other r ws b).document r.session.clipboard refl)
   same_steps r ws b _ = refl
 
   scene_sessions : (s : Session) (ws : List View) (a b : Scene) → Scenes a b → Same (session_of s a) (session_of (record s { views = ws }) b)
@@ -112,12 +112,12 @@ module _ (view : ℕ) where
   }
   followed_same sender before (follow.Clipboard start count) s t h = record { same = ap (λ (x : Session). record x { clipboard = slice_range before start (start + count) }) h.same; views = h.views }
 
-  history_same : (r : Request) (ws : List View) (b : Bool) (who : ℕ) (cs : List Change) (new : History) → Like r.session.views ws → Same (history_performed r who cs new).0 (history_performed (other r ws b) who cs new).0
+  history_same : (r : Request) (ws : List View) (b : Bool) (who : ℕ) (cs : List Change) (new : History) → Like r.session.views ws → Same (history_performed r.session r.view r.document who cs new).0 (history_performed (other r ws b).session (other r ws b).view (other r ws b).document who cs new).0
   history_same r ws b who cs new e =
       let several = notes.bit_if (nat_lt 1 (length cs)) notes.multi_step in
-      let x = changes_performed who several false cs (scene_of r) in
-      let y = changes_performed who several false cs (scene_of (other r ws b)) in
-      let h : Scenes x y = changes_related Scenes (λ a b k. k.document) change_scenes who several false cs (scene_of r) (scene_of (other r ws b)) (record { document = refl; views = e }) in
+      let x = changes_performed who several false cs (scene_of r.session r.document) in
+      let y = changes_performed who several false cs (scene_of (other r ws b).session (other r ws b).document) in
+      let h : Scenes x y = changes_related Scenes (λ a b k. k.document) change_scenes who several false cs (scene_of r.session r.document) (scene_of (other r ws b).session (other r ws b).document) (record { document = refl; views = e }) in
       let step = latest_text_step (reverse cs) in
       let s = r.session in
       record {
@@ -140,7 +140,7 @@ module _ (view : ℕ) where
     views = put_like (attached_to d v) (attached_to d (record v { records = b })) s.views ws (ap (λ c. let w = attached_to d v in record w { records = c }) (no_flag v b at)) refl e;
   }
 
-  session_same : (r : Request) (ws : List View) (b : Bool) (what : SessionChange) → (r.view.id == view) ≡ true → Like r.session.views ws → Same (session_changed r what) (session_changed (other r ws b) what)
+  session_same : (r : Request) (ws : List View) (b : Bool) (what : SessionChange) → (r.view.id == view) ≡ true → Like r.session.views ws → Same (session_changed r.session r.view r.document r.message.text what) (session_changed (other r ws b).session (other r ws b).view (other r ws b).document (other r ws b).message.text what)
   session_same r ws b (session_change.Attach id) at e = attached_same r.session ws (document_at r.session.documents id) r.view b at e
   session_same r ws b session_change.AttachNew at e =
       let s = r.session in
@@ -148,13 +148,13 @@ module _ (view : ℕ) where
       attached_same with ws (document_at with.documents s.next_document) r.view b at e
   session_same r ws b _ at e = record { same = refl; views = e }
 
-  performed_same : (r : Request) (ws : List View) (b : Bool) (p : Plan) → (r.view.id == view) ≡ true → Like r.session.views ws → Same (performed r p).0 (performed (other r ws b) p).0
+  performed_same : (r : Request) (ws : List View) (b : Bool) (p : Plan) → (r.view.id == view) ≡ true → Like r.session.views ws → Same (performed_for r p).0 (performed_for (other r ws b) p).0
   performed_same r ws b (plan.Edit change value after) at e =
-      subst (λ (steps : List Step). Same (performed r (plan.Edit change value after)).0 (followed r.view.id (text r) after (session_of (other r ws b).session (edit_made steps (scene_of (other r ws b)))))) (sym (same_steps r ws b change))
-      (let x = edit_made (steps_of r change) (scene_of r) in
-      let y = edit_made (steps_of r change) (scene_of (other r ws b)) in
+      subst (λ (steps : List Step). Same (performed_for r (plan.Edit change value after)).0 (followed r.view.id (text r) after (session_of (other r ws b).session (edit_made steps (scene_of (other r ws b).session (other r ws b).document))))) (sym (same_steps r ws b change))
+      (let x = edit_made (steps_of r change) (scene_of r.session r.document) in
+      let y = edit_made (steps_of r change) (scene_of (other r ws b).session (other r ws b).document) in
       followed_same r.view.id (text r) after (session_of r.session x) (session_of (other r ws b).session y)
-      (scene_sessions r.session ws x y (edit_related Scenes step_scenes sealed_scenes (steps_of r change) (scene_of r) (scene_of (other r ws b)) (record { document = refl; views = e }))))
+      (scene_sessions r.session ws x y (edit_related Scenes step_scenes sealed_scenes (steps_of r change) (scene_of r.session r.document) (scene_of (other r ws b).session (other r ws b).document) (record { document = refl; views = e }))))
   performed_same r ws b plan.Undo at e = history_same r ws b notes.performed_undo (undo_changes r.document.history) (undone r.document.history) e
   performed_same r ws b plan.Redo at e = history_same r ws b notes.performed_redo (redo_changes r.document.history) (redone r.document.history) e
   performed_same r ws b (plan.ChangeDocument change value) at e =

@@ -292,18 +292,18 @@ module _ (c : Cited) (saved : List ℕ) where
     where
       go : (b : Bool) → r.document.history.collecting ≡ b → (r.document.history.collecting ≡ true) ⊎ (text_of (own_after r (plan.Edit change value after)) ≡ text_of r.document)
           → SavedIn saved (own_after r (plan.Edit change value after))
-      go true on k = edit_saved (steps_of r change) (scene_of r) on (fit_in_turn (steps_of r change) (text r) (c.edit_fits r change fit.0)) s
+      go true on k = edit_saved (steps_of r change) (scene_of r.session r.document) on (fit_in_turn (steps_of r change) (text r) (c.edit_fits r change fit.0)) s
       go false off (inl on) = absurd (cc)
       go false off (inr same) =
           let none = (fit_document.history.kept off).0 in
-          subst (Saved saved (text_of (own_after r (plan.Edit change value after)))) (sym (edit_stays (steps_of r change) (scene_of r) off none))
+          subst (Saved saved (text_of (own_after r (plan.Edit change value after)))) (sym (edit_stays (steps_of r change) (scene_of r.session r.document) off none))
           (subst (λ (now : List ℕ). Saved saved now r.document.history) (sym same) s)
   own_saved r plan.Undo l barred keeps sound fit_document fit may s =
       let first = first_of_some (r.document.history.depth == 0) r.document.history.past fit.0 in
-      undo_saved (scene_of r) first.0 first.1 first.2 (fit_in_turn _ (text r) (c.undo_fits r sound)) s
+      undo_saved (scene_of r.session r.document) first.0 first.1 first.2 (fit_in_turn _ (text r) (c.undo_fits r sound)) s
   own_saved r plan.Redo l barred keeps sound fit_document fit may s =
       let first = first_of_some (r.document.history.depth == 0) r.document.history.future fit.0 in
-      redo_saved (scene_of r) first.0 first.1 first.2 (fit_in_turn _ (text r) (c.redo_fits r sound)) s
+      redo_saved (scene_of r.session r.document) first.0 first.1 first.2 (fit_in_turn _ (text r) (c.redo_fits r sound)) s
   own_saved r (plan.ChangeDocument change value) l barred keeps sound fit_document fit may s = changed_saved r.message.text change r.document l value barred keeps s
   own_saved r _ l barred keeps sound fit_document fit may s = s
 

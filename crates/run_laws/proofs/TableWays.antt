@@ -1,5 +1,5 @@
 -- The path of a message through the table, and of a command.
-use Rattle.run_laws.proofs.Names.{◌≡◌, ℕ, List, refl, ap, ◌∙◌, Option, Some, None, Result, Ok, Err, ℤ, Kind, Message, Refusal, NoSuchView, UnknownMessage, NoSuchDocument, BadArgument, Command, OpenView, CloseView, LoadFile, SendMessage, Expect, Outcome, Expected, Response, kind_of, Session, View, Document, view_at, document_at, Answered, table, table_from_view, table_from_kind, table_from_document, answered, plan_of, request, opened, closed, Running, after_command, after_opening, after_closing, after_message, loaded, file_at, set_text_message, is_met, Plan, Planned, OutOfMemory, subst, IfOk, IfOk-at_ok, performed, with_recording}
+use Rattle.run_laws.proofs.Names.{◌≡◌, ℕ, List, refl, ap, ◌∙◌, Option, Some, None, Result, Ok, Err, ℤ, Kind, Message, Refusal, NoSuchView, UnknownMessage, NoSuchDocument, BadArgument, Command, OpenView, CloseView, LoadFile, SendMessage, Expect, Outcome, Expected, Response, kind_of, Session, View, Document, view_at, document_at, Answered, table, table_from_view, table_from_kind, table_from_document, answered, plan_of, request, opened, closed, Running, after_command, after_opening, after_closing, after_message, loaded, file_at, set_text_message, is_met, Plan, Planned, OutOfMemory, subst, IfOk, IfOk-at_ok, performed_for, with_recording}
 use Rattle.run_laws.proofs.PlanShapes.{KeepsTo, IsShaped, leave_of, plan_is_shaped}
 
 -- A message to a view on a document, with its plan, which keeps to the leave of the kind.
@@ -36,7 +36,7 @@ of_table P refused s view m h = at_view (view_at s.views view) refl
 -- .. so what each plan does, each answer does
 pub of_answer : (P : Session × Response → Type 0) (s : Session) (view : ℕ) (m : Message)
     → ((v : View) (kind : Kind) (d : Document) (p : Plan) → Sent s view m v kind d p
-    → (let r = request s v d m in let done = performed r p in P (done.0, with_recording kind r done.1)))
+    → (let r = request s v d m in let done = performed_for r p in P (done.0, with_recording kind r done.1)))
     → (done : Session × Response) → table s view m ≡ Ok done → P done
 of_answer P s view m h done e = IfOk-at_ok P e (of_table (λ (x : Answered). IfOk x P) (λ refusal other. tt) s view m h)
 

@@ -1,5 +1,5 @@
 -- What each step keeps, the steps of a message keep: in a scene, in two scenes, and in the views of a session after a plan.
-use Rattle.run_laws.proofs.Names.{◌≡◌, ℕ, ◌+◌, ◌==◌, nat_lt, cond, Bool, true, false, List, [], ◌∷◌, length, map, refl, sym, subst, Option, Some, None, ℤ, reverse, slice_range, Follow, DocumentChange, ViewChange, SessionChange, Plan, regrouped, Flags, flags_together, Step, History, Change, TextStep, ContainerStep, undo_changes, redo_changes, undone, redone, latest_text_step, Session, Document, View, document_at, text_of, with_view, attached_to, new_document, Request, text, steps_of, levels, Scene, scene_of, session_of, moved_view, view_after, step_made, steps_made, sealed_scene, edit_made, followed, with_caret, with_target, caret_behind, change_performed, changes_performed, changes_lines, is_last, history_performed, place_behind, changed_lines, changed_view, with_attached, with_new_document, performed}
+use Rattle.run_laws.proofs.Names.{◌≡◌, ℕ, ◌+◌, ◌==◌, nat_lt, cond, Bool, true, false, List, [], ◌∷◌, length, map, refl, sym, subst, Option, Some, None, ℤ, reverse, slice_range, Follow, DocumentChange, ViewChange, SessionChange, Plan, regrouped, Flags, flags_together, Step, History, Change, TextStep, ContainerStep, undo_changes, redo_changes, undone, redone, latest_text_step, Session, Document, View, document_at, text_of, with_view, attached_to, new_document, Request, text, steps_of, levels, Scene, scene_of, session_of, moved_view, view_after, step_made, steps_made, sealed_scene, edit_made, followed, with_caret, with_target, caret_behind, change_performed, changes_performed, changes_lines, is_last, history_performed, place_behind, changed_lines, changed_view, with_attached, with_new_document, performed_for}
 use Rattle.ed_model.specs.declared.plan.Follow.TheVariants as follow
 use Rattle.ed_model.specs.declared.plan.DocumentChange.TheVariants as document_change
 use Rattle.ed_model.specs.declared.plan.SessionChange.TheVariants as session_change
@@ -110,11 +110,11 @@ module _ (r : Request) (V : List View → Type 0)
   behind_views None views h = h
   behind_views (Some step) views h = caret (place_behind step) views h
 
-  history_views : (who : ℕ) (cs : List Change) (new : History) → V r.session.views → V (history_performed r who cs new).0.views
+  history_views : (who : ℕ) (cs : List Change) (new : History) → V r.session.views → V (history_performed r.session r.view r.document who cs new).0.views
   history_views who cs new h =
       let several = notes.bit_if (nat_lt 1 (length cs)) notes.multi_step in
-      behind_views (latest_text_step (reverse cs)) (changes_performed who several false cs (scene_of r)).views
-      (changes_views r.document.id V stepped who several false cs (scene_of r) (refl, h)).1
+      behind_views (latest_text_step (reverse cs)) (changes_performed who several false cs (scene_of r.session r.document)).views
+      (changes_views r.document.id V stepped who several false cs (scene_of r.session r.document) (refl, h)).1
 
   attached_views : (o : Option Document) (s : Session) → ((d : Document) → V s.views → V (with_view (attached_to d r.view) s.views)) → V s.views → V (with_attached o r.view s).views
   attached_views None s attach h = h
@@ -124,9 +124,9 @@ module _ (r : Request) (V : List View → Type 0)
       → ((what : ViewChange) (value : ℤ) → p ≡ plan.ChangeView what value → V r.session.views → V (with_view (changed_view (levels r) what r.view) r.session.views))
       → ((what : SessionChange) (value : ℤ) (d : Document) → p ≡ plan.ChangeSession what value → attaches what ≡ true → V r.session.views
       → V (with_view (attached_to d r.view) r.session.views))
-      → V r.session.views → V (performed r p).0.views
+      → V r.session.views → V (performed_for r p).0.views
   performed_views (plan.Edit change value after) put attach h =
-      followed_views after (session_of r.session (edit_made (steps_of r change) (scene_of r))) (edit_kept (Keeps r.document.id V stepped) (λ later step x k. (k.0, stepped step x.document x.views k.0 k.1)) (λ x k. k) (steps_of r change) (scene_of r) (refl, h)).1
+      followed_views after (session_of r.session (edit_made (steps_of r change) (scene_of r.session r.document))) (edit_kept (Keeps r.document.id V stepped) (λ later step x k. (k.0, stepped step x.document x.views k.0 k.1)) (λ x k. k) (steps_of r change) (scene_of r.session r.document) (refl, h)).1
   performed_views plan.Undo put attach h = history_views notes.performed_undo (undo_changes r.document.history) (undone r.document.history) h
   performed_views plan.Redo put attach h = history_views notes.performed_redo (redo_changes r.document.history) (redone r.document.history) h
   performed_views (plan.ChangeDocument change value) put attach h = lines change h

@@ -139,6 +139,20 @@ impl<P: Place, V: Copy + Eq, A: Allocator> RunTable<P, V, A> {
         self.run_of(place)
     }
 
+    /// Returns the run that holds a place, for a caller that asks several tables for one place, in turn. The branch at each
+    /// start that is read is predicted, so that the processor reads the next table before it has done with this one.
+    pub(crate) fn run_in_turn(&self, place: usize) -> usize
+        requires { place < length (list_of self.now) }
+        ensures { IsRunOf V.eq self.now place result }
+    {
+        let last = self.count() - 1;
+        if place < self.start_of(last) {
+            let mut probes = Probes::new();
+            return self.starts.partition_between(place, 0, last, &mut probes);
+        }
+        self.run_near(place, last)
+    }
+
     /// Returns the run that holds a place. It is likely the run of the last edit, or a neighbour of it: edits follow one
     /// another, and undo goes back through them. The place is looked up only if it is in none of these. That reads at
     /// most three starts, each once: the start of the likely run, and then that of the run before it, or those of the

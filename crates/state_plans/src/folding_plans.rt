@@ -3,14 +3,15 @@
 ghost use Rattle.std.specs.Prelude.{◌≡◌, ◌≤◌, ◌<◌, ◌^◌, IfSome};
 ghost use Rattle.ed_model.specs.Requests.{answer, line_total, with_argument};
 ghost use Rattle.ed_model.specs.FoldingPlans.{doc_line_from_visible, ensure_visible, fold_at, fold_by, fold_line, get_all_lines_visible, get_fold_expanded, get_fold_level, get_fold_parent, get_last_child, get_line_visible, hide_lines, line_shown_at, past_line, set_fold_expanded, set_fold_level, show_lines, toggle_fold, visible_from_doc_line};
-ghost use Rattle.message_requests.specs.Changing.{changed};
+ghost use Rattle.message_requests.specs.Changing.{changed, view_changed};
 
 use contraction::folds::{fold_header, fold_parent, last_child_at};
-use ed_model::{DocumentChange, Planned, ViewChange};
+use ed_model::{DocumentChange, ViewChange};
 use ed_types::{Refusal, fold_level};
 use message_requests::Request;
 use message_requests::answers::{
-    ChangePlan, answer, change_document, change_nothing, change_view, flag, line_or_none,
+    ChangePlan, ViewPlan, change_document, change_nothing, change_view, flag, leave_view,
+    line_or_none,
 };
 use message_requests::arguments::{clamped, is_on, line_among, some_or_all, within};
 
@@ -20,7 +21,7 @@ const CONTRACT: usize = 0;
 
 const TOGGLE: usize = 2;
 
-/// SETFOLDLEVEL: sets the level of line `w` to `l`.
+/// SETFOLDLEVEL: sets the level of line `w` to `l`. A level that the line has already is no change.
 ///
 /// # Errors
 ///
@@ -34,10 +35,11 @@ pub fn set_fold_level(r: &Request) -> Result<ChangePlan, Refusal>
     let Some(line) = line_among(r.line_total(), r.message.w) else {
         return change_nothing(0);
     };
-    change_document(DocumentChange::SetLevel {
-        line,
-        level: level as u32,
-    })
+    let level = level as u32;
+    if r.document.rows().level(line) == level {
+        return change_nothing(0);
+    }
+    change_document(DocumentChange::SetLevel { line, level })
 }
 
 /// GETLASTCHILD: returns the last line of the block below line `w`. The block ends before the next line whose level
@@ -65,12 +67,12 @@ pub fn get_fold_parent(r: &Request) -> i64
 }
 
 /// Contracts, expands or toggles a header.
-fn fold_by(r: &Request, action: usize, header: Option<usize>) -> Planned
+fn fold_by(r: &Request, action: usize, header: Option<usize>) -> Result<ViewPlan, Refusal>
     requires { IfSome header (λ line. line < line_total r.now) }
-    ensures { result ≡ fold_by r.now action header }
+    ensures { view_changed result ≡ fold_by r.now action header }
 {
     let Some(header) = header else {
-        return answer(0);
+        return leave_view(0);
     };
     if action == CONTRACT || (action == TOGGLE && r.lines().expanded(header)) {
         change_view(ViewChange::Contract { line: header })
@@ -81,18 +83,22 @@ fn fold_by(r: &Request, action: usize, header: Option<usize>) -> Planned
 
 /// Contracts, expands or toggles line `w` if it is a header, or else its fold parent.
 #[tactic(auto, using(crate::proofs::Ranges::header_within))]
-fn fold_at(r: &Request, action: usize) -> Planned
-    ensures { result ≡ fold_at r.now action }
+fn fold_at(r: &Request, action: usize) -> Result<ViewPlan, Refusal>
+    ensures { view_changed result ≡ fold_at r.now action }
 {
     match line_among(r.line_total(), r.message.w) {
         Some(line) => fold_by(r, action, fold_header(&r.levels(), line)),
-        None => answer(0),
+        None => leave_view(0),
     }
 }
 
 /// FOLDLINE: contracts (`l` = 0), expands (1) or toggles (2) the header of line `w`.
-pub fn fold_line(r: &Request) -> Planned
-    ensures { result ≡ fold_line r.now }
+///
+/// # Errors
+///
+/// `BadArgument` if `l` is no action.
+pub fn fold_line(r: &Request) -> Result<ViewPlan, Refusal>
+    ensures { view_changed result ≡ fold_line r.now }
 {
     match within(0, 2, r.message.l) {
         Some(action) => fold_at(r, action),
@@ -101,8 +107,8 @@ pub fn fold_line(r: &Request) -> Planned
 }
 
 /// TOGGLEFOLD: contracts the header of line `w`, or expands it if it is contracted.
-pub fn toggle_fold(r: &Request) -> Planned
-    ensures { result ≡ toggle_fold r.now }
+pub fn toggle_fold(r: &Request) -> Result<ViewPlan, Refusal>
+    ensures { view_changed result ≡ toggle_fold r.now }
 {
     fold_at(r, TOGGLE)
 }
@@ -152,8 +158,8 @@ fn past_line(lines: usize, argument: i64) -> usize
 }
 
 /// SHOWLINES: makes the lines from `w` to `l` visible.
-pub fn show_lines(r: &Request) -> Planned
-    ensures { result ≡ show_lines r.now }
+pub fn show_lines(r: &Request) -> Result<ViewPlan, Refusal>
+    ensures { view_changed result ≡ show_lines r.now }
 {
     let lines = r.line_total();
     change_view(ViewChange::ShowLines {
@@ -163,8 +169,8 @@ pub fn show_lines(r: &Request) -> Planned
 }
 
 /// HIDELINES: hides the lines from `w` to `l` except line 0.
-pub fn hide_lines(r: &Request) -> Planned
-    ensures { result ≡ hide_lines r.now }
+pub fn hide_lines(r: &Request) -> Result<ViewPlan, Refusal>
+    ensures { view_changed result ≡ hide_lines r.now }
 {
     let lines = r.line_total();
     change_view(ViewChange::HideLines {
@@ -174,25 +180,25 @@ pub fn hide_lines(r: &Request) -> Planned
 }
 
 /// SETFOLDEXPANDED: sets whether line `w` counts as expanded.
-pub fn set_fold_expanded(r: &Request) -> Planned
-    ensures { result ≡ set_fold_expanded r.now }
+pub fn set_fold_expanded(r: &Request) -> Result<ViewPlan, Refusal>
+    ensures { view_changed result ≡ set_fold_expanded r.now }
 {
     match line_among(r.line_total(), r.message.w) {
         Some(line) => change_view(ViewChange::SetExpanded {
             line,
             on: is_on(r.message.l),
         }),
-        None => answer(0),
+        None => leave_view(0),
     }
 }
 
 /// ENSUREVISIBLE: makes line `w` visible, and expands the headers above it.
-pub fn ensure_visible(r: &Request) -> Planned
-    ensures { result ≡ ensure_visible r.now }
+pub fn ensure_visible(r: &Request) -> Result<ViewPlan, Refusal>
+    ensures { view_changed result ≡ ensure_visible r.now }
 {
     match line_among(r.line_total(), r.message.w) {
         Some(line) => change_view(ViewChange::EnsureVisible { line }),
-        None => answer(0),
+        None => leave_view(0),
     }
 }
 

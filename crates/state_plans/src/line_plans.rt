@@ -205,11 +205,12 @@ pub fn marker_delete_handle(r: &Request) -> Result<ChangePlan, Refusal>
     }
 }
 
-/// SETLINESTATE: sets the state of line `w` to `l`, a number of 32 bits.
+/// SETLINESTATE: sets the state of line `w` to `l`, a number of 32 bits. A state that the line has already is no change.
 ///
 /// # Errors
 ///
 /// `BadArgument` if `l` is no number of 32 bits.
+#[tactic(auto, using(ed_model::specs::proved::Numbers::same_states))]
 pub fn set_line_state(r: &Request) -> Result<ChangePlan, Refusal>
     ensures { changed result ≡ set_line_state r.now }
 {
@@ -219,6 +220,9 @@ pub fn set_line_state(r: &Request) -> Result<ChangePlan, Refusal>
     let Some(line) = line_among(r.line_total(), r.message.w) else {
         return change_nothing(0);
     };
+    if r.document.rows().state(line) == state {
+        return change_nothing(0);
+    }
     change_document(DocumentChange::SetState { line, state })
 }
 

@@ -4,12 +4,13 @@ ghost use Rattle.std.specs.Prelude.{◌≡◌, ◌≤◌, ◌<◌, ◌+◌, ◌^
 ghost use Rattle.message_requests.specs.HandingOut.{handed_out};
 ghost use Rattle.ed_model.specs.Requests.{answer, change_view, with_argument};
 ghost use Rattle.ed_model.specs.TargetPlans.{found_target, get_search_flags, get_target_end, get_target_start, get_target_text, replace_target, replacement_length, search_flags, search_in_target, set_search_flags, set_target, set_target_end, set_target_range, set_target_start, target_from_selection, target_whole_document};
-ghost use Rattle.text_plans.specs.Finding.{match_in_target, view_changing};
+ghost use Rattle.message_requests.specs.Changing.{view_changed};
+ghost use Rattle.text_plans.specs.Finding.{match_in_target};
 
 use ed_model::{Follow, Plan, Planned, Source, ViewChange};
 use ed_types::Refusal;
 use message_requests::Request;
-use message_requests::answers::{HandedOut, answer, bytes_between};
+use message_requests::answers::{HandedOut, ViewPlan, bytes_between, leave_view};
 use message_requests::arguments::{clamped, is_minus_one, within};
 use message_requests::edits::{Replacement, edit_plan};
 use target_search::SearchFlags;
@@ -118,39 +119,33 @@ fn find_in_target(r: &Request, pattern: &[u8]) -> Option<usize>
     target_search::find(flags, first, second, pattern, start, end)
 }
 
-/// The answer to a message that changes its view alone.
-#[derive(Clone, Copy, Debug)]
-pub struct ViewPlan {
-    /// The change, if the message makes one.
-    pub change: Option<ViewChange>,
-    /// The value that the message answers.
-    pub value: i64,
-}
-
 /// Returns a match of `count` bytes, if there is one.
-fn found_target(count: usize, place: Option<usize>) -> ViewPlan
+fn found_target(count: usize, place: Option<usize>) -> Result<ViewPlan, Refusal>
     requires { IfSome place (λ place. place + count < 2 ^ 63) }
-    ensures { view_changing result ≡ found_target count place }
+    ensures { view_changed result ≡ found_target count place }
 {
     match place {
-        Some(start) => ViewPlan {
+        Some(start) => Ok(ViewPlan {
             change: Some(set_target(start, start + count)),
             value: start as i64,
-        },
-        None => ViewPlan {
-            change: None,
-            value: -1,
-        },
+        }),
+        None => leave_view(-1),
     }
 }
 
 /// SEARCHINTARGET: searches for the first `w` bytes of the message's text in the target, and sets the target to the
-/// match. `None` if it is refused.
-pub fn search_in_target(r: &Request) -> Option<ViewPlan>
-    ensures { with_argument result view_changing ≡ search_in_target r.now }
+/// match.
+///
+/// # Errors
+///
+/// `BadArgument` if the text has fewer bytes.
+pub fn search_in_target(r: &Request) -> Result<ViewPlan, Refusal>
+    ensures { view_changed result ≡ search_in_target r.now }
 {
-    let count = within(0, r.message.text.len(), r.message.w)?;
-    Some(found_target(count, find_in_target(r, &r.message.text[..count])))
+    let Some(count) = within(0, r.message.text.len(), r.message.w) else {
+        return Err(Refusal::BadArgument);
+    };
+    found_target(count, find_in_target(r, &r.message.text[..count]))
 }
 
 /// GETSEARCHFLAGS: returns how the target is searched.

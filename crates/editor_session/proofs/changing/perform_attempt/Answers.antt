@@ -10,15 +10,15 @@ watched_few views (id ∷ ids) =
 
 pub attempt-requires-clause-room : goal.attempt-requires-clause-room
 attempt-requires-clause-room c =
-    let d = c.in-Some.document.now.document in
+    let d = c.at-document.result.now.document in
     let few = watched_few (views_of c.args.state.now.views.entries) d.views in
     let room : CanPut (length d.views) c.reserve.new.self = search rules in
     omega (arith, few, room)
 
 pub returns : goal.returns
 returns c =
-    let a = c.args in let s = a.state.now in let old = c.in-Some.document.now in let n = c.attempt.new.notes in
-    let at = sym c.get.ensures ∙ ap option_copied c.in-Some.is in
+    let a = c.args in let s = a.state.now in let old = c.at-document.result.now in let n = c.attempt.new.notes in
+    let at = c.at-document.ensures in
     let same : c.reserve.new.self.notes ≡ a.notes.now.notes = search rules in
     let put : n.notes ≡ a.notes.now.notes ++ told (watching (views_of s.views.entries) old.document) (blank modify_attempt) =
     ap (λ (g : Gathered). g.notes) c.attempt.ensures ∙ ap (λ ns. ns ++ told (watching (views_of s.views.entries) old.document) (blank modify_attempt)) same in

@@ -1,26 +1,26 @@
 use Rattle.editor_session.proofs.Names.{rules, ◌≡◌, false, true, refl, sym, subst, ap, ◌∙◌, option_copied_mut, Document, err_from_is_err_and}
 use Rattle.ed_model.specs.proved.Changes.{changed_id}
 use Rattle.performing.specs.Changed.{Changes}
-use Rattle.editor_session.proofs.OneDocument.{missing, watched_here, still_named, same_session, still_kept, kept_performed, widths_after}
+use Rattle.editor_session.proofs.OneDocument.{document_here, watched_here, still_named, same_session, still_kept, kept_performed, widths_after}
 use Rattle.editor_session.proofs.DocumentChanges.{fits_here, text_read, change_performed, change_free}
 use Rattle.editor_session.proofs.changing.perform_change.Goals as goal
 
-pub unreachable-requires : goal.unreachable-requires
-unreachable-requires c = missing c.requires.kept c.requires.can.request (sym c.get_mut.ensures.value ∙ ap option_copied_mut c.in_default.is)
+pub at_mut-document-requires : goal.at_mut-document-requires
+at_mut-document-requires c = record { there = document_here c.requires.kept c.requires.can.request }
 
 pub change_document-requires : goal.change_document-requires
 change_document-requires c =
-    let old = c.in-Some.document.now in let kept = c.requires.kept in let can = c.requires.can in
-    let at = sym c.get_mut.ensures.value ∙ ap option_copied_mut c.in-Some.is in
+    let old = c.at_mut-document.result.now in let kept = c.requires.kept in let can = c.requires.can in
+    let at = c.at_mut-document.ensures.value in
     record { fits = fits_here kept can old at; text = text_read kept can c.message.inside.text.now (search rules); watched = watched_here kept can.request old at }
 
 pub returns : goal.returns
 returns c =
-    let a = c.args in let s = a.state.now in let old = c.in-Some.document.now in let kept = c.requires.kept in let can = c.requires.can in
+    let a = c.args in let s = a.state.now in let old = c.at_mut-document.result.now in let kept = c.requires.kept in let can = c.requires.can in
     let n = c.change_document.new in let m = a.task.now.message.now in
     let same : c.message.inside.text.now ≡ m.text = search rules in
     let e = subst (λ x. Changes x a.change.now a.task.now.view old n.document s.views n.views a.notes.now n.notes) same c.in_ok-change_document.ensures.changed in
-    let at = sym c.get_mut.ensures.value ∙ ap option_copied_mut c.in-Some.is in
+    let at = c.at_mut-document.ensures.value in
     let made = change_performed kept can old at n.document n.views a.notes.now.notes n.notes.notes e.document e.lines e.stay.next e.told in
     record {
       done = made;
@@ -32,9 +32,9 @@ returns c =
 
 pub returns-in_err-change_document : goal.returns-in_err-change_document
 returns-in_err-change_document c =
-    let a = c.args in let s = a.state.now in let id = a.task.now.document in let old = c.in-Some.document.now in let n = c.change_document.new in let kept = c.requires.kept in
+    let a = c.args in let s = a.state.now in let id = a.task.now.document in let old = c.at_mut-document.result.now in let n = c.change_document.new in let kept = c.requires.kept in
     let e = c.in_err-change_document.ensures in
-    let at = sym c.get_mut.ensures.value ∙ ap option_copied_mut c.in-Some.is in
+    let at = c.at_mut-document.ensures.value in
     rw (err_from_is_err_and c.from_residual.result c.from_residual.ensures.1).1
     (record {
       done = tt;

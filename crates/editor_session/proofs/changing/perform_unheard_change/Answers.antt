@@ -1,7 +1,7 @@
 use Rattle.editor_session.proofs.Names.{rules, ◌≡◌, [], refl, sym, subst, ap, ◌∙◌, Bool, true, false, Document, no_notes, option_copied_mut}
 use Rattle.ed_model.specs.proved.Changes.{changed_id}
 use Rattle.performing.specs.Changed.{IsMadeUnheard}
-use Rattle.editor_session.proofs.OneDocument.{missing, watched_here, still_named, same_session, still_kept, kept_performed, widths_after}
+use Rattle.editor_session.proofs.OneDocument.{document_here, watched_here, still_named, same_session, still_kept, kept_performed, widths_after}
 use Rattle.editor_session.proofs.DocumentChanges.{fits_here, text_read, change_performed}
 use Rattle.editor_session.proofs.changing.perform_unheard_change.Goals as goal
 
@@ -9,20 +9,20 @@ by_cases : {P : Type 0} (b : Bool) → (b ≡ true → P) → (b ≡ false → P
 by_cases true f g = f refl
 by_cases false f g = g refl
 
-pub unreachable-requires : goal.unreachable-requires
-unreachable-requires c = missing c.requires.kept c.requires.can.request (sym c.get_mut.ensures.value ∙ ap option_copied_mut c.in_default.is)
+pub at_mut-document-requires : goal.at_mut-document-requires
+at_mut-document-requires c = record { there = document_here c.requires.kept c.requires.can.request }
 
 pub change_unheard-requires : goal.change_unheard-requires
 change_unheard-requires c =
-    let kept = c.requires.kept in let can = c.requires.can in let old = c.in-Some.document.now in
-    let at = sym c.get_mut.ensures.value ∙ ap option_copied_mut c.in-Some.is in
+    let kept = c.requires.kept in let can = c.requires.can in let old = c.at_mut-document.result.now in
+    let at = c.at_mut-document.ensures.value in
     record { fits = fits_here kept can old at; text = text_read kept can c.message.inside.text.now (search rules); watched = watched_here kept can.request old at }
 
 pub returns : goal.returns
 returns c =
     let a = c.args in let s = a.state.now in let kept = c.requires.kept in let can = c.requires.can in
-    let old = c.in-Some.document.now in let made = c.change_unheard.result in let new = c.change_unheard.new.document in
-    let at = sym c.get_mut.ensures.value ∙ ap option_copied_mut c.in-Some.is in
+    let old = c.at_mut-document.result.now in let made = c.change_unheard.result in let new = c.change_unheard.new.document in
+    let at = c.at_mut-document.ensures.value in
     let m = a.task.now.message.now in let same : c.message.inside.text.now ≡ m.text = search rules in
     let unheard = λ (h : made ≡ true). subst (λ x. IsMadeUnheard x a.change.now old new s.views) same (c.change_unheard.ensures.made h) a.task.now.view no_notes in
     let done = λ (h : made ≡ true). (let e = unheard h in change_performed kept can old at new s.views [] [] e.document e.lines refl e.told) in

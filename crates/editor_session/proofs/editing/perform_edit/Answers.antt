@@ -1,6 +1,6 @@
 use Rattle.editor_session.proofs.Names.{◌≡◌, [], pos, false, true, length, refl, sym, ap, ◌∙◌, Document, text_of, converted, session_in, request_of, option_copied_mut, SessionState, TakesWithin, taken_along, rules, err_from_is_err_and}
 use Rattle.editor_session.proofs.EditLemmas.{edit_takes, free_steps, free_taken, free_pasted, steps_are, within_here, wide_here, edit_performed}
-use Rattle.editor_session.proofs.OneDocument.{document_here, for_document, of_document, missing, watched_here, with_scene, still_named, same_session, still_kept, kept_performed, widths_followed}
+use Rattle.editor_session.proofs.OneDocument.{document_here, for_document, of_document, watched_here, with_scene, still_named, same_session, still_kept, kept_performed, widths_followed}
 use Rattle.editor_session.proofs.editing.perform_edit.Goals as goal
 
 pub pasted_bytes-requires : goal.pasted_bytes-requires
@@ -11,13 +11,13 @@ taken_bytes-requires c =
     let a = c.args in let q = c.requires in
     record { can = for_document q.kept q.can.request (λ (d : Document). TakesWithin a.follow (length d.cells)) (edit_takes (request_of (session_in a.state.now) a.task.now.view a.task.now.message.now) a.edit (pos 0) a.follow q.can.fit) }
 
-pub unreachable-requires : goal.unreachable-requires
-unreachable-requires c = missing c.requires.kept c.requires.can.request (sym c.get_mut.ensures.value ∙ ap option_copied_mut c.in_default.is)
+pub at_mut-document-requires : goal.at_mut-document-requires
+at_mut-document-requires c = record { there = document_here c.requires.kept c.requires.can.request }
 
 pub edit_with_room-requires : goal.edit_with_room-requires
 edit_with_room-requires c =
-    let a = c.args in let q = c.requires in let old = c.in-Some.document.now in let held = c.deref.result.now in let pasted = c.in_ok-pasted in
-    let at = sym c.get_mut.ensures.value ∙ ap option_copied_mut c.in-Some.is in
+    let a = c.args in let q = c.requires in let old = c.at_mut-document.result.now in let held = c.deref.result.now in let pasted = c.in_ok-pasted in
+    let at = c.at_mut-document.ensures.value in
     let same : c.message.inside.text.now ≡ a.task.now.message.now.text = search rules in
     record {
       within = within_here q.kept q.can held c.deref-2.result.now pasted.pasted.items same c.deref.ensures.value c.deref-2.ensures.value pasted.ensures.pasted old at;
@@ -27,9 +27,9 @@ edit_with_room-requires c =
 
 pub returns : goal.returns
 returns c =
-    let a = c.args in let s = a.state.now in let q = c.requires in let old = c.in-Some.document.now in let n = c.edit_with_room.new in
+    let a = c.args in let s = a.state.now in let q = c.requires in let old = c.at_mut-document.result.now in let n = c.edit_with_room.new in
     let e = c.in_ok-edit_with_room.ensures in let f = c.follow_edit in let next = f.ensures.next in let pasted = c.in_ok-pasted in
-    let at = sym c.get_mut.ensures.value ∙ ap option_copied_mut c.in-Some.is in
+    let at = c.at_mut-document.ensures.value in
     let same : c.message.inside.text.now ≡ a.task.now.message.now.text = search rules in
     let taken = of_document q.kept q.can.request (λ (d : Document). c.in_ok-taken.taken.items ≡ taken_along a.follow (text_of d)) c.in_ok-taken.ensures.taken in
     let put : SessionState = with_scene s a.task.now.document n.document f.new.views in
@@ -46,9 +46,9 @@ returns c =
 
 pub returns-in_err-edit_with_room : goal.returns-in_err-edit_with_room
 returns-in_err-edit_with_room c =
-    let a = c.args in let s = a.state.now in let id = a.task.now.document in let q = c.requires in let old = c.in-Some.document.now in let n = c.edit_with_room.new in
+    let a = c.args in let s = a.state.now in let id = a.task.now.document in let q = c.requires in let old = c.at_mut-document.result.now in let n = c.edit_with_room.new in
     let e = c.in_err-edit_with_room.ensures in let pasted = c.in_ok-pasted in
-    let at = sym c.get_mut.ensures.value ∙ ap option_copied_mut c.in-Some.is in
+    let at = c.at_mut-document.ensures.value in
     let same : c.message.inside.text.now ≡ a.task.now.message.now.text = search rules in
     rw (err_from_is_err_and c.from_residual-in_err-edit_with_room.result c.from_residual-in_err-edit_with_room.ensures.1).1
     (record {

@@ -5,9 +5,9 @@ use Rattle.editor_session.proofs.lending.lend_in.Goals as goal
 pub returns : goal.returns
 returns c =
     let documents = c.args.documents.now in
-    let at = sym c.get_mut.ensures.value ∙ ap option_copied_mut c.in-Some.is in
+    let at = c.at_mut-document.ensures.value in
     let whole = ap (λ es. record documents { entries = es })
-    (staying document_of id_of_document documents.entries c.args.document documents.next c.requires.named c.requires.rise c.in-Some.document.now c.lend.follows.lender-at-none at c.lend.follows.holds-at-none) in (
+    (staying document_of id_of_document documents.entries c.args.document documents.next c.requires.named c.requires.rise c.at_mut-document.result.now c.lend.follows.lender-at-none at c.lend.follows.holds-at-none) in (
       (refl, (λ _. tt), whole),
       record {
         back = tt;

@@ -1,9 +1,9 @@
-use Rattle.editor_session.proofs.Names.{◌≡◌, ◌++◌, ◌+◌, ◌≤◌, ℕ, List, [], pos, false, true, IfSome, value_at, SessionState, IsKept, IsSent, rules, refl, ap, sym, subst, length, slice_range, eqb-true, IsFitPlan, Document, text_of, watching, views_of, told, modify_attempt, blank, response, styled_text, session_in, request_of, Message, quiet, IsSound, not-true, CanPerform, ◌∙◌}
+use Rattle.editor_session.proofs.Names.{performed_at, ◌≡◌, ◌++◌, ◌+◌, ◌≤◌, ℕ, List, [], pos, false, true, IfSome, value_at, SessionState, IsKept, IsSent, rules, refl, ap, sym, subst, length, slice_range, eqb-true, IsFitPlan, Document, text_of, watching, views_of, told, modify_attempt, blank, response, styled_text, session_in, request_of, Message, quiet, IsSound, not-true, CanPerform, ◌∙◌}
 use Rattle.ed_model.specs.declared.plan.Plan.TheVariants as plan
 use Rattle.performing.specs.SessionMemory.{takes_memory}
 use Rattle.editor_session.proofs.Keeping.{kept_with}
 use Rattle.editor_session.proofs.OneDocument.{document_here, for_document, kept_performed, of_document}
-use Rattle.editor_session.proofs.TableWay.{can_as, can_change_session, performed_as, revalued, session_changed_so, quietly}
+use Rattle.editor_session.proofs.TableWay.{can_as, can_change_session, performed_as, revalued, quietly}
 use Rattle.editor_session.proofs.perform.perform.Goals as goal
 
 -- the bytes that are handed out are those of the request's document
@@ -44,7 +44,9 @@ change_session-requires c =
 pub returns-in_ok-change_session-in-ChangeSession-clause-done : goal.returns-in_ok-change_session-in-ChangeSession-clause-done
 returns-in_ok-change_session-in-ChangeSession-clause-done c =
     let t = c.args.task.now in let p = c.in-ChangeSession in
-    let changed = c.in_ok-change_session-in-ChangeSession.ensures.changed ∙ session_changed_so (session_in c.args.state.now) t.view t.message.now p.change c.message.inside.text.now (search rules) in
+    let same : c.message.inside.text.now ≡ t.message.now.text = search rules in
+    let changed = c.in_ok-change_session-in-ChangeSession.ensures.changed
+    ∙ ap (λ text. (performed_at (session_in c.args.state.now) t.view text (plan.ChangeSession p.change p.value)).0) same in
     performed_as p.is (quietly {what = plan.ChangeSession p.change p.value} c.args.notes.now.notes (ap (λ x. (x, quiet p.value)) (sym changed))) (search rules) c.requires.empty
 
 pub returns-in_ok-change_session-in-ChangeSession-clause-kept : goal.returns-in_ok-change_session-in-ChangeSession-clause-kept

@@ -1,7 +1,7 @@
 -- What a change of the view does is what its plan would.
 use Rattle.editor_session.proofs.Names.{rules, ◌≡◌, ◌∙◌, Ok, ap, refl, session_in, plan_of, IsPlannedAs}
 use Rattle.ed_model.specs.declared.plan.Plan.TheVariants as plan
-use Rattle.text_plans.specs.Finding.{view_plan}
+use Rattle.message_requests.specs.Changing.{view_plan}
 use Rattle.editor_session.proofs.TableWay.{has_plan, can_as}
 use Rattle.editor_session.proofs.setting.set.Goals as goal
 

@@ -1,15 +1,15 @@
-use Rattle.performing.proofs.SessionLemmas.{refl, ap, sym, ◌∙◌, subst, option_copied_mut, IsSomeAnd, Kept, HasViewRoom, CanMove, left_by, document_of, id_of_document, changed, with_attached_view, with_value_at, with_view_last, moved_within, passed_on, room_behind, one_stays, one_left, stays_twice}
+use Rattle.performing.proofs.SessionLemmas.{refl, ap, sym, ◌∙◌, subst, IsSomeAnd, Kept, HasViewRoom, CanMove, left_by, document_of, id_of_document, changed, with_attached_view, with_value_at, with_view_last, moved_within, passed_on, room_behind, one_stays, one_left, stays_twice}
 use Rattle.performing.proofs.moving.move_view.Goals as goal
 
 pub attach_reserved-requires : goal.attach_reserved-requires
 attach_reserved-requires c =
-    let at = sym c.get_mut.ensures.value ∙ ap option_copied_mut c.in-Some.is in
-    room_behind c.args.view c.args.to c.in-Some.document.now c.detach.new.self c.detach.ensures (subst (λ o. IsSomeAnd o HasViewRoom) at c.requires.can.place)
+    let at = c.at_mut-document.ensures.value in
+    room_behind c.args.view c.args.to c.at_mut-document.result.now c.detach.new.self c.detach.ensures (subst (λ o. IsSomeAnd o HasViewRoom) at c.requires.can.place)
 
 pub returns-then-from-to : goal.returns-then-from-to
 returns-then-from-to c =
-    let t = c.args.documents.now in let view = c.args.view in let to = c.args.to in let old = c.in-Some.document.now in let new = c.attach_reserved.new.self in
-    let can = subst (λ n. CanMove t n view to) c.if-from-to.true c.requires.can in let at = sym c.get_mut.ensures.value ∙ ap option_copied_mut c.in-Some.is in
+    let t = c.args.documents.now in let view = c.args.view in let to = c.args.to in let old = c.at_mut-document.result.now in let new = c.attach_reserved.new.self in
+    let can = subst (λ n. CanMove t n view to) c.if-from-to.true c.requires.can in let at = c.at_mut-document.ensures.value in
     let made = c.attach_reserved.ensures ∙ ap (with_attached_view view) c.detach.ensures in
     record {
       moved = moved_within view to t _ can
@@ -20,7 +20,7 @@ returns-then-from-to c =
 pub returns-else-from-to : goal.returns-else-from-to
 returns-else-from-to c =
     let t = c.args.documents.now in let view = c.args.view in let from = c.args.from in let to = c.args.to in let can = c.requires.can in
-    let old = c.in-Some.document.now in let new = c.attach_reserved-else-from-to.new.self in let at = sym c.get_mut.ensures.value ∙ ap option_copied_mut c.in-Some.is in
+    let old = c.at_mut-document.result.now in let new = c.attach_reserved-else-from-to.new.self in let at = c.at_mut-document.ensures.value in
     let made = c.attach_reserved-else-from-to.ensures in let put = record t { entries = with_value_at to new t.entries } in
     let stays = one_stays t to can.named can.rise old new at (made ∙ ap (λ d. record old { document = d }) (sym (ap document_of made))) (ap (λ (k : Kept). k.document.id) made) in
     record {

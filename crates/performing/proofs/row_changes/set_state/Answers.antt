@@ -1,4 +1,6 @@
-use Rattle.performing.proofs.Changes.{[], ◌≡◌, refl, ap, ◌∙◌, ◌==◌, not, w32, to_z-of_z, of_z, ℤ, arith, common_steps, document_of, changed_document, document_row, is_same, line_note, heard, change_line_state, SetState, State, same_states, is_made_if, flipped}
+use Rattle.performing.proofs.Changes.{[], ◌≡◌, refl, ap, ◌∙◌, ◌==◌, not, w32, to_z-of_z, of_z, ℤ, arith, common_steps, document_of, changed_document, document_row, line_note, heard, change_line_state, SetState, State, is_made_if, flipped}
+use Rattle.ed_model.specs.Numbers.{is_same}
+use Rattle.ed_model.specs.proved.Numbers.{same_states}
 use Rattle.performing.proofs.row_changes.set_state.Goals as goal
 
 pub returns : goal.returns

@@ -1,18 +1,18 @@
-use Rattle.performing.proofs.SessionLemmas.{refl, ap, sym, ◌∙◌, subst, IfSome, option_copied_mut, err_from_is_err_and, Attach, attached, HasViewRoom, no_document_at, sender_of, stays_then, can_attach_there, place_stays, session_same, with_place}
+use Rattle.performing.proofs.SessionLemmas.{refl, ap, sym, ◌∙◌, subst, IfSome, err_from_is_err_and, Attach, attached, HasViewRoom, document_there_at, sender_of, stays_then, can_attach_there, place_stays, session_same, with_place}
 use Rattle.performing.proofs.sessions.attach_existing.Goals as goal
 
-pub unreachable-requires : goal.unreachable-requires
-unreachable-requires c = no_document_at c.requires.kept c.args.to c.requires.can.fit.0 c.requires.can.fit.1 (sym c.get_mut.ensures.value ∙ ap option_copied_mut c.in_default.is)
+pub at_mut-other-requires : goal.at_mut-other-requires
+at_mut-other-requires c = record { there = document_there_at c.requires.kept c.args.to c.requires.can.fit.0 c.requires.can.fit.1 }
 
 pub attach-requires : goal.attach-requires
 attach-requires c =
-    let at = sym c.get_mut.ensures.value ∙ ap option_copied_mut c.in-Some.is in
-    record { can = can_attach_there c.requires.kept c.requires.can.request c.args.to c.in-Some.other.now c.reserve_view.new.self at c.reserve_view.ensures.grown.0 c.in_ok-reserve_view.ensures.reserved.0 }
+    let at = c.at_mut-other.ensures.value in
+    record { can = can_attach_there c.requires.kept c.requires.can.request c.args.to c.at_mut-other.result.now c.reserve_view.new.self at c.reserve_view.ensures.grown.0 c.in_ok-reserve_view.ensures.reserved.0 }
 
 pub returns : goal.returns
 returns c =
-    let kept = c.requires.kept in let is = c.requires.can.request in let to = c.args.to in let old = c.in-Some.other.now in let new = c.reserve_view.new.self in
-    let at = sym c.get_mut.ensures.value ∙ ap option_copied_mut c.in-Some.is in let e = c.reserve_view.ensures in
+    let kept = c.requires.kept in let is = c.requires.can.request in let to = c.args.to in let old = c.at_mut-other.result.now in let new = c.reserve_view.new.self in
+    let at = c.at_mut-other.ensures.value in let e = c.reserve_view.ensures in
     record {
       changed = c.attach.ensures.attached ∙ ap (attached to (sender_of c.args.state.now c.args.view)) (session_same kept is to old new at e.grown.0);
       same = tt;
@@ -22,8 +22,8 @@ returns c =
 
 pub returns-in_err-reserve_view : goal.returns-in_err-reserve_view
 returns-in_err-reserve_view c =
-    let kept = c.requires.kept in let is = c.requires.can.request in let to = c.args.to in let old = c.in-Some.other.now in let new = c.reserve_view.new.self in
-    let at = sym c.get_mut.ensures.value ∙ ap option_copied_mut c.in-Some.is in let e = c.reserve_view.ensures in let place = c.in_err-reserve_view.ensures.reserved.1 in
+    let kept = c.requires.kept in let is = c.requires.can.request in let to = c.args.to in let old = c.at_mut-other.result.now in let new = c.reserve_view.new.self in
+    let at = c.at_mut-other.ensures.value in let e = c.reserve_view.ensures in let place = c.in_err-reserve_view.ensures.reserved.1 in
     rw (err_from_is_err_and c.from_residual.result c.from_residual.ensures.1).1
     (record {
       changed = tt;

@@ -1,14 +1,14 @@
-use Rattle.performing.proofs.SessionLemmas.{◌+◌, ◌≤◌, length, ap, sym, ◌∙◌, subst, option_copied, Document, session_in, IsFitSessionChange, session_changed, asked, text_from, no_document, same_document, without_text, few_held}
+use Rattle.performing.proofs.SessionLemmas.{◌+◌, ◌≤◌, length, ap, sym, ◌∙◌, subst, Document, session_in, IsFitSessionChange, session_changed, asked, sender_of, document_for, text_from, document_there, same_document, without_text, few_held}
 use Rattle.performing.proofs.sessions.change_session.Goals as goal
 
-pub unreachable-requires : goal.unreachable-requires
-unreachable-requires c = no_document c.requires.kept c.requires.can.request (sym c.get.ensures ∙ ap option_copied c.in_default.is)
+pub at-document-requires : goal.at-document-requires
+at-document-requires c = record { there = document_there c.requires.kept c.requires.can.request }
 
 pub text_to_vec-requires : goal.text_to_vec-requires
 text_to_vec-requires c =
     let a = c.args in
     subst (λ (d : Document). c.in-Copy.start + c.in-Copy.count ≤ length d.cells)
-    (sym (same_document c.requires.kept c.requires.can.request c.in-Some.document.now (sym c.get.ensures ∙ ap option_copied c.in-Some.is)))
+    (sym (same_document c.requires.kept c.requires.can.request c.at-document.result.now c.at-document.ensures))
     (subst (IsFitSessionChange (asked (session_in a.state.now) a.view a.text.now)) c.in-Copy.is c.requires.can.fit)
 
 pub attach_existing-requires-clause-can : goal.attach_existing-requires-clause-can
@@ -30,5 +30,5 @@ pub returns-in_ok-state-in-Copy-clause-changed : goal.returns-in_ok-state-in-Cop
 returns-in_ok-state-in-Copy-clause-changed c =
     let s = session_in c.args.state.now in let kept = c.requires.kept in let is = c.requires.can.request in
     ap (λ bytes. record s { clipboard = bytes })
-    (c.in_ok-state-in-Copy.ensures.bytes ∙ ap (text_from c.in-Copy.start c.in-Copy.count) (same_document kept is c.in-Some.document.now (sym c.get.ensures ∙ ap option_copied c.in-Some.is)))
-    ∙ ap (session_changed (asked s c.args.view c.args.text.now)) (sym c.in-Copy.is)
+    (c.in_ok-state-in-Copy.ensures.bytes ∙ ap (text_from c.in-Copy.start c.in-Copy.count) (same_document kept is c.at-document.result.now c.at-document.ensures))
+    ∙ ap (session_changed s (sender_of c.args.state.now c.args.view) (document_for c.args.state.now c.args.view) c.args.text.now) (sym c.in-Copy.is)

@@ -15,8 +15,8 @@ returns-then-line-number-clause-before g c =
 
 pub returns-clause-before : goal.returns-clause-before
 returns-clause-before g c =
-    let i = c.last_at_most.result in
-    let last = c.last_at_most.ensures.last in
+    let i = c.last_by_quarters.result in
+    let last = c.last_by_quarters.ensures in
     let q : i + 1 - 1 ≡ i = omega arith in
     rw (← c.self.view_is)
     (parted_at c.args.line (i + 1) c.self.invariant (omega (arith, last.within)) (λ _. rw q (omega (arith, last.at_most))) (λ h. omega (arith, last.last (i + 1) (omega arith) h)))
