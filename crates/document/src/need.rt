@@ -4,7 +4,7 @@ ghost use Rattle.std.specs.Prelude.{◌≡◌};
 ghost use Rattle.document.specs.Kept.{nothing_needed, amounts_added};
 
 /// How much steps need of a document. Without an allocation they are made where that much more fits in.
-#[derive(Clone, Copy, Debug, PartialEq, Eq)]
+#[derive(Clone, Copy)]
 pub struct DocumentNeed {
     /// Bytes of text.
     pub text: usize,

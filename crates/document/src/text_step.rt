@@ -5,7 +5,7 @@ ghost use Rattle.ed_model.specs.Steps.{place_of};
 ghost use Rattle.document.specs.TextSteps.{step_in};
 
 /// A step of the text: an insertion, whose bytes are lent, or a deletion by its place and length.
-#[derive(Clone, Copy, Debug)]
+#[derive(Clone, Copy)]
 pub enum TextStep<'a> {
     /// Inserts `bytes` at `place`, in bytes from 0.
     Insert { place: usize, bytes: &'a [u8] },

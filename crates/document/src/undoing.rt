@@ -19,7 +19,7 @@ use line_index::{LineChange, lines_for_deletion, lines_for_insertion};
 use undo_history::{ChangeKind, LentChange, StepKind, UndoHistory};
 
 /// Whether undo or redo is performed.
-#[derive(Clone, Copy, Debug, PartialEq, Eq)]
+#[derive(Clone, Copy)]
 pub enum Direction {
     /// Reverts the last transaction, its latest change first.
     Undo,
@@ -28,7 +28,7 @@ pub enum Direction {
 }
 
 /// A change that undo or redo performs, without its bytes.
-#[derive(Clone, Copy, Debug, PartialEq, Eq)]
+#[derive(Clone, Copy)]
 pub enum ChangeOutline {
     /// Inserts `count` bytes at `place`, in bytes from 0.
     Insert { place: usize, count: usize },

@@ -3,7 +3,7 @@
 use ed_types::Refusal;
 
 /// A kind of line end, by its number in Scintilla: `SC_EOL_CRLF`, `SC_EOL_CR` or `SC_EOL_LF`.
-#[derive(Clone, Copy, Debug, PartialEq, Eq)]
+#[derive(Clone, Copy)]
 pub enum LineEnd {
     /// CR and LF
     CrLf = 0,
@@ -14,7 +14,7 @@ pub enum LineEnd {
 }
 
 /// Which line ends a document allows beside CRLF, CR and LF (`SCI_SETLINEENDTYPESALLOWED`).
-#[derive(Clone, Copy, Debug, PartialEq, Eq)]
+#[derive(Clone, Copy)]
 pub enum LineEndTypes {
     /// None.
     Default = 0,
@@ -23,7 +23,7 @@ pub enum LineEndTypes {
 }
 
 /// The bytes that an edit inserts.
-#[derive(Clone, Copy, Debug, PartialEq, Eq)]
+#[derive(Clone, Copy)]
 pub enum Source {
     /// None.
     Nothing,
@@ -36,7 +36,7 @@ pub enum Source {
 }
 
 /// An edit of the text. Places and counts are in bytes.
-#[derive(Clone, Copy, Debug, PartialEq, Eq)]
+#[derive(Clone, Copy)]
 pub enum Edit {
     /// Deletes the `count` bytes from `start` on, and then inserts the source at `start`.
     Replace {
@@ -51,7 +51,7 @@ pub enum Edit {
 }
 
 /// What an edit does after its steps.
-#[derive(Clone, Copy, Debug, PartialEq, Eq)]
+#[derive(Clone, Copy)]
 pub enum Follow {
     /// Nothing.
     Nothing,
@@ -64,7 +64,7 @@ pub enum Follow {
 }
 
 /// A change of a document that is no edit of its text.
-#[derive(Clone, Copy, Debug, PartialEq, Eq)]
+#[derive(Clone, Copy)]
 pub enum DocumentChange {
     /// Sets whether the document is read-only (`SCI_SETREADONLY`).
     SetReadOnly {
@@ -156,7 +156,7 @@ pub enum DocumentChange {
 }
 
 /// A change of the sending view alone.
-#[derive(Clone, Copy, Debug, PartialEq, Eq)]
+#[derive(Clone, Copy)]
 pub enum ViewChange {
     /// Sets anchor and caret.
     Select { anchor: usize, caret: usize },
@@ -189,7 +189,7 @@ pub enum ViewChange {
 }
 
 /// A change of the session: of its clipboard, or of its documents and their references.
-#[derive(Clone, Copy, Debug, PartialEq, Eq)]
+#[derive(Clone, Copy)]
 pub enum SessionChange {
     /// The clipboard becomes the `count` bytes of the text from `start` on.
     Copy { start: usize, count: usize },
@@ -208,7 +208,7 @@ pub enum SessionChange {
 }
 
 /// What a message is going to do. A plan owns no memory: it names texts by their place.
-#[derive(Clone, Copy, Debug, PartialEq, Eq)]
+#[derive(Clone, Copy)]
 pub enum Plan {
     /// Answers the value, and changes nothing.
     Answer {

@@ -6,7 +6,7 @@ ghost use Rattle.ed_types.specs.Messages.{number_of, kind_of, marks_of};
 use crate::marks::Columns;
 
 /// A message of the profile, by the name and the number that Scintilla's documentation gives it.
-#[derive(Clone, Copy, Debug, PartialEq, Eq)]
+#[derive(Clone, Copy, Debug)]
 pub enum Kind {
     /// `SCI_ADDTEXT`
     AddText = 2001,

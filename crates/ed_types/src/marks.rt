@@ -6,7 +6,7 @@ ghost use Rattle.ed_types.specs.Messages.{marks_at};
 use crate::kind::Kind;
 
 /// What is promised of a message, whatever its arguments.
-#[derive(Clone, Copy, Debug, PartialEq, Eq)]
+#[derive(Clone, Copy)]
 pub struct Columns {
     /// A query: it changes nothing.
     pub q: bool,

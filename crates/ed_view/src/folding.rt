@@ -14,7 +14,7 @@ use ed_model::ViewChange;
 use std::alloc::AllocError;
 
 /// The capacity that a change of a view needs.
-#[derive(Clone, Copy, Debug, PartialEq, Eq)]
+#[derive(Clone, Copy)]
 pub struct FoldNeed {
     /// How many lines in all may be hidden.
     pub hidden: usize,

@@ -53,7 +53,7 @@ module _ {s : SessionState} {document view : ℕ} {m : Message} {what : Document
     -- the session, with the changed document under the id and these views, and the notes are those after the plan
     pub change_performed : (new : Kept) (views' : Entries KeptView) (ns ns' : List Notice) → new.document ≡ changed_document m.text what old.document → views_of views'.entries ≡ map (changed_lines what old.document) (views_of s.views.entries)
         → views'.next ≡ s.views.next → ((v : View) → v.id ≡ view → ns' ≡ ns ++ change_told v (watchers old.document s.views) old.document new.document what)
-        → IsPerformed (session_in s) view m.text (plan.ChangeDocument what value) (with_scene s document new views') ns ns' value []
+        → IsPerformed (session_in s) view m.text (plan.ChangeDocument what value) (session_in (with_scene s document new views')) ns ns' value []
     change_performed new views' ns ns' is lines next told =
         let r = request_of (session_in s) view m in
         let same : old.document ≡ r.document = found_is kept can.request old at in

@@ -109,7 +109,7 @@ module _ {s : SessionState} {document view : ℕ} {m : Message} {bytes : List �
       → new.document.id ≡ old.document.id → between.next ≡ s.views.next
       → session_in s' ≡ (let t = session_in (with_scene s document new between) in record t { views = views_of views'.entries; clipboard = s'.clipboard.items })
       → views_of views'.entries ≡ followed_views view after (views_of between.entries) → s'.clipboard.items ≡ followed_clipboard after taken s.clipboard.items → taken ≡ taken_along after (text_of (request_of (session_in s) view m).document)
-      → IsPerformed (session_in s) view m.text (plan.Edit change value after) s' notes.notes notes'.notes value []
+      → IsPerformed (session_in s) view m.text (plan.Edit change value after) (session_in s') notes.notes notes'.notes value []
   edit_performed new between views' notes notes' s' taken made same next after_is moved clip take =
       let r = request_of (session_in s) view m in
       let base = edit_made (steps_of r change) (scene_of r.session r.document) in

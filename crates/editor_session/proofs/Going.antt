@@ -37,7 +37,7 @@ module _ {s : SessionState} {document view : ℕ} {m : Message} (direction : Dir
   -- the session after undo or redo in its document, and after the caret is set
   pub gone_performed : (new : Kept) (between views' : Entries KeptView) (notes notes' : Gathered) → kept_scene new between notes' ≡ scene_gone direction s.views notes old → new.document.id ≡ old.document.id
       → views_of views'.entries ≡ caret_behind view (latest_text_step (reverse (changes_of direction old.document.history))) (views_of between.entries) → between.next ≡ s.views.next → views'.next ≡ between.next
-      → IsPerformed (session_in s) view m.text (going direction) (with_scene s document new views') notes.notes notes'.notes (pos 0) []
+      → IsPerformed (session_in s) view m.text (going direction) (session_in (with_scene s document new views')) notes.notes notes'.notes (pos 0) []
   gone_performed new between views' notes notes' gone same caret next next' =
       let r = request_of (session_in s) view m in
       let is : old.document ≡ r.document = found_is kept can.request old at in

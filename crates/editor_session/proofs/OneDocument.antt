@@ -1,5 +1,5 @@
 -- The document that a plan is performed on: it is in the session's table, and it changes there, the views with it; and views that the table has.
-use Rattle.editor_session.proofs.Names.{◌≡◌, ℕ, ◌==◌, ◌∙◌, List, [], ◌∷◌, map, refl, ap, sym, subst, Some, None, IfSome, IsSome, IsSomeAnd, if◌then◌else◌, AllByRecursion, Document, View, Session, Response, Notice, Plan, document_at, view_at, with_document, IsSound, IsSoundView, StandsOn, ListsItsViews, PlansKeepSound, Scene, session_of, performed_at, found_all, Entries, value_at, with_value_at, Kept, KeptView, Gathered, AreNamed, StandsIfOn, IsWatched, kept_scene, session_in, documents_in, SessionState, IsKept, DocumentsAreNamed, views_of, view_in, id_of_view, document_of, id_of_document, unchanged, named_with, own_document, changed, id_of_old, all_weaker, same_document, IsKeptAs, kept_as, IsSent, CanPerform, request_of, Message, true, false, cond, Option, option_map, is_some, Entry, found, width_at, HasWidths, HaveWidths, KeepWidths, widths_put}
+use Rattle.editor_session.proofs.Names.{◌≡◌, ℕ, ◌==◌, ◌∙◌, List, [], ◌∷◌, map, refl, ap, sym, subst, Some, None, IfSome, IsSome, IsSomeAnd, if◌then◌else◌, Document, View, Session, Response, Notice, Plan, document_at, view_at, with_document, IsSound, IsSoundView, StandsOn, ListsItsViews, PlansKeepSound, Scene, session_of, performed_at, found_all, Entries, value_at, with_value_at, Kept, KeptView, Gathered, AreNamed, StandsIfOn, IsWatched, kept_scene, session_in, documents_in, SessionState, IsKept, DocumentsAreNamed, views_of, view_in, id_of_view, document_of, id_of_document, unchanged, named_with, own_document, changed, id_of_old, all_weaker, same_document, IsKeptAs, kept_as, IsSent, CanPerform, request_of, Message, true, false, cond, Option, option_map, is_some, Entry, found, width_at, HasWidths, HaveWidths, KeepWidths, widths_put}
 use Rattle.editor_session.proofs.Keeping.{kept_with}
 use Rattle.editor_session.proofs.Telling.{telling}
 

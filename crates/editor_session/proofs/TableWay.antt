@@ -1,5 +1,5 @@
 -- The way of a message through the table: to its plan, and from what the plan did to the table's answer.
-use Rattle.editor_session.proofs.Names.{IsAnswered, ◌&&◌, inl, inr, ◌≡◌, ◌≢◌, ℕ, true, false, cond, ◌==◌, Bool, List, [], ◌∷◌, ◌++◌, ℤ, refl, ap, sym, ◌∙◌, subst, append-nil, Option, Some, None, Ok, Err, Result, not, IfErr, Message, Kind, Refusal, OutOfMemory, Notice, Response, kind_of, marks_of, Session, View, Document, document_at, view_at, watching, IsSound, IsSoundRequest, PlansFit, Request, Planned, IsFitPlan, IsFitPlanned, response, Plan, table, performed_at, record_note, with_recording, table_from_view, table_from_kind, table_from_document, answered, request, plan_of, id_of_view, own_at, session_in, SessionState, needs_no_fold_room, needs_no_memory, planned_without_memory, is_free, is_free_request, is_free_from_document, is_free_from_kind, is_free_from_view, is_marked_free, is_recorded_by, MarkedMessagesAreFree, document_asked, IsPerformed, request_of, IsFound, IsPlannedAs, recording, first_note, DocumentChange, ViewChange, SessionChange, History, and_parts, not-true, pos, session_changed, asked, IsSent, CanPerform}
+use Rattle.editor_session.proofs.Names.{IsAnswered, ◌&&◌, inl, inr, ◌≡◌, ◌≢◌, ℕ, true, false, cond, ◌==◌, Bool, List, [], ◌∷◌, ◌++◌, ℤ, refl, ap, sym, ◌∙◌, subst, append-nil, Option, Some, None, Ok, Err, Result, not, IfErr, Message, Kind, Refusal, OutOfMemory, Notice, Response, kind_of, marks_of, Session, View, Document, document_at, view_at, watching, IsSound, IsSoundRequest, PlansFit, Request, Planned, IsFitPlan, IsFitPlanned, response, Plan, table, performed_at, record_note, with_recording, table_from_view, table_from_kind, table_from_document, answered, request, plan_of, id_of_view, own_at, needs_no_fold_room, needs_no_memory, planned_without_memory, is_free, is_free_request, is_free_from_document, is_free_from_kind, is_free_from_view, is_marked_free, is_recorded_by, MarkedMessagesAreFree, document_asked, IsPerformed, request_of, IsFound, IsPlannedAs, recording, first_note, DocumentChange, ViewChange, SessionChange, History, and_parts, not-true, pos, asked, IsSent, CanPerform}
 use Rattle.ed_model.specs.Rows.{Flags}
 use Rattle.ed_model.specs.declared.plan.Plan.TheVariants as plan
 use Rattle.ed_model.specs.FreePlans.{IsFreeDocumentChange, IsFreeViewChange, IsFreeSessionChange, IsFreePlan, IsFreePlanned, MarkedPlansAreFree}
@@ -48,7 +48,7 @@ has_plan fit {s} {view} {m} {kind} {what} r same found planned document own is_r
     }
 
 -- a plan was performed that gave a value alone, and perhaps bytes
-pub quietly : {s : Session} {view : ℕ} {text : List ℕ} {what : Plan} {new : SessionState} {value : ℤ} {bytes : List ℕ} (ns : List Notice) → performed_at s view text what ≡ (session_in new, response value bytes [])
+pub quietly : {s : Session} {view : ℕ} {text : List ℕ} {what : Plan} {new : Session} {value : ℤ} {bytes : List ℕ} (ns : List Notice) → performed_at s view text what ≡ (new, response value bytes [])
     → IsPerformed s view text what new ns ns value bytes
 quietly ns done = record { told = []; done = done; heard = sym (append-nil ns) }
 
@@ -84,13 +84,13 @@ module _ {s : Session} {view : ℕ} {m : Message} {document : ℕ} {what : Plan}
       go false = refl
 
   -- the table's answer: what the plan did, behind the note by which the message is recorded
-  pub answered_so : {new : SessionState} {before after : List Notice} {value : ℤ} {bytes : List ℕ} → before ≡ first_note is_recorded view m → IsPerformed s view m.text what new before after value bytes
-      → table s view m ≡ Ok (session_in new, response value bytes after)
+  pub answered_so : {new : Session} {before after : List Notice} {value : ℤ} {bytes : List ℕ} → before ≡ first_note is_recorded view m → IsPerformed s view m.text what new before after value bytes
+      → table s view m ≡ Ok (new, response value bytes after)
   answered_so {new} {before} {after} {value} {bytes} first done =
       planned_answer
       ∙ ap (λ (x : Session × Response). Ok (x.0, with_recording t.kind (request_of s view m) x.1)) done.done
-      ∙ ap (λ x. Ok (session_in new, x)) (recorded_reply (response value bytes done.told))
-      ∙ ap (λ xs. Ok (session_in new, response value bytes xs)) (sym (done.heard ∙ ap (λ xs. xs ++ done.told) first))
+      ∙ ap (λ x. Ok (new, x)) (recorded_reply (response value bytes done.told))
+      ∙ ap (λ xs. Ok (new, response value bytes xs)) (sym (done.heard ∙ ap (λ xs. xs ++ done.told) first))
 
   -- the plan was not performed, for want of memory
   pub unperformed : {new : Session} → new ≡ s → (is_free s view m ≡ true → ⊥) → IsAnswered s view m new (Err OutOfMemory)
@@ -169,16 +169,25 @@ pub can_as : {s : Session} {document view : ℕ} {m : Message} {what what' what'
 can_as {s} {document} {view} {m} can is fits = record { request = can.request; fit = fits (subst (IsFitPlan (request_of s view m)) is can.fit) }
 
 -- it was performed
-pub performed_as : {s : Session} {view : ℕ} {text : List ℕ} {what what' : Plan} {new : SessionState} {before after : List Notice} {value value' : ℤ} {bytes bytes' : List ℕ} → what ≡ what' → IsPerformed s view text what' new before after value' bytes' → value ≡ value' → bytes ≡ bytes'
+pub performed_as : {s : Session} {view : ℕ} {text : List ℕ} {what what' : Plan} {new : Session} {before after : List Notice} {value value' : ℤ} {bytes bytes' : List ℕ} → what ≡ what' → IsPerformed s view text what' new before after value' bytes' → value ≡ value' → bytes ≡ bytes'
     → IsPerformed s view text what new before after value bytes
 performed_as {s} {view} {text} {what} {what'} {new} {before} {after} {value} {value'} {bytes} {bytes'} is h same_value same_bytes = record {
   told = h.told;
-  done = ap (performed_at s view text) is ∙ h.done ∙ ap (λ v. (session_in new, response v bytes' h.told)) (sym same_value) ∙ ap (λ b. (session_in new, response value b h.told)) (sym same_bytes);
+  done = ap (performed_at s view text) is ∙ h.done ∙ ap (λ v. (new, response v bytes' h.told)) (sym same_value) ∙ ap (λ b. (new, response value b h.told)) (sym same_bytes);
   heard = h.heard;
 }
 
+-- The session that a function looks into is the one that it was given: `same` says so.
+
+pub can_in : {s s' : Session} {document view : ℕ} {m : Message} {what : Plan} → s ≡ s' → CanPerform s' document view m what → CanPerform s document view m what
+can_in {s} {s'} {document} {view} {m} {what} same can = subst (λ (x : Session). CanPerform x document view m what) (sym same) can
+
+pub performed_in : {s s' : Session} {view : ℕ} {text : List ℕ} {what : Plan} {new : Session} {before after : List Notice} {value : ℤ} {bytes : List ℕ} → s ≡ s'
+    → IsPerformed s view text what new before after value bytes → IsPerformed s' view text what new before after value bytes
+performed_in {s} {s'} {view} {text} {what} {new} {before} {after} {value} {bytes} same done = subst (λ (x : Session). IsPerformed x view text what new before after value bytes) same done
+
 -- with its own value in place of another
-pub revalued : {s : Session} {view : ℕ} {text : List ℕ} {what what' : Plan} {new : SessionState} {before after : List Notice} {other : ℤ} {bytes : List ℕ} (value : ℤ)
+pub revalued : {s : Session} {view : ℕ} {text : List ℕ} {what what' : Plan} {new : Session} {before after : List Notice} {other : ℤ} {bytes : List ℕ} (value : ℤ)
     → IsPerformed s view text what new before after other bytes → performed_at s view text what' ≡ with_value value (performed_at s view text what) → IsPerformed s view text what' new before after value bytes
 revalued value h is = record { told = h.told; done = is ∙ ap (with_value value) h.done; heard = h.heard }
 

@@ -1,5 +1,5 @@
 -- A text that keeps to its limit is within the width of its document's places.
-use Rattle.editor_session.proofs.Names.{arith, ◌≡◌, ◌==◌, ℕ, ◌+◌, ◌-◌, ◌≤◌, ◌<◌, ◌^◌, min, nat_le, true, false, cond, List, [], ◌∷◌, map, length, refl, ap, sym, subst, slice_range, and_parts, leb-true, length-take, length-drop, length-map, Limits, stays_within, Change, TextStep, ContainerStep, IsRoomFor, IsSoundRequest, Request, text, Document, is_allowed, is_large, limit_of, text_of, AreStepsOf, IsSoundDocument, Step, Insert, Delete, edited, Cell, length-inserted, length-deleted_within, request_document, FitsWidth, bound_of, room_of_steps_beside, free_behind, rooms_beside, StepsFitWidth, ChangesFitWidth}
+use Rattle.editor_session.proofs.Names.{arith, ◌≡◌, ℕ, ◌+◌, ◌-◌, ◌≤◌, ◌<◌, ◌^◌, min, nat_le, true, false, cond, List, [], ◌∷◌, map, length, refl, ap, sym, subst, slice_range, and_parts, leb-true, length-take, length-drop, length-map, Limits, stays_within, Change, TextStep, ContainerStep, IsRoomFor, IsSoundRequest, Request, text, Document, is_allowed, is_large, limit_of, text_of, AreStepsOf, Step, Insert, Delete, edited, Cell, length-inserted, length-deleted_within, request_document, FitsWidth, bound_of, room_of_steps_beside, free_behind, rooms_beside, StepsFitWidth, ChangesFitWidth}
 use Rattle.ed_model.specs.declared.plan.LineEndTypes.{LineEndTypes}
 use Rattle.ed_model.specs.InverseLaws.{Fits}
 use Rattle.ed_model.specs.UndoPlans.{text_steps}

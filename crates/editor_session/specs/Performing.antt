@@ -10,8 +10,6 @@ use Rattle.ed_model.specs.Requests.{Request}
 use Rattle.ed_model.specs.Performing.{response}
 use Rattle.document.specs.declared.undoing.Direction.{Direction}
 use Rattle.document.specs.declared.undoing.Direction.TheVariants.{Undo, Redo}
-use Rattle.message_requests.specs.Requested.{session_in}
-use Rattle.message_requests.specs.declared.state.SessionState.{SessionState}
 use Rattle.performing.specs.Asked.{asked, performed_at}
 
 -- the request of a message to the view with this id, on its document
@@ -31,9 +29,9 @@ pub record CanPerform (s : Session) (document view : ℕ) (m : Message) (what : 
 
 -- for a message with this text it was performed: the session is that after it, the value and the bytes are the reply's, and its notes were put
 -- behind those before
-pub record IsPerformed (s : Session) (view : ℕ) (text : List ℕ) (what : Plan) (new : SessionState) (before after : List Notice) (value : ℤ) (bytes : List ℕ) : Type 0 where
+pub record IsPerformed (s : Session) (view : ℕ) (text : List ℕ) (what : Plan) (new : Session) (before after : List Notice) (value : ℤ) (bytes : List ℕ) : Type 0 where
   pub told : List Notice
-  pub done : performed_at s view text what ≡ (session_in new, response value bytes told)
+  pub done : performed_at s view text what ≡ (new, response value bytes told)
   pub heard : after ≡ before ++ told
 
 -- the plan of undo or redo

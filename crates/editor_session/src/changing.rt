@@ -8,18 +8,18 @@ ghost use Rattle.ed_model.specs.Performing.{quiet};
 ghost use Rattle.performing.specs.Asked.{performed_at};
 ghost use Rattle.id_table.specs.Entries.{value_at};
 ghost use Rattle.scene.specs.Scenes.{watchers};
-ghost use Rattle.message_requests.specs.Requested.{session_in};
 ghost use Rattle.performing.specs.Kept.{IsKept};
 ghost use Rattle.editor_session.specs.Performing.{CanPerform, IsPerformed, request_of};
 ghost use Rattle.editor_session.specs.Plans.{needs_no_memory};
 
 use crate::perform::Task;
+use crate::session::Session;
 use ed_model::{DocumentChange, ViewChange, plans_are_fit};
 use message_requests::SessionState;
 use notify::NoteList;
 use performing::{change_document, change_unheard, change_view};
 use scene::attempt;
-use std::alloc::{AllocError, Global};
+use std::alloc::AllocError;
 
 /// Makes `change` in the document, with its notes.
 ///
@@ -27,18 +27,15 @@ use std::alloc::{AllocError, Global};
 ///
 /// `AllocError` if an allocation fails. The session is then as it was.
 pub(crate) fn perform_change(
-    alloc: Global,
-    state: &mut SessionState,
+    session: &mut Session,
     task: &Task,
     change: &DocumentChange,
     notes: &mut NoteList,
 ) -> Result<(), AllocError>
-    requires kept { IsKept state.old }
-    requires can { CanPerform (session_in state.old) task.now.document task.now.view task.now.message.now (ChangeDocument change.now (pos 0)) }
-    ensures done { OnOk result (IsPerformed (session_in state.old) task.now.view task.now.message.now.text (ChangeDocument change.now (pos 0)) state.new notes.old.notes notes.new.notes (pos 0) []) }
-    ensures same { OnErr result (session_in state.new ≡ session_in state.old) }
-    ensures kept { IsKept state.new }
-    ensures free { needs_no_memory (request_of (session_in state.old) task.now.view task.now.message.now) (ChangeDocument change.now (pos 0)) ≡ true → IsOk result }
+    requires can { CanPerform session.old task.now.document task.now.view task.now.message.now (ChangeDocument change.now (pos 0)) }
+    ensures done { OnOk result (IsPerformed session.old task.now.view task.now.message.now.text (ChangeDocument change.now (pos 0)) session.new notes.old.notes notes.new.notes (pos 0) []) }
+    ensures same { OnErr result (session.new ≡ session.old) }
+    ensures free { needs_no_memory (request_of session.old task.now.view task.now.message.now) (ChangeDocument change.now (pos 0)) ≡ true → IsOk result }
 {
     // States that performing a plan keeps the session sound.
     plans_are_fit();
@@ -46,11 +43,11 @@ pub(crate) fn perform_change(
         documents,
         views,
         ..
-    } = state;
+    } = &mut session.state;
     let document = documents.at_mut(task.document);
     let message = task.message;
     change_document(
-        alloc,
+        session.alloc,
         document,
         views,
         notes,
@@ -63,15 +60,13 @@ pub(crate) fn perform_change(
 
 /// Makes `change` in the document, if no view hears it. Returns whether it did; nothing has changed otherwise, also if an allocation fails.
 pub(crate) fn perform_unheard_change(
-    state: &mut SessionState,
+    session: &mut Session,
     task: &Task,
     change: &DocumentChange,
 ) -> bool
-    requires kept { IsKept state.old }
-    requires can { CanPerform (session_in state.old) task.now.document task.now.view task.now.message.now (ChangeDocument change.now (pos 0)) }
-    ensures done { result ≡ true → IsPerformed (session_in state.old) task.now.view task.now.message.now.text (ChangeDocument change.now (pos 0)) state.new [] [] (pos 0) [] }
-    ensures same { result ≡ false → session_in state.new ≡ session_in state.old }
-    ensures kept { IsKept state.new }
+    requires can { CanPerform session.old task.now.document task.now.view task.now.message.now (ChangeDocument change.now (pos 0)) }
+    ensures done { result ≡ true → IsPerformed session.old task.now.view task.now.message.now.text (ChangeDocument change.now (pos 0)) session.new [] [] (pos 0) [] }
+    ensures same { result ≡ false → session.new ≡ session.old }
 {
     // States that performing a plan keeps the session sound.
     plans_are_fit();
@@ -79,7 +74,7 @@ pub(crate) fn perform_unheard_change(
         documents,
         views,
         ..
-    } = state;
+    } = &mut session.state;
     let document = documents.at_mut(task.document);
     let message = task.message;
     change_unheard(document, views, message.text, change)
@@ -91,20 +86,18 @@ pub(crate) fn perform_unheard_change(
 ///
 /// `AllocError` if an allocation fails. The session is then as it was.
 pub(crate) fn perform_view_change(
-    state: &mut SessionState,
+    session: &mut Session,
     task: &Task,
     change: ViewChange,
 ) -> Result<(), AllocError>
-    requires kept { IsKept state.old }
-    requires can { CanPerform (session_in state.old) task.now.document task.now.view task.now.message.now (ChangeView change (pos 0)) }
-    ensures done { OnOk result (performed_at (session_in state.old) task.now.view task.now.message.now.text (ChangeView change (pos 0)) ≡ (session_in state.new, quiet (pos 0))) }
-    ensures same { OnErr result (session_in state.new ≡ session_in state.old) }
-    ensures kept { IsKept state.new }
-    ensures free { needs_no_memory (request_of (session_in state.old) task.now.view task.now.message.now) (ChangeView change (pos 0)) ≡ true → IsOk result }
+    requires can { CanPerform session.old task.now.document task.now.view task.now.message.now (ChangeView change (pos 0)) }
+    ensures done { OnOk result (performed_at session.old task.now.view task.now.message.now.text (ChangeView change (pos 0)) ≡ (session.new, quiet (pos 0))) }
+    ensures same { OnErr result (session.new ≡ session.old) }
+    ensures free { needs_no_memory (request_of session.old task.now.view task.now.message.now) (ChangeView change (pos 0)) ≡ true → IsOk result }
 {
     // States that performing a plan keeps the session sound.
     plans_are_fit();
-    change_view(state, task.document, task.view, change)?;
+    change_view(&mut session.state, task.document, task.view, change)?;
     Ok(())
 }
 

@@ -8,8 +8,6 @@ ghost use Rattle.id_table.specs.Entries.{value_at};
 ghost use Rattle.scene.specs.Scenes.{IsWatched, KeepWidths};
 ghost use Rattle.performing.specs.Edits.{MakesEdit};
 ghost use Rattle.performing.specs.Widths.{StepsFitWidth};
-ghost use Rattle.message_requests.specs.Requested.{session_in};
-ghost use Rattle.performing.specs.Kept.{IsKept};
 ghost use Rattle.editor_session.specs.Edits.{taken_along, IsPastedFor, IsEditWithin, TakesWithin, is_turned, clipboard_need, edit_steps};
 ghost use Rattle.editor_session.specs.Documents.{OfDocument, HasDocument};
 ghost use Rattle.editor_session.specs.Performing.{CanPerform, IsPerformed, request_of};
@@ -17,6 +15,7 @@ ghost use Rattle.editor_session.specs.Plans.{needs_no_memory};
 
 use crate::edits::{follow_edit, source_bytes};
 use crate::perform::Task;
+use crate::session::Session;
 use document::Document;
 use ed_model::{Edit, Follow, LineEnd, Source, plans_are_fit};
 use ed_view::View;
@@ -151,30 +150,27 @@ fn taken_bytes(
 ///
 /// `AllocError` if an allocation fails. The session is then as it was.
 pub(crate) fn perform_edit(
-    alloc: Global,
-    state: &mut SessionState,
+    session: &mut Session,
     task: &Task,
     edit: Edit,
     follow: Follow,
     notes: &mut NoteList,
 ) -> Result<(), AllocError>
-    requires kept { IsKept state.old }
-    requires can { CanPerform (session_in state.old) task.now.document task.now.view task.now.message.now (plan.Edit edit (pos 0) follow) }
-    ensures done { OnOk result (IsPerformed (session_in state.old) task.now.view task.now.message.now.text (plan.Edit edit (pos 0) follow) state.new notes.old.notes notes.new.notes (pos 0) []) }
-    ensures same { OnErr result (session_in state.new ≡ session_in state.old) }
-    ensures kept { IsKept state.new }
-    ensures free { needs_no_memory (request_of (session_in state.old) task.now.view task.now.message.now) (plan.Edit edit (pos 0) follow) ≡ true → IsOk result }
+    requires can { CanPerform session.old task.now.document task.now.view task.now.message.now (plan.Edit edit (pos 0) follow) }
+    ensures done { OnOk result (IsPerformed session.old task.now.view task.now.message.now.text (plan.Edit edit (pos 0) follow) session.new notes.old.notes notes.new.notes (pos 0) []) }
+    ensures same { OnErr result (session.new ≡ session.old) }
+    ensures free { needs_no_memory (request_of session.old task.now.view task.now.message.now) (plan.Edit edit (pos 0) follow) ≡ true → IsOk result }
 {
     // States that the steps of an edit fit the text and its limit, and that performing a plan keeps the session sound.
     plans_are_fit();
-    let pasted = pasted_bytes(alloc, state, task.document, edit)?;
-    let taken = taken_bytes(alloc, state, task.document, follow)?;
+    let pasted = pasted_bytes(session.alloc, &session.state, task.document, edit)?;
+    let taken = taken_bytes(session.alloc, &session.state, task.document, follow)?;
     let SessionState {
         documents,
         views,
         clipboard,
         ..
-    } = state;
+    } = &mut session.state;
     let document = documents.at_mut(task.document);
     let message = task.message;
     edit_with_room(

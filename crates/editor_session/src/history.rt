@@ -1,12 +1,11 @@
 //! Undo and redo in a document of the session.
 
 ghost use Rattle.std.specs.Prelude.{◌≡◌, pos, [], OnOk, OnErr};
-ghost use Rattle.message_requests.specs.Requested.{session_in};
-ghost use Rattle.performing.specs.Kept.{IsKept};
 ghost use Rattle.editor_session.specs.Performing.{CanPerform, IsPerformed, going};
 
 use crate::edits::move_caret;
 use crate::perform::Task;
+use crate::session::Session;
 use document::Direction;
 use ed_model::plans_are_fit;
 use message_requests::SessionState;
@@ -20,16 +19,14 @@ use std::alloc::AllocError;
 ///
 /// `AllocError` if an allocation fails. The session is then as it was.
 pub(crate) fn perform_transaction(
-    state: &mut SessionState,
+    session: &mut Session,
     task: &Task,
     direction: Direction,
     notes: &mut NoteList,
 ) -> Result<(), AllocError>
-    requires kept { IsKept state.old }
-    requires can { CanPerform (session_in state.old) task.now.document task.now.view task.now.message.now (going direction) }
-    ensures done { OnOk result (IsPerformed (session_in state.old) task.now.view task.now.message.now.text (going direction) state.new notes.old.notes notes.new.notes (pos 0) []) }
-    ensures same { OnErr result (session_in state.new ≡ session_in state.old) }
-    ensures kept { IsKept state.new }
+    requires can { CanPerform session.old task.now.document task.now.view task.now.message.now (going direction) }
+    ensures done { OnOk result (IsPerformed session.old task.now.view task.now.message.now.text (going direction) session.new notes.old.notes notes.new.notes (pos 0) []) }
+    ensures same { OnErr result (session.new ≡ session.old) }
 {
     // States that the steps of undo and redo fit the text, and that performing a plan keeps the session sound.
     plans_are_fit();
@@ -37,7 +34,7 @@ pub(crate) fn perform_transaction(
         documents,
         views,
         ..
-    } = state;
+    } = &mut session.state;
     let document = documents.at_mut(task.document);
     let place = go_with_room(document, views, notes, direction)?;
     move_caret(views, task.view, place);

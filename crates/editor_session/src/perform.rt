@@ -2,8 +2,6 @@
 
 ghost use Rattle.std.specs.Prelude.{◌≡◌, [], true, OnErr, IfOk, IsOk};
 ghost use Rattle.message_requests.specs.Changing.{plan_with};
-ghost use Rattle.message_requests.specs.Requested.{session_in};
-ghost use Rattle.performing.specs.Kept.{IsKept};
 ghost use Rattle.editor_session.specs.Answers.{told, IsLeft, IsAnswered};
 ghost use Rattle.editor_session.specs.Plans.{needs_no_memory};
 ghost use Rattle.editor_session.specs.Planned.{IsPlannedAs};
@@ -17,14 +15,15 @@ use crate::handing_out::{hand_out, hand_out_styled};
 use crate::history::perform_transaction;
 use crate::left::keep;
 use crate::recording::record_if;
+use crate::session::Session;
 use document::Direction;
 use ed_model::{Plan, plans_are_fit};
 use ed_types::{Bytes, Refusal, Reply};
+use message_requests::SentMessage;
 use message_requests::answers::ChangePlan;
-use message_requests::{SentMessage, SessionState};
 use notify::NoteList;
 use performing::change_session;
-use std::alloc::{AllocError, Global};
+use std::alloc::AllocError;
 
 /// What a plan is performed on, and for whom.
 #[derive(Clone, Copy)]
@@ -45,20 +44,17 @@ pub(crate) struct Task<'a> {
 ///
 /// `AllocError` if an allocation fails. The session is then as it was.
 fn perform(
-    alloc: Global,
-    state: &mut SessionState,
+    session: &mut Session,
     task: &Task,
     plan: &Plan,
     handed_out: &mut Vec<u8>,
     notes: &mut NoteList,
 ) -> Result<i64, AllocError>
-    requires kept { IsKept state.old }
-    requires can { CanPerform (session_in state.old) task.now.document task.now.view task.now.message.now plan.now }
+    requires can { CanPerform session.old task.now.document task.now.view task.now.message.now plan.now }
     requires empty { handed_out.old.items ≡ [] }
-    ensures done { IfOk result (λ value. IsPerformed (session_in state.old) task.now.view task.now.message.now.text plan.now state.new notes.old.notes notes.new.notes value handed_out.new.items) }
-    ensures same { OnErr result (session_in state.new ≡ session_in state.old) }
-    ensures kept { IsKept state.new }
-    ensures free { needs_no_memory (request_of (session_in state.old) task.now.view task.now.message.now) plan.now ≡ true → IsOk result }
+    ensures done { IfOk result (λ value. IsPerformed session.old task.now.view task.now.message.now.text plan.now session.new notes.old.notes notes.new.notes value handed_out.new.items) }
+    ensures same { OnErr result (session.new ≡ session.old) }
+    ensures free { needs_no_memory (request_of session.old task.now.view task.now.message.now) plan.now ≡ true → IsOk result }
 {
     // States that performing a plan keeps the session sound.
     plans_are_fit();
@@ -69,11 +65,17 @@ fn perform(
             start,
             count,
         } => {
-            *handed_out = hand_out(alloc, state, task.document, *start, *count)?;
+            *handed_out = hand_out(session.alloc, &session.state, task.document, *start, *count)?;
             Ok(*value)
         }
         Plan::HandOutStyled { start, count } => {
-            *handed_out = hand_out_styled(alloc, state, task.document, *start, *count)?;
+            *handed_out = hand_out_styled(
+                session.alloc,
+                &session.state,
+                task.document,
+                *start,
+                *count,
+            )?;
             Ok(handed_out.len() as i64)
         }
         Plan::Edit {
@@ -81,34 +83,34 @@ fn perform(
             value,
             follow,
         } => {
-            perform_edit(alloc, state, task, *edit, *follow, notes)?;
+            perform_edit(session, task, *edit, *follow, notes)?;
             Ok(*value)
         }
         Plan::Attempt => {
-            perform_attempt(state, task.document, notes)?;
+            perform_attempt(&session.state, task.document, notes)?;
             Ok(0)
         }
         Plan::Undo => {
-            perform_transaction(state, task, Direction::Undo, notes)?;
+            perform_transaction(session, task, Direction::Undo, notes)?;
             Ok(0)
         }
         Plan::Redo => {
-            perform_transaction(state, task, Direction::Redo, notes)?;
+            perform_transaction(session, task, Direction::Redo, notes)?;
             Ok(0)
         }
         Plan::ChangeDocument { change, value } => {
-            perform_change(alloc, state, task, change, notes)?;
+            perform_change(session, task, change, notes)?;
             Ok(*value)
         }
         Plan::ChangeView { change, value } => {
-            perform_view_change(state, task, *change)?;
+            perform_view_change(session, task, *change)?;
             Ok(*value)
         }
         Plan::ChangeSession { change, value } => {
             let message = task.message;
             change_session(
-                alloc,
-                state,
+                session.alloc,
+                &mut session.state,
                 task.document,
                 task.view,
                 message.text,
@@ -127,22 +129,19 @@ fn perform(
 /// `OutOfMemory` if an allocation fails. The session and the place of the reply are then as they were.
 #[inline(always)]
 pub(crate) fn perform_message(
-    alloc: Global,
-    state: &mut SessionState,
+    session: &mut Session,
     task: &Task,
     plan: &Plan,
     reply: &mut Reply,
 ) -> Result<i64, Refusal>
-    requires kept { IsKept state.old }
-    requires planned { IsPlannedAs (session_in state.old) task.now.view task.now.message.now task.now.document plan.now task.now.is_recorded }
-    ensures answered { IsAnswered (session_in state.old) task.now.view task.now.message.now (session_in state.new) (told result reply.new) }
+    requires planned { IsPlannedAs session.old task.now.view task.now.message.now task.now.document plan.now task.now.is_recorded }
+    ensures answered { IsAnswered session.old task.now.view task.now.message.now session.new (told result reply.new) }
     ensures place { IsLeft result reply.old reply.new }
-    ensures kept { IsKept state.new }
 {
-    let mut notes = NoteList::new(alloc);
+    let mut notes = NoteList::new(session.alloc);
     record_if(task.is_recorded, task.view, task.message, &mut notes)?;
-    let mut handed_out = Vec::new(alloc);
-    let value = perform(alloc, state, task, plan, &mut handed_out, &mut notes)?;
+    let mut handed_out = Vec::new(session.alloc);
+    let value = perform(session, task, plan, &mut handed_out, &mut notes)?;
     keep(reply, notes.finish(value, Bytes::new(handed_out)));
     Ok(value)
 }
@@ -166,19 +165,16 @@ fn whole(plan: ChangePlan) -> Plan
 /// Those of `perform_message`.
 #[inline(never)]
 fn change_aloud(
-    alloc: Global,
-    state: &mut SessionState,
+    session: &mut Session,
     task: &Task,
     plan: ChangePlan,
     reply: &mut Reply,
 ) -> Result<i64, Refusal>
-    requires kept { IsKept state.old }
-    requires planned { IsPlannedAs (session_in state.old) task.now.view task.now.message.now task.now.document (plan_with plan.change plan.value) task.now.is_recorded }
-    ensures answered { IsAnswered (session_in state.old) task.now.view task.now.message.now (session_in state.new) (told result reply.new) }
+    requires planned { IsPlannedAs session.old task.now.view task.now.message.now task.now.document (plan_with plan.change plan.value) task.now.is_recorded }
+    ensures answered { IsAnswered session.old task.now.view task.now.message.now session.new (told result reply.new) }
     ensures place { IsLeft result reply.old reply.new }
-    ensures kept { IsKept state.new }
 {
-    perform_message(alloc, state, task, &whole(plan), reply)
+    perform_message(session, task, &whole(plan), reply)
 }
 
 /// Makes what a message changes in its document, as `perform_message` does, but sets up nothing for notes if nothing changes or no view hears of it.
@@ -188,29 +184,26 @@ fn change_aloud(
 ///
 /// Those of `perform_message`.
 pub(crate) fn make_change(
-    alloc: Global,
-    state: &mut SessionState,
+    session: &mut Session,
     task: &Task,
     plan: ChangePlan,
     listens: bool,
     reply: &mut Reply,
 ) -> Result<i64, Refusal>
-    requires kept { IsKept state.old }
-    requires planned { IsPlannedAs (session_in state.old) task.now.view task.now.message.now task.now.document (plan_with plan.change plan.value) task.now.is_recorded }
-    ensures answered { IsAnswered (session_in state.old) task.now.view task.now.message.now (session_in state.new) (told result reply.new) }
+    requires planned { IsPlannedAs session.old task.now.view task.now.message.now task.now.document (plan_with plan.change plan.value) task.now.is_recorded }
+    ensures answered { IsAnswered session.old task.now.view task.now.message.now session.new (told result reply.new) }
     ensures place { IsLeft result reply.old reply.new }
-    ensures kept { IsKept state.new }
 {
     if task.is_recorded {
-        return change_aloud(alloc, state, task, plan, reply);
+        return change_aloud(session, task, plan, reply);
     }
     let Some(change) = plan.change else {
         reply.answer(plan.value);
         return Ok(plan.value);
     };
-    if !listens && perform_unheard_change(state, task, &change) {
+    if !listens && perform_unheard_change(session, task, &change) {
         reply.answer(plan.value);
         return Ok(plan.value);
     }
-    change_aloud(alloc, state, task, plan, reply)
+    change_aloud(session, task, plan, reply)
 }

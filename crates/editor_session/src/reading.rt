@@ -4,15 +4,14 @@ ghost use Rattle.std.specs.Prelude.{◌≡◌, ◌≤◌, ◌+◌, Ok, Some, OnO
 ghost use Rattle.ed_model.specs.Session.{text_of};
 ghost use Rattle.ed_model.specs.Table.{table};
 ghost use Rattle.message_plans.specs.Asking.{text_question_of};
-ghost use Rattle.message_requests.specs.Requested.{session_in};
-ghost use Rattle.performing.specs.Kept.{IsKept};
 
 use crate::attached::{look_up, request_to};
+use crate::session::Session;
 use document::Document;
 use ed_model::plans_are_fit;
 use ed_types::{Bytes, Kind, Reply, kinds_and_numbers};
 use message_plans::handed_of;
-use message_requests::{SentMessage, SessionState};
+use message_requests::SentMessage;
 use std::alloc::{AllocError, Global};
 
 /// The greatest capacity, in bytes, of a buffer that stays as large as it is, however short the text that is read.
@@ -56,32 +55,30 @@ fn read_bytes(
 /// allocation fails.
 #[inline(never)]
 pub(crate) fn read_into(
-    alloc: Global,
-    state: &SessionState,
+    session: &Session,
     view: u32,
     kind: Kind,
     message: &SentMessage,
     reply: &mut Reply,
 ) -> Option<i64>
-    requires kept { IsKept state.now }
     requires question { text_question_of message.now.number ≡ Some kind }
-    ensures answer { IfSome result (λ _. table (session_in state.now) view message.now ≡ Ok (session_in state.now, reply.new)) }
+    ensures answer { IfSome result (λ _. table session.now view message.now ≡ Ok (session.now, reply.new)) }
     ensures value { IfSome result (λ value. reply.new.value ≡ value) }
     ensures same { IfNone result (reply.new ≡ reply.old) }
 {
     // States that each kind is found by its number, and that what is handed out lies in the text.
     kinds_and_numbers();
     plans_are_fit();
-    let Some(found) = look_up(state, view) else {
+    let Some(found) = look_up(&session.state, view) else {
         return None;
     };
-    let request = request_to(state, found, message);
+    let request = request_to(&session.state, found, message);
     let Some(handed) = handed_of(kind, &request) else {
         return None;
     };
-    let mut bytes = reply.replace_text(Bytes::empty(alloc)).into_vec();
+    let mut bytes = reply.replace_text(Bytes::empty(session.alloc)).into_vec();
     match read_bytes(
-        alloc,
+        session.alloc,
         found.document,
         handed.start,
         handed.count,

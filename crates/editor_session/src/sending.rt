@@ -8,21 +8,19 @@ ghost use Rattle.ed_model.specs.Performing.{quiet};
 ghost use Rattle.ed_model.specs.Table.{table};
 ghost use Rattle.message_plans.specs.Asking.{question_of, text_question_of};
 ghost use Rattle.message_plans.specs.Ways.{kind_in, question_in, text_question_in};
-ghost use Rattle.message_requests.specs.Requested.{session_in};
-ghost use Rattle.performing.specs.Kept.{IsKept};
 ghost use Rattle.editor_session.specs.Answers.{told, IsLeft, IsAnswered};
 
 use crate::asking::ask_as;
 use crate::find::find;
 use crate::perform::{Task, make_change, perform_message};
 use crate::reading::read_into;
+use crate::session::Session;
 use crate::setting::{is_recorded, set};
 use ed_model::plans_are_fit;
 use ed_types::modification::{CHANGE_FOLD, CHANGE_MARKER, CHANGE_STYLE};
 use ed_types::{Bytes, Kind, Refusal, Reply};
 use message_plans::{Way, document_change_of, plan_of, way_of};
-use message_requests::{SentMessage, SessionState};
-use std::alloc::Global;
+use message_requests::SentMessage;
 
 /// The bits by which a view listens for the changes that are sent by the thousand: of styles, fold levels and markers. It is then likely that a change
 /// has notes.
@@ -36,22 +34,19 @@ const FREQUENT_CHANGES: u32 = CHANGE_STYLE | CHANGE_FOLD | CHANGE_MARKER;
 /// The refusal of the message table, or `OutOfMemory` if an allocation fails. The session and `reply` are then as they were.
 #[inline(never)]
 fn answer_by_plan(
-    alloc: Global,
-    state: &mut SessionState,
+    session: &mut Session,
     view: u32,
     kind: Option<Kind>,
     message: &SentMessage,
     reply: &mut Reply,
 ) -> Result<i64, Refusal>
-    requires kept { IsKept state.old }
     requires kind { kind ≡ kind_of message.now.number }
-    ensures answered { IsAnswered (session_in state.old) view message.now (session_in state.new) (told result reply.new) }
+    ensures answered { IsAnswered session.old view message.now session.new (told result reply.new) }
     ensures place { IsLeft result reply.old reply.new }
-    ensures kept { IsKept state.new }
 {
     // States that a plan's numbers are in range, and that no plan is refused for want of memory.
     plans_are_fit();
-    let (kind, request) = find(state, view, kind, message)?;
+    let (kind, request) = find(session, view, kind, message)?;
     let task = Task {
         view,
         document: request.document.id(),
@@ -61,7 +56,7 @@ fn answer_by_plan(
     // Bound to a local so that the plan of 80 bytes is not copied.
     let planned = plan_of(kind, &request);
     match &planned {
-        Ok(plan) => perform_message(alloc, state, &task, plan, reply),
+        Ok(plan) => perform_message(session, &task, plan, reply),
         Err(refusal) => Err(*refusal),
     }
 }
@@ -75,22 +70,19 @@ fn answer_by_plan(
 /// Those of `answer_by_plan`.
 #[inline(never)]
 fn answer_change(
-    alloc: Global,
-    state: &mut SessionState,
+    session: &mut Session,
     view: u32,
     kind: Kind,
     message: &SentMessage,
     reply: &mut Reply,
 ) -> Result<i64, Refusal>
-    requires kept { IsKept state.old }
     requires kind { Some kind ≡ kind_of message.now.number }
-    ensures answered { IsAnswered (session_in state.old) view message.now (session_in state.new) (told result reply.new) }
+    ensures answered { IsAnswered session.old view message.now session.new (told result reply.new) }
     ensures place { IsLeft result reply.old reply.new }
-    ensures kept { IsKept state.new }
 {
     // States that a plan's numbers are in range.
     plans_are_fit();
-    let (found, request) = find(state, view, Some(kind), message)?;
+    let (found, request) = find(session, view, Some(kind), message)?;
     let task = Task {
         view,
         document: request.document.id(),
@@ -99,30 +91,23 @@ fn answer_change(
     };
     let listens = request.view.mask() & FREQUENT_CHANGES != 0;
     let Some(plan) = document_change_of(found, &request) else {
-        return answer_by_plan(alloc, state, view, Some(kind), message, reply);
+        return answer_by_plan(session, view, Some(kind), message, reply);
     };
-    make_change(alloc, state, &task, plan, listens, reply)
+    make_change(session, &task, plan, listens, reply)
 }
 
 /// Answers a message to `view` at once, if it is a numeric query, or a change of the view alone that is not recorded. Returns the value, which is the
 /// whole reply. With `None`, nothing has changed, and the message has to be answered otherwise.
 #[inline(always)]
-fn answer_at_once(
-    state: &mut SessionState,
-    view: u32,
-    way: Way,
-    message: &SentMessage,
-) -> Option<i64>
-    requires kept { IsKept state.old }
+fn answer_at_once(session: &mut Session, view: u32, way: Way, message: &SentMessage) -> Option<i64>
     requires kind { kind_in way ≡ kind_of message.now.number }
     requires question { question_in way ≡ question_of message.now.number }
-    ensures done { IfSome result (λ value. table (session_in state.old) view message.now ≡ Ok (session_in state.new, quiet value)) }
-    ensures same { IfNone result (session_in state.new ≡ session_in state.old) }
-    ensures kept { IsKept state.new }
+    ensures done { IfSome result (λ value. table session.old view message.now ≡ Ok (session.new, quiet value)) }
+    ensures same { IfNone result (session.new ≡ session.old) }
 {
     match way {
-        Way::Question(kind) => ask_as(state, view, kind, message),
-        Way::ViewChange(kind) => set(state, view, kind, message),
+        Way::Question(kind) => ask_as(session, view, kind, message),
+        Way::ViewChange(kind) => set(session, view, kind, message),
         _ => None,
     }
 }
@@ -130,32 +115,29 @@ fn answer_at_once(
 /// Answers a message to `view` that was not answered at once.
 #[inline(always)]
 fn answer_otherwise(
-    alloc: Global,
-    state: &mut SessionState,
+    session: &mut Session,
     view: u32,
     way: Way,
     message: &SentMessage,
     reply: &mut Reply,
 ) -> Result<i64, Refusal>
-    requires kept { IsKept state.old }
     requires kind { kind_in way ≡ kind_of message.now.number }
     requires text_question { text_question_in way ≡ text_question_of message.now.number }
-    ensures answered { IsAnswered (session_in state.old) view message.now (session_in state.new) (told result reply.new) }
+    ensures answered { IsAnswered session.old view message.now session.new (told result reply.new) }
     ensures place { IsLeft result reply.old reply.new }
-    ensures kept { IsKept state.new }
 {
     match way {
         Way::TextQuestion(kind) => {
-            if let Some(value) = read_into(alloc, state, view, kind, message, reply) {
+            if let Some(value) = read_into(session, view, kind, message, reply) {
                 return Ok(value);
             }
         }
         Way::DocumentChange(kind) => {
-            return answer_change(alloc, state, view, kind, message, reply);
+            return answer_change(session, view, kind, message, reply);
         }
         _ => {}
     }
-    answer_by_plan(alloc, state, view, way.kind(), message, reply)
+    answer_by_plan(session, view, way.kind(), message, reply)
 }
 
 /// Answers a message to `view`. Replaces `reply` by the message's reply, and returns the value.
@@ -165,23 +147,20 @@ fn answer_otherwise(
 /// The refusal of the message table, or `OutOfMemory` if an allocation fails. The session and `reply` are then as they were.
 #[inline(always)]
 pub(crate) fn answer_into(
-    alloc: Global,
-    state: &mut SessionState,
+    session: &mut Session,
     view: u32,
     message: &SentMessage,
     reply: &mut Reply,
 ) -> Result<i64, Refusal>
-    requires kept { IsKept state.old }
-    ensures answered { IsAnswered (session_in state.old) view message.now (session_in state.new) (told result reply.new) }
+    ensures answered { IsAnswered session.old view message.now session.new (told result reply.new) }
     ensures place { IsLeft result reply.old reply.new }
-    ensures kept { IsKept state.new }
 {
     let way = way_of(message.number);
-    if let Some(value) = answer_at_once(state, view, way, message) {
+    if let Some(value) = answer_at_once(session, view, way, message) {
         reply.answer(value);
         return Ok(value);
     }
-    answer_otherwise(alloc, state, view, way, message, reply)
+    answer_otherwise(session, view, way, message, reply)
 }
 
 /// Answers a message to `view`.
@@ -190,21 +169,18 @@ pub(crate) fn answer_into(
 ///
 /// The refusal of the message table, or `OutOfMemory` if an allocation fails. The session is then as it was.
 pub(crate) fn answer_message(
-    alloc: Global,
-    state: &mut SessionState,
+    session: &mut Session,
     view: u32,
     message: &SentMessage,
 ) -> Result<Reply, Refusal>
-    requires kept { IsKept state.old }
-    ensures answered { IsAnswered (session_in state.old) view message.now (session_in state.new) result }
-    ensures kept { IsKept state.new }
+    ensures answered { IsAnswered session.old view message.now session.new result }
 {
     let way = way_of(message.number);
-    if let Some(value) = answer_at_once(state, view, way, message) {
-        return Ok(Reply::quiet(alloc, value, Bytes::empty(alloc)));
+    if let Some(value) = answer_at_once(session, view, way, message) {
+        return Ok(Reply::quiet(session.alloc, value, Bytes::empty(session.alloc)));
     }
-    let mut reply = Reply::quiet(alloc, 0, Bytes::empty(alloc));
-    match answer_otherwise(alloc, state, view, way, message, &mut reply) {
+    let mut reply = Reply::quiet(session.alloc, 0, Bytes::empty(session.alloc));
+    match answer_otherwise(session, view, way, message, &mut reply) {
         Ok(_) => Ok(reply),
         Err(refusal) => Err(refusal),
     }

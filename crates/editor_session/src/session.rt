@@ -25,8 +25,8 @@ use std::marker::Model;
 /// A session: documents, and the views of them. Contracts see it as the session of the message table.
 #[derive(Drop)]
 pub struct Session {
-    alloc: Global,
-    state: SessionState,
+    pub(crate) alloc: Global,
+    pub(crate) state: SessionState,
 }
 
 impl Model for Session {
@@ -190,7 +190,7 @@ impl Session {
         ensures free { is_free self.old view (message_with number w l text.now) ≡ true → IfErr result (λ refusal. refusal ≢ OutOfMemory) }
     {
         let message = SentMessage { number, w, l, text };
-        answer_message(self.alloc, &mut self.state, view, &message)
+        answer_message(self, view, &message)
     }
 
     /// Sends any message as `send_lent` does, but replaces `reply` by its reply, and returns the value. If neither reply has a text or
@@ -216,7 +216,7 @@ impl Session {
         ensures free { is_free self.old view (message_with number w l text.now) ≡ true → IfErr result (λ refusal. refusal ≢ OutOfMemory) }
     {
         let message = SentMessage { number, w, l, text };
-        answer_into(self.alloc, &mut self.state, view, &message, reply)
+        answer_into(self, view, &message, reply)
     }
 
     /// Asks a view a numeric query: each query that is answered by a number (`questions` of the definitions; marked Q in
@@ -234,7 +234,7 @@ impl Session {
             l,
             text: &[],
         };
-        ask(&self.state, view, &message)
+        ask(self, view, &message)
     }
 
     /// Lends the `count` bytes of the view's document from `start` on as one slice, without a copy. The session does not change.

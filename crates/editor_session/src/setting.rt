@@ -4,16 +4,15 @@ ghost use Rattle.std.specs.Prelude.{◌≡◌, ◌&&◌, Ok, Some, IfSome, IfNon
 ghost use Rattle.ed_types.specs.Messages.{kind_of, marks_of};
 ghost use Rattle.ed_model.specs.Performing.{quiet};
 ghost use Rattle.ed_model.specs.Table.{table};
-ghost use Rattle.message_requests.specs.Requested.{session_in};
-ghost use Rattle.performing.specs.Kept.{IsKept};
 
 use crate::changing::perform_view_change;
 use crate::find::find;
 use crate::perform::Task;
+use crate::session::Session;
 use ed_model::plans_are_fit;
 use ed_types::Kind;
 use message_plans::view_change_of;
-use message_requests::{Request, SentMessage, SessionState};
+use message_requests::{Request, SentMessage};
 
 /// Returns whether the view of a message records it. Inlined: as a call, a message takes 10 instructions more.
 #[inline(always)]
@@ -28,20 +27,18 @@ pub(crate) fn is_recorded(kind: Kind, request: &Request) -> bool
 /// 1,021 and 966.
 #[inline(never)]
 pub(crate) fn set(
-    state: &mut SessionState,
+    session: &mut Session,
     view: u32,
     kind: Kind,
     message: &SentMessage,
 ) -> Option<i64>
-    requires kept { IsKept state.old }
     requires kind { Some kind ≡ kind_of message.now.number }
-    ensures done { IfSome result (λ value. table (session_in state.old) view message.now ≡ Ok (session_in state.new, quiet value)) }
-    ensures same { IfNone result (session_in state.new ≡ session_in state.old) }
-    ensures kept { IsKept state.new }
+    ensures done { IfSome result (λ value. table session.old view message.now ≡ Ok (session.new, quiet value)) }
+    ensures same { IfNone result (session.new ≡ session.old) }
 {
     // States that a plan's numbers are in range.
     plans_are_fit();
-    let Ok((kind, request)) = find(state, view, Some(kind), message) else {
+    let Ok((kind, request)) = find(session, view, Some(kind), message) else {
         return None;
     };
     let task = Task {
@@ -57,7 +54,7 @@ pub(crate) fn set(
     let Some(change) = plan.change else {
         return Some(plan.value);
     };
-    match perform_view_change(state, &task, change) {
+    match perform_view_change(session, &task, change) {
         Ok(()) => Some(plan.value),
         Err(_) => None,
     }

@@ -11,7 +11,7 @@ use std::convert::AsStr;
 use std::marker::Model;
 
 /// A word. A contract sees its bytes.
-#[derive(Debug, Drop)]
+#[derive(Drop)]
 pub struct Word {
     text: String,
 }
@@ -42,7 +42,7 @@ impl Word {
 }
 
 /// A list of words. A contract sees the list of their bytes.
-#[derive(Debug, Drop)]
+#[derive(Drop)]
 pub struct Words {
     words: Vec<Word>,
 }
@@ -72,7 +72,7 @@ impl Words {
 }
 
 /// What the words ask the program to do.
-#[derive(Debug, Drop)]
+#[derive(Drop)]
 pub enum Job {
     /// Runs a script with files.
     Run { script: Word, files: Words },
@@ -83,7 +83,7 @@ pub enum Job {
 }
 
 /// What the words ask the program to do: a job, or one of the tasks that are no job.
-#[derive(Debug, Drop)]
+#[derive(Drop)]
 pub enum Task {
     /// A job.
     Whole(Job),

@@ -7,7 +7,7 @@ use std::marker::Model;
 
 /// The lines of a place and of the two places behind it, counted from 0. They are lines of an index, so each is less
 /// than 2^63.
-#[derive(Clone, Copy, Debug, PartialEq, Eq)]
+#[derive(Clone, Copy)]
 pub struct NearLines {
     /// The line of the place.
     pub at: usize,
@@ -31,7 +31,7 @@ impl Model for NearLines {
 }
 
 /// What is looked up before a step.
-#[derive(Clone, Copy, Debug, PartialEq, Eq)]
+#[derive(Clone, Copy)]
 pub struct LinesAbout {
     /// How many lines start before the step.
     pub before: usize,
@@ -43,7 +43,7 @@ pub struct LinesAbout {
 ///
 /// The lines around the step are the old ones from `before - 1` up to `old_lines.two_behind`. The new lines up to
 /// `new_lines.two_behind` replace them. All other lines stay as they are.
-#[derive(Clone, Copy, Debug, PartialEq, Eq)]
+#[derive(Clone, Copy)]
 pub struct LineChange {
     /// How many old lines start before the step. They keep their numbers.
     pub before: usize,

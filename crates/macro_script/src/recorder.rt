@@ -13,7 +13,7 @@ use std::marker::Model;
 
 /// Makes a script of what a view records. `feed` takes the replies of a session, and adds the message that each of them
 /// records for the view. A contract sees the view and the commands so far.
-#[derive(Debug, Drop)]
+#[derive(Drop)]
 pub struct Recorder {
     alloc: Global,
     view: u32,

@@ -19,7 +19,7 @@ pub const SCRIPT_LIMIT: usize = 16_777_216;
 const FIRST_LINE: usize = 6;
 
 /// A list of commands whose listing keeps the limits of a line and of a script.
-#[derive(Debug, Drop)]
+#[derive(Drop)]
 pub struct Script {
     commands: Vec<Command>,
     listed: usize,

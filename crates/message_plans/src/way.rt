@@ -7,7 +7,7 @@ use ed_types::Kind;
 
 /// How a session answers a message: queries and changes of the view or document without a plan, where nothing has to be told of them, and all else by
 /// its plan. It has the message's kind.
-#[derive(Clone, Copy, Debug)]
+#[derive(Clone, Copy)]
 pub enum Way {
     /// A numeric query, which is answered by a number.
     Question(Kind),

@@ -12,7 +12,7 @@ use ed_model::{DocumentChange, Plan, Planned, SessionChange, ViewChange};
 use ed_types::Refusal;
 
 /// The answer to a text question: a value, and the `count` bytes of the document's text from `start` on.
-#[derive(Clone, Copy, Debug)]
+#[derive(Clone, Copy)]
 pub struct HandedOut {
     /// The value that the message answers.
     pub value: i64,
@@ -116,7 +116,7 @@ pub fn hand_out_or_zero(handed: Option<HandedOut>) -> Planned
 }
 
 /// The answer to a message that changes its document, but not the text.
-#[derive(Clone, Copy, Debug)]
+#[derive(Clone, Copy)]
 pub struct ChangePlan {
     /// The change, if the message makes one.
     pub change: Option<DocumentChange>,
@@ -152,7 +152,7 @@ pub fn plan_change(planned: Result<ChangePlan, Refusal>) -> Planned
 }
 
 /// The answer to a message that changes its view alone.
-#[derive(Clone, Copy, Debug)]
+#[derive(Clone, Copy)]
 pub struct ViewPlan {
     /// The change, if the message makes one.
     pub change: Option<ViewChange>,

@@ -15,7 +15,7 @@ use ed_types::Refusal;
 use line_ends::{conversion_stays_within, has_conversion};
 
 /// The replacement of a range of the text by other bytes. Both may be empty.
-#[derive(Clone, Copy, Debug, PartialEq, Eq)]
+#[derive(Clone, Copy)]
 pub struct Replacement {
     /// The place of the first byte to delete, in bytes from 0. The new bytes are inserted there.
     pub start: usize,

@@ -16,7 +16,7 @@ use ed_view::View;
 use id_table::IdTable;
 
 /// What notes need: their number, and the bytes of the texts that they share.
-#[derive(Clone, Copy, Debug, PartialEq, Eq)]
+#[derive(Clone, Copy)]
 pub struct NoteRoom {
     /// The number of notes.
     pub notes: usize,
@@ -45,7 +45,7 @@ impl NoteRoom {
 
 /// The memory that many steps need: those of undo or redo, or of a conversion of line ends. An amount beyond the
 /// greatest `usize` becomes that number, for which there is never room.
-#[derive(Clone, Copy, Debug, PartialEq, Eq)]
+#[derive(Clone, Copy)]
 pub struct SceneNeed {
     /// Notes, and the bytes of the texts that they share.
     pub notes: NoteRoom,

@@ -36,7 +36,7 @@ use notify::{NoteList, blank};
 use selection::Movement;
 
 /// The change whose turn it is: that at `index`, in the order of performing.
-#[derive(Clone, Copy, Debug, PartialEq, Eq)]
+#[derive(Clone, Copy)]
 pub(crate) struct Turn {
     pub direction: Direction,
     pub index: usize,

@@ -28,7 +28,7 @@ use line_index::edits_of_steps;
 use notify::{NoteList, blank};
 
 /// The bits of a step's notes that say who makes the step, and as which of several.
-#[derive(Clone, Copy, Debug, PartialEq, Eq)]
+#[derive(Clone, Copy)]
 pub struct StepBits {
     /// The bits of the notes before it.
     pub before: u32,

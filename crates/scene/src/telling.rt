@@ -16,7 +16,7 @@ use id_table::IdTable;
 use notify::{NoteList, blank};
 
 /// The audience of a note, among the views that watch a document.
-#[derive(Clone, Copy, Debug, PartialEq, Eq)]
+#[derive(Clone, Copy)]
 pub enum Audience {
     /// All of them, whatever their masks are.
     Everyone,
@@ -25,7 +25,7 @@ pub enum Audience {
 }
 
 /// The text of a note.
-#[derive(Clone, Copy, Debug, PartialEq, Eq)]
+#[derive(Clone, Copy)]
 pub enum NoteText {
     /// No text.
     Empty,
@@ -110,7 +110,7 @@ pub fn attempt(document: &Document, views: &IdTable<View>, notes: &mut NoteList)
 }
 
 /// The views that watch a document, in sum.
-#[derive(Clone, Copy, Debug, PartialEq, Eq)]
+#[derive(Clone, Copy)]
 pub(crate) struct Watched {
     /// The number of views.
     pub count: usize,

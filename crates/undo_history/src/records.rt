@@ -7,7 +7,7 @@ ghost use Rattle.undo_history.specs.Records.{AreParts, HasItsBytes, change_in, c
 use split_vector::SplitVector;
 
 /// Whether a step of the text inserts bytes or deletes them.
-#[derive(Clone, Copy, Debug, PartialEq, Eq)]
+#[derive(Clone, Copy)]
 pub enum StepKind {
     /// Bytes were inserted.
     Insert,

@@ -1,4 +1,4 @@
-use Rattle.editor_session.proofs.Names.{rules, ℕ, ◌≡◌, ◌≤◌, ◌++◌, List, [], ◌∷◌, length, filter_map, cons_option, sym, ap, subst, ◌∙◌, arith, Option, Some, None, IfSome, option_copied, told, modify_attempt, blank, View, view_at, watching, Gathered, CanPut, views_of}
+use Rattle.editor_session.proofs.Names.{rules, ℕ, ◌≡◌, ◌≤◌, ◌++◌, List, [], ◌∷◌, length, filter_map, cons_option, sym, ap, subst, ◌∙◌, arith, Option, Some, None, IfSome, told, modify_attempt, blank, View, view_at, watching, Gathered, CanPut, views_of}
 use Rattle.editor_session.proofs.changing.perform_attempt.Goals as goal
 
 -- no more views watch than the document lists

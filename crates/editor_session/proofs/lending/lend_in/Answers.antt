@@ -1,5 +1,5 @@
 -- The document that lent its bytes is as it was, and so is the table.
-use Rattle.editor_session.proofs.Names.{◌≡◌, refl, ap, sym, ◌∙◌, subst, IfSome, ◌+◌, slice_range, option_copied_mut, text_of, staying, document_of, id_of_document}
+use Rattle.editor_session.proofs.Names.{◌≡◌, refl, ap, sym, subst, IfSome, ◌+◌, slice_range, text_of, staying, document_of, id_of_document}
 use Rattle.editor_session.proofs.lending.lend_in.Goals as goal
 
 pub returns : goal.returns
